@@ -40,7 +40,7 @@ one_content : (content : Content) (members others : List Member)
 one_content contents.Unread members others are also = are ∙ sym also
 one_content (contents.IpHeader addresses) members others are also = are ∙ sym also
 one_content (contents.NotIp protocol) members others are also = are ∙ sym also
-one_content (contents.Ip addresses protocol proto transport) members others are also =
+one_content (contents.Ip addresses protocol proto transport payload_len) members others are also =
     one_of _ _ (one_transport transport) members others are also
 
 -- packets with the same number, content, verdict and time have the same line

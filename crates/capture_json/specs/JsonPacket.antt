@@ -1,5 +1,5 @@
 -- A packet as a JSON object (RFC 8259): the members of each part, with the words of its line of text.
-use Rattle.std.specs.Prelude.{◌≡◌, ℕ, if◌then◌else◌, List, [], ◌∷◌, ◌++◌, length, drop, slice_index, codes, Option, Some, None}
+use Rattle.std.specs.Prelude.{◌≡◌, ℕ, ◌==◌, if◌then◌else◌, List, [], ◌∷◌, ◌++◌, length, slice_index, codes, Option, Some, None}
 use Rattle.std.specs.List.{flat_map}
 use Rattle.std.specs.Net.Addr.{segments_of}
 use Rattle.std.specs.Net.Text.{ipv4_text, ipv6_text}
@@ -12,7 +12,6 @@ use Rattle.net_base.specs.Bytes.{be_number}
 use Rattle.serde_json.specs.Data.{Data, null, string}
 use Rattle.serde_json.specs.Written.{compact_text}
 use Rattle.tcp_part.specs.TcpFormat.{flag_of, options_of, urg_flag}
-use Rattle.tcp_part.specs.TcpSegment.{payload_bytes}
 use Rattle.etherparse_transport.specs.declared.checksum_verdict.ChecksumVerdict.{ChecksumVerdict}
 use Rattle.etherparse_transport.specs.declared.checksum_verdict.ChecksumVerdict.TheVariants as checksums
 use Rattle.etherparse_transport.specs.declared.checksum_verdict.Untested.{Untested}
@@ -24,6 +23,7 @@ use Rattle.capture_packet.specs.declared.content.NetworkProtocol.{NetworkProtoco
 use Rattle.capture_packet.specs.declared.content.NetworkProtocol.TheVariants.{AddressFamily, EtherType, FrameRelay, Ieee80211, LinkType, Llc, Nlpid, PppProtocol, Radiotap, Snap}
 use Rattle.capture_packet.specs.declared.transport.Transport.{Transport}
 use Rattle.capture_packet.specs.declared.transport.Transport.TheVariants as transports
+use Rattle.capture_packet.specs.Payloads.{payload_in}
 use Rattle.capture_packet.specs.Quotes.{Quoted, quoted_in}
 use Rattle.capture_packet.specs.Verdicts.{refusal_if_untested}
 use Rattle.capture_packet.specs.declared.refusal.Refusal.{Refusal}
@@ -70,17 +70,23 @@ port_members source destination =
 abbrev pub header_port_members : List ℕ → List Member
 header_port_members header = port_members (be_number header 0 2) (be_number header 2 2)
 
--- the length of a payload, in bytes
-abbrev pub payload_members : List ℕ → List Member
-payload_members payload = (codes "payload_length", whole_number (length payload)) ∷ []
+-- the number of bytes of a payload that were captured, if it is not the length of the payload
+abbrev pub captured_members : ℕ → ℕ → List Member
+captured_members payload_len captured_len =
+    if captured_len == payload_len then [] else (codes "payload_captured_length", whole_number captured_len) ∷ []
+
+-- the length of a payload, in bytes, and how many of them were captured
+abbrev pub payload_members : ℕ → List ℕ → List Member
+payload_members payload_len payload =
+    (codes "payload_length", whole_number payload_len) ∷ captured_members payload_len (length payload)
 
 -- ---- transports
 
--- a UDP datagram: its ports, its length field (bytes 4 and 5), and the length of its payload
+-- a UDP datagram: its ports and its length field (bytes 4 and 5)
 abbrev pub udp_members : List ℕ → List Member
 udp_members datagram =
     header_port_members datagram
-    ++ ((codes "udp", object_of ((codes "length", whole_number (be_number datagram 4 2)) ∷ [])) ∷ payload_members (drop 8 datagram))
+    ++ ((codes "udp", object_of ((codes "length", whole_number (be_number datagram 4 2)) ∷ [])) ∷ [])
 
 -- the name of a flag, if it is set
 abbrev pub name_if_set : NamedFlag → List (List ℕ)
@@ -111,28 +117,28 @@ abbrev pub AreTcpHeaderMembers : List ℕ → List Member → Type 0
 AreTcpHeaderMembers header members =
     (options : List (List ℕ)) × AreOptionTexts (options_of header) options × (members ≡ tcp_header_members header options)
 
--- these members are a TCP segment: its ports, its header, and the length of its payload
+-- these members are a TCP segment: its ports and its header
 abbrev pub AreTcpMembers : List ℕ → List Member → Type 0
 AreTcpMembers segment members =
     (header : List Member) × AreTcpHeaderMembers segment header
-    × (members ≡ header_port_members segment ++ ((codes "tcp", object_of header) ∷ payload_members (payload_bytes segment)))
+    × (members ≡ header_port_members segment ++ ((codes "tcp", object_of header) ∷ []))
 
 -- an ICMP message with this type, code and text
 abbrev pub message_data : ℕ → ℕ → List ℕ → Data
 message_data type code text = object_of
     ((codes "type", whole_number type) ∷ (codes "code", whole_number code) ∷ (codes "message", string text) ∷ [])
 
--- an ICMPv4 message and the length of its payload; type and code are bytes 0 and 1
+-- an ICMPv4 message; type and code are bytes 0 and 1
 abbrev pub icmpv4_members : List ℕ → List Member
 icmpv4_members message =
     (codes "icmpv4", message_data (slice_index message 0) (slice_index message 1) (icmpv4_text.message_text (icmpv4.icmp_type_of message)))
-    ∷ payload_members (drop (icmpv4.layout_of message).header_len message)
+    ∷ []
 
--- an ICMPv6 message and the length of its payload; type and code are bytes 0 and 1
+-- an ICMPv6 message; type and code are bytes 0 and 1
 abbrev pub icmpv6_members : List ℕ → List Member
 icmpv6_members message =
     (codes "icmpv6", message_data (slice_index message 0) (slice_index message 1) (icmpv6_text.message_text (icmpv6.icmp_type_of message)))
-    ∷ payload_members (drop (icmpv6.layout_of message).header_len message)
+    ∷ []
 
 -- these members are a transport with a header that is read
 abbrev pub AreReadMembers : TransportSlice → List Member → Type 0
@@ -145,8 +151,8 @@ AreReadMembers (slices.Icmpv6 message) members = members ≡ icmpv6_members mess
 abbrev pub AreTransportMembers : Transport → List Member → Type 0
 AreTransportMembers (transports.Read transport) members = AreReadMembers transport members
 AreTransportMembers (transports.Ports source destination payload) members =
-    members ≡ port_members source destination ++ payload_members payload.now
-AreTransportMembers (transports.Unread payload) members = members ≡ payload_members payload.now
+    members ≡ port_members source destination
+AreTransportMembers (transports.Unread payload) members = members ≡ []
 
 -- ---- the protocol of a packet
 
@@ -202,10 +208,11 @@ abbrev pub AreContentMembers : Content → List Member → Type 0
 AreContentMembers contents.Unread members = members ≡ []
 AreContentMembers (contents.IpHeader addresses) members = members ≡ address_members (by_value addresses)
 AreContentMembers (contents.NotIp protocol) members = members ≡ network_members protocol
-AreContentMembers (contents.Ip addresses protocol proto transport) members =
+AreContentMembers (contents.Ip addresses protocol proto transport payload_len) members =
     (inner : List Member) × AreTransportMembers transport inner
     × (members ≡ address_members (by_value addresses)
-    ++ (ip_protocol_members protocol.0 proto ++ (quoted_members (quoted_in transport) ++ inner)))
+    ++ (ip_protocol_members protocol.0 proto ++ (quoted_members (quoted_in transport)
+    ++ (inner ++ payload_members payload_len (payload_in transport)))))
 
 -- ---- the verdict
 

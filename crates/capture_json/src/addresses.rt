@@ -49,9 +49,17 @@ pub fn put_ports(object: &mut Object, source: u16, destination: u16) -> Result<(
     object.put_number("destination_port", u64::from(destination))
 }
 
-/// Adds the length of a payload, in bytes.
-pub fn put_payload_len(object: &mut Object, payload: &[u8]) -> Result<(), AllocError>
-    ensures { OnOk result (members_in object.new ≡ with_members (payload_members payload.now) (members_in object.old)) }
+/// Adds the length of a payload, in bytes, and how many of them were captured, if these are not all.
+pub fn put_payload_len(
+    object: &mut Object,
+    payload_len: usize,
+    payload: &[u8],
+) -> Result<(), AllocError>
+    ensures { OnOk result (members_in object.new ≡ with_members (payload_members payload_len payload.now) (members_in object.old)) }
 {
-    object.put_number("payload_length", payload.len() as u64)
+    object.put_number("payload_length", payload_len as u64)?;
+    if payload.len() == payload_len {
+        return Ok(());
+    }
+    object.put_number("payload_captured_length", payload.len() as u64)
 }

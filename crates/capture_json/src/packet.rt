@@ -97,11 +97,13 @@ fn put_content(object: &mut Object, alloc: Global, content: &Content) -> io::Res
             protocol,
             proto,
             transport,
+            payload_len,
         } => {
             put_addresses(object, alloc, *addresses)?;
             put_ip_protocol(object, *protocol, *proto)?;
             put_quoted(object, alloc, transport.quoted_packet())?;
-            put_transport(object, alloc, transport)
+            put_transport(object, alloc, transport)?;
+            Ok(put_payload_len(object, *payload_len, transport.payload())?)
         }
     }
 }
@@ -115,12 +117,9 @@ fn put_transport(object: &mut Object, alloc: Global, transport: &Transport) -> i
         Transport::Ports {
             source,
             destination,
-            payload,
-        } => {
-            put_ports(object, *source, *destination)?;
-            Ok(put_payload_len(object, payload)?)
-        }
-        Transport::Unread(payload) => Ok(put_payload_len(object, payload)?),
+            ..
+        } => Ok(put_ports(object, *source, *destination)?),
+        Transport::Unread(_) => Ok(()),
     }
 }
 
@@ -143,6 +142,5 @@ fn put_udp(object: &mut Object, alloc: Global, datagram: &UdpSlice) -> Result<()
     put_ports(object, datagram.source_port(), datagram.destination_port())?;
     let mut header = Object::new(alloc);
     header.put_number("length", u64::from(datagram.length()))?;
-    object.put_object("udp", header)?;
-    put_payload_len(object, datagram.payload())
+    object.put_object("udp", header)
 }

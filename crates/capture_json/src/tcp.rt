@@ -7,7 +7,7 @@ ghost use Rattle.tcp_part.specs.TcpFormat.{options_of};
 ghost use Rattle.capture_json.specs.JsonPacket.{AreTcpHeaderMembers, AreTcpMembers, name_if_set, names_of_set, tcp_number_members, urgent_members};
 ghost use Rattle.capture_text.specs.TcpText.{AreOptionTexts, IsOptionText, fault_text, tcp_flags};
 
-use crate::addresses::{put_payload_len, put_ports};
+use crate::addresses::put_ports;
 use crate::text::push_written;
 use crate::{Array, Object};
 use capture_text::{named_flags, write_fault, write_option};
@@ -15,15 +15,14 @@ use etherparse_transport::{TcpRawOption, TcpRawOptionError, TcpSlice};
 use std::alloc::{AllocError, Global};
 use std::io;
 
-/// Adds the ports, the header and the length of the payload of a segment.
+/// Adds the ports and the header of a segment.
 pub fn put_tcp(object: &mut Object, alloc: Global, segment: &TcpSlice) -> io::Result<()>
     ensures { OnOk result (PutsOne (AreTcpMembers segment.now) (members_in object.old) (members_in object.new)) }
 {
     put_ports(object, segment.source_port(), segment.destination_port())?;
     let mut header = Object::new(alloc);
     put_header(&mut header, alloc, segment)?;
-    object.put_object("tcp", header)?;
-    Ok(put_payload_len(object, segment.payload())?)
+    Ok(object.put_object("tcp", header)?)
 }
 
 /// Adds the fields of a header after its ports, except the checksum.

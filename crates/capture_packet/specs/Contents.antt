@@ -10,6 +10,7 @@ use Rattle.net_base.specs.IpHeaders.{version}
 use Rattle.net_base.specs.declared.err.tcp.header_slice_error.HeaderSliceError.{HeaderSliceError}
 use Rattle.etherparse_transport.specs.Transports.{kept, refusal}
 use Rattle.etherparse_transport.specs.declared.transport_slice.TransportSlice.{TransportSlice}
+use Rattle.capture_packet.specs.Payloads.{counted_payload_len, payload_len}
 use Rattle.capture_packet.specs.declared.content.Content.{Content}
 use Rattle.capture_packet.specs.declared.content.Content.TheVariants.{Ip, IpHeader, NotIp, Unread}
 use Rattle.capture_packet.specs.declared.transport.Transport.{Transport}
@@ -60,14 +61,15 @@ Holds found (transports.Ports source destination payload) =
 Holds found (transports.Unread payload) =
     (read_in found ≡ None) × ((begins_with_ports found ≡ false) × (payload.now ≡ found.payload.now))
 
--- the content is the content of an IP packet
-abbrev pub Shows : TransportInIp → Content → Type 0
-Shows found Unread = ⊥
-Shows found (IpHeader addresses) = ⊥
-Shows found (NotIp protocol) = ⊥
-Shows found (Ip addresses protocol proto transport) =
+-- the content is the content of an IP packet with these bytes
+abbrev pub Shows : List ℕ → TransportInIp → Content → Type 0
+Shows bytes found Unread = ⊥
+Shows bytes found (IpHeader addresses) = ⊥
+Shows bytes found (NotIp protocol) = ⊥
+Shows bytes found (Ip addresses protocol proto transport len) =
     (addresses ≡ found.addresses) × ((protocol ≡ found.protocol)
-    × ((proto ≡ proto_over (by_value found.addresses) found.protocol.0) × Holds found transport))
+    × ((proto ≡ proto_over (by_value found.addresses) found.protocol.0)
+    × (Holds found transport × (len ≡ payload_len (counted_payload_len bytes found) transport))))
 
 -- source and destination of an IP header with a complete fixed part: 20 bytes of version 4 (RFC 791, section 3.1), or 40 bytes of version 6
 -- (RFC 8200, section 3)
@@ -82,4 +84,4 @@ abbrev pub ShowsRefused : List ℕ → Content → Type 0
 ShowsRefused packet Unread = fixed_addresses packet ≡ None
 ShowsRefused packet (IpHeader addresses) = fixed_addresses packet ≡ Some (by_value addresses)
 ShowsRefused packet (NotIp protocol) = ⊥
-ShowsRefused packet (Ip addresses protocol proto transport) = ⊥
+ShowsRefused packet (Ip addresses protocol proto transport len) = ⊥

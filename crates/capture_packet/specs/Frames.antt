@@ -25,8 +25,8 @@ max_packet_len = 524288
 -- ---- IP packets
 
 -- the packet has this transport
-abbrev pub IsInPacket : Bool → TransportInIp → Packet → Type 0
-IsInPacket is_cut found packet = Shows found packet.content × JudgesTransport is_cut found packet.verdict
+abbrev pub IsInPacket : Bool → List ℕ → TransportInIp → Packet → Type 0
+IsInPacket is_cut bytes found packet = Shows bytes found packet.content × JudgesTransport is_cut found packet.verdict
 
 -- the packet has a transport after its IP headers
 pub record IsCarried (is_cut : Bool) (bytes : List ℕ) (packet : Packet) : Type 0 where
@@ -34,7 +34,7 @@ pub record IsCarried (is_cut : Bool) (bytes : List ℕ) (packet : Packet) : Type
   pub carries : Carries bytes found
   pub stated : found.is_length_missing ≡ lacks_len bytes
   pub after : IsAfterHeaders bytes found
-  pub is_in : IsInPacket is_cut found packet
+  pub is_in : IsInPacket is_cut bytes found packet
 
 -- the IP headers of the packet are rejected with this error
 abbrev pub IsUnread : Bool → List ℕ → IpError → Packet → Type 0

@@ -7,6 +7,7 @@ pub mod Link
 pub mod LinkHeaders
 pub mod Llc
 pub mod Mpls
+pub mod Payloads
 pub mod Ppp
 pub mod Quotes
 pub mod Verdicts

@@ -71,5 +71,9 @@ pub enum Content<'a> {
         proto: Option<Proto>,
         /// The transport.
         transport: Transport<'a>,
+        /// The length of the payload in bytes: of the bytes after the transport header, or after the IP headers if no transport header is
+        /// read. If the packet is cut off, this is the length by its IP header, and fewer bytes are present. A UDP datagram ends where its
+        /// length field states it, if it counts a header (RFC 768). If no length is stated, the bytes of the frame count.
+        payload_len: usize,
     },
 }

@@ -18,6 +18,7 @@ mod content;
 mod fixed_header;
 pub mod link;
 mod packet;
+mod payload;
 mod quoted_packet;
 mod read;
 mod refusal;

@@ -1,10 +1,11 @@
-ghost use Rattle.std.specs.Prelude.{◌≡◌};
-ghost use Rattle.ip_part.specs.Ip.{refusal};
+ghost use Rattle.std.specs.Prelude.{◌≡◌, None};
+ghost use Rattle.ip_part.specs.Ip.{Carries, lacks_len, lax_refusal, refusal};
 ghost use Rattle.capture_packet.specs.Frames.{IsInPacket, IsIpPacket, IsRead, IsUnread, link_verdict};
 ghost use Rattle.capture_packet.specs.Verdicts as specs;
 
 use crate::fixed_header::{IPV6_LEN, fixed_addresses};
 use crate::link::{Frame, LinkHeaderCutOff, network_packet};
+use crate::payload::{counted_payload_len, payload_len};
 use crate::transport::read_transport;
 use crate::{Content, Packet, Refusal, Verdict};
 use capture_file::{ByteOrder, LinkType};
@@ -58,7 +59,7 @@ fn read_ip_packet<'a>(packet: &'a [u8], is_cut: bool) -> Packet<'a>
     ensures { IsIpPacket is_cut packet.now result }
 {
     match transport_in_ip_lax(packet) {
-        Ok(found) => carried(&found, is_cut),
+        Ok(found) => carried(packet, &found, is_cut),
         Err(error) => unread(packet, error, is_cut_off(packet, is_cut)),
     }
 }
@@ -94,16 +95,21 @@ fn counts_no_payload(packet: &[u8], offset: usize, len: usize) -> bool
 }
 
 /// An IP packet with this transport.
-fn carried<'a>(found: &TransportInIp<'a>, is_cut: bool) -> Packet<'a>
-    ensures { IsInPacket is_cut found.now result }
+fn carried<'a>(packet: &'a [u8], found: &TransportInIp<'a>, is_cut: bool) -> Packet<'a>
+    requires accepted { lax_refusal packet.now ≡ None }
+    requires carries { Carries packet.now found.now }
+    requires stated { found.now.is_length_missing ≡ lacks_len packet.now }
+    ensures { IsInPacket is_cut packet.now found.now result }
 {
     let (transport, verdict) = read_transport(found, is_cut);
+    let payload_len = payload_len(&transport, counted_payload_len(packet, found));
     Packet {
         content: Content::Ip {
             addresses: found.addresses,
             protocol: found.protocol,
             proto: found.proto(),
             transport,
+            payload_len,
         },
         verdict,
     }

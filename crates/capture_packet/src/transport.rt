@@ -35,7 +35,20 @@ pub enum Transport<'a> {
 
 impl<'a> Transport<'a> {
     ghost use Rattle.std.specs.Option.{option_map};
+    ghost use Rattle.capture_packet.specs.Payloads.{payload_in};
     ghost use Rattle.capture_packet.specs.Quotes.{by_value as quoted_by_value, quoted_in};
+
+    /// The bytes after the transport header, or after the IP headers if no transport header is read. If the packet is cut off, these are
+    /// the bytes that are present.
+    pub fn payload(&self) -> &'a [u8]
+        ensures { result.now ≡ payload_in self.now }
+    {
+        match self {
+            Transport::Read(transport) => transport.payload(),
+            Transport::Ports { payload, .. } => payload,
+            Transport::Unread(payload) => payload,
+        }
+    }
 
     /// The packet that an ICMP error quotes, as `QuotedPacket` describes it. None for any other transport, and if the IP headers of the
     /// quoted packet are rejected or cut off.

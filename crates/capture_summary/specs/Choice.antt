@@ -48,7 +48,7 @@ abbrev pub HasHost : Content → Network → Type 0
 HasHost contents.Unread host = ⊥
 HasHost (contents.IpHeader addresses) host = IsSourceOrDestination (by_value addresses) host
 HasHost (contents.NotIp protocol) host = ⊥
-HasHost (contents.Ip addresses protocol proto transport) host =
+HasHost (contents.Ip addresses protocol proto transport payload_len) host =
     IsSourceOrDestination (by_value addresses) host ⊎ QuotesHost (quoted_in transport) host
 
 -- a packet from or to this port, or an ICMP error that quotes such a packet
@@ -56,7 +56,7 @@ abbrev pub HasPort : Content → ℕ → Type 0
 HasPort contents.Unread port = ⊥
 HasPort (contents.IpHeader addresses) port = ⊥
 HasPort (contents.NotIp protocol) port = ⊥
-HasPort (contents.Ip addresses protocol proto transport) port =
+HasPort (contents.Ip addresses protocol proto transport payload_len) port =
     IsPortOf (ports_of proto transport) port ⊎ QuotesPort (quoted_in transport) port
 
 -- whether a protocol is one of these

@@ -46,8 +46,8 @@ abbrev pub IsFlowOf : Content → Option Flow → Type 0
 IsFlowOf contents.Unread flow = flow ≡ None
 IsFlowOf (contents.IpHeader addresses) flow = flow ≡ None
 IsFlowOf (contents.NotIp protocol) flow = flow ≡ None
-IsFlowOf (contents.Ip addresses protocol proto transport) (Some flow) =
+IsFlowOf (contents.Ip addresses protocol proto transport payload_len) (Some flow) =
     IsSource (by_value addresses) (socket_ip flow.source) × IsDestination (by_value addresses) (Some (socket_ip flow.destination))
     × HasPorts (ports_of proto transport) flow
-IsFlowOf (contents.Ip addresses protocol proto transport) None =
+IsFlowOf (contents.Ip addresses protocol proto transport payload_len) None =
     (has_destination (by_value addresses) && is_some (ports_of proto transport)) ≡ false

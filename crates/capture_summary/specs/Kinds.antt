@@ -50,7 +50,7 @@ abbrev pub content_protocol : Content → Protocol
 content_protocol contents.Unread = Unknown
 content_protocol (contents.IpHeader addresses) = Unknown
 content_protocol (contents.NotIp protocol) = NotIp
-content_protocol (contents.Ip addresses protocol proto transport) = protocol_over_ip proto
+content_protocol (contents.Ip addresses protocol proto transport payload_len) = protocol_over_ip proto
 
 -- all rows, in their order
 abbrev pub protocol_kinds : List Protocol

@@ -128,8 +128,8 @@ one_content_text : (content : Content) (text other : List ℕ) → IsContentText
 one_content_text contents.Unread text other is also = is ∙ sym also
 one_content_text (contents.IpHeader addresses) text other is also = is ∙ sym also
 one_content_text (contents.NotIp protocol) text other is also = is ∙ sym also
-one_content_text (contents.Ip addresses protocol proto transport) text other is also =
-    one_transport_text (by_value addresses) protocol.0 proto transport text other is also
+one_content_text (contents.Ip addresses protocol proto transport payload_len) text other is also =
+    one_of _ _ (one_transport_text (by_value addresses) protocol.0 proto transport) text other is also
 
 -- packets with the same number, content, verdict and time have the same line
 pub one_line : (times : Times) (number : ℕ) (first time : Option PacketTime) (content : Content) (verdict : Verdict)

@@ -1,12 +1,12 @@
 -- The line of a packet.
-use Rattle.std.specs.Prelude.{◌≡◌, ℕ, if◌then◌else◌, List, [], ◌++◌, length, drop, codes, decimal, Option, Some, None}
+use Rattle.std.specs.Prelude.{◌≡◌, ℕ, ◌==◌, if◌then◌else◌, List, [], ◌++◌, length, drop, codes, decimal, Option, Some, None}
 use Rattle.icmp_part.specs.Icmpv4Format as icmpv4
 use Rattle.icmp_part.specs.Icmpv6Format as icmpv6
 use Rattle.ip_part.specs.Addresses.{Addresses, by_value}
 use Rattle.ip_part.specs.declared.proto.Proto.{Proto}
 use Rattle.net_base.specs.Bytes.{be_number}
-use Rattle.tcp_part.specs.TcpSegment.{payload_bytes}
 use Rattle.etherparse_transport.specs.declared.transport_slice.TransportSlice.TheVariants as slices
+use Rattle.capture_packet.specs.Payloads.{payload_in}
 use Rattle.capture_packet.specs.Quotes.{Quoted, quoted_in}
 use Rattle.capture_packet.specs.declared.content.Content.{Content}
 use Rattle.capture_packet.specs.declared.content.Content.TheVariants as contents
@@ -26,9 +26,14 @@ use Rattle.capture_text.specs.TimeText.{time_text}
 use Rattle.capture_text.specs.VerdictText.{is_other_protocol, verdict_text}
 use Rattle.capture_text.specs.declared.times.Times.{Times}
 
--- the length of a payload, in bytes
-abbrev pub payload_text : List ℕ → List ℕ
-payload_text payload = codes ", payload " ++ decimal (length payload)
+-- the number of bytes of a payload that were captured, if it is not the length of the payload
+abbrev pub captured_text : ℕ → ℕ → List ℕ
+captured_text payload_len captured_len =
+    if captured_len == payload_len then [] else codes ", " ++ (decimal captured_len ++ codes " captured")
+
+-- the length of a payload, in bytes, and how many of them were captured
+abbrev pub payload_text : ℕ → List ℕ → List ℕ
+payload_text payload_len payload = codes ", payload " ++ (decimal payload_len ++ captured_text payload_len (length payload))
 
 -- ---- the transport of an IP packet
 
@@ -36,16 +41,15 @@ payload_text payload = codes ", payload " ++ decimal (length payload)
 abbrev pub ports_text : Addresses → List ℕ → List ℕ
 ports_text addresses header = endpoints_text addresses (be_number header 0 2) (be_number header 2 2)
 
--- a UDP datagram: its addresses and ports, its length field (bytes 4 and 5), and the length of its payload
+-- a UDP datagram: its addresses and ports, and its length field (bytes 4 and 5)
 abbrev pub udp_text : Addresses → List ℕ → List ℕ
-udp_text addresses datagram =
-    ports_text addresses datagram ++ (codes " UDP length " ++ (decimal (be_number datagram 4 2) ++ payload_text (drop 8 datagram)))
+udp_text addresses datagram = ports_text addresses datagram ++ (codes " UDP length " ++ decimal (be_number datagram 4 2))
 
 -- this is the text of a TCP segment
 abbrev pub IsTcpText : Addresses → List ℕ → List ℕ → Type 0
 IsTcpText addresses segment text =
     (header : List ℕ) × IsHeaderText segment header
-    × (text ≡ ports_text addresses segment ++ (codes " TCP " ++ (header ++ payload_text (payload_bytes segment))))
+    × (text ≡ ports_text addresses segment ++ (codes " TCP " ++ header))
 
 -- a name, or this text if there is no name
 abbrev pub name_or : Option (List ℕ) → List ℕ → List ℕ
@@ -70,19 +74,16 @@ quoted_text (Some quoted) =
 -- an ICMPv4 message with the addresses of its packet, and the packet that it quotes
 abbrev pub icmpv4_line : Addresses → List ℕ → Option Quoted → List ℕ
 icmpv4_line addresses message quoted =
-    addresses_text addresses ++ (codes " ICMPv4 " ++ (icmpv4_text.message_text (icmpv4.icmp_type_of message)
-    ++ (quoted_text quoted ++ payload_text (drop (icmpv4.layout_of message).header_len message))))
+    addresses_text addresses ++ (codes " ICMPv4 " ++ (icmpv4_text.message_text (icmpv4.icmp_type_of message) ++ quoted_text quoted))
 
 -- an ICMPv6 message with the addresses of its packet, and the packet that it quotes
 abbrev pub icmpv6_line : Addresses → List ℕ → Option Quoted → List ℕ
 icmpv6_line addresses message quoted =
-    addresses_text addresses ++ (codes " ICMPv6 " ++ (icmpv6_text.message_text (icmpv6.icmp_type_of message)
-    ++ (quoted_text quoted ++ payload_text (drop (icmpv6.layout_of message).header_len message))))
+    addresses_text addresses ++ (codes " ICMPv6 " ++ (icmpv6_text.message_text (icmpv6.icmp_type_of message) ++ quoted_text quoted))
 
 -- an IP packet with a transport that is not read, and its ports if they are known
-abbrev pub unread_text : Addresses → ℕ → Option Proto → Option (ℕ × ℕ) → List ℕ → List ℕ
-unread_text addresses number proto ports payload =
-    known_endpoints addresses ports ++ (codes " " ++ (name_or_number number proto ++ payload_text payload))
+abbrev pub unread_text : Addresses → ℕ → Option Proto → Option (ℕ × ℕ) → List ℕ
+unread_text addresses number proto ports = known_endpoints addresses ports ++ (codes " " ++ name_or_number number proto)
 
 -- this is the text of the addresses and the transport of an IP packet
 abbrev pub IsTransportText : Addresses → ℕ → Option Proto → Transport → List ℕ → Type 0
@@ -93,8 +94,8 @@ IsTransportText addresses number proto (transports.Read (slices.Icmpv4 message))
 IsTransportText addresses number proto (transports.Read (slices.Icmpv6 message)) text =
     text ≡ icmpv6_line addresses message (quoted_in (transports.Read (slices.Icmpv6 message)))
 IsTransportText addresses number proto (transports.Ports source destination payload) text =
-    text ≡ unread_text addresses number proto (Some (source, destination)) payload.now
-IsTransportText addresses number proto (transports.Unread payload) text = text ≡ unread_text addresses number proto None payload.now
+    text ≡ unread_text addresses number proto (Some (source, destination))
+IsTransportText addresses number proto (transports.Unread payload) text = text ≡ unread_text addresses number proto None
 
 -- ---- lines
 
@@ -115,13 +116,15 @@ network_number (Nlpid number) = codes "NLPID " ++ hex_padded 2 number
 abbrev pub network_text : NetworkProtocol → List ℕ
 network_text protocol = name_or (network_protocol_name protocol) (network_number protocol)
 
--- This is the text of the content of a packet. It is empty if the packet is not read. If the IP headers are rejected, it contains only the
--- addresses.
+-- This is the text of the content of a packet, with the length of its payload. It is empty if the packet is not read. If the IP headers are
+-- rejected, it contains only the addresses.
 abbrev pub IsContentText : Content → List ℕ → Type 0
 IsContentText contents.Unread text = text ≡ []
 IsContentText (contents.IpHeader addresses) text = text ≡ addresses_text (by_value addresses)
 IsContentText (contents.NotIp protocol) text = text ≡ network_text protocol
-IsContentText (contents.Ip addresses protocol proto transport) text = IsTransportText (by_value addresses) protocol.0 proto transport text
+IsContentText (contents.Ip addresses protocol proto transport payload_len) text =
+    (what : List ℕ) × IsTransportText (by_value addresses) protocol.0 proto transport what
+    × (text ≡ what ++ payload_text payload_len (payload_in transport))
 
 -- the verdict after the content of a packet, with a semicolon before it; nothing if the protocol is not read
 abbrev pub verdict_part : Verdict → List ℕ
@@ -132,7 +135,7 @@ abbrev pub end_text : Content → Verdict → List ℕ
 end_text contents.Unread verdict = verdict_text verdict
 end_text (contents.IpHeader addresses) verdict = verdict_part verdict
 end_text (contents.NotIp protocol) verdict = verdict_part verdict
-end_text (contents.Ip addresses protocol proto transport) verdict = verdict_part verdict
+end_text (contents.Ip addresses protocol proto transport payload_len) verdict = verdict_part verdict
 
 -- this is the line of a packet: its number, its time, its content, and its verdict
 abbrev pub IsLine : Times → ℕ → Option PacketTime → Option PacketTime → Content → Verdict → List ℕ → Type 0

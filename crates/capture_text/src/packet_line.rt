@@ -64,7 +64,11 @@ fn write_content<W: Write>(output: &mut W, content: &Content) -> io::Result<()>
             protocol,
             proto,
             transport,
-        } => write_transport(output, *addresses, *protocol, *proto, transport),
+            payload_len,
+        } => {
+            write_transport(output, *addresses, *protocol, *proto, transport)?;
+            write_payload_len(output, *payload_len, transport.payload())
+        }
     }
 }
 
@@ -152,14 +156,12 @@ fn write_transport<W: Write>(
         Transport::Ports {
             source,
             destination,
-            payload,
+            ..
         } => {
             let ports = Some((*source, *destination));
-            write_unread(output, addresses, protocol, proto, ports, payload)
+            write_unread(output, addresses, protocol, proto, ports)
         }
-        Transport::Unread(payload) => {
-            write_unread(output, addresses, protocol, proto, None, payload)
-        }
+        Transport::Unread(_) => write_unread(output, addresses, protocol, proto, None),
     }
 }
 
@@ -177,8 +179,7 @@ fn write_udp<W: Write>(
         datagram.source_port(),
         datagram.destination_port(),
     )?;
-    write!(output, " UDP length {}", datagram.length())?;
-    write_payload_len(output, datagram.payload())
+    write!(output, " UDP length {}", datagram.length())
 }
 
 /// Writes a TCP segment.
@@ -196,8 +197,7 @@ fn write_tcp<W: Write>(
         segment.destination_port(),
     )?;
     write!(output, " TCP ")?;
-    tcp::write_header(output, segment)?;
-    write_payload_len(output, segment.payload())
+    tcp::write_header(output, segment)
 }
 
 /// Writes an ICMPv4 message, and the packet that it quotes.
@@ -213,8 +213,7 @@ fn write_icmpv4<W: Write>(
     write_addresses(output, addresses)?;
     write!(output, " ICMPv4 ")?;
     icmpv4::write_message(output, &message.icmp_type())?;
-    write_quoted(output, quoted)?;
-    write_payload_len(output, message.payload())
+    write_quoted(output, quoted)
 }
 
 /// Writes an ICMPv6 message, and the packet that it quotes.
@@ -230,8 +229,7 @@ fn write_icmpv6<W: Write>(
     write_addresses(output, addresses)?;
     write!(output, " ICMPv6 ")?;
     icmpv6::write_message(output, &message.icmp_type())?;
-    write_quoted(output, quoted)?;
-    write_payload_len(output, message.payload())
+    write_quoted(output, quoted)
 }
 
 /// Writes the packet that an ICMP error quotes, if there is one.
@@ -267,14 +265,12 @@ fn write_unread<W: Write>(
     protocol: IpNumber,
     proto: Option<Proto>,
     ports: Option<(u16, u16)>,
-    payload: &[u8],
 ) -> io::Result<()>
     ensures { OnOk result (Appends (W.contents output.old) (W.contents output.new)
-        (unread_text (by_value addresses.entry) protocol.0 proto ports payload.now)) }
+        (unread_text (by_value addresses.entry) protocol.0 proto ports)) }
 {
     write_known_endpoints(output, addresses, ports)?;
-    write_protocol(output, protocol, proto)?;
-    write_payload_len(output, payload)
+    write_protocol(output, protocol, proto)
 }
 
 /// Writes the protocol of a packet: its name, or its number.
@@ -292,9 +288,13 @@ fn write_protocol<W: Write>(
     }
 }
 
-/// Writes the length of a payload, in bytes.
-fn write_payload_len<W: Write>(output: &mut W, payload: &[u8]) -> io::Result<()>
-    ensures { OnOk result (Appends (W.contents output.old) (W.contents output.new) (payload_text payload.now)) }
+/// Writes the length of a payload, in bytes, and how many of them were captured, if these are not all.
+fn write_payload_len<W: Write>(output: &mut W, payload_len: usize, payload: &[u8]) -> io::Result<()>
+    ensures { OnOk result (Appends (W.contents output.old) (W.contents output.new) (payload_text payload_len payload.now)) }
 {
-    write!(output, ", payload {}", payload.len())
+    write!(output, ", payload {payload_len}")?;
+    if payload.len() == payload_len {
+        return Ok(());
+    }
+    write!(output, ", {} captured", payload.len())
 }

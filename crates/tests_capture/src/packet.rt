@@ -202,6 +202,7 @@ pub(crate) fn over_ipv4(protocol: IpNumber, transport: TransportSlice<'_>) -> Co
         addresses,
         protocol,
         proto: Some(transport.proto()),
+        payload_len: transport.payload().len(),
         transport: Transport::Read(transport),
     }
 }
@@ -216,6 +217,7 @@ fn over_ipv6(protocol: IpNumber, transport: TransportSlice<'_>) -> Content<'_> {
         addresses,
         protocol,
         proto: Some(transport.proto()),
+        payload_len: transport.payload().len(),
         transport: Transport::Read(transport),
     }
 }
@@ -719,6 +721,54 @@ fn expect_verdict(rt: &(impl Abort + AllocGlobal), row: &VerdictRow) {
 fn packets_are_not_looked_at(rt: HostRuntime) {
     for row in &VERDICTS {
         expect_verdict(&rt, row);
+    }
+}
+
+/// UDP whose length field counts less than a header.
+const UDP_OF_5: [u8; 11] = [0, 53, 4, 210, 0, 5, 0x22, 0x6C, 97, 98, 99];
+
+/// The headers of a packet, the bytes after them, the length of its payload, and how many bytes of the payload are present.
+type PayloadRow = (Header, &'static [u8], usize, usize);
+
+#[rattlefmt::skip]
+static PAYLOADS: [PayloadRow; 14] = [
+    (V4_UDP, &UDP_OVER_IPV4, 3, 3),
+    (V6_TCP, &TCP_OVER_IPV6, 3, 3),
+    (Header::Ipv4(0x45, 120, 0, 6), &TCP_OVER_IPV4, 80, 3),
+    (Header::Ipv4(0x45, 120, 0, 6), &TCP_CUT, 100, 19),
+    (Header::Ipv4(0x45, 120, 0, 1), &ECHO_OVER_IPV4, 92, 1),
+    (Header::Ipv4(0x45, 120, 0x20, 17), &UDP_OVER_IPV4, 100, 11),
+    (Header::Ipv4(0x45, 120, 0, 50), &UDP_OVER_IPV4, 100, 11),
+    (Header::Ipv6(100, 6), &TCP_OVER_IPV6, 80, 3),
+    (Header::Ipv6(100, 0), &[17, 0, 1, 4, 0, 0, 0, 0, 0, 53, 4, 210, 0, 92, 0xDA, 0xF9, 97], 84, 1),
+    // A UDP datagram ends where its length field states it, unless the field counts no header or more bytes than the IP header.
+    (Header::Ipv4(0x45, 120, 0, 17), &UDP_OVER_IPV4, 3, 3),
+    (Header::Ipv4(0x45, 120, 0, 17), &UDP_OF_12, 4, 3),
+    (Header::Ipv4(0x45, 120, 0, 17), &UDP_OF_5, 92, 3),
+    (Header::Ipv4(0x45, 32, 0, 17), &[0, 53, 4, 210, 0, 200, 0x22, 0x6C, 97, 98, 99], 4, 3),
+    (Header::Ipv4(0x45, 0, 0, 6), &TCP_OVER_IPV4, 3, 3),
+];
+
+/// Stops the test unless the payload of a row has the length of the row, and as many bytes are present.
+fn expect_payload(rt: &(impl Abort + AllocGlobal), row: &PayloadRow) {
+    let (header, payload, len, present_len) = *row;
+    let frame = packet_of(rt, header, payload);
+    let packet = read_packet(LinkType::RawIp, BIG, &frame, true);
+    let found = match &packet.content {
+        Content::Ip {
+            transport,
+            payload_len,
+            ..
+        } => Some((*payload_len, transport.payload().len())),
+        _ => None,
+    };
+    expect_equal(rt, &(row, found), &(row, Some((len, present_len))));
+}
+
+#[test]
+fn lengths_of_payloads(rt: HostRuntime) {
+    for row in &PAYLOADS {
+        expect_payload(&rt, row);
     }
 }
 

@@ -77,6 +77,7 @@ fn datagram_over(addresses: IpAddresses<'_>) -> Result<Packet<'_>, Fail> {
         protocol: ip_number::UDP,
         proto: Some(Proto::Udp),
         transport: Transport::Read(TransportSlice::Udp(UdpSlice::from_slice(&DATAGRAM)?)),
+        payload_len: 1,
     }))
 }
 
@@ -95,6 +96,7 @@ fn packets_are_chosen(rt: HostRuntime) -> Result<(), Fail> {
         protocol: ip_number::IPV6_ICMP,
         proto: Some(Proto::Icmpv6),
         transport: Transport::Unread(&[1, 2, 3]),
+        payload_len: 3,
     };
     let error = Content::Ip {
         addresses: OVER_IPV4,
@@ -103,6 +105,7 @@ fn packets_are_chosen(rt: HostRuntime) -> Result<(), Fail> {
         transport: Transport::Read(TransportSlice::Icmpv4(Icmpv4Slice::from_slice(
             &TIME_EXCEEDED,
         )?)),
+        payload_len: 28,
     };
     let packets = [
         datagram_over(OVER_IPV4)?,

@@ -83,7 +83,7 @@ fn expect_object(
 
 /// Packets whose transport is not read, and the object of each.
 #[rattlefmt::skip]
-const OBJECTS: [(Content, Verdict, &str); 8] = [
+const OBJECTS: [(Content, Verdict, &str); 9] = [
     (Content::Unread, Verdict::Checksum(ChecksumVerdict::Untested(Untested::CutOff)),
      r#"{"checksum":"not_looked_at","number":1,"reason":"cut_off","time":null}"#),
     (Content::Unread, Verdict::LengthMissing,
@@ -95,12 +95,15 @@ const OBJECTS: [(Content, Verdict, &str); 8] = [
      r#"{"checksum":"not_looked_at","number":1,"reason":"another_protocol","snap_organization_code":12,"snap_protocol":8192,"time":null}"#),
     (Content::NotIp(NetworkProtocol::EtherType(0x88CC)), Verdict::Checksum(ChecksumVerdict::Untested(Untested::OtherProtocol)),
      r#"{"checksum":"not_looked_at","ether_type":35020,"number":1,"protocol_name":"LLDP","reason":"another_protocol","time":null}"#),
-    (Content::Ip { addresses: OVER_IPV4, protocol: IpNumber(89), proto: None, transport: Transport::Unread(&[1, 2, 3]) },
+    (Content::Ip { addresses: OVER_IPV4, protocol: IpNumber(89), proto: None, transport: Transport::Unread(&[1, 2, 3]), payload_len: 3 },
      Verdict::Checksum(ChecksumVerdict::Untested(Untested::OtherProtocol)),
      r#"{"checksum":"not_looked_at","destination":"192.0.2.2","number":1,"payload_length":3,"protocol":89,"protocol_name":"OSPF","reason":"another_protocol","source":"192.0.2.1","time":null}"#),
     (Content::IpHeader(OVER_IPV6), Verdict::Refused(Refusal::Ip(IpError::Version { version: 5 })),
      r#"{"destination":null,"number":1,"refused":"IP version 5","source":"2001:db8::1","time":null}"#),
-    (Content::Ip { addresses: OVER_IPV6, protocol: ip_number::UDP, proto: Some(Proto::Udp), transport: Transport::Unread(&[1, 2, 3]) },
+    (Content::Ip { addresses: OVER_IPV6, protocol: IpNumber(47), proto: None, transport: Transport::Unread(&[1, 2, 3]), payload_len: 1400 },
+     Verdict::Checksum(ChecksumVerdict::Untested(Untested::CutOff)),
+     r#"{"checksum":"not_looked_at","destination":null,"number":1,"payload_captured_length":3,"payload_length":1400,"protocol":47,"protocol_name":"GRE","reason":"cut_off","source":"2001:db8::1","time":null}"#),
+    (Content::Ip { addresses: OVER_IPV6, protocol: ip_number::UDP, proto: Some(Proto::Udp), transport: Transport::Unread(&[1, 2, 3]), payload_len: 3 },
      Verdict::Checksum(ChecksumVerdict::Untested(Untested::UnknownDestination)),
      r#"{"checksum":"not_looked_at","destination":null,"number":1,"payload_length":3,"protocol":17,"protocol_name":"UDP","reason":"final_destination_unknown","source":"2001:db8::1","time":null}"#),
 ];
@@ -159,6 +162,7 @@ fn over_ipv4(bytes: &[u8]) -> Result<Content<'_>, Fail> {
         addresses: OVER_IPV4,
         protocol: ip_number::UDP,
         proto: Some(Proto::Udp),
+        payload_len: transport.payload().len(),
         transport: Transport::Read(transport),
     })
 }
@@ -182,11 +186,13 @@ static ERRORS: [(&[u8], &str, u32); 3] = [
 #[test]
 fn objects_of_quoted_packets(rt: HostRuntime) -> Result<(), Fail> {
     for (bytes, quoted, payload_len) in &ERRORS {
+        let message = Icmpv4Slice::from_slice(bytes)?;
         let content = Content::Ip {
             addresses: OVER_IPV4,
             protocol: ip_number::ICMP,
             proto: Some(Proto::Icmpv4),
-            transport: Transport::Read(TransportSlice::Icmpv4(Icmpv4Slice::from_slice(bytes)?)),
+            payload_len: message.payload().len(),
+            transport: Transport::Read(TransportSlice::Icmpv4(message)),
         };
         let verdict = Verdict::Checksum(ChecksumVerdict::Right);
         let message = r#"{"code":0,"message":"time exceeded, code 0 (time to live)","type":11}"#;

@@ -148,22 +148,22 @@ const PROTOCOLS: [ProtocolRow; 8] = [
     (Content::IpHeader(OVER_IPV4), Protocol::Unknown),
     (Content::NotIp(NetworkProtocol::EtherType(0x0806)), Protocol::NotIp),
     (
-        Content::Ip { addresses: OVER_IPV4, protocol: ip_number::UDP, proto: Some(Proto::Udp), transport: Transport::Unread(&[]) },
+        Content::Ip { addresses: OVER_IPV4, protocol: ip_number::UDP, proto: Some(Proto::Udp), transport: Transport::Unread(&[]), payload_len: 0 },
         Protocol::Udp,
     ),
     (
-        Content::Ip { addresses: OVER_IPV4, protocol: ip_number::TCP, proto: Some(Proto::Tcp), transport: Transport::Unread(&[]) },
+        Content::Ip { addresses: OVER_IPV4, protocol: ip_number::TCP, proto: Some(Proto::Tcp), transport: Transport::Unread(&[]), payload_len: 0 },
         Protocol::Tcp,
     ),
     (
-        Content::Ip { addresses: OVER_IPV4, protocol: ip_number::ICMP, proto: Some(Proto::Icmpv4), transport: Transport::Unread(&[]) },
+        Content::Ip { addresses: OVER_IPV4, protocol: ip_number::ICMP, proto: Some(Proto::Icmpv4), transport: Transport::Unread(&[]), payload_len: 0 },
         Protocol::Icmpv4,
     ),
     (
-        Content::Ip { addresses: OVER_IPV4, protocol: ip_number::IPV6_ICMP, proto: Some(Proto::Icmpv6), transport: Transport::Unread(&[]) },
+        Content::Ip { addresses: OVER_IPV4, protocol: ip_number::IPV6_ICMP, proto: Some(Proto::Icmpv6), transport: Transport::Unread(&[]), payload_len: 0 },
         Protocol::Icmpv6,
     ),
-    (Content::Ip { addresses: OVER_IPV4, protocol: IpNumber(50), proto: None, transport: Transport::Unread(&[]) }, Protocol::OtherOverIp),
+    (Content::Ip { addresses: OVER_IPV4, protocol: IpNumber(50), proto: None, transport: Transport::Unread(&[]), payload_len: 0 }, Protocol::OtherOverIp),
 ];
 
 /// Stops the test unless the packet of a row is counted in the row of its protocol.

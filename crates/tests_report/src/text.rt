@@ -67,6 +67,7 @@ fn expect_transport(
         addresses,
         protocol,
         proto: proto_over(addresses, protocol),
+        payload_len: transport.payload().len(),
         transport,
     };
     let [before, wanted, after] = wanted;

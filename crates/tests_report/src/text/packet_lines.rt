@@ -38,6 +38,7 @@ fn whole_lines(rt: HostRuntime) -> Result<(), Fail> {
         protocol: ip_number::UDP,
         proto: Some(Proto::Udp),
         transport: transport_of(&DATAGRAM)?,
+        payload_len: 1,
     };
     let wanted = [
         "192.0.2.1:49152 > 192.0.2.2:53 ",
@@ -126,6 +127,23 @@ fn addresses_and_ports(rt: HostRuntime) -> Result<(), Fail> {
         )?;
     }
     Ok(())
+}
+
+#[test]
+fn a_payload_that_is_cut_off(rt: HostRuntime) -> Result<(), Fail> {
+    let content = Content::Ip {
+        addresses: OVER_IPV4,
+        protocol: ip_number::UDP,
+        proto: Some(Proto::Udp),
+        transport: transport_of(&DATAGRAM)?,
+        payload_len: 1400,
+    };
+    let wanted = [
+        "192.0.2.1:49152 > 192.0.2.2:53 ",
+        "UDP length 9, payload 1400, 1 captured",
+        "; checksum not looked at: cut off",
+    ];
+    expect_line(&rt, content, Verdict::untested(Untested::CutOff), wanted)
 }
 
 /// Verdicts on checksums, and what is written of each. A UDP packet without a length is refused.

@@ -1,5 +1,4 @@
 use Rattle.std.proofs.Common.{[], refl}
-use Rattle.std.proofs.lemmas.Result.{on_ok_weaker}
 use Rattle.capture_json.proofs.MembersLemmas.{with_append}
 use Rattle.capture_json.proofs.packet.put_content.Goals as goal
 
@@ -13,21 +12,21 @@ returns-in_ok-put_addresses-in-IpHeader c = rw c.in-IpHeader.is (_, refl, c.in_o
 pub returns-in_ok-put_network_protocol-in-NotIp : goal.returns-in_ok-put_network_protocol-in-NotIp
 returns-in_ok-put_network_protocol-in-NotIp c = rw c.in-NotIp.is (_, refl, c.in_ok-put_network_protocol-in-NotIp.ensures)
 
--- addresses, protocol, quoted packet and transport
-pub returns-in_ok-put_quoted-in-Ip : goal.returns-in_ok-put_quoted-in-Ip
-returns-in_ok-put_quoted-in-Ip c =
-    rw c.in-Ip.is
-    (on_ok_weaker c.put_transport.result
-    (λ last. (
+-- addresses, protocol, quoted packet, transport and the length of the payload
+pub returns-in_ok-put_payload_len-in-Ip : goal.returns-in_ok-put_payload_len-in-Ip
+returns-in_ok-put_payload_len-in-Ip c =
+    let (inner, are, put) = c.in_ok-put_transport-in-Ip.ensures in
+    rw c.in-Ip.is (
       _,
-      (last.0, last.1, refl),
+      (inner, are, refl),
       simp (
         with_append,
-        last.2,
+        c.in_ok-put_payload_len-in-Ip.ensures,
+        c.payload.ensures,
+        put,
         c.in_ok-put_quoted-in-Ip.ensures,
         c.quoted_packet.ensures,
         c.in_ok-put_ip_protocol-in-Ip.ensures,
         c.in_ok-put_addresses-in-Ip.ensures,
       ),
-    ))
-    c.put_transport.ensures)
+    )

@@ -2,7 +2,7 @@ use Rattle.std.proofs.Common.{refl}
 use Rattle.capture_json.proofs.MembersLemmas.{with_append}
 use Rattle.capture_json.proofs.tcp.put_tcp.Goals as goal
 
--- ports, header and payload
+-- ports and header
 pub returns : goal.returns
 returns c =
     let (header, are, put) = c.in_ok-put_header.ensures in (
@@ -10,8 +10,6 @@ returns c =
       (header, are, refl),
       simp (
         with_append,
-        c.in_ok-put_payload_len.ensures,
-        c.payload.ensures,
         c.in_ok-put_object.ensures.ok,
         put,
         c.new-header.ensures,

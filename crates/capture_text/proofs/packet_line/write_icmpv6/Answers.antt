@@ -5,6 +5,5 @@ use Rattle.capture_text.proofs.packet_line.write_icmpv6.Goals as goal
 
 pub returns : goal.returns
 returns g c =
-    written_3 _ _ _ _ _ _ _ _ _
-    (Appends-trans _ _ _ _ _ (Appends-trans _ _ _ _ _ c.in_ok-write_addresses.ensures c.in_ok-write.ensures.bytes) c.in_ok-write_message.ensures)
-    c.in_ok-write_quoted.ensures c.write_payload_len.ensures (simp (append_assoc, c.icmp_type.ensures, c.payload.ensures))
+    written_3 _ _ _ _ _ _ _ _ _ (Appends-trans _ _ _ _ _ c.in_ok-write_addresses.ensures c.in_ok-write.ensures.bytes)
+    c.in_ok-write_message.ensures c.write_quoted.ensures (simp (append_assoc, c.icmp_type.ensures))

@@ -1,11 +1,9 @@
 use Rattle.std.proofs.Common.{append_assoc}
 use Rattle.std.proofs.KnownBytes.{Appends-trans}
-use Rattle.capture_text.proofs.WrittenLemmas.{one_then}
+use Rattle.capture_text.proofs.WrittenLemmas.{then_one}
 use Rattle.capture_text.proofs.packet_line.write_tcp.Goals as goal
 
 pub returns : goal.returns
 returns g c =
-    let (header, is, appends) = c.in_ok-write_header.ensures in
-    one_then _ _ _ _ _ _ _
-    (Appends-trans _ _ _ _ _ (Appends-trans _ _ _ _ _ c.in_ok-write_endpoints.ensures c.in_ok-write.ensures.bytes) appends)
-    (header, is, simp (append_assoc, c.source_port.ensures, c.destination_port.ensures, c.payload.ensures)) c.write_payload_len.ensures
+    then_one _ _ _ _ _ _ _ (Appends-trans _ _ _ _ _ c.in_ok-write_endpoints.ensures c.in_ok-write.ensures.bytes)
+    (λ header is. (header, is, simp (append_assoc, c.source_port.ensures, c.destination_port.ensures))) c.write_header.ensures

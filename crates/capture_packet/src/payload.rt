@@ -1,0 +1,61 @@
+//! The length of a payload.
+
+ghost use Rattle.std.specs.Prelude.{◌≡◌, ◌-◌, None};
+ghost use Rattle.ip_part.specs.Ip.{Carries, lacks_len, lax_refusal};
+ghost use Rattle.capture_packet.specs.Payloads as specs;
+
+use crate::Transport;
+use etherparse_transport::ip::{IpError, TransportInIp, transport_in_ip};
+use etherparse_transport::{TransportSlice, UdpHeader};
+
+/// The number of bytes after the headers of an IP packet that the IP header counts. If the packet is cut off, fewer bytes are present.
+pub(crate) fn counted_payload_len(packet: &[u8], found: &TransportInIp<'_>) -> usize
+    requires accepted { lax_refusal packet.now ≡ None }
+    requires carries { Carries packet.now found.now }
+    requires stated { found.now.is_length_missing ≡ lacks_len packet.now }
+    ensures { result ≡ specs.counted_payload_len packet.now found.now }
+{
+    if !found.is_cut_off {
+        return found.payload.len();
+    }
+    match transport_in_ip(packet) {
+        Err(IpError::PacketCutOff { required_len, .. }) => {
+            required_len.saturating_sub(found.payload_offset)
+        }
+        _ => found.payload.len(),
+    }
+}
+
+/// The length of the payload of a transport. The IP header counts this number of bytes after the IP headers.
+pub(crate) fn payload_len(transport: &Transport<'_>, counted_len: usize) -> usize
+    ensures { result ≡ specs.payload_len counted_len transport.now }
+{
+    match transport {
+        Transport::Read(transport) => {
+            transport_len(transport, counted_len).saturating_sub(transport.header_len())
+        }
+        Transport::Ports { .. } | Transport::Unread(_) => counted_len,
+    }
+}
+
+/// The length of a transport with its header.
+fn transport_len(transport: &TransportSlice<'_>, counted_len: usize) -> usize
+    ensures { result ≡ specs.transport_len counted_len transport.now }
+{
+    match transport {
+        TransportSlice::Udp(datagram) => datagram_len(usize::from(datagram.length()), counted_len),
+        TransportSlice::Tcp(_) | TransportSlice::Icmpv4(_) | TransportSlice::Icmpv6(_) => {
+            counted_len
+        }
+    }
+}
+
+/// The length of a UDP datagram by its length field (RFC 768).
+fn datagram_len(length: usize, counted_len: usize) -> usize
+    ensures { result ≡ specs.datagram_len counted_len length }
+{
+    if length < UdpHeader::LEN {
+        return counted_len;
+    }
+    counted_len.min(length)
+}
