@@ -2,7 +2,7 @@ ghost use Rattle.std.specs.Prelude.{◌≡◌, ◌≢◌, ◌↔◌, slice_index
 ghost use Rattle.net_base.specs.Bytes.{IsBytes};
 ghost use Rattle.net_base.specs.IpHeaders.{ipv4_header_len, ipv4_header_of};
 ghost use Rattle.net_base.specs.Refusals.{RefusesExactly};
-ghost use Rattle.word_sum.specs.Checksum.{total};
+ghost use Rattle.word_sum.specs.Checksum.{all_ones, total};
 ghost use Rattle.word_sum.specs.ChecksumChange.{added_value, removed_value};
 ghost use Rattle.etherparse_transport.specs.Translations.{IsAcceptedAlike, IsReadWith, with_bytes, with_quote};
 ghost use Rattle.etherparse_transport.specs.WaysBack.{IsIpv4Restored, IsIpv4Translation, ipv4_way_back};
@@ -167,7 +167,7 @@ fn translate_ipv4_flow(packet: &mut [u8], place: &Place, new: &Ipv4Translation) 
     requires place { specs.IsIpv4Place packet.old place.now }
     ensures translated { packet.new ≡ specs.ipv4_translated_flow new.now packet.old }
     // The replaced words are all that differs.
-    ensures turns { (total packet.old + added_value result) % 65535 ≡ (total packet.new + removed_value result) % 65535 }
+    ensures turns { (total packet.old + added_value result) % all_ones ≡ (total packet.new + removed_value result) % all_ones }
     ensures version { slice_index packet.new 0 ≡ slice_index packet.old 0 }
     ensures verifies { specs.IsIpv4Accepted new.now packet.old (specs.ipv4_flow_message new.now packet.old) }
     ensures header { specs.IsHeaderAccepted packet.old packet.new }

@@ -2,7 +2,7 @@ ghost use Rattle.std.specs.Prelude.{◌≡◌, ◌≢◌, ◌↔◌, ◌≤◌, 
 ghost use Rattle.net_base.specs.Bytes.{IsBytes};
 ghost use Rattle.net_base.specs.IpHeaders.{BeginsWithIpv6Header, ipv6_header_of};
 ghost use Rattle.net_base.specs.Refusals.{RefusesExactly};
-ghost use Rattle.word_sum.specs.Checksum.{total};
+ghost use Rattle.word_sum.specs.Checksum.{all_ones, total};
 ghost use Rattle.word_sum.specs.ChecksumChange.{TurnsInto, added_value, removed_value};
 ghost use Rattle.word_sum.specs.UpdatedChecksum.{TurnsIntoBy};
 ghost use Rattle.etherparse_transport.specs.Translations.{AreUpdatedAlike, IsAcceptedAlike, IsReadWith, with_bytes, with_quote};
@@ -222,7 +222,7 @@ fn translate_ipv6_flow(packet: &mut [u8], place: &Place, new: &Ipv6Translation) 
     requires place { specs.IsIpv6Place packet.old place.now }
     ensures translated { packet.new ≡ specs.ipv6_translated_flow new.now packet.old }
     // The replaced words are all that differs.
-    ensures turns { (total packet.old + added_value result) % 65535 ≡ (total packet.new + removed_value result) % 65535 }
+    ensures turns { (total packet.old + added_value result) % all_ones ≡ (total packet.new + removed_value result) % all_ones }
     ensures version { slice_index packet.new 0 ≡ slice_index packet.old 0 }
     ensures verifies { specs.IsIpv6Accepted new.now packet.old (specs.ipv6_flow_message new.now packet.old) }
     ensures addresses { specs.AreIpv6Addresses (specs.ipv6_addresses new.now packet.old) }

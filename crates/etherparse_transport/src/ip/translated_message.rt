@@ -1,7 +1,7 @@
 ghost use Rattle.std.specs.Prelude.{◌%◌, ◌≤◌, ◌≢◌, ◌↔◌, ℕ, length, slice_index, ◌≡◌, ◌+◌, ◌<◌, ◌^◌};
 ghost use Rattle.ip_part.specs.declared.proto.Proto.TheVariants as protos;
 ghost use Rattle.net_base.specs.StoredChecksum.{with_checksum};
-ghost use Rattle.word_sum.specs.Checksum.{IsAllOnes, total};
+ghost use Rattle.word_sum.specs.Checksum.{IsAllOnes, all_ones, total};
 ghost use Rattle.word_sum.specs.ChecksumChange.{TurnsInto, added_value, removed_value};
 ghost use Rattle.etherparse_transport.specs.Translations as specs;
 ghost use Rattle.etherparse_transport.specs.Translations.{HaveSums, IsAcceptedAlike, IsUpdated};
@@ -177,7 +177,7 @@ fn replace_ports(
 pub(crate) fn update_checksum(message: &mut [u8], change: ChecksumChange) -> ChecksumChange
     ensures updated { message.new ≡ specs.with_updated_checksum (removed_value change) (added_value change) message.old }
     ensures remainder { (packet changed : ℕ) → TurnsInto change packet changed → 4 ≤ length message.old →
-        (changed + total message.new) % 65535 ≡ (packet + total message.old) % 65535 }
+        (changed + total message.new) % all_ones ≡ (packet + total message.old) % all_ones }
     ensures first { slice_index message.new 0 ≡ slice_index message.old 0 }
     ensures turns { (before after : ℕ) → TurnsInto change before (after + total message.old) → TurnsInto result before (after + total message.new) }
 {
@@ -210,7 +210,7 @@ fn translate_echo(
 /// The stored checksum of an echo message. An echo reply of zeros over IPv4 has the checksum 65535, and the update yields 0 (RFC 1624).
 fn echo_checksum(message: &[u8], updated: u16) -> u16
     ensures stored { result ≡ specs.updated_echo_checksum message.now updated }
-    ensures remainder { result % 65535 ≡ updated % 65535 }
+    ensures remainder { result % all_ones ≡ updated % all_ones }
     ensures some { slice_index message.now 0 ≡ 0 → result ≢ 0 }
 {
     if updated == 0 && (message.is_empty() || message[0] == 0) {
