@@ -256,15 +256,24 @@ verdict_members (verdicts.Refused refusal) = refused_member refusal ∷ []
 
 -- ---- packets
 
--- these members are a packet: its number, its time, its content, and its verdict
+-- the kind of a line
+abbrev pub type_member : List ℕ → Member
+type_member kind = (codes "type", string kind)
+
+-- these members are a packet: its type, its number, its time, its content, and its verdict
 abbrev pub ArePacketMembers : Times → ℕ → Option PacketTime → Option PacketTime → Content → Verdict → List Member → Type 0
 ArePacketMembers times number first time content verdict members =
     (what : List Member) × AreContentMembers content what
-    × (members ≡ (codes "number", whole_number number) ∷ (codes "time", time_data times first time) ∷ (what ++ verdict_members verdict))
+    × (members ≡ type_member (codes "packet") ∷ (codes "number", whole_number number) ∷ (codes "time", time_data times first time)
+    ∷ (what ++ verdict_members verdict))
 
 -- an object in a line
 abbrev pub json_line : List Member → List ℕ
 json_line members = compact_text (object_of members) ++ codes "\n"
+
+-- the name of a capture
+abbrev pub file_members : List ℕ → List Member
+file_members name = type_member (codes "file") ∷ (codes "file", string name) ∷ []
 
 -- this is the line of a packet
 abbrev pub IsJsonLine : Times → ℕ → Option PacketTime → Option PacketTime → Content → Verdict → List ℕ → Type 0

@@ -10,7 +10,7 @@ use Rattle.capture_summary.specs.declared.rates.Rates.{Rates}
 use Rattle.capture_text.specs.AbsoluteTime.{absolute_text}
 use Rattle.capture_summary.specs.Conversations.{both}
 use Rattle.capture_text.specs.Elapsed.{elapsed_text}
-use Rattle.capture_json.specs.JsonPacket.{json_line}
+use Rattle.capture_json.specs.JsonPacket.{json_line, type_member}
 use Rattle.capture_summary.specs.Kinds.{flow_protocol_number, flow_protocol_word, link_rows, protocol_rows, refusal_rows, verdict_rows}
 use Rattle.capture_json.specs.Words.{with_underscores}
 use Rattle.capture_summary.specs.Ranking.{busiest_of}
@@ -91,13 +91,17 @@ totals_members tables =
 abbrev pub rows_members : List ConversationCount → SummaryTables → List Member
 rows_members busiest tables =
     (codes "link_types", rows_data (link_rows tables.links)) ∷ (codes "protocols", counts_data (protocol_rows tables.protocols))
-    ∷ (codes "checksums", rows_data (verdict_rows tables.verdicts)) ∷ (codes "refused", rows_data (refusal_rows tables.refusals))
+    ∷ (codes "checksums", rows_data (verdict_rows tables.verdicts)) ∷ (codes "refusals", rows_data (refusal_rows tables.refusals))
     ∷ conversations_members busiest tables.flows.without_ports tables.flows.without_room
 
 -- the totals and the tables, with these conversations
 abbrev pub tables_members : List ConversationCount → SummaryTables → List Member
 tables_members busiest tables = totals_members tables ++ rows_members busiest tables
 
+-- the type, the totals and the tables, with these conversations
+abbrev pub summary_members : List ConversationCount → SummaryTables → List Member
+summary_members busiest tables = type_member (codes "summary") ∷ tables_members busiest tables
+
 -- the line of the summary, with at most this number of the busiest conversations
 abbrev pub json_summary : ℕ → SummaryTables → List ℕ
-json_summary top tables = json_line (tables_members (busiest_of top tables.flows.rows) tables)
+json_summary top tables = json_line (summary_members (busiest_of top tables.flows.rows) tables)

@@ -1,16 +1,15 @@
 //! The name of a capture.
 
-ghost use Rattle.std.specs.Prelude.{◌∷◌, [], OnOk, codes};
+ghost use Rattle.std.specs.Prelude.{OnOk};
 ghost use Rattle.std.specs.Io.KnownBytes.{Appends};
-ghost use Rattle.serde_json.specs.Data.{string};
-ghost use Rattle.capture_json.specs.JsonPacket.{json_line};
+ghost use Rattle.capture_json.specs.JsonPacket.{file_members, json_line};
 
 use crate::text::write_line;
 use crate::{Object, WriteError};
 use std::alloc::Global;
 use std::io::Write;
 
-/// Writes the name of a capture as a JSON object with one member, `file`, in a line. The line precedes the packets of the capture.
+/// Writes the name of a capture as a JSON object of the type `file` in a line. The line precedes the packets of the capture.
 ///
 /// # Errors
 ///
@@ -20,9 +19,10 @@ pub fn write_file_name<W: Write>(
     alloc: Global,
     name: &str,
 ) -> Result<(), WriteError>
-    ensures { OnOk result (Appends (W.contents output.old) (W.contents output.new) (json_line ((codes "file", string name.now) ∷ []))) }
+    ensures { OnOk result (Appends (W.contents output.old) (W.contents output.new) (json_line (file_members name.now))) }
 {
     let mut object = Object::new(alloc);
+    object.put_text("type", "file")?;
     object.put_text("file", name)?;
     write_line(output, object)
 }

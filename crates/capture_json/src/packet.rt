@@ -24,7 +24,7 @@ use std::alloc::{AllocError, Global};
 use std::io;
 use std::io::Write;
 
-/// Writes a packet as a JSON object in a line: its number, its time, its addresses, its content and its verdict.
+/// Writes a packet as a JSON object of the type `packet` in a line: its number, its time, its addresses, its content and its verdict.
 ///
 /// # Errors
 ///
@@ -60,6 +60,7 @@ fn put_packet(
 ) -> io::Result<()>
     ensures { OnOk result (PutsOne (ArePacketMembers times number first time packet.now.content packet.now.verdict) (members_in object.old) (members_in object.new)) }
 {
+    object.put_text("type", "packet")?;
     object.put_number("number", number)?;
     put_time(object, alloc, times, first, time)?;
     put_content(object, alloc, &packet.content)?;

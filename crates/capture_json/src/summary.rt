@@ -5,7 +5,7 @@ ghost use Rattle.std.specs.Io.KnownBytes.{Appends};
 ghost use Rattle.capture_json.specs.Members.{members_in, with_members};
 ghost use Rattle.serde_json.specs.Data.{put};
 ghost use Rattle.capture_json.specs.JsonPacket.{json_line};
-ghost use Rattle.capture_json.specs.JsonSummary.{counts_data, counts_member, row_member, rows_data, tables_members};
+ghost use Rattle.capture_json.specs.JsonSummary.{counts_data, counts_member, row_member, rows_data, summary_members, tables_members};
 
 use crate::flows::{put_conversations, put_count};
 use crate::text::{as_text, with_underscores, write_line};
@@ -16,7 +16,7 @@ use std::alloc::Global;
 use std::io;
 use std::io::Write;
 
-/// Writes the summary as a JSON object in a line. It contains the numbers of packets, bytes and conversations, the times of the packets,
+/// Writes the summary as a JSON object of the type `summary` in a line. It contains the numbers of packets, bytes and conversations, the times of the packets,
 /// and each table under its name.
 ///
 /// # Errors
@@ -28,13 +28,26 @@ pub fn write_summary<W: Write>(
     summary: &Summary,
     busiest: &[ConversationCount],
 ) -> Result<(), WriteError>
-    ensures { OnOk result (Appends (W.contents output.old) (W.contents output.new) (json_line (tables_members busiest.now summary.now))) }
+    ensures { OnOk result (Appends (W.contents output.old) (W.contents output.new) (json_line (summary_members busiest.now summary.now))) }
 {
     let mut object = Object::new(alloc);
-    match put_tables(&mut object, alloc, summary, busiest) {
+    match put_summary(&mut object, alloc, summary, busiest) {
         Ok(()) => write_line(output, object),
         Err(_) => Err(WriteError::NoMemory),
     }
+}
+
+/// Adds the type, the totals and the tables.
+fn put_summary(
+    object: &mut Object,
+    alloc: Global,
+    summary: &Summary,
+    busiest: &[ConversationCount],
+) -> io::Result<()>
+    ensures { OnOk result (members_in object.new ≡ with_members (summary_members busiest.now summary.now) (members_in object.old)) }
+{
+    object.put_text("type", "summary")?;
+    put_tables(object, alloc, summary, busiest)
 }
 
 /// Adds the totals and the tables.
@@ -50,7 +63,7 @@ fn put_tables(
     put_table(object, alloc, "link_types", &summary.links())?;
     put_protocols(object, alloc, &summary.protocols())?;
     put_table(object, alloc, "checksums", &summary.verdicts())?;
-    put_table(object, alloc, "refused", &summary.refusals())?;
+    put_table(object, alloc, "refusals", &summary.refusals())?;
     let flows = summary.flows();
     let (without_ports, without_room) = (flows.without_ports(), flows.without_room());
     Ok(put_conversations(object, alloc, busiest, without_ports, without_room)?)

@@ -1,7 +1,6 @@
 -- The report of a run: captures, one after the other, and then the summary of all captures.
 use Rattle.std.specs.Prelude.{◌≡◌, ◌↔◌, ℕ, ◌+◌, ◌==◌, ◌&&◌, nat_lt, Bool, true, false, IsTrue, if◌then◌else◌, List, [], ◌∷◌, ◌++◌, codes, length, Option, Some, None, Result, IfSome}
-use Rattle.serde_json.specs.Data.{string}
-use Rattle.capture_json.specs.JsonPacket.{json_line}
+use Rattle.capture_json.specs.JsonPacket.{file_members, json_line}
 use Rattle.capture_summary.specs.SummaryTables.{SummaryTables, empty_tables}
 use Rattle.capture_run.specs.Endings.{status_of}
 use Rattle.capture_run.specs.ExitStatuses.{final_status, greater}
@@ -72,7 +71,7 @@ text_heading place name = (if place == 0 then [] else codes "\n") ++ (codes "==>
 -- this line as text, or as a JSON object with the member `file`
 abbrev pub heading_in : Format → ℕ → List ℕ → List ℕ
 heading_in formats.Text place name = text_heading place name
-heading_in formats.Json place name = json_line ((codes "file", string name) ∷ [])
+heading_in formats.Json place name = json_line (file_members name)
 
 -- some packets may have a line
 abbrev pub has_lines : Lines → Bool

@@ -606,7 +606,7 @@ fn a_packet_that_is_too_long_is_not_read(rt: HostRuntime) -> Result<(), Fail> {
 
 /// The object of the packet.
 const OBJECT: &str =
-    r#"{"checksum":"right","destination":"192.0.2.2","destination_port":9,"number":1,"payload_length":1,"protocol":17,"protocol_name":"UDP","source":"192.0.2.1","source_port":7,"time":"00:00:00.000000","udp":{"length":9}}"#;
+    r#"{"checksum":"right","destination":"192.0.2.2","destination_port":9,"number":1,"payload_length":1,"protocol":17,"protocol_name":"UDP","source":"192.0.2.1","source_port":7,"time":"00:00:00.000000","type":"packet","udp":{"length":9}}"#;
 
 /// The first members of the object of the summary.
 const TOTALS: &str =

@@ -110,11 +110,11 @@ static RUNS_OF_ONE: [RunRow; 8] = [
 ];
 
 const RIGHT_OBJECT: &str =
-    r#"{"checksum":"right","destination":"192.0.2.2","destination_port":9,"number":1,"payload_length":1,"protocol":17,"protocol_name":"UDP","source":"192.0.2.1","source_port":7,"time":"00:00:00.000000","udp":{"length":9}}
+    r#"{"checksum":"right","destination":"192.0.2.2","destination_port":9,"number":1,"payload_length":1,"protocol":17,"protocol_name":"UDP","source":"192.0.2.1","source_port":7,"time":"00:00:00.000000","type":"packet","udp":{"length":9}}
 "#;
 
 const ZERO_OBJECT: &str =
-    r#"{"destination":"192.0.2.2","destination_port":9,"number":1,"payload_length":1,"protocol":17,"protocol_name":"UDP","refused":"UDP header needs 8 bytes, the UDP length is 0","source":"192.0.2.1","source_port":7,"time":"00:00:00.000000","udp":{"length":0}}
+    r#"{"destination":"192.0.2.2","destination_port":9,"number":1,"payload_length":1,"protocol":17,"protocol_name":"UDP","refused":"UDP header needs 8 bytes, the UDP length is 0","source":"192.0.2.1","source_port":7,"time":"00:00:00.000000","type":"packet","udp":{"length":0}}
 "#;
 
 /// Several names: each capture has a heading, unless no packet has a line. If a capture can't be read, the next one is still reported.
@@ -204,11 +204,11 @@ const OF_WRONG_LINES: &str = "\
 ==> right <==
 ";
 
-const OBJECTS: &str = r#"{"file":"right"}
-{"checksum":"right","destination":"192.0.2.2","destination_port":9,"number":1,"payload_length":1,"protocol":17,"protocol_name":"UDP","source":"192.0.2.1","source_port":7,"time":"00:00:00.000000","udp":{"length":9}}
-{"file":"a \"name\""}
-{"file":"wrong"}
-{"checksum":"wrong","destination":"192.0.2.2","destination_port":9,"expected_checksum":6344,"number":1,"payload_length":1,"protocol":17,"protocol_name":"UDP","source":"192.0.2.1","source_port":263,"time":"00:00:00.000000","udp":{"length":9}}
+const OBJECTS: &str = r#"{"file":"right","type":"file"}
+{"checksum":"right","destination":"192.0.2.2","destination_port":9,"number":1,"payload_length":1,"protocol":17,"protocol_name":"UDP","source":"192.0.2.1","source_port":7,"time":"00:00:00.000000","type":"packet","udp":{"length":9}}
+{"file":"a \"name\"","type":"file"}
+{"file":"wrong","type":"file"}
+{"checksum":"wrong","destination":"192.0.2.2","destination_port":9,"expected_checksum":6344,"number":1,"payload_length":1,"protocol":17,"protocol_name":"UDP","source":"192.0.2.1","source_port":263,"time":"00:00:00.000000","type":"packet","udp":{"length":9}}
 "#;
 
 /// Stops the test unless the run of a row has the status of the row, and writes what the row says.

@@ -18,7 +18,7 @@ returns c =
     let verdicts = c.in_ok-put_table-2.ensures
     ∙ same_put {name = codes "checksums"} (members_in c.put_protocols.new.object) refl (ap rows_data c.verdicts.ensures) in
     let refusals = c.in_ok-put_table-3.ensures
-    ∙ same_put {name = codes "refused"} (members_in c.put_table-2.new.object) refl (ap rows_data c.refusals.ensures) in
+    ∙ same_put {name = codes "refusals"} (members_in c.put_table-2.new.object) refl (ap rows_data c.refusals.ensures) in
     then_put (totals_members tables) (rows_members busiest tables) (members_in c.args.object.now) (members_in c.put_totals.new.object) _
     c.in_ok-put_totals.ensures
     (c.in_ok-put_conversations.ensures
@@ -26,6 +26,6 @@ returns c =
     (c.without_ports-without_ports.ensures ∙ ap (λ flows. flows.without_ports) c.flows-flows.ensures)
     (c.without_room-without_room.ensures ∙ ap (λ flows. flows.without_room) c.flows-flows.ensures)
     ∙ ap (with_members (conversations_members busiest tables.flows.without_ports tables.flows.without_room))
-    (refusals ∙ ap (put (codes "refused") (rows_data (refusal_rows tables.refusals)))
+    (refusals ∙ ap (put (codes "refusals") (rows_data (refusal_rows tables.refusals)))
     (verdicts ∙ ap (put (codes "checksums") (rows_data (verdict_rows tables.verdicts)))
     (protocols ∙ ap (put (codes "protocols") (counts_data (protocol_rows tables.protocols))) links))))
