@@ -28,7 +28,7 @@ use Rattle.etherparse_transport.specs.declared.ip.message_place.Place.{Place}
 use Rattle.net_base.specs.IpHeaders.{ipv4_header_len, ipv4_header_of, ipv6_header_of}
 use Rattle.etherparse_transport.proofs.EchoReplyLemmas.{is_number}
 use Rattle.etherparse_transport.proofs.TranslationLemmas.{put_is}
-use Rattle.etherparse_transport.proofs.UpdatedAlike.{difference_alike, sums_alike}
+use Rattle.etherparse_transport.proofs.UpdatedAlike.{difference_alike, sums_alike, two_pieces}
 use Rattle.etherparse_transport.proofs.TranslationReading.{drop_after, length_kept, index_after, index_before, number_len}
 
 -- ---- one word
@@ -602,11 +602,6 @@ header_in_front packet changed message place at accepted same =
 
 -- ---- all that is replaced in a packet
 
-sum_of_two : (first second : List ℕ) → sum_of_pieces 0 (first ∷ second ∷ []) % 65535 ≡ (total first + total second) % 65535
-sum_of_two first second =
-    folded-remainder (folded (0 + total first) + total second)
-    ∙ omega (arith, folded-remainder (0 + total first))
-
 -- The sums of all replaced words, from the sums of the packet and of its message before and after: first the message is replaced, then the
 -- addresses and the checksum of the header.
 pub flow_turns : (packet between changed message translated : ℕ) (source destination source_too destination_too : List ℕ)
@@ -621,8 +616,8 @@ flow_turns packet between changed message translated source destination source_t
       arith,
       remainder_alike _ _ turns,
       difference_alike _ _ _ _ alike,
-      sum_of_two source destination,
-      sum_of_two source_too destination_too,
+      two_pieces source destination,
+      two_pieces source_too destination_too,
       is,
       is_too,
     )

@@ -142,7 +142,7 @@ pub some_address : (address : List ℕ) → length address ≡ 16 → from_be_by
 some_address address len some none = some (ap (from_be_bytes w128) (zeros address none ∙ ap (λ n. replicate n 0) len))
 
 -- the sum of two pieces
-two_pieces : (first second : List ℕ) → sum_of_pieces 0 (first ∷ second ∷ []) % 65535 ≡ (total first + total second) % 65535
+pub two_pieces : (first second : List ℕ) → sum_of_pieces 0 (first ∷ second ∷ []) % 65535 ≡ (total first + total second) % 65535
 two_pieces first second =
     folded-remainder (folded (0 + total first) + total second) ∙ omega (arith, folded-remainder (0 + total first))
 
