@@ -1,1 +1,2 @@
+mod ChosenLemmas
 mod CommandLemmas

@@ -6,7 +6,7 @@ use Rattle.clap.specs.declared.builder.action.ArgAction.TheVariants.{Append, Set
 use Rattle.clap.specs.declared.builder.value_parser.ValueParser.{ValueParser}
 use Rattle.clap.specs.declared.builder.value_parser.ValueParser.TheVariants as parsers
 use Rattle.clap.specs.declared.parser.matches.ArgMatches.{ArgMatches}
-use Rattle.capture_report.specs.Arguments.{IsOptionsOf}
+use Rattle.capture_report.specs.Options.{IsOptionsOf}
 use Rattle.capture_report.specs.declared.arguments.Options.{Options}
 
 -- an option without a value
@@ -20,6 +20,10 @@ value_rule name = record (new_rule name) { long = Some name; value_names = 1; ac
 -- an option with a value that this parser tests
 abbrev pub parsed_rule : Text → ValueParser → Rule
 parsed_rule name parser = record (value_rule name) { parser = Some parser }
+
+-- an option that can be given several times
+abbrev pub repeated : Rule → Rule
+repeated rule = record rule { action = Some Append }
 
 -- an option that is not given together with another one
 abbrev pub conflicting : Rule → Rule
@@ -39,13 +43,17 @@ form_rules = conflicting (flag_rule (codes "absolute")) ∷ flag_rule (codes "ch
 
 -- the names of protocols
 abbrev pub protocol_names : List Text
-protocol_names = codes "udp" ∷ codes "tcp" ∷ codes "icmpv4" ∷ codes "icmpv6" ∷ []
+protocol_names = codes "udp" ∷ codes "tcp" ∷ codes "icmp" ∷ codes "icmpv4" ∷ codes "icmpv6" ∷ []
+
+-- the option for a protocol, whose name is in either case
+abbrev pub protocol_rule : Bor (List (Bor Text)) → Rule
+protocol_rule names = record (repeated (parsed_rule (codes "protocol") (parsers.Names names))) { ignore_case = true }
 
 -- the options that choose packets, where these are the names of protocols; the number of a port has at most 16 bits
 abbrev pub choice_rules : Bor (List (Bor Text)) → List Rule
 choice_rules names =
-    value_rule (codes "host") ∷ parsed_rule (codes "port") (parsers.Signed (pos 0) (pos (2 ^ 16 - 1)))
-    ∷ parsed_rule (codes "protocol") (parsers.Names names) ∷ []
+    repeated (value_rule (codes "host")) ∷ repeated (parsed_rule (codes "port") (parsers.Signed (pos 0) (pos (2 ^ 16 - 1))))
+    ∷ protocol_rule names ∷ []
 
 -- the option for writing lines, `-l` (108)
 abbrev pub line_buffered_rule : Rule

@@ -1,4 +1,6 @@
 pub mod Arguments
+pub mod Chosen
 pub mod CommandLine
 pub mod Failures
 pub mod Inputs
+pub mod Options

@@ -1,28 +1,27 @@
 //! The arguments of the program.
 
-ghost use Rattle.std.specs.Prelude.{◌≡◌, ◌≢◌, ◌⊎◌, Bool, IfErr, IfOk, MatchOption, None, Some, codes, false, if◌then◌else◌, map, string_bytes};
+ghost use Rattle.std.specs.Prelude.{◌≡◌, ◌⊎◌, Bool, IfErr, IfOk, codes, false, if◌then◌else◌, map, string_bytes};
 ghost use Rattle.clap.specs.Words.{IsPlainArg, app_of, kind_of, rule_of};
 ghost use Rattle.clap.specs.declared.error.kind.ErrorKind.TheVariants as ErrorKind;
-ghost use Rattle.capture_report.specs.Arguments.{HasFlag, HasNumberOr, HasProtocol, IsOptionsOf, ReadsAddress, ReadsHost, protocol_word, values_of};
-ghost use Rattle.capture_report.specs.CommandLine.{AreRequestedBy, IsCommandLine, bare_command, choice_rules, conflicting, file_rule, file_rules, flag_rule, form_rules, line_buffered_rule, line_rules, protocol_names, top_rule, value_rule, with_rules};
-ghost use Rattle.etherparse_transport.specs.Proto.{Proto};
+ghost use Rattle.capture_report.specs.Arguments.{HasFlag, HasNumberOr, values_of};
+ghost use Rattle.capture_report.specs.Options.{IsOptionsOf, IsRefusedBy};
+ghost use Rattle.capture_report.specs.CommandLine.{AreRequestedBy, IsCommandLine, bare_command, choice_rules, conflicting, file_rule, file_rules, flag_rule, form_rules, line_buffered_rule, line_rules, protocol_names, repeated, top_rule, value_rule, with_rules};
 ghost use Rattle.capture_summary.specs.Ranking.{default_top};
 ghost use Rattle.capture_text.specs.TimeText.{times_by};
 ghost use Rattle.capture_run.specs.declared.parts.Format.TheVariants as Format;
 
-use capture_run::{Choice, Format, Parts, Times};
-use capture_summary::BUSIEST;
+use crate::chosen::{ChoiceError, choice_of};
+use capture_run::{Format, Parts, Times};
+use capture_summary::{BUSIEST, MAX_CHOSEN};
 use clap::error::ErrorKind;
 use clap::{Arg, ArgAction, ArgMatches, Command, Error, value_parser};
-use etherparse_transport::Proto;
 use std::alloc::{AllocError, Global};
-use std::net::{AddrParseError, IpAddr};
 
 /// The version of the program.
 const VERSION: &str = "0.1.0";
 
-/// The names of the protocols that packets can be chosen by.
-static PROTOCOLS: [&str; 4] = ["udp", "tcp", "icmpv4", "icmpv6"];
+/// The names of the protocols that packets can be chosen by. `icmp` is ICMPv4 and ICMPv6.
+static PROTOCOLS: [&str; 5] = ["udp", "tcp", "icmp", "icmpv4", "icmpv6"];
 
 /// The options in the arguments.
 #[derive(Drop)]
@@ -47,27 +46,27 @@ pub fn requested_options<'a>(alloc: Global, words: &'a [String]) -> Result<Optio
     let matches = command(alloc)?.try_get_matches_from(words)?;
     match options_of(alloc, &matches) {
         Ok(options) => Ok(options),
-        Err(OptionsError::Host(_)) => Err(invalid_host(alloc, &matches)?),
+        Err(OptionsError::Choice(error)) => Err(invalid_choice(alloc, error)?),
         Err(OptionsError::NoMemory(error)) => Err(error.into()),
     }
 }
 
 /// Why some matches contain no options.
-pub enum OptionsError {
-    /// The text of the address that chooses packets is not an address.
-    Host(AddrParseError),
+pub enum OptionsError<'a> {
+    /// They contain no choice of packets.
+    Choice(ChoiceError<'a>),
     /// No memory is left.
     NoMemory(AllocError),
 }
 
 /// The options in these matches.
-fn options_of<'a>(alloc: Global, matches: &ArgMatches<'a>) -> Result<Options<'a>, OptionsError>
+fn options_of<'a>(alloc: Global, matches: &ArgMatches<'a>) -> Result<Options<'a>, OptionsError<'a>>
     ensures options { IfOk result (IsOptionsOf matches.now) }
-    ensures host { ReadsHost matches.now result }
+    ensures refusal { IfErr result (IsRefusedBy matches.now) }
 {
-    let host = match host_of(matches) {
-        Ok(host) => host,
-        Err(error) => return Err(OptionsError::Host(error)),
+    let choice = match choice_of(matches) {
+        Ok(choice) => choice,
+        Err(error) => return Err(OptionsError::Choice(error)),
     };
     let files = match files_of(alloc, matches) {
         Ok(files) => files,
@@ -81,11 +80,7 @@ fn options_of<'a>(alloc: Global, matches: &ArgMatches<'a>) -> Result<Options<'a>
     );
     Ok(Options {
         parts: Parts {
-            choice: Choice {
-                host,
-                port: port_of(matches),
-                protocol: protocol_of(matches),
-            },
+            choice,
             times: times_of(matches),
             format: format_of(matches),
             top: top_of(matches),
@@ -143,49 +138,22 @@ fn top_of(matches: &ArgMatches<'_>) -> usize
     matches.get_one("top").unwrap_or(BUSIEST)
 }
 
-/// The address that chooses packets. The error is returned if a text is given that is not an address.
-fn host_of(matches: &ArgMatches<'_>) -> Result<Option<IpAddr>, AddrParseError>
-    ensures { ReadsAddress matches.now (codes "host") result }
-{
-    matches.try_get_one("host")
-}
-
-/// The port that chooses packets.
-fn port_of(matches: &ArgMatches<'_>) -> Option<u16>
-    ensures { HasNumberOr matches.now (codes "port") 16 (λ given. Some given) None result }
-{
-    matches.get_one("port")
-}
-
-/// The protocol that chooses packets.
-fn protocol_of(matches: &ArgMatches<'_>) -> Option<Proto>
-    ensures { HasProtocol matches.now result }
-{
-    protocol_named(matches.get_str("protocol")?)
-}
-
-/// The protocol with this name.
-fn protocol_named(name: &str) -> Option<Proto>
-    ensures { MatchOption result ((proto : Proto) → name.now ≢ protocol_word proto) (λ proto. name.now ≡ protocol_word proto) }
-{
-    match name {
-        "udp" => Some(Proto::Udp),
-        "tcp" => Some(Proto::Tcp),
-        "icmpv4" => Some(Proto::Icmpv4),
-        "icmpv6" => Some(Proto::Icmpv6),
-        _ => None,
-    }
-}
-
-/// The error for a choice of packets by a text that is not an address, with the usage.
-fn invalid_host(alloc: Global, matches: &ArgMatches<'_>) -> Result<Error, Error>
+/// The error for a choice of packets that is not valid, with the usage.
+fn invalid_choice(alloc: Global, error: ChoiceError<'_>) -> Result<Error, Error>
     ensures kind { IfOk result (λ error. kind_of error ≡ ErrorKind.ValueValidation) }
     ensures memory { IfErr result (λ error. kind_of error ≡ ErrorKind.OutOfMemory) }
 {
-    let text = matches.get_str("host").unwrap_or("");
-    let message = format!(in alloc;
-        "invalid value '{text}' for '--host <ADDRESS>': it is no IPv4 or IPv6 address"
-    )?;
+    let message = match error {
+        ChoiceError::Host(text, error) => {
+            format!(in alloc; "invalid value '{text}' for '--host <ADDRESS>': {error}")?
+        }
+        ChoiceError::Port(text) => format!(in alloc;
+            "invalid value '{text}' for '--port <N>': it is no number from 0 to 65535"
+        )?,
+        ChoiceError::TooMany(name) => {
+            format!(in alloc; "'--{name}' is given more than {MAX_CHOSEN} times")?
+        }
+    };
     let mut command = command(alloc)?;
     Ok(command.error(ErrorKind::ValueValidation, message.as_str())?)
 }
@@ -283,26 +251,27 @@ fn with_choice<'a>(alloc: Global, command: Command<'a>) -> Result<Command<'a>, A
     ensures { IfOk result (λ more. (names : _) × (map (λ name. name.now) names.now ≡ protocol_names)
         × (app_of more ≡ with_rules (app_of command.entry) (choice_rules names))) }
 {
-    let host = valued(
+    let host = several(
         alloc,
         "host",
         "ADDRESS",
-        "Report only the packets from or to this address",
+        "Report only packets from or to this address, or a network such as 10.0.0.0/8; repeat it for any of several",
     );
-    let port = valued(
+    let port = several(
         alloc,
         "port",
         "N",
-        "Report only the packets from or to this port",
+        "Report only packets from or to this port; repeat it for any of several",
     )
     .value_parser(value_parser!(u16));
-    let protocol = valued(
+    let protocol = several(
         alloc,
         "protocol",
         "NAME",
-        "Report only the packets of this protocol",
+        "Report only packets of this protocol; repeat it for any of several",
     )
-    .value_parser(PROTOCOLS.as_slice());
+    .value_parser(PROTOCOLS.as_slice())
+    .ignore_case(true);
     command.arg(host)?.arg(port)?.arg(protocol)
 }
 
@@ -332,6 +301,15 @@ fn file<'a>(alloc: Global) -> Arg<'a>
         .value_name("FILE")
         .help("A capture; `-`, or none, is standard input")
         .action(ArgAction::Append)
+}
+
+/// An argument with a value, that can be given several times.
+fn several<'a>(alloc: Global, name: &'a str, value: &'a str, help: &'a str) -> Arg<'a>
+    ensures rule { rule_of result ≡ repeated (value_rule name.entry.now) }
+    ensures plain { IsPlainArg result }
+    ensures local { result.global ≡ false }
+{
+    valued(alloc, name, value, help).action(ArgAction::Append)
 }
 
 /// An argument with a value.

@@ -15,6 +15,7 @@ ghost use Rattle.std.specs.IoError.{error_kind};
 ghost use Rattle.capture_report.specs.Failures.{failure_number, write_failure_number};
 
 mod arguments;
+mod chosen;
 mod input;
 
 use arguments::Options;

@@ -1,9 +1,9 @@
 use crate::expect::expect_equal;
 use capture_packet::{Content, NetworkProtocol, Packet, Transport, Verdict};
 use capture_run::Choice;
+use capture_summary::{MAX_CHOSEN, Network, NetworkError, Protocols};
 use etherparse_transport::ip::IpAddresses;
 use etherparse_transport::{Icmpv4Slice, Proto, TransportSlice, UdpSlice, Untested, ip_number};
-use std::net::IpAddr;
 use std::test::Fail;
 
 /// A UDP datagram from port 49152 to port 53, of 9 bytes.
@@ -33,33 +33,69 @@ const TIME_EXCEEDED: [u8; 36] = [
     3, 232, 0x82, 0x9A, 0, 40, 0, 0, // UDP
 ];
 
-const UDP: Option<Proto> = Some(Proto::Udp);
+/// No protocol.
+const NO_PROTOCOL: Protocols = Protocols {
+    udp: false,
+    tcp: false,
+    icmpv4: false,
+    icmpv6: false,
+};
 
-/// The host, the port and the protocol of a choice, and which of the five packets it includes.
+const UDP: Option<Protocols> = Some(Protocols {
+    udp: true,
+    ..NO_PROTOCOL
+});
+
+const TCP: Option<Protocols> = Some(Protocols {
+    tcp: true,
+    ..NO_PROTOCOL
+});
+
+const ICMPV4: Option<Protocols> = Some(Protocols {
+    icmpv4: true,
+    ..NO_PROTOCOL
+});
+
+const ICMPV6: Option<Protocols> = Some(Protocols {
+    icmpv6: true,
+    ..NO_PROTOCOL
+});
+
+/// The hosts, the ports and the protocols of a choice, and which of the five packets it includes.
 #[rattlefmt::skip]
-const CHOICES: [(Option<&str>, Option<u16>, Option<Proto>, [bool; 5]); 22] = [
-    (None, None, None, [true, true, true, true, true]),
-    (Some("192.0.2.1"), None, None, [true, false, false, false, true]),
-    (Some("192.0.2.2"), None, None, [true, false, false, false, true]),
-    (Some("192.0.2.3"), None, None, [false, false, false, false, false]),
-    (Some("2001:db8::1"), None, None, [false, true, true, false, false]),
-    (Some("2001:db8::2"), None, None, [false, false, true, false, false]),
-    (None, Some(49152), None, [true, true, false, false, false]),
-    (None, Some(53), None, [true, true, false, false, false]),
-    (None, Some(54), None, [false, false, false, false, false]),
-    (None, None, UDP, [true, true, false, false, false]),
-    (None, None, Some(Proto::Icmpv6), [false, false, true, false, false]),
-    (None, None, Some(Proto::Tcp), [false, false, false, false, false]),
-    (Some("192.0.2.1"), Some(53), UDP, [true, false, false, false, false]),
-    (Some("2001:db8::1"), Some(53), None, [false, true, false, false, false]),
-    (Some("198.51.100.1"), None, None, [false, false, false, false, true]),
-    (Some("198.51.100.2"), None, None, [false, false, false, false, true]),
-    (None, Some(1000), None, [false, false, false, false, true]),
-    (None, Some(33434), None, [false, false, false, false, true]),
-    (Some("198.51.100.1"), Some(53), None, [false, false, false, false, false]),
-    (Some("192.0.2.1"), Some(33434), None, [false, false, false, false, true]),
-    (Some("198.51.100.2"), Some(33434), UDP, [false, false, false, false, false]),
-    (Some("198.51.100.2"), Some(33434), Some(Proto::Icmpv4), [false, false, false, false, true]),
+static CHOICES: [(&[&str], &[u16], Option<Protocols>, [bool; 5]); 32] = [
+    (&[], &[], None, [true, true, true, true, true]),
+    (&["192.0.2.1"], &[], None, [true, false, false, false, true]),
+    (&["192.0.2.2"], &[], None, [true, false, false, false, true]),
+    (&["192.0.2.3"], &[], None, [false, false, false, false, false]),
+    (&["2001:db8::1"], &[], None, [false, true, true, false, false]),
+    (&["2001:db8::2"], &[], None, [false, false, true, false, false]),
+    (&["192.0.2.2", "2001:db8::2"], &[], None, [true, false, true, false, true]),
+    (&["192.0.2.3", "198.51.100.2"], &[], None, [false, false, false, false, true]),
+    (&["192.0.2.0/30"], &[], None, [true, false, false, false, true]),
+    (&["192.0.2.4/30"], &[], None, [false, false, false, false, false]),
+    (&["192.0.2.2/31"], &[], None, [true, false, false, false, true]),
+    (&["198.51.100.0/24"], &[], None, [false, false, false, false, true]),
+    (&["0.0.0.0/0"], &[], None, [true, false, false, false, true]),
+    (&["::/0"], &[], None, [false, true, true, false, false]),
+    (&["2001:db8::/32"], &[], None, [false, true, true, false, false]),
+    (&["2001:db8::2/127"], &[], None, [false, false, true, false, false]),
+    (&[], &[49152], None, [true, true, false, false, false]),
+    (&[], &[53], None, [true, true, false, false, false]),
+    (&[], &[54], None, [false, false, false, false, false]),
+    (&[], &[54, 33434], None, [false, false, false, false, true]),
+    (&[], &[], UDP, [true, true, false, false, false]),
+    (&[], &[], ICMPV6, [false, false, true, false, false]),
+    (&[], &[], TCP, [false, false, false, false, false]),
+    (&["192.0.2.1"], &[53], UDP, [true, false, false, false, false]),
+    (&["2001:db8::1"], &[53], None, [false, true, false, false, false]),
+    (&["198.51.100.1"], &[], None, [false, false, false, false, true]),
+    (&[], &[1000], None, [false, false, false, false, true]),
+    (&["198.51.100.1"], &[53], None, [false, false, false, false, false]),
+    (&["192.0.2.1"], &[33434], None, [false, false, false, false, true]),
+    (&["198.51.100.2"], &[33434], UDP, [false, false, false, false, false]),
+    (&["198.51.100.2"], &[33434], ICMPV4, [false, false, false, false, true]),
+    (&["192.0.2.1", "2001:db8::1"], &[53, 33434], None, [true, true, false, false, true]),
 ];
 
 /// A fragment, which is chosen as any other packet is.
@@ -81,12 +117,58 @@ fn datagram_over(addresses: IpAddresses<'_>) -> Result<Packet<'_>, Fail> {
     }))
 }
 
-/// The address with this text.
-fn host_of(text: Option<&str>) -> Result<Option<IpAddr>, Fail> {
-    match text {
-        Some(text) => Ok(Some(text.parse()?)),
-        None => Ok(None),
+/// The choice of these hosts and ports, where any are given, and of these protocols.
+fn choice_of(hosts: &[&str], ports: &[u16], protocols: Option<Protocols>) -> Result<Choice, Fail> {
+    let mut choice = Choice {
+        protocols,
+        ..Choice::ALL
+    };
+    if !hosts.is_empty() {
+        choice.hosts = Some(places_of_hosts(hosts)?);
     }
+    if !ports.is_empty() {
+        choice.ports = Some(places_of_ports(ports));
+    }
+    Ok(choice)
+}
+
+/// The networks with these texts.
+fn places_of_hosts(texts: &[&str]) -> Result<[Option<Network>; MAX_CHOSEN], Fail> {
+    let mut places = [None; MAX_CHOSEN];
+    for (place, text) in places.iter_mut().zip(texts) {
+        *place = Some(text.parse::<Network>()?);
+    }
+    Ok(places)
+}
+
+/// The places of these ports.
+fn places_of_ports(ports: &[u16]) -> [Option<u16>; MAX_CHOSEN] {
+    let mut places = [None; MAX_CHOSEN];
+    for (place, port) in places.iter_mut().zip(ports) {
+        *place = Some(*port);
+    }
+    places
+}
+
+/// Texts that are no network, with the error of each.
+static REFUSED: [(&str, NetworkError); 9] = [
+    ("", NetworkError::Address),
+    ("192.0.2", NetworkError::Address),
+    ("/24", NetworkError::Address),
+    ("192.0.2.0/33", NetworkError::PrefixLength),
+    ("2001:db8::/129", NetworkError::PrefixLength),
+    ("192.0.2.0/", NetworkError::PrefixLength),
+    ("192.0.2.0/24/24", NetworkError::PrefixLength),
+    ("192.0.2.1/24", NetworkError::HostBits),
+    ("2001:db8::1/32", NetworkError::HostBits),
+];
+
+#[test]
+fn texts_that_are_no_network(rt: HostRuntime) -> Result<(), Fail> {
+    for (text, error) in &REFUSED {
+        expect_equal(&rt, &text.parse::<Network>(), &Err(*error));
+    }
+    Ok(())
 }
 
 #[test]
@@ -115,17 +197,13 @@ fn packets_are_chosen(rt: HostRuntime) -> Result<(), Fail> {
         packet_of(error),
     ];
     let all = Choice {
-        host: None,
-        port: None,
-        protocol: None,
+        hosts: None,
+        ports: None,
+        protocols: None,
     };
     expect_equal(&rt, &Choice::ALL, &all);
-    for (host, port, protocol, wanted) in &CHOICES {
-        let choice = Choice {
-            host: host_of(*host)?,
-            port: *port,
-            protocol: *protocol,
-        };
+    for (hosts, ports, protocols, wanted) in &CHOICES {
+        let choice = choice_of(hosts, ports, *protocols)?;
         for (packet, wanted) in packets.iter().zip(wanted) {
             let included = choice.includes(packet);
             expect_equal(&rt, &(&choice, included), &(&choice, *wanted));

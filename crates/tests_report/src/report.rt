@@ -2,7 +2,7 @@ mod named;
 
 use crate::expect::{expect_equal, expect_text};
 use capture_run::{Choice, ExitStatus, Format, Lines, Open, Parts, STANDARD_INPUT, Times, run};
-use capture_summary::BUSIEST;
+use capture_summary::{BUSIEST, MAX_CHOSEN};
 use std::alloc::{AllocError, Global};
 use std::hash::RandomState;
 use std::io;
@@ -558,9 +558,11 @@ const OF_PORTS: [(u16, u8, [&str; 3]); 4] = [
 fn packets_that_are_not_chosen_are_left_out(rt: HostRuntime) -> Result<(), Fail> {
     let whole = two_packets(rt.alloc(), 10)?;
     for (port, status, wanted) in &OF_PORTS {
+        let mut ports = [None; MAX_CHOSEN];
+        ports[0] = Some(*port);
         let parts = Parts {
             choice: Choice {
-                port: Some(*port),
+                ports: Some(ports),
                 ..Choice::ALL
             },
             check: true,

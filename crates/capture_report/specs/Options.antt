@@ -1,0 +1,30 @@
+-- The options in the matches of a command line.
+use Rattle.std.specs.Prelude.{◌≡◌, Bool, not, if◌then◌else◌, codes, map}
+use Rattle.clap.specs.declared.parser.matches.ArgMatches.{ArgMatches}
+use Rattle.capture_run.specs.Lines.{lines_by}
+use Rattle.capture_run.specs.declared.parts.Format.TheVariants as formats
+use Rattle.capture_summary.specs.Ranking.{default_top}
+use Rattle.capture_text.specs.TimeText.{times_by}
+use Rattle.capture_report.specs.Arguments.{HasFlag, HasNumberOr, values_of}
+use Rattle.capture_report.specs.Chosen.{IsChoiceOf, IsRefusal}
+use Rattle.capture_report.specs.declared.arguments.Options.{Options}
+use Rattle.capture_report.specs.declared.arguments.OptionsError.{OptionsError}
+use Rattle.capture_report.specs.declared.arguments.OptionsError.TheVariants.{Choice, NoMemory}
+
+-- some matches contain no options for this reason
+abbrev pub IsRefusedBy : ArgMatches → OptionsError → Type 0
+IsRefusedBy matches (Choice error) = IsRefusal matches error
+IsRefusedBy matches (NoMemory error) = Unit {0}
+
+-- the options that some matches contain
+pub record IsOptionsOf (matches : ArgMatches) (options : Options) : Type 0 where
+  pub lines : (summary wrong : Bool) → HasFlag matches (codes "summary") summary → HasFlag matches (codes "wrong") wrong
+      → options.parts.lines ≡ lines_by summary wrong
+  pub times : (absolute : Bool) → HasFlag matches (codes "absolute") absolute → options.parts.times ≡ times_by absolute
+  pub summary : (packets : Bool) → HasFlag matches (codes "packets") packets → options.parts.summary ≡ not packets
+  pub check : (flag : Bool) → HasFlag matches (codes "check") flag → options.parts.check ≡ flag
+  pub format : (flag : Bool) → HasFlag matches (codes "json") flag → options.parts.format ≡ (if flag then formats.Json else formats.Text)
+  pub top : HasNumberOr matches (codes "top") 64 (λ given. given) default_top options.parts.top
+  pub choice : IsChoiceOf matches options.parts.choice
+  pub line_buffered : (flag : Bool) → HasFlag matches (codes "line-buffered") flag → options.line_buffered ≡ flag
+  pub files : map (λ name. name.now) options.files.items ≡ values_of matches (codes "file")
