@@ -64,8 +64,8 @@ fn read_ip_packet<'a>(packet: &'a [u8], is_cut: bool) -> Packet<'a>
     }
 }
 
-/// Whether a packet with rejected headers is cut off. Its header counts more bytes than are present. Or it is incomplete or states no length,
-/// in a frame that the capture cut.
+/// Whether a packet with rejected headers is cut off. Its header counts more bytes than are present. Or it is incomplete or states no
+/// length, in a frame that the capture cut.
 fn is_cut_off(packet: &[u8], is_cut: bool) -> bool
     ensures { result ≡ specs.is_cut_off is_cut packet.now (refusal packet.now) }
 {

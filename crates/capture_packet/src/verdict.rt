@@ -14,7 +14,8 @@ pub enum Verdict {
     /// is cut off, it is `Untested` with `CutOff`. A fragment is `Untested` with `Fragment`, also if it is cut off.
     Checksum(ChecksumVerdict),
     /// The IP header states no length, so that the number of bytes that the checksum covers is not known (RFC 791, section 3.1; RFC 8200,
-    /// section 3). A host captures such a packet before its network card splits it. A fragment without a length is `Untested` with `Fragment`.
+    /// section 3). A host captures such a packet before its network card splits it. A fragment without a length is `Untested` with
+    /// `Fragment`.
     LengthMissing,
     /// The packet is not read, because the buffer has no room for it.
     TooLong {
