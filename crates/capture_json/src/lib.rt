@@ -4,7 +4,7 @@
 //! `Array` are values of `serde_json`. Their contracts state the text that is written: no number has a fraction.
 //!
 //! ```text
-//! {"number":1,"source":"192.0.2.1","udp":{"length":40}}
+//! {"number":1,"source":"192.0.2.1","type":"packet","udp":{"length":40}}
 //! ```
 #![tactic(auto)]
 

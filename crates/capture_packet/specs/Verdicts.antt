@@ -91,7 +91,7 @@ JudgesTransport is_cut found verdict = MatchOption (transports.refusal found) (J
 abbrev pub counts_no_payload : List ℕ → ℕ → ℕ → Bool
 counts_no_payload packet offset len = version packet == 6 && (offset == 40 && len == 0)
 
--- Only the first bytes of a packet are present, by the error that rejects its headers. Either its header counts more bytes than are present,
+-- Only the first bytes of a packet are present, by the error that rejects its headers. Either its header counts more bytes than there are,
 -- whatever the capture states about its frame. Or the capture cut its frame, and its header is incomplete or states no length. If only the
 -- bytes after the packet were cut, the packet is whole.
 abbrev pub is_cut_off : Bool → List ℕ → Option IpError → Bool

@@ -589,7 +589,7 @@ fn long_capture(alloc: Global) -> Result<Vec<u8>, AllocError> {
 #[rattlefmt::skip]
 static LONG_LINES: [(Format, &str); 2] = [
     (Format::Text, "1 00:00:00.000000 checksum not looked at: 528384 bytes, more than 524288\n"),
-    (Format::Json, "{\"checksum\":\"not_looked_at\",\"number\":1,\"reason\":\"too_long\",\"required_length\":528384,\"time\":\"00:00:00.000000\"}\n"),
+    (Format::Json, "{\"checksum\":\"not_looked_at\",\"number\":1,\"reason\":\"too_long\",\"required_length\":528384,\"time\":\"00:00:00.000000\",\"type\":\"packet\"}\n"),
 ];
 
 #[test]
