@@ -278,6 +278,16 @@ ipv4_reply_verifies packet source destination after time_to_live is len len_too 
     let Sums : List ℕ → Type 0 = λ start. Verifies [] (ip.ipv4_header (ipv4_header start time_to_live 1 source destination ++ after)) in
     subst Sums (sym (ap (take 8) packet_is)) (ipv4_header_verifies (start_of packet) time_to_live 1 source destination after len len_too)
 
+-- the first four of equal bytes
+pub first_four : (first second third fourth bytes : List ℕ) → first ≡ bytes → second ≡ bytes → third ≡ bytes → fourth ≡ bytes
+    → slice_index first 0 ∷ slice_index second 1 ∷ slice_index third 2 ∷ slice_index fourth 3 ∷ []
+    ≡ slice_index bytes 0 ∷ slice_index bytes 1 ∷ slice_index bytes 2 ∷ slice_index bytes 3 ∷ []
+first_four first second third fourth bytes is is_too is_third is_fourth =
+    ap (λ first. slice_index first 0 ∷ slice_index second 1 ∷ slice_index third 2 ∷ slice_index fourth 3 ∷ []) is
+    ∙ ap (λ second. slice_index bytes 0 ∷ slice_index second 1 ∷ slice_index third 2 ∷ slice_index fourth 3 ∷ []) is_too
+    ∙ ap (λ third. slice_index bytes 0 ∷ slice_index bytes 1 ∷ slice_index third 2 ∷ slice_index fourth 3 ∷ []) is_third
+    ∙ ap (λ fourth. slice_index bytes 0 ∷ slice_index bytes 1 ∷ slice_index bytes 2 ∷ slice_index fourth 3 ∷ []) is_fourth
+
 -- the bytes that are written are the reply
 pub ipv4_written : (packet new first part source : List ℕ) (time_to_live : ℕ) → IsIpv4Request packet
     → length source ≡ 4 → length (slice_range packet 12 16) ≡ 4

@@ -93,18 +93,21 @@ pub fn answer_echo_ipv4(
         IfOk result (λ _. IsReplyTo packet.old packet.new) }
 {
     let (addresses, len) = ipv4_request(packet)?;
-    let source = source.unwrap_or(addresses.destination);
+    let passed = source;
+    let source = passed.unwrap_or(addresses.destination);
     if !is_host_ipv4(source) {
         return Err(AnswerEchoError::ReplySource);
     }
-    let checksum = reply_header_checksum(&packet[..IPV4_LEN], time_to_live, source);
+    let checksum = reply_header_checksum(&packet[..IPV4_LEN], time_to_live, passed);
     let reply = icmpv4_reply_to(&packet[IPV4_LEN..len]);
     let mut start = [0; 8];
     start.copy_from_slice(&packet[..8]);
     let destination = addresses.source;
     let protocol = ip_number::ICMP;
     let ip_header = ipv4_fields(start, time_to_live, protocol, source, destination, checksum);
-    replace_front(packet, &ip_header, &reply.to_bytes()[..ECHOED_AT]);
+    let header = reply.to_bytes();
+    let front: [u8; ECHOED_AT] = [header[0], header[1], header[2], header[3]];
+    replace_front(packet, &ip_header, &front);
     Ok(len)
 }
 
@@ -153,7 +156,9 @@ pub fn answer_echo_ipv6(
     start.copy_from_slice(&packet[..6]);
     let destination = addresses.source;
     let ip_header = ipv6_header(start, ip_number::IPV6_ICMP, hop_limit, source, destination);
-    replace_front(packet, &ip_header, &reply.to_bytes()[..ECHOED_AT]);
+    let header = reply.to_bytes();
+    let front: [u8; ECHOED_AT] = [header[0], header[1], header[2], header[3]];
+    replace_front(packet, &ip_header, &front);
     Ok(len)
 }
 
@@ -300,23 +305,38 @@ pub(crate) fn is_host_ipv6(address: [u8; 16]) -> bool
 
 // ---- the reply
 
-/// The checksum of the IPv4 header of the reply from this source, from the header of the request. It changes by the time to live and by
-/// another source than the destination of the request (RFC 1624).
+/// The checksum of the IPv4 header of the reply, from the header of the request. The source of the reply is the passed address, or the
+/// destination of the request. The checksum changes by the time to live and by a passed address (RFC 1624).
 // perf: the update takes some 30 instructions less than a sum of the new header (27 Nov 2026).
-fn reply_header_checksum(header: &[u8], time_to_live: u8, source: [u8; 4]) -> u16
+fn reply_header_checksum(header: &[u8], time_to_live: u8, source: Option<[u8; 4]>) -> u16
     requires len { length header.now ≡ 20 }
     requires accepted { Verifies [] header.now }
     ensures { result ≡ checksum_of (total
-        (ipv4_fields (take 8 header.now) time_to_live icmpv4_number source (slice_range header.now 12 16) 0)) }
+        (ipv4_fields (take 8 header.now) time_to_live icmpv4_number (unwrap_or source (slice_range header.now 16 20))
+        (slice_range header.now 12 16) 0)) }
 {
     let old = [header[IPV4_TIME_TO_LIVE_AT], header[IPV4_PROTOCOL_AT]];
     let mut destination = [0; 4];
     destination.copy_from_slice(&header[IPV4_DESTINATION_AT..]);
     let checksum = [header[IPV4_CHECKSUM_AT], header[IPV4_CHECKSUM_AT + 1]];
-    ChecksumChange::new()
-        .replace_2bytes(old, [time_to_live, ip_number::ICMP.0])
-        .replace_4bytes(destination, source)
-        .apply(u16::from_be_bytes(checksum))
+    let change = ChecksumChange::new().replace_2bytes(old, [time_to_live, ip_number::ICMP.0]);
+    let change = replace_ipv4_if_passed(change, destination, source);
+    change.apply(u16::from_be_bytes(checksum))
+}
+
+/// The change with the new address in place of the old address, if one is passed.
+fn replace_ipv4_if_passed(
+    change: ChecksumChange,
+    old: [u8; 4],
+    new: Option<[u8; 4]>,
+) -> ChecksumChange
+    ensures extends { IsExtendedBy change old (unwrap_or new old) result }
+    ensures some { added_value change ≢ 0 → added_value result ≢ 0 }
+{
+    match new {
+        Some(new) => change.replace_4bytes(old, new),
+        None => change,
+    }
 }
 
 /// The header of the reply to this request. The checksum changes only by the type (RFC 1624). A reply of zeros is summed again, since its
@@ -353,7 +373,7 @@ fn icmpv6_reply_to(addresses: &Ipv6Header, source: Option<[u8; 16]>, request: &[
     let echo = IcmpEchoHeader::from_bytes([request[4], request[5], request[6], request[7]]);
     let old = [icmpv6::TYPE_ECHO_REQUEST, 0];
     let change = ChecksumChange::new().replace_2bytes(old, [icmpv6::TYPE_ECHO_REPLY, 0]);
-    let change = replace_if_passed(change, addresses.destination, source);
+    let change = replace_ipv6_if_passed(change, addresses.destination, source);
     Icmpv6Header {
         icmp_type: Icmpv6Type::EchoReply(echo),
         checksum: change.apply(u16::from_be_bytes([request[2], request[3]])),
@@ -361,7 +381,11 @@ fn icmpv6_reply_to(addresses: &Ipv6Header, source: Option<[u8; 16]>, request: &[
 }
 
 /// The change with the new address in place of the old address, if one is passed.
-fn replace_if_passed(change: ChecksumChange, old: [u8; 16], new: Option<[u8; 16]>) -> ChecksumChange
+fn replace_ipv6_if_passed(
+    change: ChecksumChange,
+    old: [u8; 16],
+    new: Option<[u8; 16]>,
+) -> ChecksumChange
     ensures extends { IsExtendedBy change old (unwrap_or new old) result }
     ensures some { added_value change ≢ 0 → added_value result ≢ 0 }
 {

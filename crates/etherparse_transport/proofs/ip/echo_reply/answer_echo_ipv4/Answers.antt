@@ -11,7 +11,7 @@ use Rattle.etherparse_transport.specs.EchoReplies.{IsIpv4Request, icmpv4_refusal
 use Rattle.etherparse_transport.specs.Formats.{IsReadBack}
 use Rattle.etherparse_transport.specs.Packets.{IsReadAs, ipv4_fields}
 use Rattle.etherparse_transport.specs.declared.transport_header.TransportHeader.TheVariants as headers
-use Rattle.etherparse_transport.proofs.EchoReplyLemmas.{ipv4_reply_read, ipv4_reply_verifies, ipv4_written}
+use Rattle.etherparse_transport.proofs.EchoReplyLemmas.{first_four, ipv4_reply_read, ipv4_reply_verifies, ipv4_written}
 use Rattle.etherparse_transport.proofs.EchoRequestLemmas.{message_range}
 use Rattle.etherparse_transport.proofs.TranslationSums.{range_in_front}
 use Rattle.etherparse_transport.specs.ReplyTo.{IsReplyTo, echoed}
@@ -70,16 +70,16 @@ returns-clause-answered c =
     let checksum : ℕ = c.reply_header_checksum-checksum.result in
     let checksum_is : checksum ≡ checksum_of (total (ipv4_fields (take 8 packet) time_to_live 1 from receiver 0)) =
     c.reply_header_checksum-checksum.ensures
-    ∙ ap (λ start. checksum_of (total (ipv4_fields start time_to_live 1 found (slice_range header 12 16) 0))) (range_in_front 0 8 20 packet (omega arith))
-    ∙ ap (λ receiver. checksum_of (total (ipv4_fields (take 8 packet) time_to_live 1 found receiver 0))) (range_in_front 12 4 20 packet (omega arith))
-    ∙ ap (λ source. checksum_of (total (ipv4_fields (take 8 packet) time_to_live 1 source receiver 0))) (source c) in
-    let first = c.deref.ensures.0 ∙ c.ipv4_fields-ip_header.ensures
+    ∙ ap (λ start. checksum_of (total (ipv4_fields start time_to_live 1 (unwrap_or c.args.source (slice_range header 16 20)) (slice_range header 12 16) 0))) (range_in_front 0 8 20 packet (omega arith))
+    ∙ ap (λ receiver. checksum_of (total (ipv4_fields (take 8 packet) time_to_live 1 (unwrap_or c.args.source (slice_range header 16 20)) receiver 0))) (range_in_front 12 4 20 packet (omega arith))
+    ∙ ap (λ destination. checksum_of (total (ipv4_fields (take 8 packet) time_to_live 1 (unwrap_or c.args.source destination) receiver 0))) (range_in_front 16 4 20 packet (omega arith)) in
+    let first = c.deref-5.ensures.0 ∙ c.ipv4_fields-ip_header.ensures
     ∙ ap (λ start. ipv4_fields start time_to_live 1 found c.in_ok-addresses.addresses.source checksum) start
     ∙ ap (λ source. ipv4_fields (take 8 packet) time_to_live 1 source c.in_ok-addresses.addresses.source checksum) (source c)
     ∙ ap (λ addresses. ipv4_fields (take 8 packet) time_to_live 1 from addresses.source checksum) is
     ∙ ap (ipv4_fields (take 8 packet) time_to_live 1 from receiver) checksum_is in
-    let second = c.deref-2.ensures.0 ∙ c.to_bytes.ensures.written ∙ ap wire (reply c) in
-    ipv4_written packet _ _ _ from time_to_live (search rules) (source_len c) (destination_len c) first (ap (take 4) second) (same c)
+    let second = c.to_bytes-header.ensures.written ∙ ap wire (reply c) in
+    ipv4_written packet _ _ _ from time_to_live (search rules) (source_len c) (destination_len c) first (first_four _ _ _ _ _ (c.deref.ensures.0 ∙ second) (c.deref-2.ensures.0 ∙ second) (c.deref-3.ensures.0 ∙ second) (c.deref-4.ensures.0 ∙ second)) (same c)
     c.replace_front.ensures
 
 pub returns-clause-read : goal.returns-clause-read
@@ -92,7 +92,7 @@ returns-clause-read c =
     λ bytes. IsReadAs bytes (addresses.Ipv4 from (slice_range packet 12 16)) (headers.Icmpv4 (icmpv4_reply_to (message_after 20 packet))) payload in
     subst IsRead (sym (returns-clause-answered c))
     (ipv4_reply_read packet from (slice_range packet 12 16) c.args.time_to_live (echo_of (message_after 20 packet) 4) (search rules) (source_len c)
-    (destination_len c) (subst IsBack (reply c) (c.to_bytes.ensures.reads_back payload)))
+    (destination_len c) (subst IsBack (reply c) (c.to_bytes-header.ensures.reads_back payload)))
 
 pub returns-clause-verifies : goal.returns-clause-verifies
 returns-clause-verifies c =
@@ -111,6 +111,6 @@ returns-clause-replies c answers =
     let IsBack : Icmpv4Header → Type 0 = λ header. IsReadBack (headers.Icmpv4 header) payload in
     subst (IsReplyTo packet) (sym (returns-clause-answered c))
     (ipv4_is_reply packet from c.args.time_to_live is (search rules) (source_len c) (destination_len c)
-    (subst IsBack (reply c) (c.to_bytes.ensures.reads_back payload)).accepted
+    (subst IsBack (reply c) (c.to_bytes-header.ensures.reads_back payload)).accepted
     (same c)
     (ipv4_reply_verifies packet from (slice_range packet 12 16) _ c.args.time_to_live is (source_len c) (destination_len c)) answers)

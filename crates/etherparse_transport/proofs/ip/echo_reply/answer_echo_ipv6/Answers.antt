@@ -10,7 +10,7 @@ use Rattle.etherparse_transport.specs.EchoReplies.{IsIpv6Request, icmpv6_refusal
 use Rattle.etherparse_transport.specs.Formats.{IsReadBack}
 use Rattle.etherparse_transport.specs.Packets.{IsReadAs, ipv6_header}
 use Rattle.etherparse_transport.specs.declared.transport_header.TransportHeader.TheVariants as headers
-use Rattle.etherparse_transport.proofs.EchoReplyLemmas.{icmpv6_reply_accepted, ipv6_reply_read, ipv6_written}
+use Rattle.etherparse_transport.proofs.EchoReplyLemmas.{first_four, icmpv6_reply_accepted, ipv6_reply_read, ipv6_written}
 use Rattle.etherparse_transport.proofs.EchoRequestLemmas.{message_range}
 use Rattle.etherparse_transport.specs.ReplyTo.{IsReplyTo, echoed}
 use Rattle.etherparse_transport.proofs.ReplyToLemmas.{ipv6_is_reply}
@@ -78,13 +78,13 @@ returns-clause-answered c =
     let packet : List ℕ = c.args.packet.now in
     let is : c.in_ok-addresses.addresses ≡ ipv6_header_of packet = search rules in
     let start : c.copy_from_slice.new.self ≡ take 6 packet = search rules in
-    let first = c.deref.ensures.0 ∙ c.ipv6_header-ip_header.ensures
+    let first = c.deref-5.ensures.0 ∙ c.ipv6_header-ip_header.ensures
     ∙ ap (λ start. ipv6_header start 58 c.args.hop_limit c.unwrap_or-source.result c.in_ok-addresses.addresses.source) start
     ∙ ap (λ source. ipv6_header (take 6 packet) 58 c.args.hop_limit source c.in_ok-addresses.addresses.source) (source c)
     ∙ ap (λ addresses. ipv6_header (take 6 packet) 58 c.args.hop_limit (unwrap_or c.args.source (slice_range packet 24 40)) addresses.source) is in
-    let second = c.deref-2.ensures.0 ∙ c.to_bytes.ensures.written ∙ ap wire (reply c) in
+    let second = c.to_bytes-header.ensures.written ∙ ap wire (reply c) in
     ipv6_written packet _ _ _ (unwrap_or c.args.source (slice_range packet 24 40)) c.args.hop_limit (search rules) (source_len c) (destination_len c)
-    first (ap (take 4) second) (same c) c.replace_front.ensures
+    first (first_four _ _ _ _ _ (c.deref.ensures.0 ∙ second) (c.deref-2.ensures.0 ∙ second) (c.deref-3.ensures.0 ∙ second) (c.deref-4.ensures.0 ∙ second)) (same c) c.replace_front.ensures
 
 pub returns-clause-read : goal.returns-clause-read
 returns-clause-read c =
@@ -96,7 +96,7 @@ returns-clause-read c =
     λ bytes. IsReadAs bytes (addresses.Ipv6 from (Some (slice_range packet 8 24))) (headers.Icmpv6 (icmpv6_reply_to from (slice_range packet 8 24) (message_after 40 packet))) payload in
     subst IsRead (sym (returns-clause-answered c))
     (ipv6_reply_read packet from c.args.hop_limit (echo_of (message_after 40 packet) 4) (search rules) (source_len c)
-    (destination_len c) (subst IsBack (reply c) (c.to_bytes.ensures.reads_back payload)))
+    (destination_len c) (subst IsBack (reply c) (c.to_bytes-header.ensures.reads_back payload)))
 
 pub returns-clause-replies : goal.returns-clause-replies
 returns-clause-replies c answers =
@@ -107,5 +107,5 @@ returns-clause-replies c answers =
     let IsBack : Icmpv6Header → Type 0 = λ header. IsReadBack (headers.Icmpv6 header) payload in
     subst (IsReplyTo packet) (sym (returns-clause-answered c))
     (ipv6_is_reply packet from c.args.hop_limit is (search rules) (source_len c) (destination_len c)
-    (icmpv6_reply_accepted packet from (echo_of (message_after 40 packet) 4) is (subst IsBack (reply c) (c.to_bytes.ensures.reads_back payload)))
+    (icmpv6_reply_accepted packet from (echo_of (message_after 40 packet) 4) is (subst IsBack (reply c) (c.to_bytes-header.ensures.reads_back payload)))
     (same c) answers)

@@ -1,9 +1,9 @@
-use Rattle.std.proofs.Common.{◌≡◌, ◌+◌, ◌*◌, ◌<◌, ◌%◌, ◌∷◌, ◌++◌, List, ℕ, ap, arith, drop, length, refl, rules, slice_index, slice_range, take, ◌∙◌}
+use Rattle.std.proofs.Common.{◌≡◌, ◌≢◌, ◌+◌, ◌*◌, ◌<◌, ◌%◌, ◌∷◌, ◌++◌, IfSome, List, None, Option, Some, ℕ, ap, arith, drop, length, refl, rules, slice_index, slice_range, subst, suc, sym, take, unwrap_or, zero, ◌∙◌}
 use Rattle.std.specs.Int.{to_be_bytes, w16}
 use Rattle.std.proofs.lemmas.List.{drop-drop, length-drop, length-take-le, take_all}
 use Rattle.net_base.specs.Bytes.{be_number}
 use Rattle.word_sum.specs.Checksum.{IsAllOnes, folded, total}
-use Rattle.word_sum.specs.ChecksumChange.{TurnsInto, added_value}
+use Rattle.word_sum.specs.ChecksumChange.{IsExtendedBy, TurnsInto, added_value}
 use Rattle.word_sum.proofs.ChecksumLemmas.{folded-some, total-append}
 use Rattle.etherparse_transport.specs.Packets.{ipv4_fields}
 use Rattle.etherparse_transport.proofs.EchoReplyLemmas.{below_all_ones, only_checksum}
@@ -35,33 +35,45 @@ fields_total start source destination time_to_live len len_too =
       total-append source destination (ap (λ n. n % 2) len_too),
     )
 
+passed_len : (source : Option (List ℕ)) (destination : List ℕ) → IfSome source (λ source. length source ≡ 4) → length destination ≡ 4
+    → length (unwrap_or source destination) ≡ 4
+passed_len None destination len len_too = len_too
+passed_len (Some source) destination len len_too = len
+
+above_0 : (n : ℕ) → n ≢ 0 → 0 < n
+above_0 zero some = absurd (some refl)
+above_0 (suc n) some = omega arith
+
 pub returns : goal.returns
 returns c =
     let header : List ℕ = c.args.header.now in
     let time_to_live : ℕ = c.args.time_to_live in
-    let source : List ℕ = c.args.source in
     let receiver : List ℕ = slice_range header 12 16 in
     let destination : List ℕ = slice_range header 16 20 in
+    let source : List ℕ = unwrap_or c.args.source destination in
     let start : ℕ = total (take 8 header) in
     let checksum : ℕ = c.apply.result in
-    let source_len : length source ≡ 4 = search rules in
+    let destination_is : c.copy_from_slice.new.self ≡ destination = search rules in
+    let destination_len : length c.copy_from_slice.new.self ≡ 4 = search rules in
+    let source_len : length source ≡ 4 = passed_len c.args.source destination (search rules) (ap length (sym destination_is) ∙ destination_len) in
     let start_len : length (take 8 header) ≡ 8 = length-take-le 8 header (omega (arith, c.requires.len)) in
     let packet : ℕ = start + ((slice_index header 8 * 256 + slice_index header 9) + (total receiver + total destination)) in
     let between : ℕ = start + ((time_to_live * 256 + 1) + (total receiver + total destination)) in
     let changed : ℕ = total (ipv4_fields (take 8 header) time_to_live 1 source receiver 0) in
     let changed_is = fields_total (take 8 header) source receiver time_to_live start_len source_len in
-    let destination_is : c.copy_from_slice.new.self ≡ destination = search rules in
-    let turns : TurnsInto c.replace_2bytes.result packet between =
-    c.replace_2bytes.ensures.extends packet packet between (omega arith) (c.new.ensures.unchanged packet) in
-    let turns_too : TurnsInto c.replace_4bytes.result packet changed =
-    c.replace_4bytes.ensures.extends packet between changed (omega (arith, changed_is, ap total destination_is)) turns in
+    let turns : TurnsInto c.replace_2bytes-change.result packet between =
+    c.replace_2bytes-change.ensures.extends packet packet between (omega arith) (c.new.ensures.unchanged packet) in
+    let extends = subst (λ old. IsExtendedBy c.replace_2bytes-change.result old (unwrap_or c.args.source old) c.replace_ipv4_if_passed-change.result) destination_is
+    c.replace_ipv4_if_passed-change.ensures.extends in
+    let turns_too : TurnsInto c.replace_ipv4_if_passed-change.result packet changed =
+    extends packet between changed (omega (arith, changed_is)) turns in
     let ones : IsAllOnes (packet + c.from_be_bytes.result) =
     ap folded (omega (arith, header_total header c.requires.len, c.from_be_bytes.ensures)) ∙ c.requires.accepted in
-    let added : added_value c.replace_2bytes.result ≡ folded (added_value c.new.result + (time_to_live * 256 + 1)) =
-    c.replace_2bytes.ensures.added ∙ ap folded (omega arith) in
+    let added : added_value c.replace_2bytes-change.result ≡ folded (added_value c.new.result + (time_to_live * 256 + 1)) =
+    c.replace_2bytes-change.ensures.added ∙ ap folded (omega arith) in
     let some = folded-some (added_value c.new.result + (time_to_live * 256 + 1)) (omega arith) in
-    let some_too : 0 < added_value c.replace_4bytes.result =
-    omega (arith, c.replace_4bytes.ensures.added, folded-some (added_value c.replace_2bytes.result + total source) (omega (arith, added, some))) in
+    let some_too = above_0 (added_value c.replace_ipv4_if_passed-change.result)
+    (c.replace_ipv4_if_passed-change.ensures.some (λ none. absurd (omega (arith, none, added, some)))) in
     let small : checksum < 65535 = rw c.apply.ensures.equation (below_all_ones _ (omega (arith, some_too))) in
     only_checksum changed checksum small
     ((c.apply.ensures.verifies packet changed turns_too ones).1 (λ none. absurd (omega (arith, none, changed_is))))
