@@ -89,6 +89,13 @@ pub bytes_same : (place : ℕ) (new bytes : List ℕ) → place + length new ≤
 bytes_same place new bytes there is =
     ap (λ part. take place bytes ++ (part ++ drop (place + length new) bytes)) is ∙ parts place (length new) bytes
 
+-- bytes that stay
+pub bytes_kept : (place n : ℕ) (bytes : List ℕ) → place + n ≤ length bytes → with_bytes place (take n (drop place bytes)) bytes ≡ bytes
+bytes_kept place n bytes there =
+    let part : List ℕ = take n (drop place bytes) in
+    let len : length part ≡ n = range_len place n bytes there in
+    bytes_same place part bytes (omega (arith, len, there)) (ap (λ n. take n (drop place bytes)) (sym len))
+
 -- ---- replaced bytes that may be missing
 
 -- the bytes with these bytes at this place, or unchanged if they end before

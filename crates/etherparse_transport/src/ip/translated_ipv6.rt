@@ -1,4 +1,4 @@
-ghost use Rattle.std.specs.Prelude.{◌≡◌, ◌≢◌, ◌↔◌, ◌≤◌, ◌+◌, ◌%◌, ℕ, IfErr, IfOk, None, Some, length, slice_index, slice_range, IsTrue};
+ghost use Rattle.std.specs.Prelude.{◌≡◌, ◌≢◌, ◌↔◌, ◌≤◌, ◌+◌, ◌%◌, ℕ, IfErr, IfOk, IfSome, None, Some, drop, length, slice_index, slice_range, take, unwrap_or, IsTrue};
 ghost use Rattle.net_base.specs.Bytes.{IsBytes};
 ghost use Rattle.net_base.specs.IpHeaders.{BeginsWithIpv6Header, ipv6_header_of};
 ghost use Rattle.net_base.specs.Refusals.{RefusesExactly};
@@ -188,7 +188,7 @@ fn translate_ipv6_error(
         new,
         change,
     );
-    replace_ipv6_addresses(packet, &addresses);
+    replace_ipv6_addresses(packet, new);
     Ok(())
 }
 
@@ -229,7 +229,7 @@ fn translate_ipv6_flow(packet: &mut [u8], place: &Place, new: &Ipv6Translation) 
     ensures types { IsIpv6Translation new.now }
 {
     let addresses = new_ipv6_addresses(packet, new);
-    let change = replaced_ipv6_change(packet, new);
+    let change = replaced_ipv6_change(packet, new, &addresses);
     let change = translate_flow(
         &mut packet[place.start..place.end],
         place,
@@ -237,7 +237,7 @@ fn translate_ipv6_flow(packet: &mut [u8], place: &Place, new: &Ipv6Translation) 
         new.source_port,
         new.destination_port,
     );
-    replace_ipv6_addresses(packet, &addresses);
+    replace_ipv6_addresses(packet, new);
     change
 }
 
@@ -257,21 +257,39 @@ fn new_ipv6_addresses(packet: &[u8], new: &Ipv6Translation) -> Ipv6Header
 
 /// Replaces the addresses in the header of an IPv6 packet.
 #[inline(always)]
-fn replace_ipv6_addresses(packet: &mut [u8], new: &Ipv6Header)
+fn replace_ipv6_addresses(packet: &mut [u8], new: &Ipv6Translation)
     requires header { 40 ≤ length packet.old }
-    ensures replaced { packet.new ≡ specs.with_ipv6_addresses new.now packet.old }
-    ensures total { total packet.new + specs.total_of_ipv6 (ipv6_header_of packet.old) ≡ total packet.old + specs.total_of_ipv6 new.now }
+    ensures replaced { packet.new ≡ specs.with_ipv6_addresses (specs.ipv6_addresses new.now packet.old) packet.old }
+    ensures total { total packet.new + specs.total_of_ipv6 (ipv6_header_of packet.old) ≡
+        total packet.old + specs.total_of_ipv6 (specs.ipv6_addresses new.now packet.old) }
     ensures version { slice_index packet.new 0 ≡ slice_index packet.old 0 }
 {
-    replace_bytes(packet, SOURCE_AT, &new.source);
-    replace_bytes(packet, DESTINATION_AT, &new.destination);
+    replace_if_passed(packet, SOURCE_AT, new.source);
+    replace_if_passed(packet, DESTINATION_AT, new.destination);
+}
+
+/// Writes an address to this place, if one is passed. So an address that stays is not written.
+#[inline(always)]
+fn replace_if_passed(packet: &mut [u8], place: usize, new: Option<[u8; 16]>)
+    requires room { place + 16 ≤ length packet.old }
+    ensures written { packet.new ≡ with_bytes place (unwrap_or new (take 16 (drop place packet.old))) packet.old }
+    ensures len { IfSome new (λ address. length address ≡ 16) }
+{
+    if let Some(new) = new {
+        replace_bytes(packet, place, &new);
+    }
 }
 
 /// A change of the addresses of an IPv6 packet that updates each checksum as `ipv6_change` does. If only one address is replaced, the other
 /// address is left out. It counts only if the new address is the unspecified address, and all other new words may be 0 too.
 #[inline(always)]
-fn replaced_ipv6_change(packet: &[u8], new: &Ipv6Translation) -> ChecksumChange
+fn replaced_ipv6_change(
+    packet: &[u8],
+    new: &Ipv6Translation,
+    addresses: &Ipv6Header,
+) -> ChecksumChange
     requires header { 40 ≤ length packet.now }
+    requires addresses { addresses.now ≡ specs.ipv6_addresses new.now packet.now }
     ensures { AreUpdatedAlike (removed_value result) (added_value result) (specs.sum_of_ipv6 (ipv6_header_of packet.now))
         (specs.sum_of_ipv6 (specs.ipv6_addresses new.now packet.now)) }
 {
@@ -283,7 +301,7 @@ fn replaced_ipv6_change(packet: &[u8], new: &Ipv6Translation) -> ChecksumChange
         (None, Some(destination)) if is_specified(destination) => {
             ChecksumChange::new().replace_16bytes(old.destination, destination)
         }
-        _ => ipv6_change(packet, &new_ipv6_addresses(packet, new)),
+        _ => ipv6_change(packet, addresses),
     }
 }
 

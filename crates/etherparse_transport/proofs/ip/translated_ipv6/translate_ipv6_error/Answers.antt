@@ -1,12 +1,15 @@
-use Rattle.std.proofs.Common.{◌≡◌, ◌+◌, ◌-◌, List, ℕ, length, slice_index, slice_range, ap, ◌∙◌, subst, sym, rules}
+use Rattle.std.proofs.Common.{◌≡◌, ◌+◌, ◌-◌, List, ℕ, length, slice_index, slice_range, unwrap_or, ap, ◌∙◌, subst, sym, rules}
 use Rattle.std.specs.Option.{option_map}
 use Rattle.etherparse_transport.specs.Ipv6Translations.{sum_of_ipv6, ipv6_addresses, ipv6_opposite, ipv6_place_refusal, ipv6_start, ipv6_translated_flow, message_in_ipv6, with_ipv6_addresses}
 use Rattle.etherparse_transport.specs.Translations.{IsAcceptedAlike, with_bytes, with_quote}
 use Rattle.etherparse_transport.specs.declared.err.packet.translate_error.TranslateError.TheVariants.{QuotedPacket}
+use Rattle.etherparse_transport.specs.declared.ip.ipv6_translation.Ipv6Translation.{Ipv6Translation}
 use Rattle.net_base.specs.IpHeaders.{ipv6_header_of}
+use Rattle.net_base.specs.declared.ipv6_header.Ipv6Header.{Ipv6Header}
 use Rattle.word_sum.specs.ChecksumChange.{TurnsInto, added_value, removed_value}
 use Rattle.word_sum.specs.Checksum.{folded}
 use Rattle.etherparse_transport.proofs.TranslationLemmas.{put_is}
+use Rattle.etherparse_transport.proofs.TranslationSums.{ipv6_header_put}
 use Rattle.etherparse_transport.proofs.ip.translated_ipv6.translate_ipv6_error.Goals as goal
 use borrow.Rule.Slice.PartMut.{put_mid}
 
@@ -15,6 +18,10 @@ returns-clause-refused c =
     let end : ℕ = 8 + c.args.quoted_len in
     ap (λ message. option_map (λ error. QuotedPacket) (ipv6_place_refusal (slice_range message 8 end))) (sym c.requires.place.message)
     ∙ ap (option_map (λ error. QuotedPacket)) c.in-Ok.ensures.refused
+
+-- the new addresses, by the old addresses
+abbrev pub addresses_from : Ipv6Translation → Ipv6Header → Ipv6Header
+addresses_from new old = record { source = unwrap_or new.source old.source; destination = unwrap_or new.destination old.destination }
 
 pub returns-clause-translated : goal.returns-clause-translated
 returns-clause-translated c =
@@ -33,7 +40,8 @@ returns-clause-translated c =
     (c.ipv6_change-change.ensures.added ∙ ap sum_of_ipv6 c.new_ipv6_addresses-addresses.ensures.new)
     ∙ ap (with_translated old new) c.requires.place.message in
     c.replace_ipv6_addresses.ensures.replaced
-    ∙ ap (λ addresses. with_ipv6_addresses addresses (put_mid c.args.place.now.start (c.args.place.now.end - c.args.place.now.start) packet changed)) c.new_ipv6_addresses-addresses.ensures.new
+    ∙ ap (λ header. with_ipv6_addresses (addresses_from c.args.new.now header) (put_mid c.args.place.now.start (c.args.place.now.end - c.args.place.now.start) packet changed))
+    (ipv6_header_put c.args.place.now.start (c.args.place.now.end - c.args.place.now.start) packet changed c.requires.place.header (search rules))
     ∙ ap (with_ipv6_addresses (ipv6_addresses c.args.new.now packet))
     (put_is c.args.place.now.start c.args.place.now.end packet changed (search rules)
     ∙ ap (λ start. with_bytes start changed packet) c.requires.place.start

@@ -1,14 +1,19 @@
-use Rattle.std.proofs.Common.{◌≡◌, ◌+◌, ◌-◌, ◌%◌, List, ℕ, slice_range, ap, ◌∙◌, subst, arith, rules}
+use Rattle.std.proofs.Common.{◌≡◌, ◌+◌, ◌-◌, ◌%◌, List, ℕ, slice_range, unwrap_or, ap, ◌∙◌, subst, arith, rules}
 use Rattle.net_base.specs.IpHeaders.{ipv6_header_of}
 use Rattle.net_base.specs.declared.ipv6_header.Ipv6Header.{Ipv6Header}
 use Rattle.word_sum.specs.Checksum.{folded, total}
 use Rattle.word_sum.specs.ChecksumChange.{added_value, removed_value}
 use Rattle.etherparse_transport.specs.Ipv6Translations.{AreIpv6Addresses, total_of_ipv6, ipv6_addresses, ipv6_flow_message, ipv6_start, with_ipv6_addresses}
 use Rattle.etherparse_transport.specs.Translations.{with_bytes}
+use Rattle.etherparse_transport.specs.declared.ip.ipv6_translation.Ipv6Translation.{Ipv6Translation}
 use Rattle.etherparse_transport.proofs.TranslationLemmas.{ipv6_flow_message_is, put_is}
 use Rattle.etherparse_transport.proofs.TranslationSums.{flow_turns, ipv6_header_put, ipv6_verifies, message_total, start_even}
 use Rattle.etherparse_transport.proofs.ip.translated_ipv6.translate_ipv6_flow.Goals as goal
 use borrow.Rule.Slice.PartMut.{put_mid}
+
+-- the new addresses, by the old addresses
+abbrev pub addresses_from : Ipv6Translation → Ipv6Header → Ipv6Header
+addresses_from new old = record { source = unwrap_or new.source old.source; destination = unwrap_or new.destination old.destination }
 
 pub returns-clause-translated : goal.returns-clause-translated
 returns-clause-translated c =
@@ -19,7 +24,8 @@ returns-clause-translated c =
     let message_is : message ≡ ipv6_flow_message c.args.new.now packet =
     c.translate_flow-change.ensures.translated ∙ ipv6_flow_message_is c.args.new.now packet _ _ _ _ _ (search rules) c.requires.place.later c.requires.place.proto c.replaced_ipv6_change-change.ensures in
     c.replace_ipv6_addresses.ensures.replaced
-    ∙ ap (λ addresses. with_ipv6_addresses addresses (put_mid start (end - start) packet message)) c.new_ipv6_addresses-addresses.ensures.new
+    ∙ ap (λ header. with_ipv6_addresses (addresses_from c.args.new.now header) (put_mid start (end - start) packet message))
+    (ipv6_header_put start (end - start) packet message c.requires.place.header (search rules))
     ∙ ap (with_ipv6_addresses (ipv6_addresses c.args.new.now packet)) (put_is start end packet message (search rules)
     ∙ ap (λ start. with_bytes start message packet) c.requires.place.start
     ∙ ap (λ message. with_bytes (ipv6_start packet) message packet) message_is)
@@ -47,11 +53,11 @@ returns-clause-turns c =
     let new : Ipv6Header = ipv6_addresses c.args.new.now packet in
     let removed : ℕ = removed_value c.replaced_ipv6_change-change.result in
     let added : ℕ = added_value c.replaced_ipv6_change-change.result in
-    let header_kept = ap total_of_ipv6 (ipv6_header_put start (end - start) packet translated c.requires.place.header (search rules)) in
+    let header = ipv6_header_put start (end - start) packet translated c.requires.place.header (search rules) in
     let all = flow_turns (total packet) (total between) (total c.replace_ipv6_addresses.new.packet) (total message) (total translated)
     old.source old.destination new.source new.destination removed added 0 0 (removed_value c.translate_flow-change.result) (added_value c.translate_flow-change.result)
     c.replaced_ipv6_change-change.ensures
     (c.translate_flow-change.ensures.turns (removed + total message) added (ap folded (omega arith)))
     (message_total start end packet translated (ap (λ n. n % 2) c.requires.place.start ∙ start_even _) (search rules) c.requires.place.ordered c.requires.place.there)
-    (omega (arith, c.replace_ipv6_addresses.ensures.total, header_kept, ap total_of_ipv6 c.new_ipv6_addresses-addresses.ensures.new)) in
+    (omega (arith, c.replace_ipv6_addresses.ensures.total, ap total_of_ipv6 header, ap (λ header. total_of_ipv6 (addresses_from c.args.new.now header)) header)) in
     omega (arith, all)
