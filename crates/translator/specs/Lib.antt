@@ -1,3 +1,4 @@
+pub mod Outcomes
 pub mod Packets
 pub mod Passing
 pub mod Replacements

@@ -1,3 +1,6 @@
+ghost use Rattle.std.specs.Prelude.{◌≡◌};
+ghost use Rattle.translator.specs.Outcomes.{reason_of};
+
 use etherparse_transport::err::packet::TranslateError;
 
 /// Why a packet is written as it was read, although replacements may apply to it.
@@ -47,7 +50,9 @@ impl Reason {
     ];
 
     /// The reason for an error of the translation.
-    pub fn of(error: &TranslateError) -> Reason {
+    pub fn of(error: &TranslateError) -> Reason
+        ensures { result ≡ reason_of error.now }
+    {
         match error {
             TranslateError::Ip(_) | TranslateError::OtherVersion => Reason::IpHeaders,
             TranslateError::SourceRoute => Reason::SourceRoute,
