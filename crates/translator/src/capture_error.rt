@@ -1,3 +1,6 @@
+ghost use Rattle.std.specs.Prelude.{◌≡◌};
+ghost use Rattle.translator.specs.Outcomes as specs;
+
 use capture_file::classic::CaptureHeaderError;
 use capture_file::reader::{PacketError, PlacedPacketError};
 use std::io;
@@ -38,7 +41,9 @@ pub enum CaptureError {
 impl CaptureError {
     /// The exit status of the program: 1 if the capture can't be read to its end, 2 if the input is no capture, and 3 if reading or writing
     /// failed.
-    pub fn status(&self) -> u8 {
+    pub fn status(&self) -> u8
+        ensures { result ≡ specs.status self.now }
+    {
         match self {
             CaptureError::Header(
                 CaptureHeaderError::CutOff { .. } | CaptureHeaderError::Magic { .. },

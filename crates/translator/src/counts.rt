@@ -1,3 +1,6 @@
+ghost use Rattle.std.specs.Prelude.{◌≡◌};
+ghost use Rattle.translator.specs.Outcomes.{counted};
+
 use crate::reason::Reason;
 use std::io;
 use std::io::Write;
@@ -22,7 +25,9 @@ impl Counts {
     };
 
     /// Counts a packet with this outcome of `translate_frame`. A count of 2^64 - 1 stays.
-    pub fn add(&mut self, outcome: Result<bool, Reason>) {
+    pub fn add(&mut self, outcome: Result<bool, Reason>)
+        ensures { self.new ≡ counted self.old outcome }
+    {
         match outcome {
             Ok(true) => self.translated = self.translated.saturating_add(1),
             Ok(false) => self.unaffected = self.unaffected.saturating_add(1),
