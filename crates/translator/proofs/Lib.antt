@@ -1,1 +1,2 @@
 pub mod PacketLemmas
+pub mod PassingLemmas

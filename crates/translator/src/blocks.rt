@@ -1,17 +1,22 @@
 //! The blocks of a pcapng file (draft-ietf-opsawg-pcapng, section 3.1).
 
-ghost use Rattle.std.specs.Prelude.{◌≡◌, ◌≤◌, ◌%◌, ◌+◌, length};
-ghost use Rattle.translator.specs.Passing.{IsPart};
+ghost use Rattle.std.specs.Prelude.{◌≡◌, ◌<◌, ◌≤◌, ◌%◌, ◌+◌, OnOk, Some, length, take};
+ghost use Rattle.std.specs.Io.KnownBytes.{IsAtEnd, prepend_known};
+ghost use Rattle.translator.specs.Passing.{CountsPart, IsWritten, PassesUpTo};
+ghost use Rattle.translator.specs.declared.capture_error.CaptureError.TheVariants.{Block as BlockRefused};
+ghost use Rattle.translator.specs.declared.counts.Counts.{Counts};
+ghost use Rattle.translator.specs.declared.table.Table.{Table};
 
 use crate::capture_error::CaptureError;
 use crate::counts::Counts;
 use crate::packet::translate_frame;
 use crate::reason::Reason;
 use crate::table::Table;
-use crate::transfer::{copy, read_into, write};
+use crate::transfer::{Buffer, copy, read_after, read_into, write};
 use capture_file::ByteOrder;
 use capture_file::pcapng::{Block, BlockError, BlockHeader, BodyError, MIN_BLOCK_LEN};
 use capture_file::reader::{CapturedPacket, PacketError, PlacedPacketError, Section};
+use capture_packet::MAX_PACKET_LEN;
 use std::io;
 use std::io::{ErrorKind, Read, Write};
 
@@ -19,13 +24,15 @@ use std::io::{ErrorKind, Read, Write};
 pub(crate) fn translate_blocks<R: Read, W: Write>(
     input: &mut R,
     output: &mut W,
-    buffer: &mut [u8],
+    buffer: &mut Buffer,
     begin: &[u8],
     table: &Table,
     counts: &mut Counts,
 ) -> Result<(), CaptureError>
-    requires buffer { 12 ≤ length buffer.old }
     requires begin { length begin.now ≤ 12 }
+    ensures passes { PassesUpTo table.now result (prepend_known begin.now (R.remaining input.old)) (R.remaining input.new)
+        (W.contents output.old) (W.contents output.new) counts.old counts.new }
+    ensures ends { (length begin.now < 12 → IsAtEnd (R.remaining input.old)) → OnOk result (IsAtEnd (R.remaining input.new)) }
 {
     // The section header block states its byte order.
     let mut section = Section::new(ByteOrder::BigEndian);
@@ -58,16 +65,16 @@ pub(crate) fn translate_blocks<R: Read, W: Write>(
 fn translate_block<R: Read, W: Write>(
     input: &mut R,
     output: &mut W,
-    buffer: &mut [u8],
+    buffer: &mut Buffer,
     first: &[u8],
     section: &mut Section,
     offset: u64,
     table: &Table,
     counts: &mut Counts,
 ) -> Result<usize, CaptureError>
-    requires buffer { 12 ≤ length buffer.old }
     requires first { length first.now ≤ 12 }
-    ensures buffer { length buffer.new ≡ length buffer.old }
+    ensures passes { PassesUpTo table.now result (prepend_known first.now (R.remaining input.old)) (R.remaining input.new)
+        (W.contents output.old) (W.contents output.new) counts.old counts.new }
 {
     let header = match BlockHeader::from_slice(section.byte_order, first) {
         Ok(header) => header,
@@ -77,15 +84,11 @@ fn translate_block<R: Read, W: Write>(
         }
     };
     let total_len = header.total_len as usize;
-    let kept_len = total_len.min(buffer.len());
-    buffer[..MIN_BLOCK_LEN].copy_from_slice(first);
-    let len = MIN_BLOCK_LEN + read_into(input, &mut buffer[MIN_BLOCK_LEN..kept_len], offset)?;
-    let result = if len < kept_len {
-        Err(cut_off(total_len, len))
-    } else {
-        translate_kept(&header, &mut buffer[..kept_len], section, table, counts)
-    };
-    write(output, &buffer[..len])?;
+    let kept_len = total_len.min(MAX_PACKET_LEN);
+    let kept = &mut buffer[..kept_len];
+    let len = read_after(input, kept, first, offset)?;
+    let result = translate_read(&header, kept, len, section, table, counts);
+    write(output, &kept[..len])?;
     if let Err(error) = result {
         return Err(refused(offset, error));
     }
@@ -97,14 +100,14 @@ fn translate_block<R: Read, W: Write>(
 fn copy_rest<R: Read, W: Write>(
     input: &mut R,
     output: &mut W,
-    buffer: &mut [u8],
+    buffer: &mut Buffer,
     total_len: usize,
     kept_len: usize,
     offset: u64,
 ) -> Result<(), CaptureError>
-    requires buffer { 12 ≤ length buffer.old }
     requires kept { kept_len ≤ total_len }
-    ensures buffer { length buffer.new ≡ length buffer.old }
+    ensures passes { (table : Table) (counts : Counts) → PassesUpTo table result (R.remaining input.old) (R.remaining input.new)
+        (W.contents output.old) (W.contents output.new) counts counts }
 {
     let rest_len = total_len - kept_len;
     let len = copy(input, output, buffer, rest_len, offset)?;
@@ -112,6 +115,28 @@ fn copy_rest<R: Read, W: Write>(
         return Err(refused(offset, cut_off(total_len, kept_len + len)));
     }
     Ok(())
+}
+
+/// Translates the packet of a block, if it is a packet block, and all bytes for which there is room were read. `len` is the number of bytes
+/// that were read.
+fn translate_read(
+    header: &BlockHeader,
+    bytes: &mut [u8],
+    len: usize,
+    section: &mut Section,
+    table: &Table,
+    counts: &mut Counts,
+) -> Result<(), PacketError>
+    requires header { (12 ≤ header.now.total_len) × (header.now.total_len % 4 ≡ 0) }
+    requires bytes { (12 ≤ length bytes.old) × (length bytes.old ≤ header.now.total_len) }
+    requires len { len ≤ length bytes.old }
+    ensures part { CountsPart table.now (take len bytes.old) (take len bytes.new) counts.old counts.new }
+    ensures len { length bytes.new ≡ length bytes.old }
+{
+    if len < bytes.len() {
+        return Err(cut_off(header.total_len as usize, len));
+    }
+    translate_kept(header, bytes, section, table, counts)
 }
 
 /// Translates the packet of a block, if it is a packet block. The bytes are the block, or its beginning if the buffer has no room for it.
@@ -124,7 +149,7 @@ fn translate_kept(
 ) -> Result<(), PacketError>
     requires header { (12 ≤ header.now.total_len) × (header.now.total_len % 4 ≡ 0) }
     requires bytes { (12 ≤ length bytes.old) × (length bytes.old ≤ header.now.total_len) }
-    ensures part { IsPart table.now (bytes.old, bytes.new) }
+    ensures part { CountsPart table.now bytes.old bytes.new counts.old counts.new }
     ensures len { length bytes.new ≡ length bytes.old }
 {
     let is_whole = bytes.len() == header.total_len as usize;
@@ -160,7 +185,7 @@ fn translate_captured(
     table: &Table,
 ) -> Result<bool, Reason>
     requires within { packet.now.start + packet.now.captured_len ≤ length bytes.old }
-    ensures part { IsPart table.now (bytes.old, bytes.new) }
+    ensures part { IsWritten table.now bytes.old bytes.new (Some result) }
     ensures len { length bytes.new ≡ length bytes.old }
 {
     let Ok(link_type) = packet.link_type else {
@@ -176,6 +201,8 @@ fn cut_off(required_len: usize, len: usize) -> PacketError {
 }
 
 /// The error for a block at this place in the file.
-fn refused(offset: u64, error: PacketError) -> CaptureError {
+fn refused(offset: u64, error: PacketError) -> CaptureError
+    ensures { result ≡ BlockRefused (record { offset = offset; error = error }) }
+{
     CaptureError::Block(PlacedPacketError { offset, error })
 }

@@ -89,15 +89,10 @@ fn translate_file(rt: &HostRuntime, options: &Options<'_>, name: &str) -> io::Re
 fn translate<R: Read + Drop>(rt: &HostRuntime, options: &Options<'_>, input: R) -> io::Result<u8> {
     let mut input = BufReader::with_capacity(rt.alloc(), STREAM_LEN, input)?;
     let mut output = BufWriter::with_capacity(rt.alloc(), STREAM_LEN, rt.stdout())?;
-    let mut buffer = new_buffer(rt.alloc(), MAX_PACKET_LEN)?;
+    let mut bytes = new_buffer(rt.alloc(), MAX_PACKET_LEN)?;
+    let buffer = bytes.as_mut_slice().as_mut_array().unwrap();
     let mut counts = Counts::NONE;
-    let ended = translate_capture(
-        &mut input,
-        &mut output,
-        buffer.as_mut_slice(),
-        &options.table,
-        &mut counts,
-    );
+    let ended = translate_capture(&mut input, &mut output, buffer, &options.table, &mut counts);
     // What was written before an error is part of the output.
     let flushed = output.flush();
     let _ = counts.write_to(&mut rt.stderr());

@@ -1,16 +1,18 @@
 //! The records of a classic capture (draft-ietf-opsawg-pcap, section 5).
 
-ghost use Rattle.std.specs.Prelude.{◌≡◌, ◌<◌, ◌≤◌, IfErr, IfOk, OnOk, None, Ok, length};
+ghost use Rattle.std.specs.Prelude.{◌≡◌, ◌<◌, ◌≤◌, IfErr, IfOk, OnOk, None, Ok, length, take};
 ghost use Rattle.std.specs.Io.KnownBytes.{IsAtEnd};
-ghost use Rattle.translator.specs.Passing.{EndsAtCut, IsCut};
+ghost use Rattle.translator.specs.declared.capture_error.CaptureError.TheVariants.{RecordCutOff};
+ghost use Rattle.translator.specs.Passing.{CountsPart, EndsAtCut, IsCut, PassesUpTo};
 
 use crate::capture_error::CaptureError;
 use crate::counts::Counts;
 use crate::packet::translate_frame;
 use crate::reason::Reason;
 use crate::table::Table;
-use crate::transfer::{copy, read_into, write};
+use crate::transfer::{Buffer, copy, read_into, write};
 use capture_file::classic::{CaptureHeader, RecordHeader};
+use capture_packet::MAX_PACKET_LEN;
 use std::io;
 use std::io::{ErrorKind, Read, Write};
 
@@ -18,12 +20,13 @@ use std::io::{ErrorKind, Read, Write};
 pub(crate) fn translate_records<R: Read, W: Write>(
     input: &mut R,
     output: &mut W,
-    buffer: &mut [u8],
+    buffer: &mut Buffer,
     capture: &CaptureHeader,
     table: &Table,
     counts: &mut Counts,
 ) -> Result<(), CaptureError>
-    requires buffer { 12 ≤ length buffer.old }
+    ensures passes { PassesUpTo table.now result (R.remaining input.old) (R.remaining input.new) (W.contents output.old) (W.contents output.new)
+        counts.old counts.new }
     ensures ends { OnOk result (IsAtEnd (R.remaining input.new)) }
     ensures cut { EndsAtCut result (R.remaining input.new) }
 {
@@ -42,16 +45,16 @@ pub(crate) fn translate_records<R: Read, W: Write>(
 fn translate_record<R: Read, W: Write>(
     input: &mut R,
     output: &mut W,
-    buffer: &mut [u8],
+    buffer: &mut Buffer,
     capture: &CaptureHeader,
     offset: u64,
     table: &Table,
     counts: &mut Counts,
 ) -> Result<Option<usize>, CaptureError>
-    requires buffer { 12 ≤ length buffer.old }
+    ensures passes { PassesUpTo table.now result (R.remaining input.old) (R.remaining input.new) (W.contents output.old) (W.contents output.new)
+        counts.old counts.new }
     ensures ends { result ≡ Ok None → IsAtEnd (R.remaining input.new) }
     ensures cut { EndsAtCut result (R.remaining input.new) }
-    ensures buffer { length buffer.new ≡ length buffer.old }
 {
     let mut first = [0u8; RecordHeader::LEN];
     let len = read_into(input, &mut first, offset)?;
@@ -82,7 +85,9 @@ fn translate_record<R: Read, W: Write>(
 }
 
 /// The error for a capture that ends within a record.
-fn cut_off(offset: u64, required_len: usize, len: usize) -> CaptureError {
+fn cut_off(offset: u64, required_len: usize, len: usize) -> CaptureError
+    ensures { result ≡ RecordCutOff offset required_len len }
+{
     CaptureError::RecordCutOff {
         offset,
         required_len,
@@ -95,28 +100,43 @@ fn cut_off(offset: u64, required_len: usize, len: usize) -> CaptureError {
 fn translate_captured<R: Read, W: Write>(
     input: &mut R,
     output: &mut W,
-    buffer: &mut [u8],
+    buffer: &mut Buffer,
     capture: &CaptureHeader,
     captured_len: usize,
     offset: u64,
     table: &Table,
     counts: &mut Counts,
 ) -> Result<usize, CaptureError>
-    requires buffer { 12 ≤ length buffer.old }
+    ensures passes { PassesUpTo table.now result (R.remaining input.old) (R.remaining input.new) (W.contents output.old) (W.contents output.new)
+        counts.old counts.new }
     ensures within { IfOk result (λ len. len ≤ captured_len) }
     ensures end { IfOk result (λ len. len < captured_len → IsAtEnd (R.remaining input.new)) }
     ensures failed { IfErr result (λ error. IsCut error → ⊥) }
-    ensures buffer { length buffer.new ≡ length buffer.old }
 {
-    if captured_len > buffer.len() {
+    if captured_len > MAX_PACKET_LEN {
         counts.add(Err(Reason::TooLong));
         return copy(input, output, buffer, captured_len, offset);
     }
     let frame = &mut buffer[..captured_len];
     let len = read_into(input, frame, offset)?;
-    if len == captured_len {
-        counts.add(translate_frame(capture.link_type, capture.byte_order, frame, table));
-    }
+    translate_read(capture, frame, len, table, counts);
     write(output, &frame[..len])?;
     Ok(len)
+}
+
+/// Translates the packet in a frame, and counts it, if all bytes of the frame were read.
+fn translate_read(
+    capture: &CaptureHeader,
+    frame: &mut [u8],
+    len: usize,
+    table: &Table,
+    counts: &mut Counts,
+)
+    requires within { len ≤ length frame.old }
+    ensures part { CountsPart table.now (take len frame.old) (take len frame.new) counts.old counts.new }
+    ensures len { length frame.new ≡ length frame.old }
+{
+    if len == frame.len() {
+        counts.add(translate_frame(capture.link_type, capture.byte_order, frame, table));
+    }
 }

@@ -1,12 +1,16 @@
 //! Reading and writing, with the errors of the program.
 
 ghost use Rattle.std.specs.Prelude.{◌≡◌, ◌<◌, ◌≤◌, IfErr, IfOk, OnOk, length, take};
-ghost use Rattle.std.specs.Io.KnownBytes.{Appends, Consumes, IsAtEnd};
-ghost use Rattle.translator.specs.Passing.{IsCut};
+ghost use Rattle.std.specs.Io.KnownBytes.{Appends, Consumes, IsAtEnd, prepend_known};
+ghost use Rattle.translator.specs.Passing.{CopiesUpTo, IsCut, IsReadError, IsWriteError};
 
 use crate::capture_error::CaptureError;
+use capture_packet::MAX_PACKET_LEN;
 use std::io::{Read, Write};
 use streams::fill;
+
+/// Room for a block of a pcapng file, and for the packet of a record.
+pub(crate) type Buffer = [u8; MAX_PACKET_LEN];
 
 /// Reads into a buffer until it is full or the input ends, and returns the number of bytes read. `offset` is the place in the file that an
 /// error states.
@@ -18,7 +22,7 @@ pub(crate) fn read_into<R: Read>(
     ensures len { IfOk result (λ len. len ≤ length buffer.new) }
     ensures consumed { IfOk result (λ len. Consumes (R.remaining input.old) (R.remaining input.new) (take len buffer.new)) }
     ensures end { IfOk result (λ len. len < length buffer.new → IsAtEnd (R.remaining input.new)) }
-    ensures failed { IfErr result (λ error. IsCut error → ⊥) }
+    ensures failed { IfErr result IsReadError }
 {
     match fill(input, buffer) {
         Ok(len) => Ok(len),
@@ -26,10 +30,31 @@ pub(crate) fn read_into<R: Read>(
     }
 }
 
+/// Reads into a buffer after the bytes that were read before, and returns the number of bytes in the buffer: those and the bytes read.
+pub(crate) fn read_after<R: Read>(
+    input: &mut R,
+    buffer: &mut [u8],
+    before: &[u8],
+    offset: u64,
+) -> Result<usize, CaptureError>
+    requires room { length before.now ≤ length buffer.old }
+    ensures len { IfOk result (λ len. (length before.now ≤ len) × (len ≤ length buffer.new)) }
+    ensures consumed { IfOk result (λ len.
+        Consumes (prepend_known before.now (R.remaining input.old)) (R.remaining input.new) (take len buffer.new)) }
+    ensures end { IfOk result (λ len. len < length buffer.new → IsAtEnd (R.remaining input.new)) }
+    ensures failed { IfErr result IsReadError }
+    ensures buffer { length buffer.new ≡ length buffer.old }
+{
+    let place = before.len();
+    buffer[..place].copy_from_slice(before);
+    let len = read_into(input, &mut buffer[place..], offset)?;
+    Ok(place + len)
+}
+
 /// Writes these bytes.
 pub(crate) fn write<W: Write>(output: &mut W, bytes: &[u8]) -> Result<(), CaptureError>
     ensures appends { OnOk result (Appends (W.contents output.old) (W.contents output.new) bytes.now) }
-    ensures failed { IfErr result (λ error. IsCut error → ⊥) }
+    ensures failed { IfErr result IsWriteError }
 {
     match output.write_all(bytes) {
         Ok(()) => Ok(()),
@@ -37,20 +62,18 @@ pub(crate) fn write<W: Write>(output: &mut W, bytes: &[u8]) -> Result<(), Captur
     }
 }
 
-/// Copies `count` bytes, or all bytes up to the end of input if there are fewer, and returns the number of bytes copied. The buffer is not
-/// empty.
+/// Copies `count` bytes, or all bytes up to the end of input if there are fewer, and returns the number of bytes copied.
 pub(crate) fn copy<R: Read, W: Write>(
     input: &mut R,
     output: &mut W,
-    buffer: &mut [u8],
+    buffer: &mut Buffer,
     count: usize,
     offset: u64,
 ) -> Result<usize, CaptureError>
-    requires buffer { 0 < length buffer.old }
+    ensures copies { CopiesUpTo result (R.remaining input.old) (R.remaining input.new) (W.contents output.old) (W.contents output.new) }
     ensures within { IfOk result (λ len. len ≤ count) }
     ensures end { IfOk result (λ len. len < count → IsAtEnd (R.remaining input.new)) }
     ensures failed { IfErr result (λ error. IsCut error → ⊥) }
-    ensures buffer { length buffer.new ≡ length buffer.old }
 {
     let mut copied = 0;
     while copied < count {
