@@ -2,7 +2,7 @@
 
 ghost use Rattle.std.specs.Prelude.{◌≡◌, ◌<◌, ◌≤◌, ◌%◌, ◌+◌, OnOk, Some, length, take};
 ghost use Rattle.std.specs.Io.KnownBytes.{IsAtEnd, prepend_known};
-ghost use Rattle.translator.specs.Passing.{CountsPart, IsWritten, PassesUpTo};
+ghost use Rattle.translator.specs.Passing.{CountsPart, EndsAtCut, IsWritten, PassesUpTo};
 ghost use Rattle.translator.specs.declared.capture_error.CaptureError.TheVariants.{Block as BlockRefused};
 ghost use Rattle.translator.specs.declared.counts.Counts.{Counts};
 ghost use Rattle.translator.specs.declared.table.Table.{Table};
@@ -33,6 +33,7 @@ pub(crate) fn translate_blocks<R: Read, W: Write>(
     ensures passes { PassesUpTo table.now result (prepend_known begin.now (R.remaining input.old)) (R.remaining input.new)
         (W.contents output.old) (W.contents output.new) counts.old counts.new }
     ensures ends { (length begin.now < 12 → IsAtEnd (R.remaining input.old)) → OnOk result (IsAtEnd (R.remaining input.new)) }
+    ensures cut { EndsAtCut result (R.remaining input.new) }
 {
     // The section header block states its byte order.
     let mut section = Section::new(ByteOrder::BigEndian);
@@ -75,6 +76,7 @@ fn translate_block<R: Read, W: Write>(
     requires first { length first.now ≤ 12 }
     ensures passes { PassesUpTo table.now result (prepend_known first.now (R.remaining input.old)) (R.remaining input.new)
         (W.contents output.old) (W.contents output.new) counts.old counts.new }
+    ensures cut { EndsAtCut result (R.remaining input.new) }
 {
     let header = match BlockHeader::from_slice(section.byte_order, first) {
         Ok(header) => header,
@@ -108,6 +110,7 @@ fn copy_rest<R: Read, W: Write>(
     requires kept { kept_len ≤ total_len }
     ensures passes { (table : Table) (counts : Counts) → PassesUpTo table result (R.remaining input.old) (R.remaining input.new)
         (W.contents output.old) (W.contents output.new) counts counts }
+    ensures cut { EndsAtCut result (R.remaining input.new) }
 {
     let rest_len = total_len - kept_len;
     let len = copy(input, output, buffer, rest_len, offset)?;

@@ -2,7 +2,7 @@
 
 ghost use Rattle.std.specs.Prelude.{OnOk};
 ghost use Rattle.std.specs.Io.KnownBytes.{IsAtEnd};
-ghost use Rattle.translator.specs.Passing.{PassesCapture};
+ghost use Rattle.translator.specs.Passing.{EndsAtCut, PassesCapture};
 
 use crate::blocks::translate_blocks;
 use crate::capture_error::CaptureError;
@@ -31,6 +31,7 @@ pub fn translate_capture<R: Read, W: Write>(
     ensures passes { PassesCapture table.now result (R.remaining input.old) (R.remaining input.new) (W.contents output.old) (W.contents output.new)
         counts.old counts.new }
     ensures ends { OnOk result (IsAtEnd (R.remaining input.new)) }
+    ensures cut { EndsAtCut result (R.remaining input.new) }
 {
     let mut begin = [0u8; MIN_BLOCK_LEN];
     let begin_len = read_into(input, &mut begin, 0)?;
