@@ -43,6 +43,16 @@ pub record CountsPart (table : Table) (read written : List ℕ) (counts now_coun
   pub is_written : IsWritten table read written outcome
   pub counted : now_counts ≡ counted_if counts outcome
 
+-- the packet in a frame was translated and counted
+pub record CountsFrame (table : Table) (link_type : LinkType) (order : ByteOrder) (frame after : List ℕ) (counts now_counts : Counts) : Type 0 where
+  pub outcome : Result Bool Reason
+  pub translates : TranslatesFrame table link_type order frame after outcome
+  pub counted : now_counts ≡ counted counts outcome
+
+-- one packet was counted
+abbrev pub CountsPacket : Counts → Counts → Type 0
+CountsPacket counts now_counts = (outcome : Result Bool Reason) × (now_counts ≡ counted counts outcome)
+
 -- bytes of a capture, what was written for them, and the outcome of the packet in them
 pub record Part : Type 0 where
   pub read : List ℕ

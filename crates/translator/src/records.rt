@@ -1,9 +1,9 @@
 //! The records of a classic capture (draft-ietf-opsawg-pcap, section 5).
 
-ghost use Rattle.std.specs.Prelude.{◌≡◌, ◌<◌, ◌≤◌, IfErr, IfOk, OnOk, None, Ok, length, take};
+ghost use Rattle.std.specs.Prelude.{◌≡◌, ◌<◌, ◌≤◌, ℕ, IfErr, IfOk, OnOk, None, Some, Ok, length, take};
 ghost use Rattle.std.specs.Io.KnownBytes.{IsAtEnd};
 ghost use Rattle.translator.specs.declared.capture_error.CaptureError.TheVariants.{RecordCutOff};
-ghost use Rattle.translator.specs.Passing.{CountsPart, EndsAtCut, IsCut, PassesUpTo};
+ghost use Rattle.translator.specs.Passing.{CountsFrame, CountsPacket, CountsPart, EndsAtCut, IsCut, PassesUpTo};
 
 use crate::capture_error::CaptureError;
 use crate::counts::Counts;
@@ -53,6 +53,7 @@ fn translate_record<R: Read, W: Write>(
 ) -> Result<Option<usize>, CaptureError>
     ensures passes { PassesUpTo table.now result (R.remaining input.old) (R.remaining input.new) (W.contents output.old) (W.contents output.new)
         counts.old counts.new }
+    ensures counted { (len : ℕ) → result ≡ Ok (Some len) → CountsPacket counts.old counts.new }
     ensures ends { result ≡ Ok None → IsAtEnd (R.remaining input.new) }
     ensures cut { EndsAtCut result (R.remaining input.new) }
 {
@@ -109,6 +110,7 @@ fn translate_captured<R: Read, W: Write>(
 ) -> Result<usize, CaptureError>
     ensures passes { PassesUpTo table.now result (R.remaining input.old) (R.remaining input.new) (W.contents output.old) (W.contents output.new)
         counts.old counts.new }
+    ensures counted { result ≡ Ok captured_len → CountsPacket counts.old counts.new }
     ensures within { IfOk result (λ len. len ≤ captured_len) }
     ensures end { IfOk result (λ len. len < captured_len → IsAtEnd (R.remaining input.new)) }
     ensures failed { IfErr result (λ error. IsCut error → ⊥) }
@@ -134,6 +136,8 @@ fn translate_read(
 )
     requires within { len ≤ length frame.old }
     ensures part { CountsPart table.now (take len frame.old) (take len frame.new) counts.old counts.new }
+    ensures frame { len ≡ length frame.old →
+        CountsFrame table.now capture.now.link_type capture.now.byte_order frame.old frame.new counts.old counts.new }
     ensures len { length frame.new ≡ length frame.old }
 {
     if len == frame.len() {
