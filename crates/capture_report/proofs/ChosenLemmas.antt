@@ -28,4 +28,4 @@ reads-step Reads names named place d places value below room reads one =
     let is_place : length texts ≡ place = length-map (take place names) named ∙ length-take-le place names (omega (arith, below)) in
     let next = reads-one Reads texts (named (get_or names place d)) places value reads (omega (arith, is_place, room)) one in
     subst (λ all. ReadsPlaces Reads all (set places place (Some value))) (sym (map_more named names place d below))
-        (subst (λ at. ReadsPlaces Reads (texts ++ named (get_or names place d) ∷ []) (set places at (Some value))) is_place next)
+    (subst (λ at. ReadsPlaces Reads (texts ++ named (get_or names place d) ∷ []) (set places at (Some value))) is_place next)

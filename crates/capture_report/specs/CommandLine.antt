@@ -59,13 +59,21 @@ choice_rules names =
 abbrev pub line_buffered_rule : Rule
 line_buffered_rule = record (flag_rule (codes "line-buffered")) { short = Some 108 }
 
+-- an option without an effect, `-n` (110)
+abbrev pub numeric_rule : Rule
+numeric_rule = record (flag_rule (codes "numeric")) { short = Some 110 }
+
+-- the captures that are named by an option, `-r` (114)
+abbrev pub read_rule : Rule
+read_rule = record (repeated (value_rule (codes "read"))) { short = Some 114 }
+
 -- the captures
 abbrev pub file_rule : Rule
 file_rule = record (new_rule (codes "file")) { value_names = 1; action = Some Append }
 
--- the option for writing lines and the captures
+-- the option for writing lines, the option without an effect, and the captures
 abbrev pub file_rules : List Rule
-file_rules = line_buffered_rule ∷ file_rule ∷ []
+file_rules = line_buffered_rule ∷ numeric_rule ∷ read_rule ∷ file_rule ∷ []
 
 -- a command with further options
 abbrev pub with_rules : App → List Rule → App

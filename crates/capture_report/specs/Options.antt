@@ -1,5 +1,5 @@
 -- The options in the matches of a command line.
-use Rattle.std.specs.Prelude.{◌≡◌, Bool, not, if◌then◌else◌, codes, map}
+use Rattle.std.specs.Prelude.{◌≡◌, ℕ, Bool, List, ◌++◌, not, if◌then◌else◌, codes, map}
 use Rattle.clap.specs.declared.parser.matches.ArgMatches.{ArgMatches}
 use Rattle.capture_run.specs.Lines.{lines_by}
 use Rattle.capture_run.specs.declared.parts.Format.TheVariants as formats
@@ -16,6 +16,10 @@ abbrev pub IsRefusedBy : ArgMatches → OptionsError → Type 0
 IsRefusedBy matches (Choice error) = IsRefusal matches error
 IsRefusedBy matches (NoMemory error) = Unit {0}
 
+-- the names of the captures: those of the option for them, and then the others
+abbrev pub names_of : ArgMatches → List (List ℕ)
+names_of matches = values_of matches (codes "read") ++ values_of matches (codes "file")
+
 -- the options that some matches contain
 pub record IsOptionsOf (matches : ArgMatches) (options : Options) : Type 0 where
   pub lines : (summary wrong : Bool) → HasFlag matches (codes "summary") summary → HasFlag matches (codes "wrong") wrong
@@ -27,4 +31,4 @@ pub record IsOptionsOf (matches : ArgMatches) (options : Options) : Type 0 where
   pub top : HasNumberOr matches (codes "top") 64 (λ given. given) default_top options.parts.top
   pub choice : IsChoiceOf matches options.parts.choice
   pub line_buffered : (flag : Bool) → HasFlag matches (codes "line-buffered") flag → options.line_buffered ≡ flag
-  pub files : map (λ name. name.now) options.files.items ≡ values_of matches (codes "file")
+  pub files : map (λ name. name.now) options.files.items ≡ names_of matches

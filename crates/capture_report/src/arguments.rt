@@ -3,9 +3,9 @@
 ghost use Rattle.std.specs.Prelude.{◌≡◌, ◌⊎◌, Bool, IfErr, IfOk, codes, false, if◌then◌else◌, map, string_bytes};
 ghost use Rattle.clap.specs.Words.{IsPlainArg, app_of, kind_of, rule_of};
 ghost use Rattle.clap.specs.declared.error.kind.ErrorKind.TheVariants as ErrorKind;
-ghost use Rattle.capture_report.specs.Arguments.{HasFlag, HasNumberOr, values_of};
-ghost use Rattle.capture_report.specs.Options.{IsOptionsOf, IsRefusedBy};
-ghost use Rattle.capture_report.specs.CommandLine.{AreRequestedBy, IsCommandLine, bare_command, choice_rules, conflicting, file_rule, file_rules, flag_rule, form_rules, line_buffered_rule, line_rules, protocol_names, repeated, top_rule, value_rule, with_rules};
+ghost use Rattle.capture_report.specs.Arguments.{HasFlag, HasNumberOr};
+ghost use Rattle.capture_report.specs.Options.{IsOptionsOf, IsRefusedBy, names_of};
+ghost use Rattle.capture_report.specs.CommandLine.{AreRequestedBy, IsCommandLine, bare_command, choice_rules, conflicting, file_rule, file_rules, flag_rule, form_rules, line_buffered_rule, line_rules, numeric_rule, protocol_names, read_rule, repeated, top_rule, value_rule, with_rules};
 ghost use Rattle.capture_summary.specs.Ranking.{default_top};
 ghost use Rattle.capture_text.specs.TimeText.{times_by};
 ghost use Rattle.capture_run.specs.declared.parts.Format.TheVariants as Format;
@@ -19,6 +19,17 @@ use std::alloc::{AllocError, Global};
 
 /// The version of the program.
 const VERSION: &str = "0.1.0";
+
+/// What help says after the options.
+const AFTER_HELP: &str = "\
+--wrong and --check are about packets whose checksum is wrong or whose form is refused.
+
+Exit status: 0 all was read; 1 a capture ends early; 2 no capture, or a wrong argument;
+3 opening, reading or writing failed; 4 a packet has a fault, with --check
+
+Examples:
+  capture_report --host 10.0.0.0/8 --port 53 --wrong capture.pcap
+  gzip -dc capture.pcap.gz | capture_report --summary";
 
 /// The names of the protocols that packets can be chosen by. `icmp` is ICMPv4 and ICMPv6.
 static PROTOCOLS: [&str; 5] = ["udp", "tcp", "icmp", "icmpv4", "icmpv6"];
@@ -93,9 +104,12 @@ fn options_of<'a>(alloc: Global, matches: &ArgMatches<'a>) -> Result<Options<'a>
 
 /// The names of the captures, in their order.
 fn files_of<'a>(alloc: Global, matches: &ArgMatches<'a>) -> Result<Vec<&'a str>, AllocError>
-    ensures { IfOk result (λ files. map (λ name. name.now) files.items ≡ values_of matches.now (codes "file")) }
+    ensures { IfOk result (λ files. map (λ name. name.now) files.items ≡ names_of matches.now) }
 {
     let mut files = Vec::new(alloc);
+    if let Some(names) = matches.get_strs("read") {
+        files.extend_from_slice(names)?;
+    }
     if let Some(names) = matches.get_strs("file") {
         files.extend_from_slice(names)?;
     }
@@ -194,9 +208,12 @@ fn command<'a>(alloc: Global) -> Result<Command<'a>, Error>
 fn bare<'a>(alloc: Global) -> Command<'a>
     ensures { app_of result ≡ bare_command }
 {
-    Command::new(alloc, "capture_report").version(VERSION).about(
-        "Reads captures, and says of every packet what it is and whether its checksum is right",
-    )
+    Command::new(alloc, "capture_report")
+        .version(VERSION)
+        .about(
+            "Reads captures, and says of every packet what it is and whether its checksum is right",
+        )
+        .after_help(AFTER_HELP)
 }
 
 /// The command line with the options for the parts and the lines of the report.
@@ -279,7 +296,11 @@ fn with_choice<'a>(alloc: Global, command: Command<'a>) -> Result<Command<'a>, A
 fn with_files<'a>(alloc: Global, command: Command<'a>) -> Result<Command<'a>, AllocError>
     ensures { IfOk result (λ more. app_of more ≡ with_rules (app_of command.entry) file_rules) }
 {
-    command.arg(line_buffered(alloc))?.arg(file(alloc))
+    command
+        .arg(line_buffered(alloc))?
+        .arg(numeric(alloc))?
+        .arg(read(alloc))?
+        .arg(file(alloc))
 }
 
 /// The option for writing lines.
@@ -290,6 +311,30 @@ fn line_buffered<'a>(alloc: Global) -> Arg<'a>
     flag(alloc, "line-buffered")
         .help("Write each line out as soon as it is done, as to a terminal")
         .short('l')
+}
+
+/// The option of other programs that keeps numbers from being looked up, which this program does not do.
+fn numeric<'a>(alloc: Global) -> Arg<'a>
+    ensures rule { rule_of result ≡ numeric_rule }
+    ensures local { result.global ≡ false }
+{
+    flag(alloc, "numeric")
+        .help("Has no effect: names of hosts and ports are never looked up")
+        .short('n')
+}
+
+/// The captures that are named as in other programs.
+fn read<'a>(alloc: Global) -> Arg<'a>
+    ensures rule { rule_of result ≡ read_rule }
+    ensures local { result.global ≡ false }
+{
+    several(
+        alloc,
+        "read",
+        "FILE",
+        "A capture, as FILE without the option",
+    )
+    .short('r')
 }
 
 /// The captures.
