@@ -57,23 +57,55 @@ const CHECKED_LINES: Parts = Parts {
     ..ONLY_LINES
 };
 
-/// Only the lines of packets that are wrong or refused.
-const WRONG_LINES: Parts = Parts {
-    lines: Lines::Wrong,
-    ..ONLY_LINES
-};
+/// What a row asks of its report. A table can't contain `Parts`, whose arrays the borrow checker does not cover beside references.
+#[derive(Clone, Copy)]
+enum Asked {
+    /// All that is written without options.
+    All,
+    /// The same with a check.
+    CheckedAll,
+    /// Lines of packets with a check.
+    CheckedLines,
+    /// Only the lines of packets that are wrong or refused.
+    WrongLines,
+    /// Nothing but the exit status of a check.
+    OnlyStatus,
+    /// Nothing but the summary.
+    OnlySummary,
+    /// Objects of packets and of the summary.
+    AllObjects,
+    /// Only the objects of packets.
+    OnlyObjects,
+}
 
-/// Nothing but the exit status of a check.
-const ONLY_STATUS: Parts = Parts {
-    lines: Lines::None,
-    ..CHECKED_LINES
-};
-
-/// Only the objects of packets.
-const ONLY_OBJECTS: Parts = Parts {
-    format: Format::Json,
-    ..ONLY_LINES
-};
+/// The parts of a report that a row asks for.
+fn parts_of(asked: Asked) -> Parts {
+    match asked {
+        Asked::All => ALL,
+        Asked::CheckedAll => Parts { check: true, ..ALL },
+        Asked::CheckedLines => CHECKED_LINES,
+        Asked::WrongLines => Parts {
+            lines: Lines::Wrong,
+            ..ONLY_LINES
+        },
+        Asked::OnlyStatus => Parts {
+            lines: Lines::None,
+            ..CHECKED_LINES
+        },
+        Asked::OnlySummary => Parts {
+            lines: Lines::None,
+            ..ALL
+        },
+        Asked::AllObjects => Parts {
+            format: Format::Json,
+            ..ALL
+        },
+        Asked::OnlyObjects => Parts {
+            format: Format::Json,
+            ..ONLY_LINES
+        },
+    }
+}
 
 /// Runs a report over captures with these names.
 fn run_named(
@@ -87,7 +119,7 @@ fn run_named(
 /// The names of captures, what is asked of their report, the status, the output, and the errors.
 type RunRow = (
     &'static [&'static str],
-    Parts,
+    Asked,
     u8,
     &'static str,
     &'static str,
@@ -96,17 +128,17 @@ type RunRow = (
 /// At most one name: there is no heading, and an error names the capture.
 #[rattlefmt::skip]
 static RUNS_OF_ONE: [RunRow; 8] = [
-    (&[], CHECKED_LINES, 0, LINE, ""),
-    (&["-"], CHECKED_LINES, 0, LINE, ""),
-    (&["right"], ONLY_OBJECTS, 0, RIGHT_OBJECT, ""),
-    (&["wrong"], CHECKED_LINES, 4,
+    (&[], Asked::CheckedLines, 0, LINE, ""),
+    (&["-"], Asked::CheckedLines, 0, LINE, ""),
+    (&["right"], Asked::OnlyObjects, 0, RIGHT_OBJECT, ""),
+    (&["wrong"], Asked::CheckedLines, 4,
      "1 00:00:00.000000 192.0.2.1:263 > 192.0.2.2:9 UDP length 9, payload 1; checksum wrong, 18C8 expected\n", ""),
     // The length field of this packet is 0, so the packet is refused.
-    (&["zero"], CHECKED_LINES, 4,
+    (&["zero"], Asked::CheckedLines, 4,
      "1 00:00:00.000000 192.0.2.1:7 > 192.0.2.2:9 UDP length 0, payload 1; refused: UDP header needs 8 bytes, the UDP length is 0\n", ""),
-    (&["zero"], ONLY_OBJECTS, 0, ZERO_OBJECT, ""),
-    (&["missing"], CHECKED_LINES, 3, "", "capture_report: missing: entity not found\n"),
-    (&["link"], CHECKED_LINES, 1, "", "capture_report: link: The link type 147 is not read.\n"),
+    (&["zero"], Asked::OnlyObjects, 0, ZERO_OBJECT, ""),
+    (&["missing"], Asked::CheckedLines, 3, "", "capture_report: missing: entity not found\n"),
+    (&["link"], Asked::CheckedLines, 1, "", "capture_report: link: The link type 147 is not read.\n"),
 ];
 
 const RIGHT_OBJECT: &str =
@@ -120,17 +152,17 @@ const ZERO_OBJECT: &str =
 /// Several names: each capture has a heading, unless no packet has a line. If a capture can't be read, the next one is still reported.
 #[rattlefmt::skip]
 static RUNS: [RunRow; 10] = [
-    (&["right", "wrong"], CHECKED_LINES, 4, OF_TWO, ""),
-    (&["right", "missing", "wrong"], CHECKED_LINES, 3, WITH_MISSING, "capture_report: missing: entity not found\n"),
-    (&["right", "link", "wrong", "cut"], CHECKED_LINES, 1, OF_FOUR, ERRORS_OF_FOUR),
-    (&["right", "link", "wrong", "cut", "missing"], ONLY_STATUS, 3, "", ERRORS_WITH_MISSING),
-    (&["link", "right", "magic", "cut", "-"], CHECKED_LINES, 2, OF_FIVE, ERRORS_OF_FIVE),
-    (&["right", "wrong", "right"], WRONG_LINES, 0, OF_WRONG_LINES, ""),
-    (&["right", "missing", "zero"], ONLY_STATUS, 3, "", "capture_report: missing: entity not found\n"),
-    (&["right", "zero"], ONLY_STATUS, 4, "", ""),
-    (&["right", "a \"name\"", "wrong"], ONLY_OBJECTS, 3, OBJECTS, "capture_report: a \"name\": entity not found\n"),
+    (&["right", "wrong"], Asked::CheckedLines, 4, OF_TWO, ""),
+    (&["right", "missing", "wrong"], Asked::CheckedLines, 3, WITH_MISSING, "capture_report: missing: entity not found\n"),
+    (&["right", "link", "wrong", "cut"], Asked::CheckedLines, 1, OF_FOUR, ERRORS_OF_FOUR),
+    (&["right", "link", "wrong", "cut", "missing"], Asked::OnlyStatus, 3, "", ERRORS_WITH_MISSING),
+    (&["link", "right", "magic", "cut", "-"], Asked::CheckedLines, 2, OF_FIVE, ERRORS_OF_FIVE),
+    (&["right", "wrong", "right"], Asked::WrongLines, 0, OF_WRONG_LINES, ""),
+    (&["right", "missing", "zero"], Asked::OnlyStatus, 3, "", "capture_report: missing: entity not found\n"),
+    (&["right", "zero"], Asked::OnlyStatus, 4, "", ""),
+    (&["right", "a \"name\"", "wrong"], Asked::OnlyObjects, 3, OBJECTS, "capture_report: a \"name\": entity not found\n"),
     // The header of no capture is accepted, so there is no summary.
-    (&["missing", "link"], ALL, 3, "==> missing <==\n\n==> link <==\n",
+    (&["missing", "link"], Asked::All, 3, "==> missing <==\n\n==> link <==\n",
      "capture_report: missing: entity not found\ncapture_report: link: The link type 147 is not read.\n"),
 ];
 
@@ -213,8 +245,14 @@ const OBJECTS: &str = r#"{"file":"right","type":"file"}
 
 /// Stops the test unless the run of a row has the status of the row, and writes what the row says.
 fn expect_named(rt: &(impl Abort + AllocGlobal + RandomSource), row: &RunRow) -> Result<(), Fail> {
-    let (names, parts, status, output, errors) = *row;
-    expect_ran(rt, run_named(rt, parts, names)?, status, output, errors)
+    let (names, asked, status, output, errors) = *row;
+    expect_ran(
+        rt,
+        run_named(rt, parts_of(asked), names)?,
+        status,
+        output,
+        errors,
+    )
 }
 
 #[test]
@@ -242,14 +280,14 @@ fn standard_input_that_cannot_be_opened(rt: HostRuntime) -> Result<(), Fail> {
 
 /// The names of captures, what is asked of their report, the status, and what the output begins with: the lines, an empty line, and the
 /// totals of all captures.
-type SummaryRow = (&'static [&'static str], Parts, u8, [&'static str; 3]);
+type SummaryRow = (&'static [&'static str], Asked, u8, [&'static str; 3]);
 
 #[rattlefmt::skip]
 static SUMMARIES: [SummaryRow; 4] = [
-    (&["right", "missing", "wrong"], Parts { check: true, ..ALL }, 3, [WITH_MISSING, "\n", "packets 2, bytes 58\nconversations 2\n"]),
-    (&["right", "wrong"], Parts { check: true, ..ALL }, 4, [OF_TWO, "\n", "packets 2, bytes 58\nconversations 2\n"]),
-    (&["right", "cut", "zero"], Parts { lines: Lines::None, ..ALL }, 1, ["", "", "packets 2, bytes 58\nconversations 1\n"]),
-    (&["right", "a \"name\"", "wrong"], Parts { format: Format::Json, ..ALL }, 3,
+    (&["right", "missing", "wrong"], Asked::CheckedAll, 3, [WITH_MISSING, "\n", "packets 2, bytes 58\nconversations 2\n"]),
+    (&["right", "wrong"], Asked::CheckedAll, 4, [OF_TWO, "\n", "packets 2, bytes 58\nconversations 2\n"]),
+    (&["right", "cut", "zero"], Asked::OnlySummary, 1, ["", "", "packets 2, bytes 58\nconversations 1\n"]),
+    (&["right", "a \"name\"", "wrong"], Asked::AllObjects, 3,
      [OBJECTS, r#"{"busiest_conversations":[{"bytes":29,"destination":"192.0.2.2","destination_port":9,"#, r#""forward":{"bytes":29,"packets":1},"#]),
 ];
 
@@ -258,8 +296,8 @@ fn expect_summary(
     rt: &(impl Abort + AllocGlobal + RandomSource),
     row: &SummaryRow,
 ) -> Result<(), Fail> {
-    let (names, parts, status, wanted) = *row;
-    expect_first_text(rt, run_named(rt, parts, names)?, status, wanted)
+    let (names, asked, status, wanted) = *row;
+    expect_first_text(rt, run_named(rt, parts_of(asked), names)?, status, wanted)
 }
 
 #[test]
