@@ -16,7 +16,7 @@ abbrev pub IsRefusedBy : ArgMatches → OptionsError → Type 0
 IsRefusedBy matches (Choice error) = IsRefusal matches error
 IsRefusedBy matches (NoMemory error) = Unit {0}
 
--- the names of the captures: those of the option for them, and then the others
+-- the names of the captures: first the values of the option `read`, and then the names without an option
 abbrev pub names_of : ArgMatches → List (List ℕ)
 names_of matches = values_of matches (codes "read") ++ values_of matches (codes "file")
 

@@ -57,7 +57,7 @@ const CHECKED_LINES: Parts = Parts {
     ..ONLY_LINES
 };
 
-/// What a row asks of its report. A table can't contain `Parts`, whose arrays the borrow checker does not cover beside references.
+/// The parts of the report of a row. `Parts` contains arrays, which the borrow checker does not cover in a table with references.
 #[derive(Clone, Copy)]
 enum Asked {
     /// All that is written without options.
