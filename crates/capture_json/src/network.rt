@@ -7,7 +7,7 @@ ghost use Rattle.capture_json.specs.JsonPacket.{network_members, network_number_
 use crate::Object;
 use crate::protocol::put_name;
 use capture_packet::NetworkProtocol;
-use capture_text::network_protocol_name;
+use capture_summary::network_protocol_name;
 use std::alloc::AllocError;
 
 /// Adds the numbers that identify a protocol, and its name.

@@ -6,7 +6,7 @@ ghost use Rattle.capture_json.specs.JsonPacket.{ip_protocol_members, name_member
 ghost use Rattle.capture_json.specs.Members.{members_in, with_members};
 
 use crate::Object;
-use capture_text::ip_protocol_name;
+use capture_summary::ip_protocol_name;
 use etherparse_transport::{IpNumber, Proto};
 use std::alloc::AllocError;
 

@@ -7,7 +7,6 @@ pub mod Icmpv4Text
 pub mod Icmpv6Text
 pub mod Numbers
 pub mod PacketLine
-pub mod ProtocolNames
 pub mod Refusals
 pub mod SummaryText
 pub mod TcpText

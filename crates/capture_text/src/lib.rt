@@ -14,7 +14,6 @@ pub mod icmpv4;
 pub mod icmpv6;
 pub mod laws;
 mod packet_line;
-mod protocol_name;
 mod tables;
 mod tcp;
 mod tcp_options;
@@ -25,7 +24,6 @@ mod verdict;
 
 pub use absolute_time::write_absolute;
 pub use packet_line::write_packet_line;
-pub use protocol_name::{ip_protocol_name, network_protocol_name};
 pub use tables::{write_conversations, write_summary};
 pub use tcp::named_flags;
 pub use tcp_options::{write_fault, write_option};

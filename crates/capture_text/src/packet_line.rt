@@ -9,13 +9,13 @@ ghost use Rattle.capture_text.specs.PacketLine.{IsContentText, IsLine, IsTcpText
 ghost use Rattle.capture_text.specs.Written.{AppendsOne};
 
 use crate::addresses::{write_addresses, write_endpoints};
-use crate::protocol_name::{ip_protocol_name, network_protocol_name};
 use crate::time::write_time;
 use crate::times::Times;
 use crate::verdict::{is_other_protocol, write_verdict};
 use crate::{icmpv4, icmpv6, tcp};
 use capture_file::PacketTime;
 use capture_packet::{Content, NetworkProtocol, Packet, QuotedPacket, Transport, Verdict};
+use capture_summary::{ip_protocol_name, network_protocol_name};
 use etherparse_transport::ip::IpAddresses;
 use etherparse_transport::{
     Icmpv4Slice, Icmpv6Slice, IpNumber, Proto, TcpSlice, TransportSlice, UdpSlice,

@@ -1,7 +1,7 @@
 use super::OVER_IPV6;
 use crate::expect::expect_equal;
 use capture_packet::NetworkProtocol;
-use capture_text::{ip_protocol_name, network_protocol_name};
+use capture_summary::{ip_protocol_name, network_protocol_name};
 use etherparse_transport::IpNumber;
 use etherparse_transport::ip::proto_over;
 

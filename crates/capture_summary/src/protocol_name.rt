@@ -2,11 +2,11 @@
 
 ghost use Rattle.std.specs.Prelude.{◌≡◌};
 ghost use Rattle.std.specs.Option.{option_map};
-ghost use Rattle.capture_text.specs.ProtocolNames as specs;
-ghost use Rattle.capture_text.specs.ProtocolNames.{ether_types, ip_protocols, name_in, nlpids, ppp_protocols};
+ghost use Rattle.capture_summary.specs.ProtocolNames as specs;
+ghost use Rattle.capture_summary.specs.ProtocolNames.{ether_types, ip_protocols, name_in, nlpids, ppp_protocols};
 
+use crate::protocol::Protocol;
 use capture_packet::NetworkProtocol;
-use capture_summary::Protocol;
 use etherparse_transport::{IpNumber, Proto};
 
 /// The service access point of the spanning tree protocol (IEEE 802.1D, clause 7.12.3).
