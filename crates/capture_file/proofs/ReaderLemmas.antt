@@ -4,6 +4,7 @@ use Rattle.std.proofs.Math.Nat.{one-le-pow}
 use Rattle.std.proofs.lemmas.List.{take_all}
 use Rattle.std.specs.Io.KnownBytes.{Consumes}
 use Rattle.capture_file.specs.PcapngBodies.{units_per_second}
+use Rattle.streams.specs.Streams.{FillsAfter}
 use Rattle.capture_file.specs.declared.pcapng.time_resolution.TimeResolution.{TimeResolution}
 use Rattle.capture_file.specs.declared.pcapng.time_resolution.TimeResolution.TheVariants.{PowerOfTen, PowerOfTwo}
 
@@ -16,3 +17,9 @@ units_positive (PowerOfTwo exponent) = one-le-pow exponent 2 (omega arith)
 pub full : (left still_left : Option (List ℕ)) (buffer : List ℕ) (len : ℕ) → length buffer ≤ len → Consumes left still_left (take len buffer)
     → Consumes left still_left buffer
 full left still_left buffer len within consumed = subst (Consumes left still_left) (take_all len buffer within) consumed
+
+-- first bytes that fit are in the buffer as a whole
+pub fills_whole : (room : ℕ) (first : List ℕ) (left still_left : Option (List ℕ)) (buffer : List ℕ) (len : ℕ) → length first ≤ room
+    → FillsAfter (take room first) left still_left buffer len → FillsAfter first left still_left buffer len
+fills_whole room first left still_left buffer len fits fills =
+    subst (λ whole. FillsAfter whole left still_left buffer len) (take_all room first fits) fills

@@ -44,11 +44,24 @@ pub fn fill<R: Read>(input: &mut R, buffer: &mut [u8]) -> io::Result<usize>
 }
 
 /// Copies `first` to the front of `buffer`, and reads the bytes after it as `fill` does. Returns the number of bytes present, with `first`.
+/// If `first` is longer than the buffer, its last bytes are left out.
 ///
 /// # Errors
 ///
 /// The error of the first read that fails.
 pub fn fill_after<R: Read>(input: &mut R, first: &[u8], buffer: &mut [u8]) -> io::Result<usize>
+    ensures { IfOk result (FillsAfter (take (length buffer.old) first.now) (R.remaining input.old) (R.remaining input.new) buffer.new) }
+{
+    let room = buffer.len();
+    if room < first.len() {
+        fill_behind(input, &first[..room], buffer)
+    } else {
+        fill_behind(input, first, buffer)
+    }
+}
+
+/// Copies `first`, which fits the buffer, to the front of `buffer`, and reads the bytes after it.
+fn fill_behind<R: Read>(input: &mut R, first: &[u8], buffer: &mut [u8]) -> io::Result<usize>
     requires { length first.now ≤ length buffer.old }
     ensures { IfOk result (FillsAfter first.now (R.remaining input.old) (R.remaining input.new) buffer.new) }
 {

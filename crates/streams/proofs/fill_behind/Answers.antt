@@ -1,7 +1,7 @@
 use Rattle.std.proofs.Common.{◌≡◌, ◌-◌, ◌≤◌, ◌++◌, ℕ, List, arith, ap, ◌∙◌, drop, length, length-append, length-drop, length-take, length-take-le, take}
 use Rattle.std.proofs.lemmas.List.{take_at}
 use Rattle.streams.proofs.FillLemmas.{length-written, take-written}
-use Rattle.streams.proofs.fill_after.Goals as goal
+use Rattle.streams.proofs.fill_behind.Goals as goal
 
 pub returns : goal.returns
 returns g c =
