@@ -85,6 +85,7 @@ impl ChecksumChange {
     }
 
     /// Replaces eight words, for example an IPv6 address.
+    #[inline(always)]
     pub fn replace_16bytes(self, old: [u8; 16], new: [u8; 16]) -> ChecksumChange
         ensures removed { removed_value result ≡ folded (removed_value self + total old) }
         ensures added { added_value result ≡ folded (added_value self + total new) }
@@ -142,6 +143,7 @@ impl ChecksumChange {
     ///
     /// The result is wrong in one case: if all covered bytes become zero, the result is 0 instead of 65535. Of these protocols,
     /// only an ICMPv4 echo reply can consist of zeros: identifier, sequence number and data. Sum that packet again.
+    #[inline(always)]
     pub fn apply(self, checksum: u16) -> u16
         ensures equation { result ≡ updated_checksum_of checksum (removed_value self) (added_value self) }
         // A right checksum becomes the right checksum of the changed packet, except if that packet is all zeros.
@@ -167,6 +169,7 @@ impl ChecksumChange {
     ///
     /// A checksum of 0 means that there is none, and stays. No other checksum becomes 0. IPv6 requires a checksum, so
     /// a translator from IPv4 to IPv6 sums a packet without a checksum.
+    #[inline(always)]
     pub fn apply_udp(self, checksum: u16) -> u16
         ensures equation { result ≡ updated_udp_checksum_of checksum (removed_value self) (added_value self) }
         ensures none { (result ≡ 0) ↔ (checksum ≡ 0) }
@@ -189,6 +192,7 @@ impl ChecksumChange {
     }
 
     /// The sum of the data that the checksum of the changed packet covers, from the old checksum.
+    #[inline(always)]
     fn updated_sum(self, checksum: u16) -> Sum16BitWords
         ensures { sum_value result ≡ folded (complement checksum + complement (removed_value self) + added_value self) }
     {
