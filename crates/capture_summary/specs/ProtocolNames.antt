@@ -33,7 +33,7 @@ ppp_protocols =
 abbrev pub nlpids : List (ℕ × List ℕ)
 nlpids = (0x81, codes "CLNP") ∷ (0x82, codes "ES-IS") ∷ (0x83, codes "IS-IS") ∷ []
 
--- the name beside this number in a list
+-- the name of this number, if the list has it
 abbrev pub name_in : List (ℕ × List ℕ) → ℕ → Option (List ℕ)
 name_in names number = lookup (λ known. number == known) names
 
