@@ -69,7 +69,7 @@ impl CaptureReader {
         }
     }
 
-    /// Where the next record or block begins, in bytes from the start of the file; in a file of 2^64 bytes or more, 2^64 - 1 at the most.
+    /// Where the next record or block begins, in bytes from the start of the file. It counts to 2^64 - 1 at most.
     pub fn offset(&self) -> u64
         ensures { result ≡ offset_of self.now }
     {
@@ -85,7 +85,7 @@ impl CaptureReader {
 pub struct ClassicReader {
     /// Its header.
     pub header: CaptureHeader,
-    /// Where the next record begins, in bytes from the start of the file; in a file of 2^64 bytes or more, 2^64 - 1 at the most.
+    /// Where the next record begins, in bytes from the start of the file. It counts to 2^64 - 1 at most.
     pub offset: u64,
 }
 

@@ -20,7 +20,7 @@ use std::io::{self, ErrorKind, Read};
 pub struct PcapngReader {
     /// The section that the next block is in.
     pub section: Section,
-    /// Where the next block begins, in bytes from the start of the file; in a file of 2^64 bytes or more, 2^64 - 1 at the most.
+    /// Where the next block begins, in bytes from the start of the file. It counts to 2^64 - 1 at most.
     pub offset: u64,
 }
 

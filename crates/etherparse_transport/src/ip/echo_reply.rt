@@ -337,7 +337,7 @@ fn reply_header_checksum(header: &[u8], time_to_live: u8, source: Option<[u8; 4]
     change.apply(u16::from_be_bytes(checksum))
 }
 
-/// The change with the new address in place of the old address, if one is passed.
+/// Adds the replacement of the old address to the change, if a new address is passed.
 fn replace_ipv4_if_passed(
     change: ChecksumChange,
     old: [u8; 4],
@@ -393,7 +393,7 @@ fn icmpv6_reply_to(addresses: &Ipv6Header, source: Option<[u8; 16]>, request: &[
     }
 }
 
-/// The change with the new address in place of the old address, if one is passed.
+/// Adds the replacement of the old address to the change, if a new address is passed.
 fn replace_ipv6_if_passed(
     change: ChecksumChange,
     old: [u8; 16],
