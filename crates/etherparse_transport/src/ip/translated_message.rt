@@ -149,6 +149,7 @@ fn translate_tcp(
 }
 
 /// Replaces the ports, as far as they are there, and adds them to the change of the addresses.
+// perf: both ports as one number of four bytes take longer over IPv6, 18.7 instead of 16.5 ns for a UDP packet (27 Nov 2026).
 #[inline(always)]
 fn replace_ports(
     message: &mut [u8],
