@@ -100,6 +100,12 @@ HasPackets room (Pcapng reader) bytes packets next =
     (still_left : Option (List ℕ)) × (after : CaptureReader) × ReadsPackets room (Pcapng reader) (Some bytes) still_left after packets
     × EndsWith room after still_left next
 
+-- packets that the bytes begin with are the first packets of the bytes
+abbrev pub AreFirstPackets : ℕ → CaptureReader → List ℕ → Type 0
+AreFirstPackets room reader bytes =
+    (first packets : List FilePacket) (next : NextPacket) → BeginsWithPackets room reader first bytes
+    → HasPackets room reader bytes packets next → (others : List FilePacket) × (packets ≡ first ++ others)
+
 -- ---- a file that was cut
 
 -- the bytes after the beginning of a capture begin with these packets, and the record or block of the last packet ends after `len` bytes

@@ -94,10 +94,8 @@ impl ClassicReader {
     pub fn new(header: CaptureHeader) -> ClassicReader
         ensures { result ≡ begins_records header }
     {
-        ClassicReader {
-            header,
-            offset: CaptureHeader::LEN as u64,
-        }
+        let offset = CaptureHeader::LEN as u64;
+        ClassicReader { header, offset }
     }
 
     /// Reads the next packet, and its captured bytes into the front of the buffer.

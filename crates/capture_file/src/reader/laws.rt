@@ -1,17 +1,14 @@
 //! Laws of the packets of a capture. Each law is the contract of a function that does nothing, so that it is checked with the calls.
-ghost use Rattle.std.specs.Prelude.{◌≡◌, ◌++◌, ℕ, List};
-ghost use Rattle.capture_file.specs.CapturePackets.{ArePacketsBeforeCut, BeginsWithPackets, FilePacket, HasPackets};
+ghost use Rattle.std.specs.Prelude.{ℕ, List};
+ghost use Rattle.capture_file.specs.CapturePackets.{AreFirstPackets, ArePacketsBeforeCut, HasPackets};
 ghost use Rattle.capture_file.specs.Laws.{AreUnique, Exist, RemainAtCut};
 ghost use Rattle.capture_file.specs.declared.reader.capture_reader.CaptureReader.{CaptureReader};
-ghost use Rattle.capture_file.specs.declared.reader.next_packet.NextPacket.{NextPacket};
 
 /// Any bytes after the beginning of a capture are packets and an end, in only one way. Packets that they begin with are the first of these.
 pub fn one_list()
     ensures exists { (room : ℕ) (reader : CaptureReader) (bytes : List ℕ) → Exist (HasPackets room reader bytes) }
     ensures unique { (room : ℕ) (reader : CaptureReader) (bytes : List ℕ) → AreUnique (HasPackets room reader bytes) }
-    ensures first { (room : ℕ) (reader : CaptureReader) (bytes : List ℕ) (first packets : List FilePacket) (next : NextPacket)
-        → BeginsWithPackets room reader first bytes → HasPackets room reader bytes packets next
-        → (others : List FilePacket) × (packets ≡ first ++ others) }
+    ensures first { (room : ℕ) (reader : CaptureReader) (bytes : List ℕ) → AreFirstPackets room reader bytes }
 {}
 
 /// A capture that was cut anywhere after its beginning contains exactly the packets whose record or block ends at or before the cut.
