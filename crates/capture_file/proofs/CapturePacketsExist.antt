@@ -27,10 +27,10 @@ use Rattle.capture_file.specs.declared.reader.pcapng_reader.PcapngReader.{Pcapng
 -- ---- the next block
 
 -- a buffer of this length
-abbrev blank : ℕ → List ℕ
+abbrev pub blank : ℕ → List ℕ
 blank len = replicate len 0
 
-blank_len : (len : ℕ) → length (blank len) ≡ len
+pub blank_len : (len : ℕ) → length (blank len) ≡ len
 blank_len len = length-replicate len 0
 
 -- a step can be made from these bytes, and fewer bytes are left after it
@@ -103,13 +103,13 @@ next_step room before all none =
 -- ---- the end
 
 -- a step that determines the next item is the first step
-first_step : (before : PcapngReader) (left still_left : Option (List ℕ)) (after : PcapngReader) (buffer : List ℕ) (next : NextPacket)
+pub first_step : (before : PcapngReader) (left still_left : Option (List ℕ)) (after : PcapngReader) (buffer : List ℕ) (next : NextPacket)
     → ReadsStep before left still_left after buffer (Some next) → ReadsBlockPacket before left still_left after buffer next
 first_step before left still_left after buffer next step =
     record { count = 0; reader = before; middle = left; passed = (refl, refl); step = step }
 
 -- a step that determines the next item is the end if there is no packet in it
-step_ends : (room : ℕ) (before after : PcapngReader) (left still_left : Option (List ℕ)) (buffer : List ℕ) (next : NextPacket)
+pub step_ends : (room : ℕ) (before after : PcapngReader) (left still_left : Option (List ℕ)) (buffer : List ℕ) (next : NextPacket)
     → length buffer ≡ room → ReadsStep before left still_left after buffer (Some next) → packet_in buffer next ≡ None
     → EndsWith room (Pcapng before) left next
 step_ends room before after left still_left buffer next has_room step none = record {
@@ -122,13 +122,13 @@ step_ends room before after left still_left buffer next has_room step none = rec
 }
 
 -- no byte is the end
-no_byte_ends : (room : ℕ) (before : PcapngReader) → EndsWith room (Pcapng before) (Some []) packets.End
+pub no_byte_ends : (room : ℕ) (before : PcapngReader) → EndsWith room (Pcapng before) (Some []) packets.End
 no_byte_ends room before =
     step_ends room before before (Some []) (Some []) (blank room) packets.End (blank_len room)
     (record { block = End; reads = record { bytes = []; consumed = refl; is_next = refl; is_last = refl }; is_step = (refl, refl) }) refl
 
 -- rejected bytes are the end
-refusal_ends : (room : ℕ) (before : PcapngReader) (all : List ℕ) (error : BlockError) → all ≢ []
+pub refusal_ends : (room : ℕ) (before : PcapngReader) (all : List ℕ) (error : BlockError) → all ≢ []
     → block_refusal before.section.byte_order all ≡ Some error
     → EndsWith room (Pcapng before) (Some all) (next_by_refusal before.offset error)
 refusal_ends room before all error some refused =
@@ -170,7 +170,7 @@ have_none : (room : ℕ) (reader : PcapngReader) (all : List ℕ) (next : NextPa
 have_none room reader all next ends = ([], next, (Some all, Pcapng reader, (refl, refl), ends))
 
 -- a block without a next item changes no packet
-pass_on : (room : ℕ) (before after : PcapngReader) (all rest buffer : List ℕ) (packets : List FilePacket) (next : NextPacket)
+pub pass_on : (room : ℕ) (before after : PcapngReader) (all rest buffer : List ℕ) (packets : List FilePacket) (next : NextPacket)
     → length buffer ≡ room → ReadsStep before (Some all) (Some rest) after buffer None → HasPackets room (Pcapng after) rest packets next
     → HasPackets room (Pcapng before) all packets next
 pass_on room before after all rest buffer [] next has_room step has =

@@ -3,6 +3,8 @@ pub mod CapturePacketsLaws
 pub mod CapturePacketsLemmas
 mod ClassicExamples
 pub mod OpeningLemmas
+pub mod PacketsOfBlocksLaws
+pub mod PacketsOfBlocksLemmas
 pub mod PcapngBlocksLemmas
 mod PcapngExamples
 pub mod PcapngLaws

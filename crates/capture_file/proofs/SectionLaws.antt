@@ -30,11 +30,11 @@ Given = Result (Option CapturedPacket) PacketError
 -- ---- an interface
 
 -- a section is its byte order and its interfaces
-abbrev section_of : ByteOrder → List InterfaceDescription → Section
+abbrev pub section_of : ByteOrder → List InterfaceDescription → Section
 section_of order interfaces = record { byte_order = order; interfaces = record { items = interfaces } }
 
 -- two sections with the same byte order and interfaces are the same
-same_section : (a b : Section) → a.byte_order ≡ b.byte_order → a.interfaces.items ≡ b.interfaces.items → a ≡ b
+pub same_section : (a b : Section) → a.byte_order ≡ b.byte_order → a.interfaces.items ≡ b.interfaces.items → a ≡ b
 same_section a b order items = ap (λ o. section_of o a.interfaces.items) order ∙ ap (section_of b.byte_order) items
 
 -- an interface determines the section after it, or the error

@@ -46,7 +46,7 @@ said_of buffer None = nothing
 said_of buffer (Some next) = said_by (packet_in buffer next) next
 
 -- a part of the buffer that ends within its first bytes
-in_front : (len from to : ℕ) (buffer : List ℕ) → to - from ≤ len - from → slice_range buffer from to ≡ slice_range (take len buffer) from to
+pub in_front : (len from to : ℕ) (buffer : List ℕ) → to - from ≤ len - from → slice_range buffer from to ≡ slice_range (take len buffer) from to
 in_front len from to buffer within =
     let taken = λ (l : List ℕ). take-take (to - from) (len - from) l within in
     let whole : from < len → len ≡ from + (len - from) = λ short. omega (arith, short) in

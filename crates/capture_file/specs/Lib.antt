@@ -4,6 +4,7 @@ pub mod Laws
 pub mod Opening
 pub mod PacketTimes
 pub mod Packets
+pub mod PacketsOfBlocks
 pub mod Pcapng
 pub mod PcapngBlocks
 pub mod PcapngBodies

@@ -103,16 +103,22 @@ pub record ReadsRecordPacket (before : ClassicReader) (left still_left : Option 
 abbrev pub packet_start : ℕ → ℕ
 packet_start type = if type == simple_packet_type then 12 else 28
 
--- what a block says of its packet, of this interface; the block is in front of the buffer
-abbrev pub packet_of_block : BlockHeader → InterfaceDescription → PacketBlock → CapturedPacket
-packet_of_block header interface packet = record {
+-- A packet of this interface, by the header of its block, its timestamp, and its captured and original length. The block is in front of the
+-- buffer.
+abbrev pub interface_packet : BlockHeader → InterfaceDescription → Option ℕ → ℕ → ℕ → CapturedPacket
+interface_packet header interface timestamp captured_len original_len = record {
   link_type = ok_or (link_type_with interface.link_type) interface.link_type;
   byte_order = header.byte_order;
-  time = option_map (timestamp_time interface) packet.timestamp;
+  time = option_map (timestamp_time interface) timestamp;
   start = packet_start header.block_type;
-  captured_len = length packet.captured.now;
-  original_len = packet.original_len;
+  captured_len = captured_len;
+  original_len = original_len;
 }
+
+-- what a block says of its packet, of this interface; the block is in front of the buffer
+abbrev pub packet_of_block : BlockHeader → InterfaceDescription → PacketBlock → CapturedPacket
+packet_of_block header interface packet =
+    interface_packet header interface packet.timestamp (length packet.captured.now) packet.original_len
 
 -- what is known of the packet of a block that the buffer has no room for
 abbrev pub long_block : BlockHeader → TooLongPacket

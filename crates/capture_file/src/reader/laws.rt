@@ -2,6 +2,7 @@
 ghost use Rattle.std.specs.Prelude.{ℕ, List};
 ghost use Rattle.capture_file.specs.CapturePackets.{AreFirstPackets, ArePacketsBeforeCut, HasPackets};
 ghost use Rattle.capture_file.specs.Laws.{AreUnique, Exist, RemainAtCut};
+ghost use Rattle.capture_file.specs.PacketsOfBlocks.{FilesHavePacketsOfBlocks, ReadPacketsOfBlocks};
 ghost use Rattle.capture_file.specs.declared.reader.capture_reader.CaptureReader.{CaptureReader};
 
 /// Any bytes after the beginning of a capture are packets and an end, in only one way. Packets that they begin with are the first of these.
@@ -15,4 +16,10 @@ pub fn one_list()
 #[tactic(auto, using(crate::proofs::CapturePacketsLaws::packets_before_cut))]
 pub fn cut_packets()
     ensures before { (room : ℕ) (reader : CaptureReader) → RemainAtCut (HasPackets room reader) (ArePacketsBeforeCut room reader) }
+{}
+
+/// The packets of a pcapng file are the packets in its blocks, each of an interface that its section describes before the packet.
+pub fn packets_of_blocks()
+    ensures read { (room : ℕ) → ReadPacketsOfBlocks room }
+    ensures file { (room : ℕ) → FilesHavePacketsOfBlocks room }
 {}

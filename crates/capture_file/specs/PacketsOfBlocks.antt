@@ -1,0 +1,141 @@
+-- The packets of a pcapng file as a fold over its blocks (draft-ietf-opsawg-pcapng, section 4 and appendix A). A section header block
+-- begins a section without interfaces. An interface description block adds an interface to the section. A packet block contains a packet of
+-- one of these interfaces. A block of another type changes nothing.
+use Rattle.std.specs.Prelude.{◌≡◌, ℕ, ◌+◌, ◌-◌, ◌*◌, ◌^◌, ◌==◌, ◌&&◌, nat_le, nat_lt, if◌then◌else◌, List, [], ◌∷◌, ◌++◌, length, slice_get, slice_range, Option, Some, None, Result, Ok, Err}
+use Rattle.std.specs.Option.{option_map}
+use Rattle.net_base.specs.Bytes.{IsBytes}
+use Rattle.net_base.specs.Refusals.{first_of, refused_if}
+use Rattle.capture_file.specs.CapturePackets.{Begins, FilePacket, HasPackets, kept, too_long}
+use Rattle.capture_file.specs.Classic.{number_at, short_at}
+use Rattle.capture_file.specs.Packets.{interface_packet, long_block}
+use Rattle.capture_file.specs.Pcapng.{IsBlockReading, block_header, block_refusal}
+use Rattle.capture_file.specs.PcapngBodies.{interface_description}
+use Rattle.capture_file.specs.PcapngBody.{body_refusal, enhanced_packet_type, interface_description_type, obsolete_packet_type, section_header_type, simple_packet_type}
+use Rattle.capture_file.specs.PcapngPackets.{simple_end}
+use Rattle.capture_file.specs.PcapngSteps.{is_description, is_packet, next_by_refusal, offset_after, refused_at}
+use Rattle.capture_file.specs.Sections.{max_interfaces}
+use Rattle.capture_file.specs.declared.byte_order.ByteOrder.{ByteOrder}
+use Rattle.capture_file.specs.declared.byte_order.ByteOrder.TheVariants.{BigEndian}
+use Rattle.capture_file.specs.declared.pcapng.block.BlockHeader.{BlockHeader}
+use Rattle.capture_file.specs.declared.pcapng.errors.BlockError.{BlockError}
+use Rattle.capture_file.specs.declared.pcapng.interface_description.InterfaceDescription.{InterfaceDescription}
+use Rattle.capture_file.specs.declared.reader.capture_reader.CaptureReader.TheVariants.{Pcapng}
+use Rattle.capture_file.specs.declared.reader.next_packet.NextPacket.{NextPacket}
+use Rattle.capture_file.specs.declared.reader.next_packet.NextPacket.TheVariants as packets
+use Rattle.capture_file.specs.declared.reader.packet_error.PacketError.{PacketError}
+use Rattle.capture_file.specs.declared.reader.packet_error.PacketError.TheVariants as errors
+use Rattle.capture_file.specs.declared.reader.pcapng_reader.PcapngReader.{PcapngReader}
+
+-- ---- the packet in a block
+
+-- the body of a block: the bytes between its two total lengths (section 3.1)
+abbrev pub body_of : List ℕ → List ℕ
+body_of block = slice_range block 8 (length block - 4)
+
+-- the packet in the body of an enhanced packet block (section 4.3) or an obsolete packet block (appendix A), of this interface
+abbrev pub timed_packet : BlockHeader → List ℕ → InterfaceDescription → FilePacket
+timed_packet header body interface =
+    let order = header.byte_order in
+    let timestamp = number_at order body 4 * 2 ^ 32 + number_at order body 8 in
+    let captured = slice_range body 20 (20 + number_at order body 12) in
+    kept (interface_packet header interface (Some timestamp) (length captured) (number_at order body 16)) captured
+
+-- the packet in the body of a simple packet block (section 4.4), of this interface
+abbrev pub simple_packet : BlockHeader → List ℕ → InterfaceDescription → FilePacket
+simple_packet header body interface =
+    let captured = slice_range body 4 (simple_end header.byte_order interface.snap_len body) in
+    kept (interface_packet header interface None (length captured) (number_at header.byte_order body 0)) captured
+
+-- the packet in the body of a packet block, which contains the number of the interface; a simple packet block has a packet of interface 0
+abbrev pub packet_in_body : BlockHeader → List InterfaceDescription → List ℕ → Option FilePacket
+packet_in_body header interfaces body =
+    let order = header.byte_order in
+    let type = header.block_type in
+    if type == enhanced_packet_type then option_map (timed_packet header body) (slice_get interfaces (number_at order body 0))
+    else if type == obsolete_packet_type then option_map (timed_packet header body) (slice_get interfaces (short_at order body 0))
+    else if type == simple_packet_type then option_map (simple_packet header body) (slice_get interfaces 0)
+    else None
+
+-- ---- one block, in a section with these interfaces before the block
+
+-- the interfaces of the section after the block
+abbrev pub interfaces_after : BlockHeader → List InterfaceDescription → List ℕ → List InterfaceDescription
+interfaces_after header interfaces body =
+    if header.block_type == section_header_type then []
+    else if header.block_type == interface_description_type then interfaces ++ interface_description header.byte_order body ∷ []
+    else interfaces
+
+-- the error that rejects the block: its body is rejected, or it describes more interfaces than are kept
+abbrev pub block_error : BlockHeader → List InterfaceDescription → List ℕ → Option PacketError
+block_error header interfaces body = first_of (
+    option_map errors.Body (body_refusal header interfaces body)
+    ∷ refused_if (header.block_type == interface_description_type && nat_le max_interfaces (length interfaces))
+    (errors.Interfaces max_interfaces)
+    ∷ [])
+
+-- the result of a block: the error if there is one, otherwise the packet if there is one
+abbrev pub result_by : Option PacketError → Option FilePacket → Result (Option FilePacket) PacketError
+result_by (Some error) packet = Err error
+result_by None packet = Ok packet
+
+-- the result of a block for which the buffer has room
+abbrev pub whole_result : BlockHeader → List InterfaceDescription → List ℕ → Result (Option FilePacket) PacketError
+whole_result header interfaces body = result_by (block_error header interfaces body) (packet_in_body header interfaces body)
+
+-- The result of a block for which the buffer has no room. The packets after a section header or an interface description can't be read
+-- without it.
+abbrev pub long_result : BlockHeader → Result (Option FilePacket) PacketError
+long_result header =
+    result_by (refused_if (is_description header.block_type) (errors.TooLong header.block_type header.total_len))
+    (if is_packet header.block_type then Some (too_long (long_block header)) else None)
+
+-- the result of a block, with room for `room` bytes in the buffer
+abbrev pub block_result : ℕ → BlockHeader → List InterfaceDescription → List ℕ → Result (Option FilePacket) PacketError
+block_result room header interfaces body =
+    if nat_lt room header.total_len then long_result header else whole_result header interfaces body
+
+-- ---- the fold
+
+-- the packets of a file, and the item after them
+abbrev pub Contents : Type 0
+Contents = List FilePacket × NextPacket
+
+-- The contents of a file, by the result of its first block, which begins at this place, and the contents after this block. An error ends
+-- the packets.
+abbrev pub before_others : ℕ → Result (Option FilePacket) PacketError → Contents → Contents
+before_others offset (Err error) others = ([], refused_at offset error)
+before_others offset (Ok None) others = others
+before_others offset (Ok (Some packet)) others = (packet ∷ others.0, others.1)
+
+-- the item after the last block: the end of the file, or the error that rejects the bytes at this place as a block
+abbrev pub item_after : ℕ → List ℕ → Option BlockError → NextPacket
+item_after offset (byte ∷ bytes) (Some error) = next_by_refusal offset error
+item_after offset bytes refusal = packets.End
+
+-- The packets of these blocks, and the item after them. The first block begins at the place `offset`, in a section with this byte order and
+-- these interfaces. The rest follows the last block.
+abbrev pub packets_of_blocks : ℕ → ByteOrder → List InterfaceDescription → ℕ → List (List ℕ) → List ℕ → Contents
+packets_of_blocks room section interfaces offset [] rest = ([], item_after offset rest (block_refusal section rest))
+packets_of_blocks room section interfaces offset (block ∷ blocks) rest =
+    let header = block_header section block in
+    let body = body_of block in
+    before_others offset (block_result room header interfaces body)
+    (packets_of_blocks room header.byte_order (interfaces_after header interfaces body) (offset_after offset header) blocks rest)
+
+-- ---- the laws
+
+-- If bytes consist of blocks and a rest that is rejected as a block, a reader reads the packets of the fold from them. The fold begins with
+-- the byte order, the interfaces and the place of the reader.
+abbrev pub ReadPacketsOfBlocks : ℕ → Type 0
+ReadPacketsOfBlocks room =
+    (reader : PcapngReader) (bytes : List ℕ) (blocks : List (List ℕ)) (rest : List ℕ) (packets : List FilePacket) (next : NextPacket)
+    → IsBytes bytes → IsBlockReading reader.section.byte_order bytes blocks rest → HasPackets room (Pcapng reader) bytes packets next
+    → (packets, next) ≡ packets_of_blocks room reader.section.byte_order reader.section.interfaces.items reader.offset blocks rest
+
+-- the same for all blocks of a file, whose first block is a section header block; the fold begins without an interface, at the start of the
+-- file
+abbrev pub FilesHavePacketsOfBlocks : ℕ → Type 0
+FilesHavePacketsOfBlocks room =
+    (reader : PcapngReader) (file bytes : List ℕ) (blocks : List (List ℕ)) (rest : List ℕ) (packets : List FilePacket) (next : NextPacket)
+    → IsBytes file → IsBlockReading BigEndian file blocks rest → Begins room (Pcapng reader) file bytes
+    → HasPackets room (Pcapng reader) bytes packets next → (packets, next) ≡ packets_of_blocks room BigEndian [] 0 blocks rest
