@@ -5,4 +5,5 @@ mod FlowPlacesLemmas
 mod NetworkLemmas
 mod RankingLemmas
 mod RankingOrder
+mod RankingRows
 mod RankingSort

@@ -40,7 +40,7 @@ impl Flows {
     ghost use Rattle.std.specs.Prelude.{[], ◌∷◌, ◌++◌, length, None};
     ghost use Rattle.capture_summary.specs.Conversations.{new_row, row_counted};
     ghost use Rattle.capture_summary.specs.FlowTable.{max_conversations, place_of};
-    ghost use Rattle.capture_summary.specs.Ranking.{IsRanking, busiest_of};
+    ghost use Rattle.capture_summary.specs.Ranking.{AreBusiest, busiest_of};
     ghost use Rattle.capture_summary.specs.Tables.{no_packets};
 
     /// Counts without a flow. `state` provides the keys of the hashes.
@@ -110,7 +110,7 @@ impl Flows {
     /// `AllocError` if no memory is left.
     pub fn busiest(&self, alloc: Global, top: usize) -> Result<Vec<ConversationCount>, AllocError>
         ensures busiest { IfOk result (λ busiest. busiest.items ≡ busiest_of top self.now.rows) }
-        ensures ranked { IfOk result (λ busiest. IsRanking busiest.items) }
+        ensures ranked { IfOk result (λ busiest. AreBusiest top self.now.rows busiest.items) }
     {
         ranking::busiest(alloc, &self.counts, top)
     }
