@@ -1,12 +1,12 @@
 -- The map of places follows the rows.
 use Rattle.std.proofs.Common.{◌≡◌, ℕ, ◌+◌, ◌<◌, ◌≤◌, Bool, true, false, cond, List, [], ◌∷◌, ◌++◌, length, set, get_or, refl, sym, ap, ◌∙◌, arith}
 use Rattle.std.proofs.lemmas.List.Quantifiers.{position-Some}
-use Rattle.std.proofs.lemmas.List.Sums.{get_or-le-sum_by, sum_by-set}
+use Rattle.std.proofs.lemmas.List.Sums.{get_or-le-sum_by, sum_by-append, sum_by-set}
 use Rattle.std.specs.HashMap.{get, HashMap, Updates}
 use Rattle.std.specs.Option.{option_or}
 use Rattle.std.specs.Prelude.{Option, Some, None, sum_by}
 use Rattle.capture_summary.proofs.ConversationLemmas.{one_conversation_congr, one_conversation_is, one_conversation_symm}
-use Rattle.capture_summary.proofs.FlowLemmas.{position-alike, position_push}
+use Rattle.capture_summary.proofs.FlowLemmas.{position-alike, position-set, position_push}
 use Rattle.capture_summary.specs.Conversations.{canonical, is_one_conversation, is_same_flow, new_row, row_packets}
 use Rattle.capture_summary.specs.FlowPlaces.{ArePlaces}
 use Rattle.capture_summary.specs.FlowTable.{FlowTable, packets_counted, place_of}
@@ -44,6 +44,14 @@ ArePlaces_push places more rows row place first key are named absent at_end key_
         none_is (place_of flow rows)
         ∙ sym (ap (λ b. option_or (place_of flow rows) (cond b (Some (length rows)) None)) (one_conversation_symm flow first ∙ other))
 
+-- a row with other counts of the same flow
+pub ArePlaces_set : {S : Type 0} (places : HashMap Flow ℕ S) (rows : List ConversationCount) (place : ℕ) (row more : ConversationCount)
+    → ArePlaces places rows → row ≡ get_or rows place row → more.flow ≡ row.flow → ArePlaces places (set rows place more)
+ArePlaces_set places rows place row more are at same flow =
+    are flow
+    ∙ sym (position-set (λ other. is_one_conversation flow other.flow) rows place more row
+    (ap (is_one_conversation flow) (same ∙ ap (λ other. other.flow) at)))
+
 -- a place that was found is the place of a row
 pub place_within : {S : Type 0} (places : HashMap Flow ℕ S) (rows : List ConversationCount) (flow key : Flow) (place : ℕ)
     → ArePlaces places rows → key ≡ canonical flow → Some place ≡ get is_same_flow places key → place < length rows
@@ -66,3 +74,8 @@ one_in_row table place row more at within one =
     let same : row_packets row ≡ row_packets (get_or table.rows place row) = ap row_packets at in
     let sums = sum_by-set row_packets table.rows place more row within in
     omega (arith, same, sums, one)
+
+-- a new row with one packet is one more packet in the table
+pub one_more_row : (table : FlowTable) (packets : ℕ) (row : ConversationCount) → packets ≡ packets_counted table → row_packets row ≡ 1
+    → packets + 1 ≡ packets_counted (record table { rows = table.rows ++ row ∷ [] })
+one_more_row table packets row count one = omega (arith, count, one, sum_by-append row_packets table.rows (row ∷ []))

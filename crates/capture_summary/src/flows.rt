@@ -23,17 +23,20 @@ pub struct Flows {
     counts: Vec<ConversationCount>,
     without_ports: Count,
     without_room: Count,
+    /// The number of packets in all counts.
+    packets: u64,
 }
 
 impl Model for Flows {
     ghost use Rattle.capture_summary.specs.FlowTable.{FlowTable};
-    ghost use Rattle.capture_summary.specs.FlowPlaces.{ArePlaces};
+    ghost use Rattle.capture_summary.specs.FlowPlaces.{AreFound};
 
     ghost Value = { FlowTable };
 
     ghost view = { λ flows. record { rows = flows.counts.items; without_ports = flows.without_ports; without_room = flows.without_room } };
 
-    ghost invariant = { λ flows. ArePlaces flows.places flows.counts.items };
+    ghost invariant = { λ flows. AreFound flows.places flows.packets
+        record { rows = flows.counts.items; without_ports = flows.without_ports; without_room = flows.without_room } };
 }
 
 impl Flows {
@@ -52,33 +55,44 @@ impl Flows {
             counts: Vec::new(alloc),
             without_ports: Count::NONE,
             without_room: Count::NONE,
+            packets: 0,
         }
     }
 
-    /// Counts a packet of this length in bytes, of this flow or without ports.
+    /// Counts a packet of this length in bytes, of this flow or without ports. `packets` returns the number that has to be below `u64::MAX`.
     ///
     /// # Errors
     ///
     /// `AllocError` if no memory is left. All counts are then unchanged.
     pub fn add(&mut self, flow: Option<Flow>, len: u64) -> Result<(), AllocError>
-        requires { packets_counted self.old < 2 ^ 64 - 1 }
+        requires room { packets_counted self.old < 2 ^ 64 - 1 }
         ensures ok { OnOk result (self.new ≡ table_counted flow len self.old) }
         ensures counted { OnOk result (packets_counted self.new ≡ packets_counted self.old + 1) }
         ensures err { OnErr result (self.new ≡ self.old) }
     {
         let Some(flow) = flow else {
             self.without_ports.add(len);
+            self.packets += 1;
             return Ok(());
         };
         if let Some(place) = self.places.get(&flow.canonical()) {
             let place = *place;
             self.counts[place].add(&flow, len);
+            self.packets += 1;
         } else if self.counts.len() < MAX_CONVERSATIONS {
             self.add_row(flow, len)?;
         } else {
             self.without_room.add(len);
+            self.packets += 1;
         }
         Ok(())
+    }
+
+    /// The number of counted packets. `add` accepts one more packet if it is below `u64::MAX`.
+    pub fn packets(&self) -> u64
+        ensures { result ≡ packets_counted self.now }
+    {
+        self.packets
     }
 
     /// The counts of the conversations with separate counts, in the order in which they were first seen.
@@ -119,6 +133,7 @@ impl Flows {
     fn add_row(&mut self, flow: Flow, len: u64) -> Result<(), AllocError>
         requires absent { place_of flow self.old.rows ≡ None }
         requires room { length self.old.rows < max_conversations }
+        requires packets { packets_counted self.old < 2 ^ 64 - 1 }
         ensures ok { OnOk result (self.new ≡ record self.old { rows = self.old.rows ++ row_counted flow len (new_row flow) ∷ [] }) }
         ensures err { OnErr result (self.new ≡ self.old) }
     {
@@ -131,6 +146,7 @@ impl Flows {
         self.counts.try_reserve(1)?;
         self.places.insert(flow.canonical(), self.counts.len())?;
         self.counts.push(row)?;
+        self.packets += 1;
         Ok(())
     }
 }
