@@ -17,7 +17,6 @@ use std::marker::Model;
 /// counted by the kind of its rejection.
 #[derive(Drop)]
 pub struct Summary {
-    packets: u64,
     bytes: u64,
     span: Option<TimeSpan>,
     protocols: [Count; Protocol::COUNT],
@@ -28,12 +27,13 @@ pub struct Summary {
 }
 
 impl Model for Summary {
+    ghost use Rattle.capture_summary.specs.FlowTable.{packets_counted};
     ghost use Rattle.capture_summary.specs.SummaryTables.{IsBalanced, SummaryTables};
 
     ghost Value = { SummaryTables };
 
     ghost view = { λ summary. record {
-      packets = summary.packets;
+      packets = packets_counted summary.flows;
       bytes = summary.bytes;
       span = summary.span;
       protocols = summary.protocols;
@@ -44,7 +44,7 @@ impl Model for Summary {
     } };
 
     ghost invariant = { λ summary. IsBalanced record {
-      packets = summary.packets;
+      packets = packets_counted summary.flows;
       bytes = summary.bytes;
       span = summary.span;
       protocols = summary.protocols;
@@ -62,7 +62,6 @@ impl Summary {
         ensures balanced { IsBalanced result }
     {
         Summary {
-            packets: 0,
             bytes: 0,
             span: None,
             protocols: [Count::NONE; Protocol::COUNT],
@@ -94,7 +93,6 @@ impl Summary {
         ensures balanced { IsBalanced self.new }
     {
         self.flows.add(flow, info.len)?;
-        self.packets += 1;
         self.bytes = self.bytes.saturating_add(info.len);
         self.span = TimeSpan::with_time(self.span, info.time);
         self.protocols[protocol.place()].add(info.len);
@@ -111,7 +109,7 @@ impl Summary {
         ensures packets { result ≡ self.now.packets }
         ensures balanced { IsBalanced self.now }
     {
-        self.packets
+        self.flows.packets()
     }
 
     /// The number of bytes of the counted packets. The sum saturates at `u64::MAX`.
