@@ -1,5 +1,7 @@
+pub mod AddressFamilies
 pub mod Addresses
 pub mod Contents
+pub mod EtherHeaders
 pub mod FrameRelay
 pub mod Frames
 pub mod Ieee80211

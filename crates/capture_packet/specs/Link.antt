@@ -1,7 +1,8 @@
 -- The headers of the link layer before a network packet: their lengths, and the protocols that follow them.
-use Rattle.std.specs.Prelude.{◌≡◌, ◌⊎◌, ◌≤◌, ◌<◌, ℕ, zero, suc, ◌+◌, ◌*◌, ◌==◌, ◌||◌, ◌&&◌, nat_le, nat_lt, Bool, true, false, if◌then◌else◌, List, drop, length, slice_index, Option, Some, None, Result, Ok, Err}
+use Rattle.std.specs.Prelude.{◌≡◌, ◌⊎◌, ◌≤◌, ◌<◌, ℕ, zero, suc, ◌+◌, ◌*◌, ◌==◌, ◌||◌, ◌&&◌, nat_le, Bool, true, false, if◌then◌else◌, List, drop, length, slice_index, Option, Some, None, Result, Ok, Err}
 use Rattle.net_base.specs.Bytes.{be_number}
-use Rattle.capture_file.specs.Classic.{number_at}
+use Rattle.capture_packet.specs.AddressFamilies.{family_header}
+use Rattle.capture_packet.specs.EtherHeaders.{ethernet_header}
 use Rattle.capture_packet.specs.FrameRelay.{frame_relay}
 use Rattle.capture_packet.specs.Ieee80211.{after_radiotap, frame_at}
 use Rattle.capture_packet.specs.LinkHeaders.{with_bytes}
@@ -9,7 +10,7 @@ use Rattle.capture_packet.specs.Llc.{llc_at}
 use Rattle.capture_packet.specs.Mpls.{stack_at}
 use Rattle.capture_packet.specs.Ppp.{ppp_header, session_at}
 use Rattle.capture_file.specs.declared.byte_order.ByteOrder.{ByteOrder}
-use Rattle.capture_file.specs.declared.byte_order.ByteOrder.TheVariants.{BigEndian, LittleEndian}
+use Rattle.capture_file.specs.declared.byte_order.ByteOrder.TheVariants.{BigEndian}
 use Rattle.capture_file.specs.declared.link_type.LinkType.{LinkType}
 use Rattle.capture_file.specs.declared.link_type.LinkType.TheVariants.{BsdLoopback, CiscoHdlc, Ethernet, FrameRelay, Ieee80211, LinuxCooked, LinuxCooked2, OpenBsdLoopback, Ppp, PppHdlc, Radiotap, RawIp}
 use Rattle.capture_packet.specs.declared.link.Frame.{Frame}
@@ -20,15 +21,11 @@ use Rattle.capture_packet.specs.declared.link.header.FirstHeader.{FirstHeader}
 use Rattle.capture_packet.specs.declared.link.header.FirstHeader.TheVariants.{EtherType, Whole}
 use Rattle.capture_packet.specs.declared.link.header.LinkHeader.{LinkHeader}
 use Rattle.capture_packet.specs.declared.content.NetworkProtocol.{NetworkProtocol}
-use Rattle.capture_packet.specs.declared.content.NetworkProtocol.TheVariants.{AddressFamily, EtherType as UnknownEtherType}
+use Rattle.capture_packet.specs.declared.content.NetworkProtocol.TheVariants.{EtherType as UnknownEtherType}
 
 -- ---- headers with an ether type
 
--- the length of the Ethernet header without tags, and the place of its ether type (IEEE 802.3, clause 3.2)
-abbrev pub ethernet : EtherHeader
-ethernet = record { len = 14; ether_type_at = 12 }
-
--- the same of LINKTYPE_LINUX_SLL (draft-ietf-opsawg-pcaplinktype)
+-- the length of a LINKTYPE_LINUX_SLL header without tags, and the place of its ether type (draft-ietf-opsawg-pcaplinktype)
 abbrev pub linux_cooked : EtherHeader
 linux_cooked = record { len = 16; ether_type_at = 14 }
 
@@ -114,28 +111,7 @@ NeedsEtherHeader header frame required_len =
     ((length frame < header.len) × (required_len ≡ header.len))
     ⊎ (NeedsTag header frame required_len ⊎ NeedsAfterTags header frame required_len)
 
--- ---- headers with an address family
-
--- the address families of IP: 2 is IPv4, and 24, 28 and 30 are IPv6 (LINKTYPE_NULL)
-abbrev pub is_ip_family : ℕ → Bool
-is_ip_family number = number == 2 || (number == 24 || (number == 28 || number == 30))
-
--- The next protocol according to the address family of a loopback frame. `None` is IP. The family has the byte order of the machine that
--- captured the frame, so a family of IP counts in either order. Another family is the number in this order.
-abbrev pub by_family : ByteOrder → List ℕ → Option NetworkProtocol
-by_family order frame =
-    if is_ip_family (number_at BigEndian frame 0) || is_ip_family (number_at LittleEndian frame 0) then None
-    else Some (AddressFamily (number_at order frame 0))
-
--- a loopback frame: the address family, four bytes
-abbrev pub family_header : ByteOrder → List ℕ → Result FirstHeader LinkHeaderCutOff
-family_header order frame = with_bytes frame 4 (Ok (Whole (record { len = 4; next = by_family order frame })))
-
 -- ---- headers with an ether type or an LLC header
-
--- an Ethernet frame, with an ether type, or with a length below 0600 and an LLC header (IEEE 802.3, clause 3.2.6)
-abbrev pub ethernet_header : List ℕ → Result FirstHeader LinkHeaderCutOff
-ethernet_header frame = with_bytes frame 14 (if nat_lt (be_number frame 12 2) 0x0600 then llc_at frame 14 else Ok (EtherType ethernet))
 
 -- a frame of LINKTYPE_LINUX_SLL or LINKTYPE_LINUX_SLL2, with an ether type, or with the protocol 0004 and an LLC header
 abbrev pub cooked_header : EtherHeader → List ℕ → Result FirstHeader LinkHeaderCutOff

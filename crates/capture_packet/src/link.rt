@@ -1,6 +1,8 @@
 //! The network packet in the bytes of a record, after the headers of the link layer.
 
 ghost use Rattle.std.specs.Prelude.{◌≡◌, ◌+◌, ◌≤◌, IfErr, IfOk, length};
+ghost use Rattle.capture_packet.specs.AddressFamilies as families;
+ghost use Rattle.capture_packet.specs.EtherHeaders.{ethernet_header};
 ghost use Rattle.capture_packet.specs.Link as specs;
 ghost use Rattle.capture_packet.specs.Link.{HasEtherHeader, HasLinkHeader, IsFoundAfter, NeedsEtherHeader, NeedsLinkHeader, by_ether_type};
 ghost use Rattle.capture_packet.specs.LinkHeaders.{Fits};
@@ -229,7 +231,7 @@ fn after_ether_type(
 
 /// The header of a loopback frame: its address family.
 fn family_header(order: ByteOrder, frame: &[u8]) -> Result<FirstHeader, LinkHeaderCutOff>
-    ensures is { result ≡ specs.family_header order frame.now }
+    ensures is { result ≡ families.family_header order frame.now }
     ensures fits { IfOk result (Fits frame.now) }
     ensures len { IfErr result (λ error. error.len ≡ length frame.now) }
 {
@@ -243,7 +245,7 @@ fn family_header(order: ByteOrder, frame: &[u8]) -> Result<FirstHeader, LinkHead
 /// The network protocol of a loopback frame. `None` is IP, whose address families count in either byte order.
 fn by_family(order: ByteOrder, frame: &[u8]) -> Option<NetworkProtocol>
     requires { 4 ≤ length frame.now }
-    ensures { result ≡ specs.by_family order frame.now }
+    ensures { result ≡ families.by_family order frame.now }
 {
     if is_ip_family(number_at(ByteOrder::BigEndian, frame, 0))
         || is_ip_family(number_at(ByteOrder::LittleEndian, frame, 0))
@@ -255,7 +257,7 @@ fn by_family(order: ByteOrder, frame: &[u8]) -> Option<NetworkProtocol>
 
 /// Whether this is an address family of IP.
 fn is_ip_family(number: u32) -> bool
-    ensures { result ≡ specs.is_ip_family number }
+    ensures { result ≡ families.is_ip_family number }
 {
     matches!(
         number,
@@ -265,7 +267,7 @@ fn is_ip_family(number: u32) -> bool
 
 /// The header of an Ethernet frame: a header with an ether type, or an LLC header after a length.
 fn ethernet_header(frame: &[u8]) -> Result<FirstHeader, LinkHeaderCutOff>
-    ensures is { result ≡ specs.ethernet_header frame.now }
+    ensures is { result ≡ ethernet_header frame.now }
     ensures fits { IfOk result (Fits frame.now) }
 {
     expect_len(frame, ETHERNET.len)?;
