@@ -233,7 +233,7 @@ fn every_link_and_order_is_read(rt: HostRuntime) -> Result<(), Fail> {
 
 /// Inputs that are no captures, and the error of each.
 #[rattlefmt::skip]
-const NO_CAPTURES: [(&[u8], &str); 5] = [
+const NO_CAPTURES: [(&[u8], &str); 10] = [
     (&[], "capture_report: The header of a capture has 24 bytes, and the input contains 0.\n"),
     (b"\x0A\x0D\x0D\x0A and so on",
      "capture_report: The byte-order magic of the section, its bytes 8 to 11, is 0x20736f20.\n"),
@@ -243,6 +243,16 @@ const NO_CAPTURES: [(&[u8], &str); 5] = [
      "capture_report: The capture is compressed, and is read by gzip -dc FILE | capture_report.\n"),
     (b"\x28\xB5\x2F\xFD, and then twenty bytes",
      "capture_report: The capture is compressed, and is read by zstd -dc FILE | capture_report.\n"),
+    (b"\x1F\x9D\x90\0, and then twenty bytes",
+     "capture_report: The capture is compressed, and is read by gzip -dc FILE | capture_report.\n"),
+    (b"\xFD7zX, and then twenty bytes",
+     "capture_report: The capture is compressed, and is read by xz -dc FILE | capture_report.\n"),
+    (b"BZh1, and then twenty bytes",
+     "capture_report: The capture is compressed, and is read by bzip2 -dc FILE | capture_report.\n"),
+    (b"BZh9, and then twenty bytes",
+     "capture_report: The capture is compressed, and is read by bzip2 -dc FILE | capture_report.\n"),
+    (b"\x04\x22\x4D\x18, and then twenty bytes",
+     "capture_report: The capture is compressed, and is read by lz4 -dc FILE | capture_report.\n"),
 ];
 
 /// How many bytes of a capture there are, and the status and the error.
