@@ -26,12 +26,7 @@ impl ByteOrder {
         requires { place + 4 ≤ length bytes.now }
         ensures { result ≡ number_at self bytes.now place }
     {
-        self.number([
-            bytes[place],
-            bytes[place + 1],
-            bytes[place + 2],
-            bytes[place + 3],
-        ])
+        self.number(*bytes[place..place + 4].as_array().unwrap())
     }
 
     /// The number in the two bytes from a place on, in this order.

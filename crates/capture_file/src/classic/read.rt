@@ -102,10 +102,8 @@ fn read_captured<R: Read>(
     let (read, next) = if captured_len > buffer.len() {
         (skip(input, captured_len)?, NextRecord::TooLong(header))
     } else {
-        (
-            fill(input, &mut buffer[..captured_len])?,
-            NextRecord::Whole(header),
-        )
+        let captured = &mut buffer[..captured_len];
+        (fill(input, captured)?, NextRecord::Whole(header))
     };
     let len = RecordHeader::LEN + read;
     if len < required_len {

@@ -1,6 +1,6 @@
-ghost use Rattle.std.specs.Prelude.{◌≡◌, ◌+◌, ◌≤◌, IfOk, IfSome, MatchOption, None, Some, length, pos};
+ghost use Rattle.std.specs.Prelude.{◌≡◌, ◌+◌, ◌≤◌, IfOk, IfSome, MatchOption, None, Some, length};
 ghost use Rattle.net_base.specs.Refusals.{RefusesExactly};
-ghost use Rattle.capture_file.specs.PcapngBodies.{interface_description, interface_refusal, resolution_by};
+ghost use Rattle.capture_file.specs.PcapngBodies.{interface_description, interface_refusal};
 ghost use Rattle.capture_file.specs.PcapngOptions as specs;
 
 use crate::ByteOrder;
@@ -13,7 +13,7 @@ const IF_TSRESOL: u16 = 9;
 const IF_TSOFFSET: u16 = 14;
 
 /// An interface description block (draft-ietf-opsawg-pcapng, section 4.2). The interfaces of a section are numbered from 0 in their order.
-#[derive(Clone, Copy, Debug, PartialEq, Eq)]
+#[derive(Clone, Copy, Debug, Default, PartialEq, Eq)]
 pub struct InterfaceDescription {
     /// The number of the link type of the packets. `LinkType::from_number` returns it if it is read.
     pub link_type: u16,
@@ -42,7 +42,7 @@ impl InterfaceDescription {
         let options = &body[InterfaceDescription::LEN..];
         let time_resolution = match find_option(order, options, IF_TSRESOL, 1) {
             Some(option) => TimeResolution::from_byte(option[4]),
-            None => TimeResolution::PowerOfTen(6),
+            None => TimeResolution::default(),
         };
         let time_offset = match find_option(order, options, IF_TSOFFSET, 8) {
             Some(option) => order.long_in(option, 4).cast_signed(),
@@ -54,21 +54,6 @@ impl InterfaceDescription {
             time_resolution,
             time_offset,
         })
-    }
-}
-
-/// No link type and no limit, in microseconds. An `ArrayVec` holds this value in its unused places.
-impl Default for InterfaceDescription {
-    ghost is_default = { λ interface. interface
-        ≡ record { link_type = 0; snap_len = 0; time_resolution = resolution_by None; time_offset = pos 0 } };
-
-    fn default() -> InterfaceDescription {
-        InterfaceDescription {
-            link_type: 0,
-            snap_len: 0,
-            time_resolution: TimeResolution::PowerOfTen(6),
-            time_offset: 0,
-        }
     }
 }
 

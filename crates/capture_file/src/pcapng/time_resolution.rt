@@ -1,6 +1,6 @@
-ghost use Rattle.std.specs.Prelude.{◌≡◌, ◌^◌, ◌<◌};
+ghost use Rattle.std.specs.Prelude.{◌≡◌, ◌^◌, ◌<◌, None};
 ghost use Rattle.std.specs.Option.{SomeIff};
-ghost use Rattle.capture_file.specs.PcapngBodies.{time_resolution, units_per_second};
+ghost use Rattle.capture_file.specs.PcapngBodies.{resolution_by, time_resolution, units_per_second};
 
 /// The unit of the timestamps of an interface: a second divided by a power of ten or of two (the option `if_tsresol` of
 /// draft-ietf-opsawg-pcapng, section 4.2).
@@ -10,6 +10,15 @@ pub enum TimeResolution {
     PowerOfTen(u8),
     /// A second divided by two to this power.
     PowerOfTwo(u8),
+}
+
+/// Microseconds, the resolution of an interface without the option. An `ArrayVec` holds a default interface in its unused places.
+impl Default for TimeResolution {
+    ghost is_default = { λ resolution. resolution ≡ resolution_by None };
+
+    fn default() -> TimeResolution {
+        TimeResolution::PowerOfTen(6)
+    }
 }
 
 impl TimeResolution {
