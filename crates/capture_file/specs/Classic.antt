@@ -11,7 +11,7 @@ use Rattle.capture_file.specs.declared.classic.capture_header.CaptureHeader.{Cap
 use Rattle.capture_file.specs.declared.classic.capture_header_error.CaptureHeaderError.{CaptureHeaderError}
 use Rattle.capture_file.specs.declared.classic.capture_header_error.CaptureHeaderError.TheVariants.{CutOff, Magic, Pcapng, LinkType as UnknownLinkType}
 use Rattle.capture_file.specs.declared.link_type.LinkType.{LinkType}
-use Rattle.capture_file.specs.declared.link_type.LinkType.TheVariants.{BsdLoopback, CiscoHdlc, Ethernet, FrameRelay, Ieee80211, LinuxCooked, LinuxCooked2, OpenBsdLoopback, Ppp, PppHdlc, Radiotap, RawIp}
+use Rattle.capture_file.specs.declared.link_type.LinkType.TheVariants.{BsdLoopback, CiscoHdlc, Ethernet, FrameRelay, Ieee80211, Ipnet, LinuxCooked, LinuxCooked2, OpenBsdLoopback, Pflog, Pktap, Ppi, Ppp, PppHdlc, PppOverEthernet, Prism, Radiotap, RawIp}
 use Rattle.capture_file.specs.declared.classic.record_header.RecordHeader.{RecordHeader}
 use Rattle.capture_file.specs.declared.classic.record_header.Resolution.{Resolution}
 use Rattle.capture_file.specs.declared.classic.record_header.Resolution.TheVariants.{Microseconds, Nanoseconds}
@@ -51,9 +51,9 @@ resolution_with magic = lookup (λ number. magic == number) magic_numbers
 -- the numbers of the link types that are read
 abbrev pub link_types : List (ℕ × LinkType)
 link_types =
-    (0, BsdLoopback) ∷ (1, Ethernet) ∷ (9, Ppp) ∷ (12, RawIp) ∷ (14, RawIp) ∷ (50, PppHdlc) ∷ (101, RawIp) ∷ (104, CiscoHdlc)
-    ∷ (105, Ieee80211) ∷ (107, FrameRelay) ∷ (108, OpenBsdLoopback) ∷ (113, LinuxCooked) ∷ (127, Radiotap) ∷ (228, RawIp) ∷ (229, RawIp)
-    ∷ (276, LinuxCooked2) ∷ []
+    (0, BsdLoopback) ∷ (1, Ethernet) ∷ (9, Ppp) ∷ (12, RawIp) ∷ (14, RawIp) ∷ (50, PppHdlc) ∷ (51, PppOverEthernet) ∷ (101, RawIp)
+    ∷ (104, CiscoHdlc) ∷ (105, Ieee80211) ∷ (107, FrameRelay) ∷ (108, OpenBsdLoopback) ∷ (113, LinuxCooked) ∷ (117, Pflog) ∷ (119, Prism)
+    ∷ (127, Radiotap) ∷ (192, Ppi) ∷ (226, Ipnet) ∷ (228, RawIp) ∷ (229, RawIp) ∷ (258, Pktap) ∷ (276, LinuxCooked2) ∷ []
 
 -- the link type with this number
 abbrev pub link_type_with : ℕ → Option LinkType

@@ -12,6 +12,8 @@ pub enum LinkType {
     Ppp,
     /// A PPP frame as of `Ppp`, or a frame of Cisco HDLC, depending on its first byte (LINKTYPE_PPP_HDLC, 50).
     PppHdlc,
+    /// A PPPoE header, and a PPP frame without Address and Control fields (LINKTYPE_PPP_ETHER, 51).
+    PppOverEthernet,
     /// An IPv4 or IPv6 packet without a link header (LINKTYPE_RAW, 101, which some systems write as 12 or 14; LINKTYPE_IPV4, 228;
     /// LINKTYPE_IPV6, 229).
     RawIp,
@@ -25,15 +27,25 @@ pub enum LinkType {
     OpenBsdLoopback,
     /// A header of 16 bytes instead of the link header (LINKTYPE_LINUX_SLL, 113).
     LinuxCooked,
+    /// A header of the packet filter of OpenBSD, and the packet (LINKTYPE_PFLOG, 117).
+    Pflog,
+    /// A Prism header or an AVS header, and an IEEE 802.11 frame (LINKTYPE_IEEE802_11_PRISM, 119).
+    Prism,
     /// A radiotap header, and an IEEE 802.11 frame (LINKTYPE_IEEE802_11_RADIOTAP, 127).
     Radiotap,
+    /// A header of Per-Packet Information, and a frame of the link type that it states (LINKTYPE_PPI, 192).
+    Ppi,
+    /// A header of 24 bytes of Solaris, and the packet (LINKTYPE_IPNET, 226).
+    Ipnet,
+    /// A header of Apple's packet tap, and a frame of the link type that it states (LINKTYPE_PKTAP, 258).
+    Pktap,
     /// A header of 20 bytes instead of the link header (LINKTYPE_LINUX_SLL2, 276).
     LinuxCooked2,
 }
 
 impl LinkType {
     /// The number of link types that are read.
-    pub const COUNT: usize = 12;
+    pub const COUNT: usize = 18;
 
     /// The link type with this number, if it is read.
     pub fn from_number(number: u16) -> Option<LinkType>
@@ -44,13 +56,19 @@ impl LinkType {
             1 => Some(LinkType::Ethernet),
             9 => Some(LinkType::Ppp),
             50 => Some(LinkType::PppHdlc),
+            51 => Some(LinkType::PppOverEthernet),
             12 | 14 | 101 | 228 | 229 => Some(LinkType::RawIp),
             104 => Some(LinkType::CiscoHdlc),
             105 => Some(LinkType::Ieee80211),
             107 => Some(LinkType::FrameRelay),
             108 => Some(LinkType::OpenBsdLoopback),
             113 => Some(LinkType::LinuxCooked),
+            117 => Some(LinkType::Pflog),
+            119 => Some(LinkType::Prism),
             127 => Some(LinkType::Radiotap),
+            192 => Some(LinkType::Ppi),
+            226 => Some(LinkType::Ipnet),
+            258 => Some(LinkType::Pktap),
             276 => Some(LinkType::LinuxCooked2),
             _ => None,
         }

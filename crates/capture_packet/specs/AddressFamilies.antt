@@ -1,5 +1,5 @@
 -- Headers with an address family.
-use Rattle.std.specs.Prelude.{ℕ, ◌==◌, ◌||◌, Bool, if◌then◌else◌, List, Option, Some, None, Result, Ok}
+use Rattle.std.specs.Prelude.{ℕ, ◌+◌, ◌==◌, ◌||◌, Bool, if◌then◌else◌, List, Option, Some, None, Result, Ok}
 use Rattle.capture_file.specs.Classic.{number_at}
 use Rattle.capture_packet.specs.LinkHeaders.{with_bytes}
 use Rattle.capture_file.specs.declared.byte_order.ByteOrder.{ByteOrder}
@@ -16,11 +16,11 @@ is_ip_family number = number == 2 || (number == 24 || (number == 28 || number ==
 
 -- The next protocol according to the address family of a loopback frame. `None` is IP. The family has the byte order of the machine that
 -- captured the frame, so a family of IP counts in either order. Another family is the number in this order.
-abbrev pub by_family : ByteOrder → List ℕ → Option NetworkProtocol
-by_family order frame =
-    if is_ip_family (number_at BigEndian frame 0) || is_ip_family (number_at LittleEndian frame 0) then None
-    else Some (AddressFamily (number_at order frame 0))
+abbrev pub by_family : ByteOrder → List ℕ → ℕ → Option NetworkProtocol
+by_family order frame place =
+    if is_ip_family (number_at BigEndian frame place) || is_ip_family (number_at LittleEndian frame place) then None
+    else Some (AddressFamily (number_at order frame place))
 
--- a loopback frame: the address family, four bytes
-abbrev pub family_header : ByteOrder → List ℕ → Result FirstHeader LinkHeaderCutOff
-family_header order frame = with_bytes frame 4 (Ok (Whole (record { len = 4; next = by_family order frame })))
+-- a loopback frame at this place: the address family, four bytes
+abbrev pub family_at : ByteOrder → List ℕ → ℕ → Result FirstHeader LinkHeaderCutOff
+family_at order frame place = with_bytes frame (place + 4) (Ok (Whole (record { len = place + 4; next = by_family order frame place })))

@@ -67,10 +67,6 @@ frame_at frame place = with_bytes frame (place + 2) (
 
 -- ---- a radiotap header (LINKTYPE_IEEE802_11_RADIOTAP)
 
--- the greatest number in the length field, which has two bytes; a frame starts at this place at the latest
-abbrev pub max_radiotap_len : ℕ
-max_radiotap_len = 65535
-
 -- A radiotap header contains a version, an unused byte, a length of two bytes, and bits for the present fields in four bytes. The length is
 -- little-endian. If the version is 0, and the length counts at least these eight bytes, the frame follows the header.
 abbrev pub by_radiotap : List ℕ → ℕ → ℕ → Result FirstHeader LinkHeaderCutOff

@@ -8,6 +8,7 @@ pub mod Ieee80211
 pub mod Link
 pub mod LinkHeaders
 pub mod Llc
+pub mod Metadata
 pub mod Mpls
 pub mod Payloads
 pub mod Ppp

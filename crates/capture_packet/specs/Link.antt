@@ -1,18 +1,19 @@
 -- The headers of the link layer before a network packet: their lengths, and the protocols that follow them.
 use Rattle.std.specs.Prelude.{◌≡◌, ◌⊎◌, ◌≤◌, ◌<◌, ℕ, zero, suc, ◌+◌, ◌*◌, ◌==◌, ◌||◌, ◌&&◌, nat_le, Bool, true, false, if◌then◌else◌, List, drop, length, slice_index, Option, Some, None, Result, Ok, Err}
 use Rattle.net_base.specs.Bytes.{be_number}
-use Rattle.capture_packet.specs.AddressFamilies.{family_header}
-use Rattle.capture_packet.specs.EtherHeaders.{ethernet_header}
+use Rattle.capture_packet.specs.AddressFamilies.{family_at}
+use Rattle.capture_packet.specs.EtherHeaders.{ethernet_at}
 use Rattle.capture_packet.specs.FrameRelay.{frame_relay}
 use Rattle.capture_packet.specs.Ieee80211.{after_radiotap, frame_at}
 use Rattle.capture_packet.specs.LinkHeaders.{with_bytes}
 use Rattle.capture_packet.specs.Llc.{llc_at}
+use Rattle.capture_packet.specs.Metadata.{after_ppi, after_prism, after_tap, filter_header, ipnet_header}
 use Rattle.capture_packet.specs.Mpls.{stack_at}
 use Rattle.capture_packet.specs.Ppp.{ppp_header, session_at}
 use Rattle.capture_file.specs.declared.byte_order.ByteOrder.{ByteOrder}
 use Rattle.capture_file.specs.declared.byte_order.ByteOrder.TheVariants.{BigEndian}
 use Rattle.capture_file.specs.declared.link_type.LinkType.{LinkType}
-use Rattle.capture_file.specs.declared.link_type.LinkType.TheVariants.{BsdLoopback, CiscoHdlc, Ethernet, FrameRelay, Ieee80211, LinuxCooked, LinuxCooked2, OpenBsdLoopback, Ppp, PppHdlc, Radiotap, RawIp}
+use Rattle.capture_file.specs.declared.link_type.LinkType.TheVariants.{BsdLoopback, CiscoHdlc, Ethernet, FrameRelay, Ieee80211, Ipnet, LinuxCooked, LinuxCooked2, OpenBsdLoopback, Pflog, Pktap, Ppi, Ppp, PppHdlc, PppOverEthernet, Prism, Radiotap, RawIp}
 use Rattle.capture_packet.specs.declared.link.Frame.{Frame}
 use Rattle.capture_packet.specs.declared.link.Frame.TheVariants.{Ip, Other}
 use Rattle.capture_packet.specs.declared.link.LinkHeaderCutOff.{LinkHeaderCutOff}
@@ -131,17 +132,23 @@ is_cisco_hdlc frame = nat_le 1 (length frame) && (slice_index frame 0 == 0x0F ||
 
 -- the first header of a frame of this link type
 abbrev pub first_header : LinkType → ByteOrder → List ℕ → Result FirstHeader LinkHeaderCutOff
-first_header BsdLoopback order frame = family_header order frame
-first_header Ethernet order frame = ethernet_header frame
+first_header BsdLoopback order frame = family_at order frame 0
+first_header Ethernet order frame = ethernet_at frame 0
 first_header Ppp order frame = whole (ppp_header frame)
 first_header PppHdlc order frame = if is_cisco_hdlc frame then Ok (EtherType cisco_hdlc) else whole (ppp_header frame)
+first_header PppOverEthernet order frame = whole (session_at frame 0)
 first_header RawIp order frame = Ok (Whole (record { len = 0; next = None }))
 first_header CiscoHdlc order frame = Ok (EtherType cisco_hdlc)
 first_header Ieee80211 order frame = frame_at frame 0
 first_header FrameRelay order frame = frame_relay frame
-first_header OpenBsdLoopback order frame = family_header BigEndian frame
+first_header OpenBsdLoopback order frame = family_at BigEndian frame 0
 first_header LinuxCooked order frame = cooked_header linux_cooked frame
+first_header Pflog order frame = filter_header frame
+first_header Prism order frame = after_prism frame
 first_header Radiotap order frame = after_radiotap frame
+first_header Ppi order frame = after_ppi frame
+first_header Ipnet order frame = ipnet_header frame
+first_header Pktap order frame = after_tap frame
 first_header LinuxCooked2 order frame = cooked_header linux_cooked_2 frame
 
 -- the whole link header has this length, and this protocol comes next, according to the first header; `None` is IP

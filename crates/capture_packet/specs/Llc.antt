@@ -1,5 +1,5 @@
 -- LLC and SNAP headers (IEEE 802.2; RFC 1042).
-use Rattle.std.specs.Prelude.{ℕ, ◌+◌, ◌==◌, if◌then◌else◌, List, slice_index, Some, Result, Ok}
+use Rattle.std.specs.Prelude.{ℕ, ◌+◌, ◌^◌, ◌==◌, if◌then◌else◌, List, slice_index, Some, Result, Ok}
 use Rattle.net_base.specs.Bytes.{be_number}
 use Rattle.capture_packet.specs.LinkHeaders.{with_bytes}
 use Rattle.capture_packet.specs.declared.link.LinkHeaderCutOff.{LinkHeaderCutOff}
@@ -17,10 +17,9 @@ by_organization_code frame place organization_code =
 abbrev pub snap_at : List ℕ → ℕ → Result FirstHeader LinkHeaderCutOff
 snap_at frame place = with_bytes frame (place + 5) (Ok (by_organization_code frame place (be_number frame place 3)))
 
--- The last place at which an LLC header begins. It is after the longest radiotap header, whose length has 16 bits, and the longest header
--- of an IEEE 802.11 data frame, 36 bytes.
+-- The last place at which an LLC header begins: no frame is longer.
 abbrev pub max_llc_place : ℕ
-max_llc_place = 65535 + 36
+max_llc_place = 2 ^ 63
 
 -- the header that ends with the network layer protocol ID at this place
 abbrev pub osi_at : List ℕ → ℕ → Result FirstHeader LinkHeaderCutOff

@@ -9,7 +9,7 @@ pub enum NetworkProtocol {
     EtherType(u16),
     /// A protocol with this address family in a loopback header.
     AddressFamily(u32),
-    /// An unknown protocol: the frame is of the link type with this number, which is not read.
+    /// An unknown protocol: the frame is of the link type with this number, which is not read, or its header is not read.
     LinkType(u16),
     /// An IEEE 802.11 frame with a body that is not read. The frame is not a data frame, contains no data, is encrypted, or contains
     /// something other than one whole data unit.

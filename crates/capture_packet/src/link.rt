@@ -2,10 +2,10 @@
 
 ghost use Rattle.std.specs.Prelude.{◌≡◌, ◌+◌, ◌≤◌, IfErr, IfOk, length};
 ghost use Rattle.capture_packet.specs.AddressFamilies as families;
-ghost use Rattle.capture_packet.specs.EtherHeaders.{ethernet_header};
+ghost use Rattle.capture_packet.specs.EtherHeaders.{ethernet_at};
 ghost use Rattle.capture_packet.specs.Link as specs;
 ghost use Rattle.capture_packet.specs.Link.{HasEtherHeader, HasLinkHeader, IsFoundAfter, NeedsEtherHeader, NeedsLinkHeader, by_ether_type};
-ghost use Rattle.capture_packet.specs.LinkHeaders.{Fits};
+ghost use Rattle.capture_packet.specs.LinkHeaders.{Fits, max_frame_place};
 
 mod ether_type;
 mod frame_relay;
@@ -13,6 +13,7 @@ mod header;
 mod ieee80211;
 pub mod laws;
 mod llc;
+mod metadata;
 mod mpls;
 mod ppp;
 
@@ -25,6 +26,7 @@ use crate::link::frame_relay::frame_relay;
 use crate::link::header::{EtherHeader, FirstHeader, LinkHeader, expect_len, number_at, short_at};
 use crate::link::ieee80211::{after_radiotap, frame_at};
 use crate::link::llc::llc_at;
+use crate::link::metadata::{after_ppi, after_prism, after_tap, filter_header, ipnet_header};
 use crate::link::mpls::stack_at;
 use crate::link::ppp::{ppp_header, session_at};
 use capture_file::{ByteOrder, LinkType};
@@ -47,11 +49,11 @@ pub struct LinkHeaderCutOff {
     pub len: usize,
 }
 
-/// The header of an Ethernet frame: two addresses, and the ether type (IEEE 802.3, clause 3.2).
-const ETHERNET: EtherHeader = EtherHeader {
-    len: 14,
-    ether_type_at: 12,
-};
+/// The place of the ether type in the header of an Ethernet frame, after two addresses (IEEE 802.3, clause 3.2).
+const ETHER_TYPE_AT: usize = 12;
+
+/// The length of the header of an Ethernet frame, in bytes.
+const ETHERNET_LEN: usize = 14;
 
 /// LINKTYPE_LINUX_SLL: the protocol is at the end.
 const LINUX_COOKED: EtherHeader = EtherHeader {
@@ -102,7 +104,10 @@ const TO_ALL_STATIONS: u8 = 0x8F;
 /// - LINKTYPE_LINUX_SLL, 16 bytes, and LINKTYPE_LINUX_SLL2, 20 bytes
 /// - Cisco HDLC, 4 bytes
 /// - radiotap, the header of an IEEE 802.11 data frame, and the LLC and SNAP headers after it
-/// - PPP and Frame Relay
+/// - a Prism header or a header of AVS, and the same headers after it
+/// - PPP, PPP over Ethernet, and Frame Relay
+/// - LINKTYPE_PFLOG, and LINKTYPE_IPNET, 24 bytes
+/// - LINKTYPE_PPI and LINKTYPE_PKTAP, and the header of the Ethernet, raw IP, loopback or IEEE 802.11 frame after it
 /// - the address family of a loopback frame, 4 bytes
 ///
 /// Ethernet and Linux cooked frames can also contain LLC and SNAP headers.
@@ -166,18 +171,24 @@ fn first_header(
     ensures len { IfErr result (λ error. error.len ≡ length frame.now) }
 {
     match link_type {
-        LinkType::BsdLoopback => family_header(order, frame),
-        LinkType::Ethernet => ethernet_header(frame),
+        LinkType::BsdLoopback => family_at(order, frame, 0),
+        LinkType::Ethernet => ethernet_at(frame, 0),
         LinkType::Ppp => Ok(FirstHeader::Whole(ppp_header(frame)?)),
         LinkType::PppHdlc if is_cisco_hdlc(frame) => Ok(FirstHeader::EtherType(CISCO_HDLC)),
         LinkType::PppHdlc => Ok(FirstHeader::Whole(ppp_header(frame)?)),
+        LinkType::PppOverEthernet => Ok(FirstHeader::Whole(session_at(frame, 0)?)),
         LinkType::RawIp => Ok(FirstHeader::Whole(LinkHeader { len: 0, next: None })),
         LinkType::CiscoHdlc => Ok(FirstHeader::EtherType(CISCO_HDLC)),
         LinkType::Ieee80211 => frame_at(frame, 0),
         LinkType::FrameRelay => frame_relay(frame),
-        LinkType::OpenBsdLoopback => family_header(ByteOrder::BigEndian, frame),
+        LinkType::OpenBsdLoopback => family_at(ByteOrder::BigEndian, frame, 0),
         LinkType::LinuxCooked => cooked_header(LINUX_COOKED, frame),
+        LinkType::Pflog => filter_header(frame),
+        LinkType::Prism => after_prism(frame),
         LinkType::Radiotap => after_radiotap(frame),
+        LinkType::Ppi => after_ppi(frame),
+        LinkType::Ipnet => ipnet_header(frame),
+        LinkType::Pktap => after_tap(frame),
         LinkType::LinuxCooked2 => cooked_header(LINUX_COOKED_2, frame),
     }
 }
@@ -229,30 +240,32 @@ fn after_ether_type(
     }
 }
 
-/// The header of a loopback frame: its address family.
-fn family_header(order: ByteOrder, frame: &[u8]) -> Result<FirstHeader, LinkHeaderCutOff>
-    ensures is { result ≡ families.family_header order frame.now }
+/// The header of the loopback frame at this place: its address family.
+fn family_at(order: ByteOrder, frame: &[u8], place: usize) -> Result<FirstHeader, LinkHeaderCutOff>
+    requires { place ≤ max_frame_place }
+    ensures is { result ≡ families.family_at order frame.now place }
     ensures fits { IfOk result (Fits frame.now) }
     ensures len { IfErr result (λ error. error.len ≡ length frame.now) }
 {
-    expect_len(frame, FAMILY_LEN)?;
+    let len = place + FAMILY_LEN;
+    expect_len(frame, len)?;
     Ok(FirstHeader::Whole(LinkHeader {
-        len: FAMILY_LEN,
-        next: by_family(order, frame),
+        len,
+        next: by_family(order, frame, place),
     }))
 }
 
-/// The network protocol of a loopback frame. `None` is IP, whose address families count in either byte order.
-fn by_family(order: ByteOrder, frame: &[u8]) -> Option<NetworkProtocol>
-    requires { 4 ≤ length frame.now }
-    ensures { result ≡ families.by_family order frame.now }
+/// The network protocol of the loopback frame at this place. `None` is IP, whose address families count in either byte order.
+fn by_family(order: ByteOrder, frame: &[u8], place: usize) -> Option<NetworkProtocol>
+    requires { place + 4 ≤ length frame.now }
+    ensures { result ≡ families.by_family order frame.now place }
 {
-    if is_ip_family(number_at(ByteOrder::BigEndian, frame, 0))
-        || is_ip_family(number_at(ByteOrder::LittleEndian, frame, 0))
+    if is_ip_family(number_at(ByteOrder::BigEndian, frame, place))
+        || is_ip_family(number_at(ByteOrder::LittleEndian, frame, place))
     {
         return None;
     }
-    Some(NetworkProtocol::AddressFamily(number_at(order, frame, 0)))
+    Some(NetworkProtocol::AddressFamily(number_at(order, frame, place)))
 }
 
 /// Whether this is an address family of IP.
@@ -265,16 +278,19 @@ fn is_ip_family(number: u32) -> bool
     )
 }
 
-/// The header of an Ethernet frame: a header with an ether type, or an LLC header after a length.
-fn ethernet_header(frame: &[u8]) -> Result<FirstHeader, LinkHeaderCutOff>
-    ensures is { result ≡ ethernet_header frame.now }
+/// The header of the Ethernet frame at this place: a header with an ether type, or an LLC header after a length.
+fn ethernet_at(frame: &[u8], place: usize) -> Result<FirstHeader, LinkHeaderCutOff>
+    requires { place ≤ max_frame_place }
+    ensures is { result ≡ ethernet_at frame.now place }
     ensures fits { IfOk result (Fits frame.now) }
+    ensures len { IfErr result (λ error. error.len ≡ length frame.now) }
 {
-    expect_len(frame, ETHERNET.len)?;
-    if short_at(frame, ETHERNET.ether_type_at) < ether_type::LEAST {
-        llc_at(frame, ETHERNET.len)
+    let (len, ether_type_at) = (place + ETHERNET_LEN, place + ETHER_TYPE_AT);
+    expect_len(frame, len)?;
+    if short_at(frame, ether_type_at) < ether_type::LEAST {
+        llc_at(frame, len)
     } else {
-        Ok(FirstHeader::EtherType(ETHERNET))
+        Ok(FirstHeader::EtherType(EtherHeader { len, ether_type_at }))
     }
 }
 

@@ -220,10 +220,11 @@ link_kind None = UnknownLink
 -- all rows, in their order
 abbrev pub link_kinds : List LinkKind
 link_kinds =
-    Known link_types.BsdLoopback ∷ (Known link_types.Ethernet) ∷ (Known link_types.Ppp) ∷ (Known link_types.PppHdlc)
-    ∷ (Known link_types.RawIp) ∷ (Known link_types.CiscoHdlc) ∷ (Known link_types.Ieee80211) ∷ (Known link_types.FrameRelay)
-    ∷ (Known link_types.OpenBsdLoopback) ∷ (Known link_types.LinuxCooked) ∷ (Known link_types.Radiotap)
-    ∷ (Known link_types.LinuxCooked2) ∷ OtherLink ∷ UnknownLink ∷ []
+    (Known link_types.BsdLoopback) ∷ (Known link_types.Ethernet) ∷ (Known link_types.Ppp) ∷ (Known link_types.PppHdlc)
+    ∷ (Known link_types.PppOverEthernet) ∷ (Known link_types.RawIp) ∷ (Known link_types.CiscoHdlc) ∷ (Known link_types.Ieee80211)
+    ∷ (Known link_types.FrameRelay) ∷ (Known link_types.OpenBsdLoopback) ∷ (Known link_types.LinuxCooked) ∷ (Known link_types.Pflog)
+    ∷ (Known link_types.Prism) ∷ (Known link_types.Radiotap) ∷ (Known link_types.Ppi) ∷ (Known link_types.Ipnet)
+    ∷ (Known link_types.Pktap) ∷ (Known link_types.LinuxCooked2) ∷ OtherLink ∷ UnknownLink ∷ []
 
 -- the place of a row
 abbrev pub link_place : LinkKind → ℕ
@@ -231,16 +232,22 @@ link_place (Known link_types.BsdLoopback) = 0
 link_place (Known link_types.Ethernet) = 1
 link_place (Known link_types.Ppp) = 2
 link_place (Known link_types.PppHdlc) = 3
-link_place (Known link_types.RawIp) = 4
-link_place (Known link_types.CiscoHdlc) = 5
-link_place (Known link_types.Ieee80211) = 6
-link_place (Known link_types.FrameRelay) = 7
-link_place (Known link_types.OpenBsdLoopback) = 8
-link_place (Known link_types.LinuxCooked) = 9
-link_place (Known link_types.Radiotap) = 10
-link_place (Known link_types.LinuxCooked2) = 11
-link_place OtherLink = 12
-link_place UnknownLink = 13
+link_place (Known link_types.PppOverEthernet) = 4
+link_place (Known link_types.RawIp) = 5
+link_place (Known link_types.CiscoHdlc) = 6
+link_place (Known link_types.Ieee80211) = 7
+link_place (Known link_types.FrameRelay) = 8
+link_place (Known link_types.OpenBsdLoopback) = 9
+link_place (Known link_types.LinuxCooked) = 10
+link_place (Known link_types.Pflog) = 11
+link_place (Known link_types.Prism) = 12
+link_place (Known link_types.Radiotap) = 13
+link_place (Known link_types.Ppi) = 14
+link_place (Known link_types.Ipnet) = 15
+link_place (Known link_types.Pktap) = 16
+link_place (Known link_types.LinuxCooked2) = 17
+link_place OtherLink = 18
+link_place UnknownLink = 19
 
 -- the word of a row
 abbrev pub link_word : LinkKind → List ℕ
@@ -248,13 +255,19 @@ link_word (Known link_types.BsdLoopback) = codes "BSD loopback"
 link_word (Known link_types.Ethernet) = codes "Ethernet"
 link_word (Known link_types.Ppp) = codes "PPP"
 link_word (Known link_types.PppHdlc) = codes "PPP or Cisco HDLC"
+link_word (Known link_types.PppOverEthernet) = codes "PPP over Ethernet"
 link_word (Known link_types.RawIp) = codes "raw IP"
 link_word (Known link_types.CiscoHdlc) = codes "Cisco HDLC"
 link_word (Known link_types.Ieee80211) = codes "IEEE 802.11"
 link_word (Known link_types.FrameRelay) = codes "Frame Relay"
 link_word (Known link_types.OpenBsdLoopback) = codes "OpenBSD loopback"
 link_word (Known link_types.LinuxCooked) = codes "Linux cooked"
+link_word (Known link_types.Pflog) = codes "PFLOG"
+link_word (Known link_types.Prism) = codes "Prism"
 link_word (Known link_types.Radiotap) = codes "radiotap"
+link_word (Known link_types.Ppi) = codes "PPI"
+link_word (Known link_types.Ipnet) = codes "Solaris ipnet"
+link_word (Known link_types.Pktap) = codes "PKTAP"
 link_word (Known link_types.LinuxCooked2) = codes "Linux cooked version 2"
 link_word OtherLink = codes "another link type"
 link_word UnknownLink = codes "unknown"

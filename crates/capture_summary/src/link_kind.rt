@@ -29,13 +29,19 @@ impl LinkKind {
             LinkKind::Known(LinkType::Ethernet) => "Ethernet",
             LinkKind::Known(LinkType::Ppp) => "PPP",
             LinkKind::Known(LinkType::PppHdlc) => "PPP or Cisco HDLC",
+            LinkKind::Known(LinkType::PppOverEthernet) => "PPP over Ethernet",
             LinkKind::Known(LinkType::RawIp) => "raw IP",
             LinkKind::Known(LinkType::CiscoHdlc) => "Cisco HDLC",
             LinkKind::Known(LinkType::Ieee80211) => "IEEE 802.11",
             LinkKind::Known(LinkType::FrameRelay) => "Frame Relay",
             LinkKind::Known(LinkType::OpenBsdLoopback) => "OpenBSD loopback",
             LinkKind::Known(LinkType::LinuxCooked) => "Linux cooked",
+            LinkKind::Known(LinkType::Pflog) => "PFLOG",
+            LinkKind::Known(LinkType::Prism) => "Prism",
             LinkKind::Known(LinkType::Radiotap) => "radiotap",
+            LinkKind::Known(LinkType::Ppi) => "PPI",
+            LinkKind::Known(LinkType::Ipnet) => "Solaris ipnet",
+            LinkKind::Known(LinkType::Pktap) => "PKTAP",
             LinkKind::Known(LinkType::LinuxCooked2) => "Linux cooked version 2",
             LinkKind::Other => "another link type",
             LinkKind::Unknown => "unknown",
@@ -57,7 +63,7 @@ impl LinkKind {
     #[inline(always)]
     pub fn place(self) -> usize
         ensures place { result ≡ link_place self }
-        ensures below { result < 14 }
+        ensures below { result < 20 }
         ensures one_kind { (other : LinkKind) → link_place other ≡ result → other ≡ self }
     {
         match self {
@@ -76,13 +82,19 @@ impl LinkKind {
             LinkKind::Known(LinkType::Ethernet).row(counts),
             LinkKind::Known(LinkType::Ppp).row(counts),
             LinkKind::Known(LinkType::PppHdlc).row(counts),
+            LinkKind::Known(LinkType::PppOverEthernet).row(counts),
             LinkKind::Known(LinkType::RawIp).row(counts),
             LinkKind::Known(LinkType::CiscoHdlc).row(counts),
             LinkKind::Known(LinkType::Ieee80211).row(counts),
             LinkKind::Known(LinkType::FrameRelay).row(counts),
             LinkKind::Known(LinkType::OpenBsdLoopback).row(counts),
             LinkKind::Known(LinkType::LinuxCooked).row(counts),
+            LinkKind::Known(LinkType::Pflog).row(counts),
+            LinkKind::Known(LinkType::Prism).row(counts),
             LinkKind::Known(LinkType::Radiotap).row(counts),
+            LinkKind::Known(LinkType::Ppi).row(counts),
+            LinkKind::Known(LinkType::Ipnet).row(counts),
+            LinkKind::Known(LinkType::Pktap).row(counts),
             LinkKind::Known(LinkType::LinuxCooked2).row(counts),
             LinkKind::Other.row(counts),
             LinkKind::Unknown.row(counts),

@@ -34,22 +34,28 @@ const FORMS: [([u8; 4], ByteOrder, Resolution); 4] = [
 ];
 
 /// The numbers of the link types.
-const LINK_TYPES: [(u16, LinkType); 16] = [
+const LINK_TYPES: [(u16, LinkType); 22] = [
     (0, LinkType::BsdLoopback),
     (1, LinkType::Ethernet),
     (9, LinkType::Ppp),
     (12, LinkType::RawIp),
     (14, LinkType::RawIp),
     (50, LinkType::PppHdlc),
+    (51, LinkType::PppOverEthernet),
     (101, LinkType::RawIp),
     (104, LinkType::CiscoHdlc),
     (105, LinkType::Ieee80211),
     (107, LinkType::FrameRelay),
     (108, LinkType::OpenBsdLoopback),
     (113, LinkType::LinuxCooked),
+    (117, LinkType::Pflog),
+    (119, LinkType::Prism),
     (127, LinkType::Radiotap),
+    (192, LinkType::Ppi),
+    (226, LinkType::Ipnet),
     (228, LinkType::RawIp),
     (229, LinkType::RawIp),
+    (258, LinkType::Pktap),
     (276, LinkType::LinuxCooked2),
 ];
 

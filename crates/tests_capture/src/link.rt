@@ -59,10 +59,14 @@ static WIRELESS: [(&[u8], &[u8]); 9] = [
 
 /// The link types of such frames, and what comes before them.
 #[rattlefmt::skip]
-static BEFORE_WIRELESS: [(LinkType, &[u8]); 3] = [
+static BEFORE_WIRELESS: [(LinkType, &[u8]); 7] = [
     (LinkType::Ieee80211, &[]),
     (LinkType::Radiotap, &[0, 0, 8, 0, 0, 0, 0, 0]),
     (LinkType::Radiotap, &[0, 7, 9, 0, 2, 0, 0, 0, 0x10]),
+    (LinkType::Prism, &[0; 144]),
+    (LinkType::Prism, &[0x80, 0x21, 0x10, 1, 0, 0, 0, 12, 0, 0, 0, 0]),
+    (LinkType::Prism, &[0x80, 0x21, 0x10, 2, 0, 0, 0, 8]),
+    (LinkType::Ppi, &[0, 0, 8, 0, 105, 0, 0, 0]),
 ];
 
 /// Stops the test unless the packet in a data frame with these headers is read, after each of the headers before it.

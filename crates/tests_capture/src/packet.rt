@@ -235,7 +235,7 @@ pub(crate) fn udp_packet(rt: &impl Abort) -> Packet<'static> {
 type LinkRow = (LinkType, ByteOrder, &'static [u8]);
 
 #[rattlefmt::skip]
-static LINK_HEADERS: [LinkRow; 22] = [
+static LINK_HEADERS: [LinkRow; 30] = [
     (LinkType::Ethernet, BIG, &[2, 0, 0, 0, 0, 2, 2, 0, 0, 0, 0, 1, 8, 0]),
     (LinkType::Ethernet, BIG, &[2, 0, 0, 0, 0, 2, 2, 0, 0, 0, 0, 1, 0x81, 0, 0, 1, 8, 0]),
     (
@@ -267,6 +267,20 @@ static LINK_HEADERS: [LinkRow; 22] = [
         LinkType::LinuxCooked2, BIG,
         &[0x81, 0, 0, 0, 0, 0, 0, 1, 0, 1, 0, 6, 0, 0, 0, 0, 0, 0, 0, 0, 0, 1, 8, 0],
     ),
+    (LinkType::PppOverEthernet, BIG, &[0x11, 0, 0, 1, 0, 34, 0, 0x21]),
+    (
+        LinkType::Pflog, BIG,
+        &[
+            45, 2, 0, 0, 0, 0, 0, 0, 0, 0, 0, 0, 0, 0, 0, 0, 0, 0, 0, 0, 0, 0, 0, 0, 0, 0, 0, 0, 0, 0,
+            0, 0, 0, 0, 0, 0, 0, 0, 0, 0, 0, 0, 0, 0, 0, 0, 0, 0,
+        ],
+    ),
+    (LinkType::Ipnet, BIG, &[1, 2, 0, 1, 0, 0, 0, 40, 0, 0, 0, 0, 0, 0, 0, 0, 0, 0, 0, 0, 0, 0, 0, 0]),
+    (LinkType::Ppi, BIG, &[0, 0, 8, 0, 1, 0, 0, 0, 2, 0, 0, 0, 0, 2, 2, 0, 0, 0, 0, 1, 8, 0]),
+    (LinkType::Ppi, BIG, &[0, 7, 12, 0, 101, 0, 0, 0, 2, 0, 0, 0]),
+    (LinkType::Pktap, BIG, &[12, 0, 0, 0, 1, 0, 0, 0, 1, 0, 0, 0, 2, 0, 0, 0, 0, 2, 2, 0, 0, 0, 0, 1, 0x81, 0, 0, 1, 8, 0]),
+    (LinkType::Pktap, BIG, &[13, 0, 0, 0, 1, 0, 0, 0, 12, 0, 0, 0, 9]),
+    (LinkType::Pktap, BIG, &[12, 0, 0, 0, 1, 0, 0, 0, 0, 0, 0, 0, 2, 0, 0, 0]),
 ];
 
 /// Stops the test unless the packet after the link header of a row is read, and the padding after it is not.
@@ -298,7 +312,7 @@ type NetworkRow = (
 );
 
 #[rattlefmt::skip]
-static NETWORKS: [NetworkRow; 18] = [
+static NETWORKS: [NetworkRow; 44] = [
     (LinkType::Ethernet, BIG, &[7, 0, 0, 3, 0, 0, 0, 0, 0, 0, 0, 0, 8, 6], Ok(NetworkProtocol::EtherType(0x0806))),
     (
         LinkType::Ethernet, LITTLE, &[7, 0, 0, 3, 0, 0, 0, 0, 0, 0, 0, 0, 0x81, 0, 0, 1, 8, 6, 0x81, 0],
@@ -313,13 +327,52 @@ static NETWORKS: [NetworkRow; 18] = [
     (LinkType::BsdLoopback, LITTLE, &[7, 0, 0, 3, 0, 0, 0, 0, 0, 0], Ok(NetworkProtocol::AddressFamily(0x0300_0007))),
     (LinkType::BsdLoopback, BIG, &[7, 0, 0, 3, 0, 0, 0, 0, 0, 0], Ok(NetworkProtocol::AddressFamily(0x0700_0003))),
     (LinkType::OpenBsdLoopback, LITTLE, &[7, 0, 0, 3, 0, 0, 0, 0, 0, 0], Ok(NetworkProtocol::AddressFamily(0x0700_0003))),
-    (LinkType::LinuxCooked, BIG, &[7, 0, 0, 3, 0, 0, 0, 0, 0, 0, 8, 0, 0, 0, 0, 4, 0x42, 0x42, 3], Ok(NetworkProtocol::Llc { dsap: 0x42, ssap: 0x42 })),
+    (
+        LinkType::LinuxCooked, BIG, &[7, 0, 0, 3, 0, 0, 0, 0, 0, 0, 8, 0, 0, 0, 0, 4, 0x42, 0x42, 3],
+        Ok(NetworkProtocol::Llc { dsap: 0x42, ssap: 0x42 }),
+    ),
     (LinkType::LinuxCooked, BIG, &[7, 0, 0, 3, 0, 0, 0, 0, 0, 0, 8, 0, 0, 0, 0, 1, 0x42, 0x42, 3], Ok(NetworkProtocol::EtherType(1))),
     (LinkType::LinuxCooked2, BIG, &[0, 4, 0, 3, 0, 0, 0, 0, 0, 0, 0, 0, 0, 0, 0, 0, 0, 0, 0, 0, 0x42, 0x42], Err(23)),
     (LinkType::BsdLoopback, BIG, &[0, 0, 2, 0], Ok(NetworkProtocol::AddressFamily(512))),
     (LinkType::BsdLoopback, LITTLE, &[0, 2, 0, 0], Ok(NetworkProtocol::AddressFamily(512))),
     (LinkType::CiscoHdlc, BIG, &[7, 0, 0, 3, 0, 0, 0, 0, 0, 0], Ok(NetworkProtocol::EtherType(3))),
     (LinkType::RawIp, BIG, &[7, 0, 0, 3, 0, 0, 0, 0, 0, 0], Err(0)),
+    (LinkType::PppOverEthernet, BIG, &[0x11, 9, 0, 0, 0, 0], Ok(NetworkProtocol::EtherType(0x8864))),
+    (LinkType::PppOverEthernet, BIG, &[0x11, 0, 0, 1, 0], Err(6)),
+    (LinkType::PppOverEthernet, BIG, &[0x11, 0, 0, 1, 0, 2, 0xC0, 0x21], Ok(NetworkProtocol::PppProtocol(0xC021))),
+    (LinkType::Pflog, BIG, &[45], Err(2)),
+    (LinkType::Pflog, BIG, &[44, 2], Ok(NetworkProtocol::LinkType(117))),
+    (LinkType::Pflog, BIG, &[61, 2, 0], Err(64)),
+    (LinkType::Pflog, BIG, &[64, 24, 0], Err(64)),
+    (
+        LinkType::Pflog, BIG,
+        &[
+            48, 3, 0, 0, 0, 0, 0, 0, 0, 0, 0, 0, 0, 0, 0, 0, 0, 0, 0, 0, 0, 0, 0, 0, 0, 0, 0, 0, 0, 0,
+            0, 0, 0, 0, 0, 0, 0, 0, 0, 0, 0, 0, 0, 0, 0, 0, 0, 0,
+        ],
+        Ok(NetworkProtocol::AddressFamily(3)),
+    ),
+    (LinkType::Ipnet, BIG, &[1, 2, 0], Err(24)),
+    (
+        LinkType::Ipnet, BIG, &[1, 24, 0, 0, 0, 0, 0, 0, 0, 0, 0, 0, 0, 0, 0, 0, 0, 0, 0, 0, 0, 0, 0, 0],
+        Ok(NetworkProtocol::AddressFamily(24)),
+    ),
+    (LinkType::Prism, BIG, &[0, 0, 0, 0x44, 0, 0, 0], Err(8)),
+    (LinkType::Prism, BIG, &[0, 0, 0, 0x44, 0, 0, 0, 0x90], Err(146)),
+    (LinkType::Prism, BIG, &[0x80, 0x21, 0x10, 1, 0, 0, 0, 64], Err(66)),
+    (LinkType::Prism, BIG, &[0x80, 0x21, 0x10, 2, 0, 0, 0, 7], Ok(NetworkProtocol::LinkType(119))),
+    (LinkType::Ppi, BIG, &[0, 0, 8, 0, 1, 0, 0], Err(8)),
+    (LinkType::Ppi, BIG, &[1, 0, 8, 0, 1, 0, 0, 0], Ok(NetworkProtocol::LinkType(192))),
+    (LinkType::Ppi, BIG, &[0, 0, 7, 0, 1, 0, 0, 0], Ok(NetworkProtocol::LinkType(192))),
+    (LinkType::Ppi, BIG, &[0, 0, 8, 0, 147, 0, 0, 0], Ok(NetworkProtocol::LinkType(147))),
+    (LinkType::Ppi, BIG, &[0, 0, 9, 0, 101, 0, 0, 0], Err(9)),
+    (LinkType::Ppi, BIG, &[0, 0, 9, 0, 1, 0, 0, 0, 0], Err(23)),
+    (LinkType::Pktap, BIG, &[12, 0, 0, 0, 1, 0, 0, 0, 1, 0, 0], Err(12)),
+    (LinkType::Pktap, BIG, &[11, 0, 0, 0, 1, 0, 0, 0, 1, 0, 0, 0], Ok(NetworkProtocol::LinkType(258))),
+    (LinkType::Pktap, BIG, &[12, 0, 0, 0, 0, 0, 0, 0, 1, 0, 0, 0], Ok(NetworkProtocol::LinkType(258))),
+    (LinkType::Pktap, BIG, &[12, 0, 0, 0, 1, 0, 0, 0, 2, 1, 0, 0], Ok(NetworkProtocol::LinkType(258))),
+    (LinkType::Pktap, BIG, &[0, 0, 0, 0x80, 1, 0, 0, 0, 12, 0, 0, 0], Err(0x8000_0000)),
+    (LinkType::Pktap, BIG, &[12, 0, 0, 0, 1, 0, 0, 0, 0, 0, 0, 0, 7, 0, 0, 3], Ok(NetworkProtocol::AddressFamily(0x0300_0007))),
 ];
 
 /// Stops the test unless the frame of a row carries the protocol of the row, or is refused.

@@ -182,18 +182,24 @@ fn protocols_of_packets(rt: HostRuntime) {
 type LinkRow = (Option<Result<LinkType, u16>>, LinkKind, &'static str);
 
 #[rattlefmt::skip]
-static LINKS: [LinkRow; 14] = [
+static LINKS: [LinkRow; 20] = [
     (Some(Ok(LinkType::BsdLoopback)), LinkKind::Known(LinkType::BsdLoopback), "BSD loopback"),
     (Some(Ok(LinkType::Ethernet)), LinkKind::Known(LinkType::Ethernet), "Ethernet"),
     (Some(Ok(LinkType::Ppp)), LinkKind::Known(LinkType::Ppp), "PPP"),
     (Some(Ok(LinkType::PppHdlc)), LinkKind::Known(LinkType::PppHdlc), "PPP or Cisco HDLC"),
+    (Some(Ok(LinkType::PppOverEthernet)), LinkKind::Known(LinkType::PppOverEthernet), "PPP over Ethernet"),
     (Some(Ok(LinkType::RawIp)), LinkKind::Known(LinkType::RawIp), "raw IP"),
     (Some(Ok(LinkType::CiscoHdlc)), LinkKind::Known(LinkType::CiscoHdlc), "Cisco HDLC"),
     (Some(Ok(LinkType::Ieee80211)), LinkKind::Known(LinkType::Ieee80211), "IEEE 802.11"),
     (Some(Ok(LinkType::FrameRelay)), LinkKind::Known(LinkType::FrameRelay), "Frame Relay"),
     (Some(Ok(LinkType::OpenBsdLoopback)), LinkKind::Known(LinkType::OpenBsdLoopback), "OpenBSD loopback"),
     (Some(Ok(LinkType::LinuxCooked)), LinkKind::Known(LinkType::LinuxCooked), "Linux cooked"),
+    (Some(Ok(LinkType::Pflog)), LinkKind::Known(LinkType::Pflog), "PFLOG"),
+    (Some(Ok(LinkType::Prism)), LinkKind::Known(LinkType::Prism), "Prism"),
     (Some(Ok(LinkType::Radiotap)), LinkKind::Known(LinkType::Radiotap), "radiotap"),
+    (Some(Ok(LinkType::Ppi)), LinkKind::Known(LinkType::Ppi), "PPI"),
+    (Some(Ok(LinkType::Ipnet)), LinkKind::Known(LinkType::Ipnet), "Solaris ipnet"),
+    (Some(Ok(LinkType::Pktap)), LinkKind::Known(LinkType::Pktap), "PKTAP"),
     (Some(Ok(LinkType::LinuxCooked2)), LinkKind::Known(LinkType::LinuxCooked2), "Linux cooked version 2"),
     (Some(Err(147)), LinkKind::Other, "another link type"),
     (None, LinkKind::Unknown, "unknown"),

@@ -240,18 +240,24 @@ static VERDICT_ROWS: [(&str, u64); 11] = [
 ];
 
 #[rattlefmt::skip]
-static LINK_ROWS: [(&str, u64); 14] = [
+static LINK_ROWS: [(&str, u64); 20] = [
     ("BSD loopback", 0),
     ("Ethernet", 24),
     ("PPP", 0),
     ("PPP or Cisco HDLC", 0),
+    ("PPP over Ethernet", 0),
     ("raw IP", 0),
     ("Cisco HDLC", 0),
     ("IEEE 802.11", 0),
     ("Frame Relay", 0),
     ("OpenBSD loopback", 0),
     ("Linux cooked", 0),
+    ("PFLOG", 0),
+    ("Prism", 0),
     ("radiotap", 0),
+    ("PPI", 0),
+    ("Solaris ipnet", 0),
+    ("PKTAP", 0),
     ("Linux cooked version 2", 0),
     ("another link type", 0),
     ("unknown", 0),

@@ -2,7 +2,7 @@ ghost use Rattle.std.specs.Prelude.{◌≡◌, ◌+◌, ◌≤◌, ◌<◌, Matc
 ghost use Rattle.net_base.specs.Bytes.{be_number};
 ghost use Rattle.capture_file.specs.Classic as specs;
 ghost use Rattle.capture_file.specs.declared.byte_order.ByteOrder.TheVariants.{LittleEndian};
-ghost use Rattle.capture_packet.specs.LinkHeaders.{cut_off};
+ghost use Rattle.capture_packet.specs.LinkHeaders.{cut_off, unread};
 
 use crate::NetworkProtocol;
 use crate::link::LinkHeaderCutOff;
@@ -33,6 +33,18 @@ pub(super) enum FirstHeader {
     Whole(LinkHeader),
     /// A header with an ether type, which names the next protocol or header. A VLAN tag may come next.
     EtherType(EtherHeader),
+}
+
+impl FirstHeader {
+    /// A header that is not read, of which these bytes were read, in a frame of the link type with this number.
+    pub fn unread(len: usize, number: u16) -> FirstHeader
+        ensures { result ≡ unread len number }
+    {
+        FirstHeader::Whole(LinkHeader {
+            len,
+            next: Some(NetworkProtocol::LinkType(number)),
+        })
+    }
 }
 
 /// Rejects a frame that is shorter than its link header.

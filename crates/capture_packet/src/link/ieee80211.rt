@@ -1,10 +1,9 @@
 //! IEEE 802.11 frames, and the radiotap header that a capture may contain before them.
 
-ghost use Rattle.std.specs.Prelude.{◌≡◌, ◌+◌, ◌≤◌, IfOk, length};
+ghost use Rattle.std.specs.Prelude.{◌≡◌, ◌+◌, ◌≤◌, IfErr, IfOk, length};
 ghost use Rattle.net_base.specs.Bytes.{be_number};
 ghost use Rattle.capture_packet.specs.Ieee80211 as specs;
-ghost use Rattle.capture_packet.specs.Ieee80211.{max_radiotap_len};
-ghost use Rattle.capture_packet.specs.LinkHeaders.{Fits};
+ghost use Rattle.capture_packet.specs.LinkHeaders.{Fits, max_frame_place};
 
 use crate::NetworkProtocol;
 use crate::link::LinkHeaderCutOff;
@@ -72,9 +71,10 @@ pub(super) fn after_radiotap(frame: &[u8]) -> Result<FirstHeader, LinkHeaderCutO
 
 /// The header of the IEEE 802.11 frame at this place (IEEE 802.11, clause 9.2).
 pub(super) fn frame_at(frame: &[u8], place: usize) -> Result<FirstHeader, LinkHeaderCutOff>
-    requires { place ≤ max_radiotap_len }
+    requires { place ≤ max_frame_place }
     ensures is { result ≡ specs.frame_at frame.now place }
     ensures fits { IfOk result (Fits frame.now) }
+    ensures len { IfErr result (λ error. error.len ≡ length frame.now) }
 {
     expect_len(frame, place + FRAME_CONTROL_LEN)?;
     if carries_data(frame, place) {
@@ -86,7 +86,7 @@ pub(super) fn frame_at(frame: &[u8], place: usize) -> Result<FirstHeader, LinkHe
 
 /// The header of a data frame.
 fn data_frame(frame: &[u8], place: usize) -> Result<FirstHeader, LinkHeaderCutOff>
-    requires { (place ≤ max_radiotap_len) × (place + 2 ≤ length frame.now) }
+    requires { (place ≤ max_frame_place) × (place + 2 ≤ length frame.now) }
     ensures is { result ≡ specs.data_frame frame.now place }
     ensures fits { IfOk result (Fits frame.now) }
 {
@@ -101,7 +101,7 @@ fn data_frame(frame: &[u8], place: usize) -> Result<FirstHeader, LinkHeaderCutOf
 
 /// The header of a frame with a body that is not read.
 fn other_frame(frame: &[u8], place: usize) -> FirstHeader
-    requires { (place ≤ max_radiotap_len) × (place + 2 ≤ length frame.now) }
+    requires { (place ≤ max_frame_place) × (place + 2 ≤ length frame.now) }
     ensures is { result ≡ specs.other_frame frame.now place }
     ensures fits { Fits frame.now result }
 {
@@ -115,7 +115,7 @@ fn other_frame(frame: &[u8], place: usize) -> FirstHeader
 
 /// Whether the frame is a data frame with data that is neither encrypted nor followed by more fragments.
 fn carries_data(frame: &[u8], place: usize) -> bool
-    requires { (place ≤ max_radiotap_len) × (place + 2 ≤ length frame.now) }
+    requires { (place ≤ max_frame_place) × (place + 2 ≤ length frame.now) }
     ensures { result ≡ specs.carries_data frame.now place }
 {
     frame[place] & KIND_MASK == DATA && frame[place + 1] & FRAGMENTED_OR_PROTECTED == 0
@@ -123,7 +123,7 @@ fn carries_data(frame: &[u8], place: usize) -> bool
 
 /// The place of the QoS Control field, or its place if it were present: after three or four addresses.
 fn qos_at(frame: &[u8], place: usize) -> usize
-    requires { (place ≤ max_radiotap_len) × (place + 2 ≤ length frame.now) }
+    requires { (place ≤ max_frame_place) × (place + 2 ≤ length frame.now) }
     ensures is { result ≡ specs.qos_at frame.now place }
     ensures least { place + 24 ≤ result }
     ensures most { result ≤ place + 30 }
@@ -137,7 +137,7 @@ fn qos_at(frame: &[u8], place: usize) -> usize
 
 /// The start of the body: after the QoS Control field and the HT Control field, if they are present.
 fn body_at(frame: &[u8], place: usize) -> usize
-    requires { (place ≤ max_radiotap_len) × (place + 2 ≤ length frame.now) }
+    requires { (place ≤ max_frame_place) × (place + 2 ≤ length frame.now) }
     ensures is { result ≡ specs.body_at frame.now place }
     ensures least { place + 24 ≤ result }
     ensures most { result ≤ place + 36 }
@@ -154,7 +154,7 @@ fn body_at(frame: &[u8], place: usize) -> usize
 
 /// Whether the body is one whole data unit, and neither a later fragment nor several units together.
 fn has_whole_unit(frame: &[u8], place: usize) -> bool
-    requires { (place ≤ max_radiotap_len) × (specs.body_at frame.now place ≤ length frame.now) }
+    requires { (place ≤ max_frame_place) × (specs.body_at frame.now place ≤ length frame.now) }
     ensures { result ≡ specs.has_whole_unit frame.now place }
 {
     let has_qos = frame[place] & QOS != 0;
