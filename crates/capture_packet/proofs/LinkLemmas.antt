@@ -2,7 +2,7 @@
 use Rattle.std.proofs.Common.{◌≡◌, ℕ, suc, ◌+◌, ◌≤◌, true, false, List, length, refl, sym, ap, ◌∙◌, inr, Result, Ok, Err, arith}
 use Rattle.std.specs.Prelude.{IfErr, IfOk}
 use Rattle.net_base.specs.Bytes.{be_number}
-use Rattle.capture_packet.specs.Link.{HasEtherHeader, HasTags, IsTagged, NeedsEtherHeader, after_ether_type, ether_type_after, is_vlan_tag, tagged_len}
+use Rattle.capture_packet.specs.Link.{HasEtherHeader, HasTags, IsTagged, NeedsEtherHeader, after_tags, ether_type_after, is_vlan_tag, tagged_len}
 use Rattle.capture_packet.specs.declared.link.LinkHeaderCutOff.{LinkHeaderCutOff}
 use Rattle.capture_packet.specs.declared.link.header.EtherHeader.{EtherHeader}
 use Rattle.capture_packet.specs.declared.link.header.LinkHeader.{LinkHeader}
@@ -47,7 +47,7 @@ has_tags header frame len ether_type read is = record {
 }
 
 pub has_header : (header : EtherHeader) (frame : List ℕ) (len ether_type : ℕ) (result : Result LinkHeader LinkHeaderCutOff)
-    → IsRead header frame len ether_type → is_vlan_tag ether_type ≡ false → result ≡ after_ether_type frame len ether_type
+    → IsRead header frame len ether_type → is_vlan_tag ether_type ≡ false → result ≡ after_tags header frame len ether_type
     → IfOk result (λ found. HasEtherHeader header frame found.len found.next)
 has_header header frame len ether_type (Ok found) read is says = record {
   tags = read.tags;
@@ -57,7 +57,7 @@ has_header header frame len ether_type (Ok found) read is says = record {
 has_header header frame len ether_type (Err error) read is says = tt
 
 pub needs_after_tags : (header : EtherHeader) (frame : List ℕ) (len ether_type : ℕ) (result : Result LinkHeader LinkHeaderCutOff)
-    → IsRead header frame len ether_type → is_vlan_tag ether_type ≡ false → result ≡ after_ether_type frame len ether_type
+    → IsRead header frame len ether_type → is_vlan_tag ether_type ≡ false → result ≡ after_tags header frame len ether_type
     → IfErr result (λ error. NeedsEtherHeader header frame error.required_len)
 needs_after_tags header frame len ether_type (Ok found) read is says = tt
 needs_after_tags header frame len ether_type (Err error) read is says =

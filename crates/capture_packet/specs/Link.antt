@@ -1,5 +1,5 @@
 -- The headers of the link layer before a network packet: their lengths, and the protocols that follow them.
-use Rattle.std.specs.Prelude.{◌≡◌, ◌⊎◌, ◌≤◌, ◌<◌, ℕ, zero, suc, ◌+◌, ◌*◌, ◌==◌, ◌||◌, ◌&&◌, nat_le, Bool, true, false, if◌then◌else◌, List, drop, length, slice_index, Option, Some, None, Result, Ok, Err}
+use Rattle.std.specs.Prelude.{◌≡◌, ◌⊎◌, ◌≤◌, ◌<◌, ℕ, zero, suc, ◌+◌, ◌*◌, ◌==◌, ◌||◌, ◌&&◌, nat_le, nat_lt, Bool, true, false, if◌then◌else◌, List, drop, length, slice_index, Option, Some, None, Result, Ok, Err}
 use Rattle.net_base.specs.Bytes.{be_number}
 use Rattle.capture_packet.specs.AddressFamilies.{family_at}
 use Rattle.capture_packet.specs.EtherHeaders.{ethernet_at}
@@ -72,6 +72,19 @@ after_ether_type frame place ether_type =
     else if ether_type == 0x8847 || ether_type == 0x8848 then stack_at frame (UnknownEtherType ether_type) place
     else Ok (record { len = place; next = by_ether_type ether_type })
 
+-- the header that ends with an LLC header, or with the ether type of a SNAP header after it
+abbrev pub after_llc : List ℕ → Result FirstHeader LinkHeaderCutOff → Result LinkHeader LinkHeaderCutOff
+after_llc frame (Ok (Whole header)) = Ok header
+after_llc frame (Ok (EtherType header)) = after_ether_type frame header.len (be_number frame header.ether_type_at 2)
+after_llc frame (Err error) = Err error
+
+-- The header that ends after the last ether type of a header and its tags, which end at this place. After a tag, a number below 0600 is a
+-- length, and an LLC header follows (IEEE 802.3, clause 3.2.6).
+abbrev pub after_tags : EtherHeader → List ℕ → ℕ → ℕ → Result LinkHeader LinkHeaderCutOff
+after_tags header frame place ether_type =
+    if nat_lt header.len place && nat_lt ether_type 0x0600 then after_llc frame (llc_at frame place)
+    else after_ether_type frame place ether_type
+
 -- the header has exactly this number of tags, and the frame contains all of them
 pub record HasTags (header : EtherHeader) (frame : List ℕ) (tags : ℕ) : Type 0 where
   pub tagged : IsTagged header frame tags
@@ -83,7 +96,7 @@ pub record HasTags (header : EtherHeader) (frame : List ℕ) (tags : ℕ) : Type
 pub record HasEtherHeader (header : EtherHeader) (frame : List ℕ) (len : ℕ) (next : Option NetworkProtocol) : Type 0 where
   pub tags : ℕ
   pub has : HasTags header frame tags
-  pub says : after_ether_type frame (tagged_len header tags) (ether_type_after header frame tags) ≡ Ok (record { len = len; next = next })
+  pub says : after_tags header frame (tagged_len header tags) (ether_type_after header frame tags) ≡ Ok (record { len = len; next = next })
 
 -- the frame contains the header and these tags, and ends within the tag after them
 pub record EndsInTag (header : EtherHeader) (frame : List ℕ) (tags : ℕ) : Type 0 where
@@ -102,7 +115,7 @@ pub record NeedsAfterTags (header : EtherHeader) (frame : List ℕ) (required_le
   pub tags : ℕ
   pub has : HasTags header frame tags
   pub error : LinkHeaderCutOff
-  pub says : after_ether_type frame (tagged_len header tags) (ether_type_after header frame tags) ≡ Err error
+  pub says : after_tags header frame (tagged_len header tags) (ether_type_after header frame tags) ≡ Err error
   pub is_required_len : required_len ≡ error.required_len
 
 -- the frame ends within a header with an ether type, within a tag, or within the header after its last ether type; at least this number of

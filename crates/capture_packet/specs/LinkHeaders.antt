@@ -22,6 +22,11 @@ Fits frame (EtherType header) = header.ether_type_at + 2 ≤ header.len
 abbrev pub unread : ℕ → ℕ → FirstHeader
 unread len number = Whole (record { len = len; next = Some (LinkType number) })
 
+-- the length of the first header
+abbrev pub first_len : FirstHeader → ℕ
+first_len (Whole header) = header.len
+first_len (EtherType header) = header.len
+
 -- The last place at which a frame begins in another frame. The length of the header before it has at most 32 bits.
 abbrev pub max_frame_place : ℕ
 max_frame_place = 2 ^ 32

@@ -5,7 +5,7 @@ use etherparse_transport::{IpNumber, Proto};
 /// The network protocol of a frame without an IP packet.
 #[derive(Clone, Copy, Debug, PartialEq, Eq)]
 pub enum NetworkProtocol {
-    /// A protocol with this ether type (IEEE 802.3, clause 3.2.6). After a VLAN tag, a number below 1536 is a length.
+    /// A protocol with this ether type (IEEE 802.3, clause 3.2.6).
     EtherType(u16),
     /// A protocol with this address family in a loopback header.
     AddressFamily(u32),

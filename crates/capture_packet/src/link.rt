@@ -115,8 +115,9 @@ const TO_ALL_STATIONS: u8 = 0x8F;
 /// A raw IP frame is the packet itself.
 ///
 /// After an ether type the call skips VLAN tags of 4 bytes each. A tag follows the ether types 8100 and 88A8 (IEEE 802.1Q, clause 9), and
-/// 9100 and 9200, older forms of 88A8. Then the call skips the header of a PPPoE session (RFC 2516) or a stack of MPLS labels (RFC 3032).
-/// A stack of MPLS labels is also skipped after the PPP protocols 0281 and 0283.
+/// 9100 and 9200, older forms of 88A8. After a tag, a number below 1536 is a length, and LLC and SNAP headers follow. Then the call skips
+/// the header of a PPPoE session (RFC 2516) or a stack of MPLS labels (RFC 3032). A stack of MPLS labels is also skipped after the PPP
+/// protocols 0281 and 0283.
 ///
 /// These numbers identify an IP packet:
 /// - the ether types 0800 and 86DD
@@ -216,7 +217,31 @@ fn tagged_header(header: EtherHeader, frame: &[u8]) -> Result<LinkHeader, LinkHe
         expect_len(frame, len)?;
         ether_type = short_at(frame, len - 2);
     }
-    after_ether_type(frame, len, ether_type)
+    after_tags(header, frame, len, ether_type)
+}
+
+/// The header that ends after the last ether type of a header and its tags, which end at this place. After a tag, a number below 1536 is the
+/// length of a frame with an LLC header.
+fn after_tags(
+    header: EtherHeader,
+    frame: &[u8],
+    place: usize,
+    ether_type: u16,
+) -> Result<LinkHeader, LinkHeaderCutOff>
+    requires { place ≤ length frame.now }
+    ensures is { result ≡ specs.after_tags header frame.now place ether_type }
+    ensures within { IfOk result (λ header. header.len ≤ length frame.now) }
+    ensures len { IfErr result (λ error. error.len ≡ length frame.now) }
+{
+    if place <= header.len || ether_type >= ether_type::LEAST {
+        return after_ether_type(frame, place, ether_type);
+    }
+    match llc_at(frame, place)? {
+        FirstHeader::Whole(header) => Ok(header),
+        FirstHeader::EtherType(header) => {
+            after_ether_type(frame, header.len, short_at(frame, header.ether_type_at))
+        }
+    }
 }
 
 /// The header that ends after this ether type, or after the PPPoE header or the MPLS label stack that comes next.

@@ -283,7 +283,7 @@ static OTHER_ETHER_TYPES: [EthernetRow; 25] = [
     (&[0, 2, 0x42, 0x42], Err(17)),
     (&[0, 7, 0xAA, 0xAA, 3, 0, 0, 0, 8], Err(22)),
     (&[6, 0, 0x42, 0x42, 3], Ok(NetworkProtocol::EtherType(0x0600))),
-    (&[0x81, 0, 0, 1, 0, 3, 0x42, 0x42, 3], Ok(NetworkProtocol::EtherType(3))),
+    (&[0x81, 0, 0, 1, 0, 3, 0x42, 0x42, 3], Ok(NetworkProtocol::Llc { dsap: 0x42, ssap: 0x42 })),
 ];
 
 /// Stops the test unless the Ethernet frame of a row has the protocol of the row, or ends within its header.

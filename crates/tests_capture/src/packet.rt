@@ -235,7 +235,7 @@ pub(crate) fn udp_packet(rt: &impl Abort) -> Packet<'static> {
 type LinkRow = (LinkType, ByteOrder, &'static [u8]);
 
 #[rattlefmt::skip]
-static LINK_HEADERS: [LinkRow; 30] = [
+static LINK_HEADERS: [LinkRow; 32] = [
     (LinkType::Ethernet, BIG, &[2, 0, 0, 0, 0, 2, 2, 0, 0, 0, 0, 1, 8, 0]),
     (LinkType::Ethernet, BIG, &[2, 0, 0, 0, 0, 2, 2, 0, 0, 0, 0, 1, 0x81, 0, 0, 1, 8, 0]),
     (
@@ -267,6 +267,8 @@ static LINK_HEADERS: [LinkRow; 30] = [
         LinkType::LinuxCooked2, BIG,
         &[0x81, 0, 0, 0, 0, 0, 0, 1, 0, 1, 0, 6, 0, 0, 0, 0, 0, 0, 0, 0, 0, 1, 8, 0],
     ),
+    (LinkType::Ethernet, BIG, &[2, 0, 0, 0, 0, 2, 2, 0, 0, 0, 0, 1, 0x81, 0, 0, 1, 0, 47, 0xAA, 0xAA, 3, 0, 0, 0, 8, 0]),
+    (LinkType::LinuxCooked, BIG, &[2, 0, 0, 0, 0, 2, 2, 0, 0, 0, 0, 1, 0, 1, 0x88, 0xA8, 0, 1, 0x81, 0, 0, 2, 5, 0xFF, 0xAA, 0xAA, 3, 0, 0, 0, 8, 0]),
     (LinkType::PppOverEthernet, BIG, &[0x11, 0, 0, 1, 0, 34, 0, 0x21]),
     (
         LinkType::Pflog, BIG,
@@ -312,7 +314,7 @@ type NetworkRow = (
 );
 
 #[rattlefmt::skip]
-static NETWORKS: [NetworkRow; 44] = [
+static NETWORKS: [NetworkRow; 50] = [
     (LinkType::Ethernet, BIG, &[7, 0, 0, 3, 0, 0, 0, 0, 0, 0, 0, 0, 8, 6], Ok(NetworkProtocol::EtherType(0x0806))),
     (
         LinkType::Ethernet, LITTLE, &[7, 0, 0, 3, 0, 0, 0, 0, 0, 0, 0, 0, 0x81, 0, 0, 1, 8, 6, 0x81, 0],
@@ -337,6 +339,24 @@ static NETWORKS: [NetworkRow; 44] = [
     (LinkType::BsdLoopback, LITTLE, &[0, 2, 0, 0], Ok(NetworkProtocol::AddressFamily(512))),
     (LinkType::CiscoHdlc, BIG, &[7, 0, 0, 3, 0, 0, 0, 0, 0, 0], Ok(NetworkProtocol::EtherType(3))),
     (LinkType::RawIp, BIG, &[7, 0, 0, 3, 0, 0, 0, 0, 0, 0], Err(0)),
+    (
+        LinkType::Ethernet, BIG, &[7, 0, 0, 3, 0, 0, 0, 0, 0, 0, 0, 0, 0x81, 0, 0, 1, 0, 3, 0x42, 0x43, 3],
+        Ok(NetworkProtocol::Llc { dsap: 0x42, ssap: 0x43 }),
+    ),
+    (LinkType::Ethernet, BIG, &[7, 0, 0, 3, 0, 0, 0, 0, 0, 0, 0, 0, 0x81, 0, 0, 1, 0, 3, 0x42, 0x42], Err(21)),
+    (
+        LinkType::Ethernet, BIG, &[7, 0, 0, 3, 0, 0, 0, 0, 0, 0, 0, 0, 0x81, 0, 0, 1, 5, 0xFF, 0xAA, 0xAA, 3, 0, 0, 0, 8, 6],
+        Ok(NetworkProtocol::EtherType(0x0806)),
+    ),
+    (
+        LinkType::Ethernet, BIG, &[7, 0, 0, 3, 0, 0, 0, 0, 0, 0, 0, 0, 0x81, 0, 0, 1, 5, 0xFF, 0xAA, 0xAA, 3, 0, 0, 0, 0x81, 0],
+        Ok(NetworkProtocol::EtherType(0x8100)),
+    ),
+    (
+        LinkType::Ethernet, BIG, &[7, 0, 0, 3, 0, 0, 0, 0, 0, 0, 0, 0, 0x81, 0, 0, 1, 6, 0, 0xAA, 0xAA, 3],
+        Ok(NetworkProtocol::EtherType(0x0600)),
+    ),
+    (LinkType::CiscoHdlc, BIG, &[0x0F, 0, 0x05, 0xFF, 0xAA, 0xAA, 3], Ok(NetworkProtocol::EtherType(0x05FF))),
     (LinkType::PppOverEthernet, BIG, &[0x11, 9, 0, 0, 0, 0], Ok(NetworkProtocol::EtherType(0x8864))),
     (LinkType::PppOverEthernet, BIG, &[0x11, 0, 0, 1, 0], Err(6)),
     (LinkType::PppOverEthernet, BIG, &[0x11, 0, 0, 1, 0, 2, 0xC0, 0x21], Ok(NetworkProtocol::PppProtocol(0xC021))),

@@ -1,8 +1,8 @@
 //! LLC and SNAP headers (IEEE 802.2; RFC 1042).
 
-ghost use Rattle.std.specs.Prelude.{◌≡◌, ◌+◌, ◌≤◌, IfOk};
+ghost use Rattle.std.specs.Prelude.{◌≡◌, ◌+◌, ◌≤◌, IfOk, length};
 ghost use Rattle.capture_packet.specs.Llc as specs;
-ghost use Rattle.capture_packet.specs.LinkHeaders.{Fits};
+ghost use Rattle.capture_packet.specs.LinkHeaders.{Fits, first_len};
 
 use crate::NetworkProtocol;
 use crate::link::LinkHeaderCutOff;
@@ -25,6 +25,7 @@ pub(super) fn llc_at(frame: &[u8], place: usize) -> Result<FirstHeader, LinkHead
     requires { place ≤ specs.max_llc_place }
     ensures is { result ≡ specs.llc_at frame.now place }
     ensures fits { IfOk result (Fits frame.now) }
+    ensures within { IfOk result (λ first. first_len first ≤ length frame.now) }
 {
     expect_len(frame, place + LLC_LEN)?;
     match three_at(frame, place) {
@@ -45,6 +46,7 @@ fn osi_at(frame: &[u8], place: usize) -> Result<FirstHeader, LinkHeaderCutOff>
     requires { place ≤ specs.max_llc_place + 3 }
     ensures is { result ≡ specs.osi_at frame.now place }
     ensures fits { IfOk result (Fits frame.now) }
+    ensures within { IfOk result (λ first. first_len first ≤ length frame.now) }
 {
     let len = place + 1;
     expect_len(frame, len)?;
@@ -59,6 +61,7 @@ pub(super) fn snap_at(frame: &[u8], place: usize) -> Result<FirstHeader, LinkHea
     requires { place ≤ specs.max_llc_place + 3 }
     ensures is { result ≡ specs.snap_at frame.now place }
     ensures fits { IfOk result (Fits frame.now) }
+    ensures within { IfOk result (λ first. first_len first ≤ length frame.now) }
 {
     let len = place + SNAP_LEN;
     expect_len(frame, len)?;

@@ -12,10 +12,10 @@ loop-len-preserved c =
 
 pub returns-clause-found : goal.returns-clause-found
 returns-clause-found c =
-    has_header c.args.header c.args.frame.now c.loop-len.len c.loop-len.ether_type c.after_ether_type.result c.loop-len.invariant
-    (sym c.is_vlan_tag.ensures ∙ c.loop-len-test.false) c.after_ether_type.ensures.is
+    has_header c.args.header c.args.frame.now c.loop-len.len c.loop-len.ether_type c.after_tags.result c.loop-len.invariant
+    (sym c.is_vlan_tag.ensures ∙ c.loop-len-test.false) c.after_tags.ensures.is
 
 pub returns-clause-refused : goal.returns-clause-refused
 returns-clause-refused c =
-    needs_after_tags c.args.header c.args.frame.now c.loop-len.len c.loop-len.ether_type c.after_ether_type.result c.loop-len.invariant
-    (sym c.is_vlan_tag.ensures ∙ c.loop-len-test.false) c.after_ether_type.ensures.is
+    needs_after_tags c.args.header c.args.frame.now c.loop-len.len c.loop-len.ether_type c.after_tags.result c.loop-len.invariant
+    (sym c.is_vlan_tag.ensures ∙ c.loop-len-test.false) c.after_tags.ensures.is
