@@ -14,12 +14,12 @@ use Rattle.capture_text.specs.Numbers.{hex_bytes}
 
 -- ---- flags and numbers
 
--- the flags in the order of the header
+-- the flags in the order in which tcpdump and Wireshark show them: from the lowest bit of the header on
 abbrev pub tcp_flags : List ℕ → List NamedFlag
 tcp_flags header =
-    (flag_of header ns_flag, codes "NS") ∷ (flag_of header cwr_flag, codes "CWR") ∷ (flag_of header ece_flag, codes "ECE")
-    ∷ (flag_of header urg_flag, codes "URG") ∷ (flag_of header ack_flag, codes "ACK") ∷ (flag_of header psh_flag, codes "PSH")
-    ∷ (flag_of header rst_flag, codes "RST") ∷ (flag_of header syn_flag, codes "SYN") ∷ (flag_of header fin_flag, codes "FIN") ∷ []
+    (flag_of header fin_flag, codes "FIN") ∷ (flag_of header syn_flag, codes "SYN") ∷ (flag_of header rst_flag, codes "RST")
+    ∷ (flag_of header psh_flag, codes "PSH") ∷ (flag_of header ack_flag, codes "ACK") ∷ (flag_of header urg_flag, codes "URG")
+    ∷ (flag_of header ece_flag, codes "ECE") ∷ (flag_of header cwr_flag, codes "CWR") ∷ (flag_of header ns_flag, codes "NS") ∷ []
 
 -- the sequence number, the acknowledgment number and the window
 abbrev pub numbers_text : List ℕ → List ℕ

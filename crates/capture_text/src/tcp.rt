@@ -22,20 +22,20 @@ pub fn write_header<W: Write>(output: &mut W, segment: &TcpSlice) -> io::Result<
     write_options(output, segment)
 }
 
-/// The flags and their names, in the order of the header.
+/// The flags and their names, in the order in which tcpdump and Wireshark show them: from the lowest bit of the header on.
 pub fn named_flags(segment: &TcpSlice) -> [(bool, &'static str); 9]
     ensures { map (λ flag. (flag.0, flag.1.now)) result ≡ tcp_flags segment.now }
 {
     [
-        (segment.ns(), "NS"),
-        (segment.cwr(), "CWR"),
-        (segment.ece(), "ECE"),
-        (segment.urg(), "URG"),
-        (segment.ack(), "ACK"),
-        (segment.psh(), "PSH"),
-        (segment.rst(), "RST"),
-        (segment.syn(), "SYN"),
         (segment.fin(), "FIN"),
+        (segment.syn(), "SYN"),
+        (segment.rst(), "RST"),
+        (segment.psh(), "PSH"),
+        (segment.ack(), "ACK"),
+        (segment.urg(), "URG"),
+        (segment.ece(), "ECE"),
+        (segment.cwr(), "CWR"),
+        (segment.ns(), "NS"),
     ]
 }
 

@@ -148,7 +148,7 @@ static TRANSPORTS: [(&[u8], ChecksumVerdict, &str); 3] = [
     (&DATAGRAM_OF_0, ChecksumVerdict::Untested(Untested::ZeroLength),
      r#"{"destination":"192.0.2.2","destination_port":9,"number":1,"payload_length":1,"protocol":17,"protocol_name":"UDP","refused":"UDP header needs 8 bytes, the UDP length is 0","source":"192.0.2.1","source_port":7,"time":null,"type":"packet","udp":{"length":0}}"#),
     (&SEGMENT, ChecksumVerdict::Right,
-     r#"{"checksum":"right","destination":"192.0.2.2","destination_port":9,"number":1,"payload_length":0,"protocol":17,"protocol_name":"UDP","source":"192.0.2.1","source_port":7,"tcp":{"acknowledgment":2,"flags":["URG","SYN"],"options":["window scale 7","option 8 with length 1 below 2"],"sequence":1,"urgent_pointer":4,"window":3},"time":null,"type":"packet"}"#),
+     r#"{"checksum":"right","destination":"192.0.2.2","destination_port":9,"number":1,"payload_length":0,"protocol":17,"protocol_name":"UDP","source":"192.0.2.1","source_port":7,"tcp":{"acknowledgment":2,"flags":["SYN","URG"],"options":["window scale 7","option 8 with length 1 below 2"],"sequence":1,"urgent_pointer":4,"window":3},"time":null,"type":"packet"}"#),
 ];
 
 /// A packet over IPv4 with these bytes as its transport.

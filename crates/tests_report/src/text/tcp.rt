@@ -29,7 +29,7 @@ fn expect_segment(
 
 /// Flags, in the last bit of byte 12 and in byte 13, and what is written of them.
 #[rattlefmt::skip]
-const FLAGS: [([u8; 2], &str); 11] = [
+const FLAGS: [([u8; 2], &str); 15] = [
     ([0, 0], "none, sequence 1000, acknowledgment 9, window 64240"),
     ([1, 0], "NS, sequence 1000, acknowledgment 9, window 64240"),
     ([0, 0x80], "CWR, sequence 1000, acknowledgment 9, window 64240"),
@@ -40,7 +40,12 @@ const FLAGS: [([u8; 2], &str); 11] = [
     ([0, 0x04], "RST, sequence 1000, acknowledgment 9, window 64240"),
     ([0, 0x02], "SYN, sequence 1000, acknowledgment 9, window 64240"),
     ([0, 0x01], "FIN, sequence 1000, acknowledgment 9, window 64240"),
-    ([1, 0xFF], "NS CWR ECE URG ACK PSH RST SYN FIN, sequence 1000, acknowledgment 9, window 64240, urgent pointer 7"),
+    // In the order of tcpdump and Wireshark
+    ([0, 0x12], "SYN ACK, sequence 1000, acknowledgment 9, window 64240"),
+    ([0, 0x11], "FIN ACK, sequence 1000, acknowledgment 9, window 64240"),
+    ([0, 0x18], "PSH ACK, sequence 1000, acknowledgment 9, window 64240"),
+    ([0, 0xC2], "SYN ECE CWR, sequence 1000, acknowledgment 9, window 64240"),
+    ([1, 0xFF], "FIN SYN RST PSH ACK URG ECE CWR NS, sequence 1000, acknowledgment 9, window 64240, urgent pointer 7"),
 ];
 
 #[test]
