@@ -191,7 +191,7 @@ class StoredCapture(unittest.TestCase):
 
     def test_addresses_are_those_of_the_report(self):
         for number, found, line in self.judged():
-            ends = re.search(r"^\d+ \S+ (\S+) > (\S+?) ", line)
+            ends = re.search(r"^\d+ \S+ length .*?: (\S+) > (\S+?) ", line)
             for end, address in zip(ends.groups(), (found.transport.source, found.transport.destination)):
                 self.assertEqual(host_of(end), "unknown" if address is None else str(address), line)
 

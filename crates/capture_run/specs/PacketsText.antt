@@ -8,7 +8,7 @@ use Rattle.capture_file.specs.declared.reader.next_packet.NextPacket.{NextPacket
 use Rattle.capture_file.specs.declared.packet_time.PacketTime.{PacketTime}
 use Rattle.capture_packet.specs.Frames.{max_packet_len}
 use Rattle.capture_json.specs.JsonSummary.{json_summary}
-use Rattle.capture_run.specs.Report.{CountsEach, IsAnsweredBy, IsPacketOf, IsReadToEnd, ReportsOne, packet_time}
+use Rattle.capture_run.specs.Report.{CountsEach, IsAnsweredBy, IsPacketOf, IsReadToEnd, ReportsOne, info_of, packet_time}
 use Rattle.capture_run.specs.ReportText.{IsTextOfOne}
 use Rattle.capture_run.specs.Runs.{EndsAtHeader}
 use Rattle.capture_summary.specs.SummaryTables.{SummaryTables}
@@ -20,9 +20,9 @@ use Rattle.capture_run.specs.declared.parts.Lines.TheVariants as lines
 use Rattle.capture_run.specs.declared.parts.Parts.{Parts}
 use Rattle.capture_run.specs.declared.capture_error.CaptureError.{CaptureError}
 
--- the text of a packet of a capture: its line with this number and its time, if it is chosen and has a line
+-- the text of a packet of a capture: its line with this number, its time and its length, if it is chosen and has a line
 abbrev pub IsPacketText : Parts → ℕ → Option PacketTime → FilePacket → List ℕ → Type 0
-IsPacketText parts number first packet text = IsTextOfOne (IsPacketOf packet) parts number first (packet_time packet) text
+IsPacketText parts number first packet text = IsTextOfOne (IsPacketOf packet) parts number first (info_of packet) text
 
 -- the first time among these packets, or the first time of the packets before them, if there is one
 abbrev pub first_time : Option PacketTime → List FilePacket → Option PacketTime

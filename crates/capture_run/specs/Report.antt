@@ -1,5 +1,5 @@
 -- What a report counts of a capture: each packet that is chosen once, in their order.
-use Rattle.std.specs.Prelude.{◌≡◌, ◌≤◌, ◌⊎◌, ℕ, ◌+◌, List, length, [], ◌∷◌, nat_lt, unwrap_or, Option, Some, None, Result, Ok, Err}
+use Rattle.std.specs.Prelude.{◌≡◌, ◌≤◌, ◌⊎◌, ℕ, ◌+◌, List, length, [], ◌∷◌, nat_lt, Option, Some, None, Result, Ok, Err}
 use Rattle.std.specs.Option.{option_map}
 use Rattle.capture_file.specs.CapturePackets.{Begins, EndsWith, HasPackets, FilePacket, ReadsOne, ReadsPackets, kept, too_long, Seeks, offset_of}
 use Rattle.capture_summary.specs.Choice.{IsChosen}
@@ -19,6 +19,7 @@ use Rattle.capture_file.specs.declared.reader.capture_reader.CaptureReader.{Capt
 use Rattle.capture_file.specs.declared.reader.captured_packet.CapturedPacket.{CapturedPacket}
 use Rattle.capture_file.specs.declared.reader.next_packet.NextPacket.{NextPacket}
 use Rattle.capture_file.specs.declared.reader.next_packet.NextPacket.TheVariants as packets
+use Rattle.capture_file.specs.declared.reader.next_packet.TooLongPacket.{TooLongPacket}
 use Rattle.capture_file.specs.declared.packet_time.PacketTime.{PacketTime}
 use Rattle.capture_summary.specs.declared.choice.Choice.{Choice}
 use Rattle.capture_run.specs.declared.capture_error.CaptureError.{CaptureError}
@@ -62,24 +63,32 @@ abbrev pub IsPacketOf : FilePacket → Packet → Type 0
 IsPacketOf (kept captured frame) packet = IsReadAs captured.link_type captured frame packet
 IsPacketOf (too_long captured) packet = IsTooLong captured.required_len packet
 
--- how many bytes it had; none are counted where the capture doesn't say it
-abbrev pub original_len : FilePacket → ℕ
-original_len (kept packet frame) = packet.original_len
-original_len (too_long packet) = unwrap_or packet.original_len 0
-
 -- when it was captured, where the capture says it
 abbrev pub packet_time : FilePacket → Option PacketTime
 packet_time (kept packet frame) = packet.time
 packet_time (too_long packet) = packet.time
 
--- what its bytes begin with, or the number of a link type that is not read, where the capture says it
-abbrev pub packet_link_type : FilePacket → Option (Result LinkType ℕ)
-packet_link_type (kept packet frame) = Some packet.link_type
-packet_link_type (too_long packet) = option_map Ok packet.link_type
+-- the data about a packet in its capture: its link type, its time, and the length of its frame
+abbrev pub captured_info : CapturedPacket → CaptureInfo
+captured_info packet = record {
+  link_type = Some packet.link_type;
+  time = packet.time;
+  len = Some (record { original = packet.original_len; captured = packet.captured_len });
+}
 
--- all three
+-- the data about a packet that is too long, as far as its capture contains them. A record of a classic capture contains the original
+-- length, and requires as many bytes as were captured. A block of a pcapng file is not read.
+abbrev pub too_long_info : TooLongPacket → CaptureInfo
+too_long_info packet = record {
+  link_type = option_map Ok packet.link_type;
+  time = packet.time;
+  len = option_map (λ original. record { original = original; captured = packet.required_len }) packet.original_len;
+}
+
+-- the data about a packet of a capture
 abbrev pub info_of : FilePacket → CaptureInfo
-info_of packet = record { link_type = packet_link_type packet; time = packet_time packet; len = original_len packet }
+info_of (kept packet frame) = captured_info packet
+info_of (too_long packet) = too_long_info packet
 
 -- ---- what is counted
 

@@ -2,6 +2,7 @@
 use Rattle.std.specs.Prelude.{◌≡◌, ◌⊎◌, ℕ, List, [], MatchBool, Option}
 use Rattle.capture_packet.specs.declared.packet.Packet.{Packet}
 use Rattle.capture_summary.specs.Choice.{IsChosen}
+use Rattle.capture_summary.specs.declared.capture_info.CaptureInfo.{CaptureInfo}
 use Rattle.capture_run.specs.Lines.{has_line}
 use Rattle.capture_file.specs.declared.packet_time.PacketTime.{PacketTime}
 use Rattle.capture_json.specs.JsonPacket.{IsJsonLine}
@@ -12,23 +13,23 @@ use Rattle.capture_run.specs.declared.parts.Parts.{Parts}
 use Rattle.capture_text.specs.declared.times.Times.{Times}
 
 -- the line of a packet in a format
-abbrev pub IsLineIn : Format → Times → ℕ → Option PacketTime → Option PacketTime → Packet → List ℕ → Type 0
-IsLineIn formats.Text times number first time packet line = IsLine times number first time packet.content packet.verdict line
-IsLineIn formats.Json times number first time packet line = IsJsonLine times number first time packet.content packet.verdict line
+abbrev pub IsLineIn : Format → Times → ℕ → Option PacketTime → CaptureInfo → Packet → List ℕ → Type 0
+IsLineIn formats.Text times number first info packet line = IsLine times number first info.time info.len packet.content packet.verdict line
+IsLineIn formats.Json times number first info packet line = IsJsonLine times number first info.time packet.content packet.verdict line
 
 -- the text of a chosen packet: its line in the requested format, if it has a line
-abbrev pub IsTextOfChosen : Parts → ℕ → Option PacketTime → Option PacketTime → Packet → List ℕ → Type 0
-IsTextOfChosen parts number first time packet text =
-    MatchBool (has_line parts.lines packet.verdict) (IsLineIn parts.format parts.times number first time packet text) (text ≡ [])
+abbrev pub IsTextOfChosen : Parts → ℕ → Option PacketTime → CaptureInfo → Packet → List ℕ → Type 0
+IsTextOfChosen parts number first info packet text =
+    MatchBool (has_line parts.lines packet.verdict) (IsLineIn parts.format parts.times number first info packet text) (text ≡ [])
 
 -- the text of a packet; it is empty if the packet is not chosen
-abbrev pub IsTextOf : Parts → ℕ → Option PacketTime → Option PacketTime → Packet → List ℕ → Type 0
-IsTextOf parts number first time packet text =
-    (IsChosen parts.choice packet.content × IsTextOfChosen parts number first time packet text)
+abbrev pub IsTextOf : Parts → ℕ → Option PacketTime → CaptureInfo → Packet → List ℕ → Type 0
+IsTextOf parts number first info packet text =
+    (IsChosen parts.choice packet.content × IsTextOfChosen parts number first info packet text)
     ⊎ ((IsChosen parts.choice packet.content → ⊥) × (text ≡ []))
 
 -- the text of one of these packets
-pub record IsTextOfOne (IsPacket : Packet → Type 0) (parts : Parts) (number : ℕ) (first time : Option PacketTime) (text : List ℕ) : Type 0 where
+pub record IsTextOfOne (IsPacket : Packet → Type 0) (parts : Parts) (number : ℕ) (first : Option PacketTime) (info : CaptureInfo) (text : List ℕ) : Type 0 where
   pub packet : Packet
   pub is_packet : IsPacket packet
-  pub is_text : IsTextOf parts number first time packet text
+  pub is_text : IsTextOf parts number first info packet text

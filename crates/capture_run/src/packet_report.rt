@@ -1,7 +1,7 @@
-ghost use Rattle.std.specs.Prelude.{◌≡◌, ◌-◌, ◌^◌, ◌<◌, None, Ok, OnOk, Some, false};
-ghost use Rattle.std.specs.Option.{option_map, option_or, unwrap_or};
+ghost use Rattle.std.specs.Prelude.{◌≡◌, ◌-◌, ◌^◌, ◌<◌, None, OnOk, false};
+ghost use Rattle.std.specs.Option.{option_or};
 ghost use Rattle.capture_run.specs.Lines.{HasNoLine, IfNoLine, has_line};
-ghost use Rattle.capture_run.specs.Report.{CountsChosen, CountsRead, CountsPacket, IsReadAs, IsTooLong};
+ghost use Rattle.capture_run.specs.Report.{CountsChosen, CountsRead, CountsPacket, IsReadAs, IsTooLong, captured_info, too_long_info};
 ghost use Rattle.capture_text.specs.PacketLine.{IsLine};
 ghost use Rattle.capture_run.specs.ReportText.{IsLineIn, IsTextOf, IsTextOfChosen, IsTextOfOne};
 ghost use Rattle.capture_text.specs.Written.{AppendsOne};
@@ -12,7 +12,9 @@ use capture_file::PacketTime;
 use capture_file::reader::{CapturedPacket, TooLongPacket};
 use capture_json::write_packet;
 use capture_packet::{Content, NetworkProtocol, Packet, Verdict, read_packet};
-use capture_summary::{CaptureInfo, Protocol, RefusalKind, Summary, VerdictKind, flow_of};
+use capture_summary::{
+    CaptureInfo, FrameLen, Protocol, RefusalKind, Summary, VerdictKind, flow_of,
+};
 use capture_text::write_packet_line;
 use etherparse_transport::Untested;
 use std::alloc::Global;
@@ -68,19 +70,14 @@ impl PacketReport {
         ensures none { self.old.parts.lines ≡ Lines.None → output.new ≡ output.old }
         ensures silent { IfNoLine (IsReadAs captured.now.link_type captured.now frame.now) self.old.parts (output.new ≡ output.old) }
         ensures text { OnOk result (AppendsOne (W.contents output.old) (W.contents output.new)
-            (IsTextOfOne (IsReadAs captured.now.link_type captured.now frame.now) self.old.parts number self.old.first captured.now.time)) }
+            (IsTextOfOne (IsReadAs captured.now.link_type captured.now frame.now) self.old.parts number self.old.first (captured_info captured.now))) }
         ensures counted { OnOk result (CountsPacket self.old.parts.choice (IsReadAs captured.now.link_type captured.now frame.now)
-            (record { link_type = Some captured.now.link_type; time = captured.now.time; len = captured.now.original_len }) self.old.summary self.new.summary) }
+            (captured_info captured.now) self.old.summary self.new.summary) }
         ensures parts { self.new.parts ≡ self.old.parts }
         ensures first { self.new.first ≡ option_or self.old.first captured.now.time }
     {
         let packet = packet_in_frame(captured, frame);
-        let info = CaptureInfo {
-            link_type: Some(captured.link_type),
-            time: captured.time,
-            len: u64::from(captured.original_len),
-        };
-        self.add_packet(output, number, &info, &packet)
+        self.add_packet(output, number, &captured_info(captured), &packet)
     }
 
     /// Counts a packet that is too long to be checked if it is chosen, and writes its line if it has one.
@@ -94,9 +91,9 @@ impl PacketReport {
         ensures none { self.old.parts.lines ≡ Lines.None → output.new ≡ output.old }
         ensures silent { IfNoLine (IsTooLong captured.now.required_len) self.old.parts (output.new ≡ output.old) }
         ensures text { OnOk result (AppendsOne (W.contents output.old) (W.contents output.new)
-            (IsTextOfOne (IsTooLong captured.now.required_len) self.old.parts number self.old.first captured.now.time)) }
+            (IsTextOfOne (IsTooLong captured.now.required_len) self.old.parts number self.old.first (too_long_info captured.now))) }
         ensures counted { OnOk result (CountsPacket self.old.parts.choice (IsTooLong captured.now.required_len)
-            (record { link_type = option_map Ok captured.now.link_type; time = captured.now.time; len = unwrap_or captured.now.original_len 0 }) self.old.summary self.new.summary) }
+            (too_long_info captured.now) self.old.summary self.new.summary) }
         ensures parts { self.new.parts ≡ self.old.parts }
         ensures first { self.new.first ≡ option_or self.old.first captured.now.time }
     {
@@ -106,12 +103,7 @@ impl PacketReport {
                 required_len: captured.required_len,
             },
         };
-        let info = CaptureInfo {
-            link_type: captured.link_type.map(Ok),
-            time: captured.time,
-            len: u64::from(captured.original_len.unwrap_or(0)),
-        };
-        self.add_packet(output, number, &info, &packet)
+        self.add_packet(output, number, &too_long_info(captured), &packet)
     }
 
     /// Counts a packet if it is chosen, and writes its line if it has one.
@@ -125,7 +117,7 @@ impl PacketReport {
         requires room { self.old.summary.packets < 2 ^ 64 - 1 }
         ensures counted { OnOk result (CountsChosen self.old.parts.choice packet.now info.now self.old.summary self.new.summary) }
         ensures text { OnOk result (AppendsOne (W.contents output.old) (W.contents output.new)
-            (IsTextOf self.old.parts number self.old.first info.now.time packet.now)) }
+            (IsTextOf self.old.parts number self.old.first info.now packet.now)) }
         ensures silent { HasNoLine self.old.parts packet.now → output.new ≡ output.old }
         ensures parts { self.new.parts ≡ self.old.parts }
         ensures first { self.new.first ≡ option_or self.old.first info.now.time }
@@ -136,15 +128,7 @@ impl PacketReport {
             return Ok(());
         }
         count(&mut self.summary, info, packet)?;
-        write_if_included(
-            output,
-            self.alloc,
-            &self.parts,
-            number,
-            first,
-            info.time,
-            packet,
-        )
+        write_if_included(output, self.alloc, &self.parts, number, first, info, packet)
     }
 }
 
@@ -161,6 +145,35 @@ fn count(summary: &mut Summary, info: &CaptureInfo, packet: &Packet<'_>) -> Resu
         info,
     )?;
     Ok(())
+}
+
+/// The data about a packet in its capture.
+fn captured_info(captured: &CapturedPacket) -> CaptureInfo
+    ensures { result ≡ captured_info captured.now }
+{
+    CaptureInfo {
+        link_type: Some(captured.link_type),
+        time: captured.time,
+        len: Some(FrameLen {
+            original: u64::from(captured.original_len),
+            captured: captured.captured_len as u64,
+        }),
+    }
+}
+
+/// The data about a packet that is too long, as far as its capture contains them.
+fn too_long_info(captured: &TooLongPacket) -> CaptureInfo
+    ensures { result ≡ too_long_info captured.now }
+{
+    let frame_len = |original| FrameLen {
+        original: u64::from(original),
+        captured: u64::from(captured.required_len),
+    };
+    CaptureInfo {
+        link_type: captured.link_type.map(Ok),
+        time: captured.time,
+        len: captured.original_len.map(frame_len),
+    }
 }
 
 /// Reads a frame according to the link type of its packet.
@@ -183,17 +196,17 @@ fn write_if_included<W: Write>(
     parts: &Parts,
     number: u64,
     first: Option<PacketTime>,
-    time: Option<PacketTime>,
+    info: &CaptureInfo,
     packet: &Packet<'_>,
 ) -> Result<(), WriteError>
     ensures text { OnOk result (AppendsOne (W.contents output.old) (W.contents output.new)
-        (IsTextOfChosen parts.now number first time packet.now)) }
+        (IsTextOfChosen parts.now number first info.now packet.now)) }
     ensures silent { has_line parts.now.lines packet.now.verdict ≡ false → output.new ≡ output.old }
 {
     if !parts.lines.include(&packet.verdict) {
         return Ok(());
     }
-    write_line(output, alloc, parts, number, first, time, packet)
+    write_line(output, alloc, parts, number, first, info, packet)
 }
 
 /// Writes the line of a packet in the requested format.
@@ -203,15 +216,15 @@ fn write_line<W: Write>(
     parts: &Parts,
     number: u64,
     first: Option<PacketTime>,
-    time: Option<PacketTime>,
+    info: &CaptureInfo,
     packet: &Packet<'_>,
 ) -> Result<(), WriteError>
     ensures { OnOk result (AppendsOne (W.contents output.old) (W.contents output.new)
-        (IsLineIn parts.now.format parts.now.times number first time packet.now)) }
+        (IsLineIn parts.now.format parts.now.times number first info.now packet.now)) }
 {
     match parts.format {
-        Format::Text => write_text_line(output, parts.times, number, first, time, packet),
-        Format::Json => write_packet(output, alloc, parts.times, number, first, time, packet),
+        Format::Text => write_text_line(output, parts.times, number, first, info, packet),
+        Format::Json => write_packet(output, alloc, parts.times, number, first, info.time, packet),
     }
 }
 
@@ -221,13 +234,13 @@ fn write_text_line<W: Write>(
     times: Times,
     number: u64,
     first: Option<PacketTime>,
-    time: Option<PacketTime>,
+    info: &CaptureInfo,
     packet: &Packet<'_>,
 ) -> Result<(), WriteError>
     ensures { OnOk result (AppendsOne (W.contents output.old) (W.contents output.new)
-        (IsLine times number first time packet.now.content packet.now.verdict)) }
+        (IsLine times number first info.now.time info.now.len packet.now.content packet.now.verdict)) }
 {
-    match write_packet_line(output, times, number, first, time, packet) {
+    match write_packet_line(output, times, number, first, info.time, info.len, packet) {
         Ok(()) => Ok(()),
         Err(error) => Err(WriteError::Write(error)),
     }

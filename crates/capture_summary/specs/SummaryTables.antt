@@ -8,6 +8,7 @@ use Rattle.capture_summary.specs.declared.verdict_kind.VerdictKind.{VerdictKind}
 use Rattle.capture_summary.specs.declared.verdict_kind.VerdictKind.TheVariants.{Refused, Wrong}
 use Rattle.capture_summary.specs.TimeSpans.{with_time}
 use Rattle.capture_summary.specs.declared.capture_info.CaptureInfo.{CaptureInfo}
+use Rattle.capture_summary.specs.declared.capture_info.FrameLen.{FrameLen}
 use Rattle.capture_summary.specs.declared.count.Count.{Count}
 use Rattle.capture_summary.specs.declared.flow.Flow.{Flow}
 use Rattle.capture_summary.specs.declared.time_span.TimeSpan.{TimeSpan}
@@ -50,16 +51,21 @@ abbrev pub refusal_counted : Option RefusalKind → List ℕ → List ℕ
 refusal_counted (Some refusal) table = counted_at (refusal_place refusal) table
 refusal_counted None table = table
 
+-- the number of bytes that are counted: the original length of the frame, or 0 if the capture does not contain it
+abbrev pub counted_len : Option FrameLen → ℕ
+counted_len None = 0
+counted_len (Some len) = len.original
+
 -- one packet was counted, of these kinds and this flow, with this data of its capture; no other row changed
 pub record CountsOne (before : SummaryTables) (protocol : Protocol) (verdict : VerdictKind) (refusal : Option RefusalKind) (flow : Option Flow) (info : CaptureInfo) (after : SummaryTables) : Type 0 where
   pub packets : after.packets ≡ before.packets + 1
-  pub bytes : after.bytes ≡ min (before.bytes + info.len) (2 ^ 64 - 1)
+  pub bytes : after.bytes ≡ min (before.bytes + counted_len info.len) (2 ^ 64 - 1)
   pub span : after.span ≡ with_time before.span info.time
-  pub protocols : after.protocols ≡ packet_counted_at info.len (protocol_place protocol) before.protocols
+  pub protocols : after.protocols ≡ packet_counted_at (counted_len info.len) (protocol_place protocol) before.protocols
   pub verdicts : after.verdicts ≡ counted_at (verdict_place verdict) before.verdicts
   pub links : after.links ≡ counted_at (link_place (link_kind info.link_type)) before.links
   pub refusals : after.refusals ≡ refusal_counted refusal before.refusals
-  pub flows : after.flows ≡ table_counted flow info.len before.flows
+  pub flows : after.flows ≡ table_counted flow (counted_len info.len) before.flows
 
 -- whether a packet with a wrong checksum, or a rejected packet, was counted
 abbrev pub has_fault : SummaryTables → Bool

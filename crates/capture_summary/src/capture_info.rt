@@ -1,4 +1,16 @@
+ghost use Rattle.std.specs.Prelude.{◌≡◌};
+ghost use Rattle.capture_summary.specs.SummaryTables.{counted_len};
+
 use capture_file::{LinkType, PacketTime};
+
+/// The length of a frame, in bytes.
+#[derive(Clone, Copy, Debug, PartialEq, Eq)]
+pub struct FrameLen {
+    /// The original length: the length of the frame on its link.
+    pub original: u64,
+    /// The captured length. It is less if the capture truncated the frame.
+    pub captured: u64,
+}
 
 /// The data about a packet in a capture, in addition to its bytes.
 #[derive(Clone, Copy, Debug, PartialEq, Eq)]
@@ -7,6 +19,18 @@ pub struct CaptureInfo {
     pub link_type: Option<Result<LinkType, u16>>,
     /// The capture time, if the capture contains it.
     pub time: Option<PacketTime>,
-    /// The length of the packet in bytes, or 0 if the capture does not contain it.
-    pub len: u64,
+    /// The length of the frame, if the capture contains it.
+    pub len: Option<FrameLen>,
+}
+
+impl CaptureInfo {
+    /// The number of bytes that a summary counts: the original length, or 0 if the capture does not contain it.
+    pub fn counted_len(&self) -> u64
+        ensures { result ≡ counted_len self.now.len }
+    {
+        match self.len {
+            Some(len) => len.original,
+            None => 0,
+        }
+    }
 }

@@ -23,7 +23,7 @@ mod summary;
 mod time_span;
 mod verdict_kind;
 
-pub use capture_info::CaptureInfo;
+pub use capture_info::{CaptureInfo, FrameLen};
 pub use choice::{Choice, MAX_CHOSEN, Protocols};
 pub use conversation_count::ConversationCount;
 pub use count::Count;

@@ -92,10 +92,11 @@ impl Summary {
         ensures err { OnErr result (self.new ≡ self.old) }
         ensures balanced { IsBalanced self.new }
     {
-        self.flows.add(flow, info.len)?;
-        self.bytes = self.bytes.saturating_add(info.len);
+        let len = info.counted_len();
+        self.flows.add(flow, len)?;
+        self.bytes = self.bytes.saturating_add(len);
         self.span = TimeSpan::with_time(self.span, info.time);
-        self.protocols[protocol.place()].add(info.len);
+        self.protocols[protocol.place()].add(len);
         self.verdicts[verdict.place()] += 1;
         self.links[LinkKind::of(info.link_type).place()] += 1;
         if let Some(refusal) = refusal {

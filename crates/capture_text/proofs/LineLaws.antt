@@ -17,6 +17,7 @@ use Rattle.capture_packet.specs.declared.transport.Transport.{Transport}
 use Rattle.capture_packet.specs.declared.transport.Transport.TheVariants as transports
 use Rattle.capture_packet.specs.declared.verdict.Verdict.{Verdict}
 use Rattle.capture_file.specs.declared.packet_time.PacketTime.{PacketTime}
+use Rattle.capture_summary.specs.declared.capture_info.FrameLen.{FrameLen}
 use Rattle.capture_text.specs.PacketLine.{HasOneLine, IsContentText, IsTcpText, IsTransportText}
 use Rattle.capture_text.specs.TcpText.{AreOptionTexts, IsHeaderText, IsListText, IsOptionText, IsOptionsText, element_text, fault_text, listed, raw_text}
 use Rattle.capture_text.specs.declared.times.Times.{Times}
@@ -131,7 +132,7 @@ one_content_text (contents.NotIp protocol) text other is also = is ∙ sym also
 one_content_text (contents.Ip addresses protocol proto transport payload_len) text other is also =
     one_of _ _ (one_transport_text (by_value addresses) protocol.0 proto transport) text other is also
 
--- packets with the same number, content, verdict and time have the same line
-pub one_line : (times : Times) (number : ℕ) (first time : Option PacketTime) (content : Content) (verdict : Verdict)
-    → HasOneLine times number first time content verdict
-one_line times number first time content verdict line other is also = one_of _ _ (one_content_text content) line other is also
+-- packets with the same number, time, length, content and verdict have the same line
+pub one_line : (times : Times) (number : ℕ) (first time : Option PacketTime) (len : Option FrameLen) (content : Content) (verdict : Verdict)
+    → HasOneLine times number first time len content verdict
+one_line times number first time len content verdict line other is also = one_of _ _ (one_content_text content) line other is also

@@ -21,15 +21,20 @@ use Rattle.capture_text.specs.Icmpv4Text as icmpv4_text
 use Rattle.capture_text.specs.Icmpv6Text as icmpv6_text
 use Rattle.capture_text.specs.Numbers.{hex_padded}
 use Rattle.capture_summary.specs.ProtocolNames.{ip_protocol_name, network_protocol_name}
+use Rattle.capture_summary.specs.declared.capture_info.FrameLen.{FrameLen}
 use Rattle.capture_text.specs.TcpText.{IsHeaderText}
 use Rattle.capture_text.specs.TimeText.{time_text}
 use Rattle.capture_text.specs.VerdictText.{is_other_protocol, verdict_text}
 use Rattle.capture_text.specs.declared.times.Times.{Times}
 
--- the number of bytes of a payload that were captured, if it is not the length of the payload
+-- the number of bytes that were captured, if it is not this length
 abbrev pub captured_text : ℕ → ℕ → List ℕ
-captured_text payload_len captured_len =
-    if captured_len == payload_len then [] else codes ", " ++ (decimal captured_len ++ codes " captured")
+captured_text len captured_len = if captured_len == len then [] else codes ", " ++ (decimal captured_len ++ codes " captured")
+
+-- the length of a frame, in bytes, and how many of them were captured, or that the capture does not contain the length
+abbrev pub frame_text : Option FrameLen → List ℕ
+frame_text None = codes " length unknown: "
+frame_text (Some len) = codes " length " ++ (decimal len.original ++ (captured_text len.original len.captured ++ codes ": "))
 
 -- the length of a payload, in bytes, and how many of them were captured
 abbrev pub payload_text : ℕ → List ℕ → List ℕ
@@ -137,13 +142,13 @@ end_text (contents.IpHeader addresses) verdict = verdict_part verdict
 end_text (contents.NotIp protocol) verdict = verdict_part verdict
 end_text (contents.Ip addresses protocol proto transport payload_len) verdict = verdict_part verdict
 
--- this is the line of a packet: its number, its time, its content, and its verdict
-abbrev pub IsLine : Times → ℕ → Option PacketTime → Option PacketTime → Content → Verdict → List ℕ → Type 0
-IsLine times number first time content verdict line =
+-- this is the line of a packet: its number, its time, the length of its frame, its content, and its verdict
+abbrev pub IsLine : Times → ℕ → Option PacketTime → Option PacketTime → Option FrameLen → Content → Verdict → List ℕ → Type 0
+IsLine times number first time len content verdict line =
     (what : List ℕ) × IsContentText content what
-    × (line ≡ decimal number ++ (codes " " ++ (time_text times first time ++ (codes " " ++ (what ++ (end_text content verdict ++ codes "\n"))))))
+    × (line ≡ decimal number ++ (codes " " ++ (time_text times first time ++ (frame_text len ++ (what ++ (end_text content verdict ++ codes "\n"))))))
 
--- packets with the same number, content, verdict and time have the same line
-abbrev pub HasOneLine : Times → ℕ → Option PacketTime → Option PacketTime → Content → Verdict → Type 0
-HasOneLine times number first time content verdict = (line other : List ℕ)
-    → IsLine times number first time content verdict line → IsLine times number first time content verdict other → line ≡ other
+-- packets with the same number, time, length, content and verdict have the same line
+abbrev pub HasOneLine : Times → ℕ → Option PacketTime → Option PacketTime → Option FrameLen → Content → Verdict → Type 0
+HasOneLine times number first time len content verdict = (line other : List ℕ)
+    → IsLine times number first time len content verdict line → IsLine times number first time len content verdict other → line ≡ other

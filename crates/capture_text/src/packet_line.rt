@@ -5,7 +5,7 @@ ghost use Rattle.std.specs.Io.KnownBytes.{Appends};
 ghost use Rattle.std.specs.Option.{option_map};
 ghost use Rattle.ip_part.specs.Addresses.{by_value};
 ghost use Rattle.capture_packet.specs.Quotes.{by_value as quoted_by_value};
-ghost use Rattle.capture_text.specs.PacketLine.{IsContentText, IsLine, IsTcpText, IsTransportText, end_text, icmpv4_line, icmpv6_line, known_endpoints, name_or_number, network_number, network_text, payload_text, quoted_text, udp_text, unread_text, verdict_part};
+ghost use Rattle.capture_text.specs.PacketLine.{IsContentText, IsLine, IsTcpText, IsTransportText, captured_text, end_text, frame_text, icmpv4_line, icmpv6_line, known_endpoints, name_or_number, network_number, network_text, payload_text, quoted_text, udp_text, unread_text, verdict_part};
 ghost use Rattle.capture_text.specs.Written.{AppendsOne};
 
 use crate::addresses::{write_addresses, write_endpoints};
@@ -15,7 +15,7 @@ use crate::verdict::{is_other_protocol, write_verdict};
 use crate::{icmpv4, icmpv6, tcp};
 use capture_file::PacketTime;
 use capture_packet::{Content, NetworkProtocol, Packet, QuotedPacket, Transport, Verdict};
-use capture_summary::{ip_protocol_name, network_protocol_name};
+use capture_summary::{FrameLen, ip_protocol_name, network_protocol_name};
 use etherparse_transport::ip::IpAddresses;
 use etherparse_transport::{
     Icmpv4Slice, Icmpv6Slice, IpNumber, Proto, TcpSlice, TransportSlice, UdpSlice,
@@ -23,10 +23,10 @@ use etherparse_transport::{
 use std::io;
 use std::io::Write;
 
-/// Writes the line of a packet: its number, its time, its addresses, its content, and its verdict.
+/// Writes the line of a packet: its number, its time, the length of its frame, its addresses, its content, and its verdict.
 ///
 /// ```text
-/// 1 00:00:00.000000 192.0.2.1:49152 > 192.0.2.2:53 UDP length 40, payload 32; checksum right
+/// 1 00:00:00.000000 length 74: 192.0.2.1:49152 > 192.0.2.2:53 UDP length 40, payload 32; checksum right
 /// ```
 ///
 /// # Errors
@@ -38,17 +38,30 @@ pub fn write_packet_line<W: Write>(
     number: u64,
     first: Option<PacketTime>,
     time: Option<PacketTime>,
+    len: Option<FrameLen>,
     packet: &Packet,
 ) -> io::Result<()>
     ensures { OnOk result (AppendsOne (W.contents output.old) (W.contents output.new)
-        (IsLine times number first time packet.now.content packet.now.verdict)) }
+        (IsLine times number first time len packet.now.content packet.now.verdict)) }
 {
     write!(output, "{number} ")?;
     write_time(output, times, first, time)?;
-    write!(output, " ")?;
+    write_frame_len(output, len)?;
     write_content(output, &packet.content)?;
     write_end(output, &packet.content, &packet.verdict)?;
     writeln!(output)
+}
+
+/// Writes the length of a frame, in bytes, and how many of them were captured, if these are not all.
+fn write_frame_len<W: Write>(output: &mut W, len: Option<FrameLen>) -> io::Result<()>
+    ensures { OnOk result (Appends (W.contents output.old) (W.contents output.new) (frame_text len)) }
+{
+    let Some(FrameLen { original, captured }) = len else {
+        return write!(output, " length unknown: ");
+    };
+    write!(output, " length {original}")?;
+    write_captured(output, original, captured)?;
+    write!(output, ": ")
 }
 
 /// Writes the content of a packet. Nothing is written for a packet that is not read.
@@ -293,8 +306,15 @@ fn write_payload_len<W: Write>(output: &mut W, payload_len: usize, payload: &[u8
     ensures { OnOk result (Appends (W.contents output.old) (W.contents output.new) (payload_text payload_len payload.now)) }
 {
     write!(output, ", payload {payload_len}")?;
-    if payload.len() == payload_len {
+    write_captured(output, payload_len as u64, payload.len() as u64)
+}
+
+/// Writes how many of this number of bytes were captured, if these are not all.
+fn write_captured<W: Write>(output: &mut W, len: u64, captured_len: u64) -> io::Result<()>
+    ensures { OnOk result (Appends (W.contents output.old) (W.contents output.new) (captured_text len captured_len)) }
+{
+    if captured_len == len {
         return Ok(());
     }
-    write!(output, ", {} captured", payload.len())
+    write!(output, ", {captured_len} captured")
 }

@@ -6,7 +6,7 @@ use capture_file::{LinkType, PacketTime};
 use capture_json::{write_packet, write_summary};
 use capture_packet::{Content, NetworkProtocol, Packet, Refusal, Transport, Verdict};
 use capture_run::Times;
-use capture_summary::{CaptureInfo, Protocol, RefusalKind, Summary, VerdictKind};
+use capture_summary::{CaptureInfo, FrameLen, Protocol, RefusalKind, Summary, VerdictKind};
 use etherparse_transport::ip::{IpAddresses, IpError};
 use etherparse_transport::{
     ChecksumVerdict, Icmpv4Slice, IpNumber, Proto, TcpSlice, TransportSlice, UdpSlice, Untested,
@@ -221,7 +221,10 @@ fn info_of(seconds: u64, len: u64) -> CaptureInfo {
             resolution: TimeResolution::PowerOfTen(6),
             offset: 0,
         }),
-        len,
+        len: Some(FrameLen {
+            original: len,
+            captured: len,
+        }),
     }
 }
 

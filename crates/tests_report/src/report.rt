@@ -34,9 +34,12 @@ const UDP: [u8; 29] = [
     0, 7, 0, 9, 0, 9, 0x19, 0xC8, 0x62, // UDP
 ];
 
-/// What the report says of a capture of this packet alone, but for its length.
+/// The line of this packet alone.
 const LINE: &str =
-    "1 00:00:00.000000 192.0.2.1:7 > 192.0.2.2:9 UDP length 9, payload 1; checksum right\n";
+    "1 00:00:00.000000 length 29: 192.0.2.1:7 > 192.0.2.2:9 UDP length 9, payload 1; checksum right\n";
+
+/// The end of this line, after the length of the frame.
+const AFTER_LENGTH: &str = "192.0.2.1:7 > 192.0.2.2:9 UDP length 9, payload 1; checksum right\n";
 
 /// The link types, with what comes before an IPv4 packet.
 #[rattlefmt::skip]
@@ -225,7 +228,9 @@ fn every_link_and_order_is_read(rt: HostRuntime) -> Result<(), Fail> {
     for is_little_endian in [false, true] {
         for (link_type, link) in &LINKS {
             let bytes = capture(rt.alloc(), is_little_endian, *link_type, link)?;
-            expect_run(&rt, &bytes, 0, LINE, "")?;
+            let len = UDP.len() + link.len();
+            let line = format!(in rt.alloc(); "1 00:00:00.000000 length {len}: {AFTER_LENGTH}")?;
+            expect_run(&rt, &bytes, 0, &line, "")?;
         }
     }
     Ok(())
@@ -310,9 +315,9 @@ const SIMPLE_END: &[u8] = b"\0\0\0\x30\0\0\0";
 const PCAPNG_FILES: [(&[&[u8]], u8, &str, &str); 4] = [
     (&[SECTION, RAW_IP, OTHER_BLOCK, ENHANCED, &UDP, ENHANCED_END], 0, LINE, ""),
     (&[SECTION, RAW_IP, OTHER_LINK, ENHANCED, &UDP, ENHANCED_END, ENHANCED_OF_SECOND, &UDP, ENHANCED_END], 0,
-     "1 00:00:00.000000 192.0.2.1:7 > 192.0.2.2:9 UDP length 9, payload 1; checksum right\n2 -00:00:00.000004994 link type 147\n",
+     "1 00:00:00.000000 length 29: 192.0.2.1:7 > 192.0.2.2:9 UDP length 9, payload 1; checksum right\n2 -00:00:00.000004994 length 29: link type 147\n",
      ""),
-    (&[SECTION, RAW_IP, SIMPLE, &UDP, SIMPLE_END], 0, "1 - 192.0.2.1:7 > 192.0.2.2:9 UDP length 9, payload 1; checksum right\n", ""),
+    (&[SECTION, RAW_IP, SIMPLE, &UDP, SIMPLE_END], 0, "1 - length 29: 192.0.2.1:7 > 192.0.2.2:9 UDP length 9, payload 1; checksum right\n", ""),
     (&[SECTION, RAW_IP, ENHANCED, &UDP, ENHANCED_END, ENHANCED_OF_SECOND, &UDP, ENHANCED_END], 1, LINE,
      "capture_report: At byte 112 of the file: The packet is of interface 1, and the section has 1.\n"),
 ];
@@ -553,7 +558,7 @@ fn write_faults_within_the_summary(rt: HostRuntime) -> Result<(), Fail> {
 
 /// The line of a second packet, to port 10.
 const TO_TEN: &str =
-    "2 00:00:00.000000 192.0.2.1:7 > 192.0.2.2:10 UDP length 9, payload 1; checksum wrong, 19C7 expected\n";
+    "2 00:00:00.000000 length 29: 192.0.2.1:7 > 192.0.2.2:10 UDP length 9, payload 1; checksum wrong, 19C7 expected\n";
 
 /// The port that is chosen, the status, and the lines of packets and the totals.
 #[rattlefmt::skip]
@@ -598,7 +603,7 @@ fn long_capture(alloc: Global) -> Result<Vec<u8>, AllocError> {
 /// The forms of a report, and the line of this packet in each.
 #[rattlefmt::skip]
 static LONG_LINES: [(Format, &str); 2] = [
-    (Format::Text, "1 00:00:00.000000 checksum not looked at: 528384 bytes, more than 524288\n"),
+    (Format::Text, "1 00:00:00.000000 length 528384: checksum not looked at: 528384 bytes, more than 524288\n"),
     (Format::Json, "{\"checksum\":\"not_looked_at\",\"number\":1,\"reason\":\"too_long\",\"required_length\":528384,\"time\":\"00:00:00.000000\",\"type\":\"packet\"}\n"),
 ];
 

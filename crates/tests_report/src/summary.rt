@@ -1,8 +1,8 @@
 use crate::expect::expect_equal;
 use capture_file::LinkType;
 use capture_summary::{
-    CaptureInfo, Count, Flow, FlowProtocol, MAX_CONVERSATIONS, Protocol, RefusalKind, Summary,
-    VerdictKind,
+    CaptureInfo, Count, Flow, FlowProtocol, FrameLen, MAX_CONVERSATIONS, Protocol, RefusalKind,
+    Summary, VerdictKind,
 };
 use std::hash::RandomState;
 use std::net::{IpAddr, Ipv4Addr, SocketAddr};
@@ -46,7 +46,10 @@ fn info_of(len: u64) -> CaptureInfo {
     CaptureInfo {
         link_type: Some(Ok(LinkType::Ethernet)),
         time: None,
-        len,
+        len: Some(FrameLen {
+            original: len,
+            captured: len,
+        }),
     }
 }
 

@@ -11,7 +11,7 @@ use capture_file::PacketTime;
 use capture_file::pcapng::TimeResolution;
 use capture_packet::{Content, Packet, Transport, Verdict};
 use capture_run::Times;
-use capture_summary::{Flow, FlowProtocol};
+use capture_summary::{Flow, FlowProtocol, FrameLen};
 use capture_text::write_packet_line;
 use etherparse_transport::ip::{IpAddresses, proto_over};
 use etherparse_transport::{ChecksumVerdict, IpNumber};
@@ -39,7 +39,13 @@ const FIRST: PacketTime = PacketTime {
     offset: 0,
 };
 
-/// Stops the test unless the three texts together are the first line of a capture, of this packet, after its time.
+/// The length of a frame that was captured whole.
+const WHOLE: FrameLen = FrameLen {
+    original: 60,
+    captured: 60,
+};
+
+/// Stops the test unless the three texts together are the first line of a capture, of this packet, after the length of its frame.
 fn expect_line(
     rt: &(impl Abort + AllocGlobal),
     content: Content,
@@ -47,11 +53,22 @@ fn expect_line(
     wanted: [&str; 3],
 ) -> Result<(), Fail> {
     let packet = Packet { content, verdict };
+    let [before, wanted, after] = wanted;
+    let wanted = format!(in rt.alloc(); "length 60: {before}{wanted}{after}")?;
+    expect_line_of_length(rt, Some(WHOLE), &packet, &wanted)
+}
+
+/// Stops the test unless this is the first line of a capture, of this packet in a frame of this length, after its time.
+fn expect_line_of_length(
+    rt: &(impl Abort + AllocGlobal),
+    len: Option<FrameLen>,
+    packet: &Packet,
+    wanted: &str,
+) -> Result<(), Fail> {
     let time = Some(FIRST);
     let mut line = Vec::new(rt.alloc());
-    write_packet_line(&mut line, Times::SinceFirst, 1, time, time, &packet)?;
-    let [before, wanted, after] = wanted;
-    let wanted = format!(in rt.alloc(); "1 00:00:00.000000 {before}{wanted}{after}\n")?;
+    write_packet_line(&mut line, Times::SinceFirst, 1, time, time, len, packet)?;
+    let wanted = format!(in rt.alloc(); "1 00:00:00.000000 {wanted}\n")?;
     expect_text(rt, line, &wanted)
 }
 

@@ -132,10 +132,10 @@ static RUNS_OF_ONE: [RunRow; 8] = [
     (&["-"], Asked::CheckedLines, 0, LINE, ""),
     (&["right"], Asked::OnlyObjects, 0, RIGHT_OBJECT, ""),
     (&["wrong"], Asked::CheckedLines, 4,
-     "1 00:00:00.000000 192.0.2.1:263 > 192.0.2.2:9 UDP length 9, payload 1; checksum wrong, 18C8 expected\n", ""),
+     "1 00:00:00.000000 length 29: 192.0.2.1:263 > 192.0.2.2:9 UDP length 9, payload 1; checksum wrong, 18C8 expected\n", ""),
     // The length field of this packet is 0, so the packet is refused.
     (&["zero"], Asked::CheckedLines, 4,
-     "1 00:00:00.000000 192.0.2.1:7 > 192.0.2.2:9 UDP length 0, payload 1; refused: UDP header needs 8 bytes, the UDP length is 0\n", ""),
+     "1 00:00:00.000000 length 29: 192.0.2.1:7 > 192.0.2.2:9 UDP length 0, payload 1; refused: UDP header needs 8 bytes, the UDP length is 0\n", ""),
     (&["zero"], Asked::OnlyObjects, 0, ZERO_OBJECT, ""),
     (&["missing"], Asked::CheckedLines, 3, "", "capture_report: missing: entity not found\n"),
     (&["link"], Asked::CheckedLines, 1, "", "capture_report: link: The link type 147 is not read.\n"),
@@ -168,30 +168,30 @@ static RUNS: [RunRow; 10] = [
 
 const OF_TWO: &str = "\
 ==> right <==
-1 00:00:00.000000 192.0.2.1:7 > 192.0.2.2:9 UDP length 9, payload 1; checksum right
+1 00:00:00.000000 length 29: 192.0.2.1:7 > 192.0.2.2:9 UDP length 9, payload 1; checksum right
 
 ==> wrong <==
-1 00:00:00.000000 192.0.2.1:263 > 192.0.2.2:9 UDP length 9, payload 1; checksum wrong, 18C8 expected
+1 00:00:00.000000 length 29: 192.0.2.1:263 > 192.0.2.2:9 UDP length 9, payload 1; checksum wrong, 18C8 expected
 ";
 
 const WITH_MISSING: &str = "\
 ==> right <==
-1 00:00:00.000000 192.0.2.1:7 > 192.0.2.2:9 UDP length 9, payload 1; checksum right
+1 00:00:00.000000 length 29: 192.0.2.1:7 > 192.0.2.2:9 UDP length 9, payload 1; checksum right
 
 ==> missing <==
 
 ==> wrong <==
-1 00:00:00.000000 192.0.2.1:263 > 192.0.2.2:9 UDP length 9, payload 1; checksum wrong, 18C8 expected
+1 00:00:00.000000 length 29: 192.0.2.1:263 > 192.0.2.2:9 UDP length 9, payload 1; checksum wrong, 18C8 expected
 ";
 
 const OF_FOUR: &str = "\
 ==> right <==
-1 00:00:00.000000 192.0.2.1:7 > 192.0.2.2:9 UDP length 9, payload 1; checksum right
+1 00:00:00.000000 length 29: 192.0.2.1:7 > 192.0.2.2:9 UDP length 9, payload 1; checksum right
 
 ==> link <==
 
 ==> wrong <==
-1 00:00:00.000000 192.0.2.1:263 > 192.0.2.2:9 UDP length 9, payload 1; checksum wrong, 18C8 expected
+1 00:00:00.000000 length 29: 192.0.2.1:263 > 192.0.2.2:9 UDP length 9, payload 1; checksum wrong, 18C8 expected
 
 ==> cut <==
 ";
@@ -211,14 +211,14 @@ const OF_FIVE: &str = "\
 ==> link <==
 
 ==> right <==
-1 00:00:00.000000 192.0.2.1:7 > 192.0.2.2:9 UDP length 9, payload 1; checksum right
+1 00:00:00.000000 length 29: 192.0.2.1:7 > 192.0.2.2:9 UDP length 9, payload 1; checksum right
 
 ==> magic <==
 
 ==> cut <==
 
 ==> - <==
-1 00:00:00.000000 192.0.2.1:7 > 192.0.2.2:9 UDP length 9, payload 1; checksum right
+1 00:00:00.000000 length 29: 192.0.2.1:7 > 192.0.2.2:9 UDP length 9, payload 1; checksum right
 ";
 
 const ERRORS_OF_FIVE: &str = "\
@@ -231,7 +231,7 @@ const OF_WRONG_LINES: &str = "\
 ==> right <==
 
 ==> wrong <==
-1 00:00:00.000000 192.0.2.1:263 > 192.0.2.2:9 UDP length 9, payload 1; checksum wrong, 18C8 expected
+1 00:00:00.000000 length 29: 192.0.2.1:263 > 192.0.2.2:9 UDP length 9, payload 1; checksum wrong, 18C8 expected
 
 ==> right <==
 ";

@@ -1,6 +1,9 @@
-use super::{OVER_IPV4, OVER_IPV6, expect_line, expect_transport, expect_verdict};
+use super::{
+    OVER_IPV4, OVER_IPV6, expect_line, expect_line_of_length, expect_transport, expect_verdict,
+};
 use capture_packet::link::LinkHeaderCutOff;
-use capture_packet::{Content, NetworkProtocol, Refusal, Transport, Verdict};
+use capture_packet::{Content, NetworkProtocol, Packet, Refusal, Transport, Verdict};
+use capture_summary::FrameLen;
 use etherparse_transport::err::tcp::{HeaderError, HeaderSliceError};
 use etherparse_transport::err::{Layer, LenError, LenSource};
 use etherparse_transport::ip::{IpAddresses, IpError};
@@ -144,6 +147,28 @@ fn a_payload_that_is_cut_off(rt: HostRuntime) -> Result<(), Fail> {
         "; checksum not looked at: cut off",
     ];
     expect_line(&rt, content, Verdict::untested(Untested::CutOff), wanted)
+}
+
+/// Lengths of frames, and what is written of a packet of ARP in each.
+#[rattlefmt::skip]
+const LENGTHS: [(Option<FrameLen>, &str); 5] = [
+    (Some(FrameLen { original: 42, captured: 42 }), "length 42: ARP"),
+    (Some(FrameLen { original: 1514, captured: 96 }), "length 1514, 96 captured: ARP"),
+    (Some(FrameLen { original: 60, captured: 64 }), "length 60, 64 captured: ARP"),
+    (Some(FrameLen { original: 0, captured: 0 }), "length 0: ARP"),
+    (None, "length unknown: ARP"),
+];
+
+#[test]
+fn lengths_of_frames(rt: HostRuntime) -> Result<(), Fail> {
+    let packet = Packet {
+        content: Content::NotIp(NetworkProtocol::EtherType(0x0806)),
+        verdict: Verdict::untested(Untested::OtherProtocol),
+    };
+    for (len, wanted) in &LENGTHS {
+        expect_line_of_length(&rt, *len, &packet, wanted)?;
+    }
+    Ok(())
 }
 
 /// Verdicts on checksums, and what is written of each. A UDP packet without a length is refused.

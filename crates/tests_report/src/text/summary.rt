@@ -3,7 +3,7 @@ use crate::expect::expect_text;
 use crate::summary::{judge, refuse};
 use capture_file::pcapng::TimeResolution;
 use capture_file::{LinkType, PacketTime};
-use capture_summary::{CaptureInfo, Protocol, RefusalKind, Summary, VerdictKind};
+use capture_summary::{CaptureInfo, FrameLen, Protocol, RefusalKind, Summary, VerdictKind};
 use capture_text::write_summary;
 use std::hash::RandomState;
 use std::process::Abort;
@@ -88,7 +88,10 @@ fn info_of(seconds: u64, len: u64) -> CaptureInfo {
             resolution: TimeResolution::PowerOfTen(6),
             offset: 0,
         }),
-        len,
+        len: Some(FrameLen {
+            original: len,
+            captured: len,
+        }),
     }
 }
 

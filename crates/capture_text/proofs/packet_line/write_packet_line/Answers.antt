@@ -8,4 +8,4 @@ returns g c =
     let (what, is, appends) = c.in_ok-write_content.ensures in
     one_then _ _ _ _ _ _ _
     (Appends-trans _ _ _ _ _ (Appends-trans _ _ _ _ _ (Appends-trans _ _ _ _ _ (Appends-trans _ _ _ _ _ c.in_ok-write.ensures.bytes c.in_ok-write_time.ensures)
-    c.in_ok-write-2.ensures.bytes) appends) c.in_ok-write_end.ensures) (what, is, simp append_assoc) c.writeln.ensures.bytes
+    c.in_ok-write_frame_len.ensures) appends) c.in_ok-write_end.ensures) (what, is, simp append_assoc) c.writeln.ensures.bytes

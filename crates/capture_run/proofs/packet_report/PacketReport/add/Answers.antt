@@ -9,7 +9,7 @@ returns-clause-counted g c =
     (λ counts. record {
       packet = packet;
       is_packet = c.packet_in_frame-packet.ensures;
-      counts = rw c.from.ensures at counts;
+      counts = rw c.captured_info.ensures at counts;
     })
     c.add_packet.ensures.counted
 
@@ -20,7 +20,7 @@ returns-clause-text g c =
     on_ok_weaker c.add_packet.result
     (λ one. (
       one.0,
-      record { packet = packet; is_packet = c.packet_in_frame-packet.ensures; is_text = one.1 },
+      record { packet = packet; is_packet = c.packet_in_frame-packet.ensures; is_text = rw c.captured_info.ensures at one.1 },
       one.2,
     ))
     c.add_packet.ensures.text

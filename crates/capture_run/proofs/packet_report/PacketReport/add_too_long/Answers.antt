@@ -13,7 +13,7 @@ returns-clause-text g c =
       record {
         packet = record { content = Unread; verdict = TooLong c.args.captured.now.required_len };
         is_packet = refl;
-        is_text = one.1;
+        is_text = rw c.too_long_info.ensures at one.1;
       },
       one.2,
     ))
