@@ -1,5 +1,5 @@
 -- The tables of the summary.
-use Rattle.std.specs.Prelude.{ℕ, Bool, ◌-◌, ◌^◌, ◌==◌, ◌&&◌, true, false, if◌then◌else◌, List, [], ◌++◌, fold, length, max, slice_index, codes, decimal}
+use Rattle.std.specs.Prelude.{ℕ, Bool, ◌-◌, ◌^◌, ◌==◌, ◌&&◌, false, if◌then◌else◌, List, [], ◌++◌, fold, length, max, slice_index, codes, decimal}
 use Rattle.std.specs.Fmt.{format_spec, padded, padded_integral, styled_text}
 use Rattle.std.specs.List.{flat_map}
 use Rattle.std.specs.Net.Text.{socket_text}
@@ -35,9 +35,9 @@ number_cell width number = padded_integral (format_spec 32 3 0 width (2 ^ 64 - 1
 abbrev pub packets_head : List ℕ → List ℕ
 packets_head title = name_cell name_width title ++ (codes " " ++ (title_cell 11 (codes "packets") ++ codes "\n"))
 
--- a row of a table that counts packets
-abbrev pub packets_row : List ℕ → ℕ → List ℕ
-packets_row name packets = name_cell name_width name ++ (codes " " ++ (number_cell 11 packets ++ codes "\n"))
+-- a row of a table that counts packets; it is left out if it counts no packet
+abbrev pub packets_row : List ℕ × ℕ → List ℕ
+packets_row row = if row.1 == 0 then [] else name_cell name_width row.0 ++ (codes " " ++ (number_cell 11 row.1 ++ codes "\n"))
 
 -- the head of a table that counts packets and bytes
 abbrev pub counts_head : List ℕ → List ℕ
@@ -45,28 +45,21 @@ counts_head title =
     name_cell name_width title
     ++ (codes " " ++ (title_cell 11 (codes "packets") ++ (codes " " ++ (title_cell 17 (codes "bytes") ++ codes "\n"))))
 
--- a row of a table that counts packets and bytes
+-- a row of a table that counts packets and bytes; it is left out if it counts no packet
 abbrev pub counts_row : List ℕ × Count → List ℕ
 counts_row row =
-    name_cell name_width row.0 ++ (codes " " ++ (number_cell 11 row.1.packets ++ (codes " " ++ (number_cell 17 row.1.bytes ++ codes "\n"))))
+    if row.1.packets == 0 then []
+    else name_cell name_width row.0 ++ (codes " " ++ (number_cell 11 row.1.packets ++ (codes " " ++ (number_cell 17 row.1.bytes ++ codes "\n"))))
 
--- ---- tables
-
--- a table that counts packets and bytes
-abbrev pub counts_table : List ℕ → List (List ℕ × Count) → List ℕ
-counts_table title rows = counts_head title ++ flat_map counts_row rows
-
--- a row; if `leaves_out` is true, a row that counts no packet is left out
-abbrev pub row_text : Bool → List ℕ × ℕ → List ℕ
-row_text leaves_out row = if leaves_out && row.1 == 0 then [] else packets_row row.0 row.1
+-- ---- tables: each counts this number of packets, and is left out if the number is 0
 
 -- a table that counts packets
-abbrev pub packets_table : List ℕ → Bool → List (List ℕ × ℕ) → List ℕ
-packets_table title leaves_out rows = packets_head title ++ flat_map (row_text leaves_out) rows
+abbrev pub packets_table : ℕ → List ℕ → List (List ℕ × ℕ) → List ℕ
+packets_table packets title rows = if packets == 0 then [] else codes "\n" ++ (packets_head title ++ flat_map packets_row rows)
 
--- the table of this number of packets, without rows that count no packet; it is left out if the number is 0
-abbrev pub table_if_any : ℕ → List ℕ → List (List ℕ × ℕ) → List ℕ
-table_if_any packets title rows = if packets == 0 then [] else codes "\n" ++ packets_table title true rows
+-- a table that counts packets and bytes
+abbrev pub counts_table : ℕ → List ℕ → List (List ℕ × Count) → List ℕ
+counts_table packets title rows = if packets == 0 then [] else codes "\n" ++ (counts_head title ++ flat_map counts_row rows)
 
 -- ---- conversations
 
@@ -121,11 +114,11 @@ conversations_table busiest without_ports without_room =
 -- the totals and the tables, with these conversations
 abbrev pub tables_text : List ConversationCount → SummaryTables → List ℕ
 tables_text busiest tables =
-    totals_text tables ++ (table_if_any tables.packets (codes "link type") (link_rows tables.links)
-    ++ (codes "\n" ++ (counts_table (codes "protocol") (protocol_rows tables.protocols)
-    ++ (codes "\n" ++ (packets_table (codes "checksum") false (verdict_rows tables.verdicts)
-    ++ (table_if_any (slice_index tables.verdicts (verdict_place Refused)) (codes "refused") (refusal_rows tables.refusals)
-    ++ conversations_table busiest tables.flows.without_ports tables.flows.without_room))))))
+    totals_text tables ++ (packets_table tables.packets (codes "link type") (link_rows tables.links)
+    ++ (counts_table tables.packets (codes "protocol") (protocol_rows tables.protocols)
+    ++ (packets_table tables.packets (codes "checksum") (verdict_rows tables.verdicts)
+    ++ (packets_table (slice_index tables.verdicts (verdict_place Refused)) (codes "refused") (refusal_rows tables.refusals)
+    ++ conversations_table busiest tables.flows.without_ports tables.flows.without_room))))
 
 -- the totals and the tables, with at most this number of the busiest conversations
 abbrev pub summary_text : ℕ → SummaryTables → List ℕ

@@ -3,7 +3,7 @@
 ghost use Rattle.std.specs.Prelude.{◌≡◌, ◌++◌, codes, map, IfOk, OnOk};
 ghost use Rattle.std.specs.Io.KnownBytes.{Appends};
 ghost use Rattle.capture_text.specs.SummaryText as specs;
-ghost use Rattle.capture_text.specs.SummaryText.{conversations_table, counts_table, packets_table, table_if_any, tables_text};
+ghost use Rattle.capture_text.specs.SummaryText.{conversations_table, counts_table, packets_table, tables_text};
 
 use crate::totals::write_totals;
 use arrayvec::ArrayString;
@@ -21,8 +21,8 @@ const MOST_CONVERSATION_NAME_LEN: usize = 128;
 /// Writes the numbers of packets, bytes and conversations, and the times of the packets. Then it writes the tables of link types,
 /// protocols, checksums, rejections and conversations. The last table lists the conversations in `busiest`.
 ///
-/// A table has a name and columns of numbers, which are aligned to the right. Rows of protocols and checksums are always written. Other
-/// rows are left out if they count no packet, and so are tables without rows.
+/// A table has a name and columns of numbers, which are aligned to the right. Rows that count no packet are left out, and so are tables
+/// without rows.
 ///
 /// # Errors
 ///
@@ -37,62 +37,51 @@ pub fn write_summary<W: Write>(
     let (packets, refused) = (summary.packets(), summary.verdict(VerdictKind::Refused));
     let flows = summary.flows();
     write_totals(output, summary)?;
-    write_table_if_any(output, "link type", &summary.links(), packets)?;
-    write_protocols(output, &summary.protocols())?;
-    write_table(output, "checksum", &summary.verdicts(), false)?;
-    write_table_if_any(output, "refused", &summary.refusals(), refused)?;
+    write_table(output, "link type", &summary.links(), packets)?;
+    write_protocols(output, &summary.protocols(), packets)?;
+    write_table(output, "checksum", &summary.verdicts(), packets)?;
+    write_table(output, "refused", &summary.refusals(), refused)?;
     write_conversations(output, busiest, flows.without_ports(), flows.without_room())
 }
 
-/// Writes a table after an empty line. Rows that count no packet are left out. The table is left out if `packets`, the number of its
-/// packets, is 0.
-fn write_table_if_any<W: Write>(
+/// Writes a table after an empty line. The table is left out if `packets`, the number of packets that it counts, is 0.
+fn write_table<W: Write>(
     output: &mut W,
     title: &str,
     rows: &[(&str, u64)],
     packets: u64,
 ) -> io::Result<()>
     ensures { OnOk result (Appends (W.contents output.old) (W.contents output.new)
-        (table_if_any packets title.now (map (λ row. (row.0.now, row.1)) rows.now))) }
+        (packets_table packets title.now (map (λ row. (row.0.now, row.1)) rows.now))) }
 {
     if packets == 0 {
         return Ok(());
     }
-    write_table(output, title, rows, true)
-}
-
-/// Writes a table that counts packets, after an empty line. If `leaves_out` is set, rows that count no packet are left out.
-fn write_table<W: Write>(
-    output: &mut W,
-    title: &str,
-    rows: &[(&str, u64)],
-    leaves_out: bool,
-) -> io::Result<()>
-    ensures { OnOk result (Appends (W.contents output.old) (W.contents output.new)
-        (codes "\n" ++ packets_table title.now leaves_out (map (λ row. (row.0.now, row.1)) rows.now))) }
-{
     writeln!(output, "\n{title:<NAME_WIDTH$} {:>11}", "packets")?;
     for row in rows {
-        write_row(output, row.0, row.1, leaves_out)?;
+        write_row(output, row.0, row.1)?;
     }
     Ok(())
 }
 
-/// Writes a row of a table that counts packets, unless it counts no packet and is left out.
-fn write_row<W: Write>(output: &mut W, name: &str, packets: u64, leaves_out: bool) -> io::Result<()>
-    ensures { OnOk result (Appends (W.contents output.old) (W.contents output.new) (specs.row_text leaves_out (name.now, packets))) }
+/// Writes a row of a table, unless it counts no packet.
+fn write_row<W: Write>(output: &mut W, name: &str, packets: u64) -> io::Result<()>
+    ensures { OnOk result (Appends (W.contents output.old) (W.contents output.new) (specs.packets_row (name.now, packets))) }
 {
-    if leaves_out && packets == 0 {
+    if packets == 0 {
         return Ok(());
     }
     writeln!(output, "{name:<NAME_WIDTH$} {packets:>11}")
 }
 
-/// Writes the numbers of packets and bytes of each protocol, after an empty line.
-fn write_protocols<W: Write>(output: &mut W, rows: &[(&str, Count)]) -> io::Result<()>
+/// Writes the numbers of packets and bytes of each protocol, after an empty line. The table is left out if there are no packets.
+fn write_protocols<W: Write>(output: &mut W, rows: &[(&str, Count)], packets: u64) -> io::Result<()>
     ensures { OnOk result (Appends (W.contents output.old) (W.contents output.new)
-        (codes "\n" ++ counts_table (codes "protocol") (map (λ row. (row.0.now, row.1)) rows.now))) }
+        (counts_table packets (codes "protocol") (map (λ row. (row.0.now, row.1)) rows.now))) }
 {
+    if packets == 0 {
+        return Ok(());
+    }
     let title = "protocol";
     writeln!(
         output,
@@ -105,11 +94,14 @@ fn write_protocols<W: Write>(output: &mut W, rows: &[(&str, Count)]) -> io::Resu
     Ok(())
 }
 
-/// Writes a row of a table that counts packets and bytes.
+/// Writes a row of the table of protocols, unless it counts no packet.
 fn write_count<W: Write>(output: &mut W, name: &str, count: Count) -> io::Result<()>
     ensures { OnOk result (Appends (W.contents output.old) (W.contents output.new) (specs.counts_row (name.now, count))) }
 {
     let Count { packets, bytes } = count;
+    if packets == 0 {
+        return Ok(());
+    }
     writeln!(output, "{name:<NAME_WIDTH$} {packets:>11} {bytes:>17}")
 }
 

@@ -9,32 +9,10 @@ use std::hash::RandomState;
 use std::process::Abort;
 use std::test::Fail;
 
-/// The head, the protocols and the checksums of a summary of no packet.
+/// The whole summary of no packet.
 const OF_NO_PACKET: &str = "\
 packets 0, bytes 0
 conversations 0
-
-protocol                      packets             bytes
-UDP                                 0                 0
-TCP                                 0                 0
-ICMPv4                              0                 0
-ICMPv6                              0                 0
-other over IP                       0                 0
-not IP                              0                 0
-unknown                             0                 0
-
-checksum                      packets
-right                               0
-wrong                               0
-not filled in                       0
-none                                0
-fragment                            0
-cut off                             0
-no length stated                    0
-final destination unknown           0
-another protocol                    0
-too long                            0
-refused                             0
 ";
 
 /// The whole summary of four packets: two of UDP, one in each direction, one of ICMPv6 and a refused one.
@@ -50,24 +28,12 @@ Ethernet                            4
 
 protocol                      packets             bytes
 UDP                                 2              1044
-TCP                                 0                 0
-ICMPv4                              0                 0
 ICMPv6                              1               200
-other over IP                       0                 0
-not IP                              0                 0
 unknown                             1                34
 
 checksum                      packets
 right                               2
 wrong                               1
-not filled in                       0
-none                                0
-fragment                            0
-cut off                             0
-no length stated                    0
-final destination unknown           0
-another protocol                    0
-too long                            0
 refused                             1
 
 refused                       packets

@@ -1,11 +1,11 @@
 use Rattle.std.proofs.Common.{take}
 use Rattle.std.specs.Io.KnownBytes.{Appends}
 use Rattle.std.specs.List.{flat_map}
-use Rattle.capture_text.specs.SummaryText.{row_text}
+use Rattle.capture_text.specs.SummaryText.{packets_row}
 use Rattle.capture_text.proofs.tables.write_table.Given as goal
 
 -- the rows so far
 abbrev pub invariant-loop-row : goal.invariant-loop-row
 invariant-loop-row g l =
     Appends (g.W.Write.contents l.initial.output) (g.W.Write.contents l.output)
-    (flat_map (λ row. row_text l.leaves_out (row.0.now, row.1)) (take l.row-index l.rows))
+    (flat_map (λ row. packets_row (row.0.now, row.1)) (take l.row-index l.rows))
