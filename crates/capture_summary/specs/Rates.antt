@@ -1,8 +1,12 @@
--- The rates per second.
+-- The averages of a summary: the bytes of a packet, and the rates per second.
 use Rattle.std.specs.Prelude.{ℕ, ◌*◌, ◌/◌, ◌==◌, if◌then◌else◌, Option, Some, None}
 use Rattle.capture_file.specs.PacketTimes.{nanoseconds_between, nanoseconds_per_second}
 use Rattle.capture_summary.specs.declared.rates.Rates.{Rates}
 use Rattle.capture_summary.specs.declared.time_span.TimeSpan.{TimeSpan}
+
+-- the average number of bytes of a packet, in whole numbers, unless there is no packet
+abbrev pub average_len : ℕ → ℕ → Option ℕ
+average_len packets bytes = if packets == 0 then None else Some (bytes / packets)
 
 -- the amount per second, in whole numbers, for this amount in this time
 abbrev pub per_second : ℕ → ℕ → ℕ

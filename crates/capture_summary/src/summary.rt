@@ -1,6 +1,7 @@
 ghost use Rattle.std.specs.Prelude.{◌≡◌, ◌↔◌, ◌<◌, ◌-◌, ◌^◌, ◌+◌, map, slice_index, slice_index_or, IsSome, OnOk, OnErr};
 ghost use Rattle.capture_summary.specs.SummaryTables.{CountsOne, IsBalanced, empty_tables, has_fault};
 ghost use Rattle.capture_summary.specs.Kinds.{link_place, link_rows, protocol_place, protocol_rows, refusal_place, refusal_rows, verdict_place, verdict_rows};
+ghost use Rattle.capture_summary.specs.Rates.{average_len};
 ghost use Rattle.capture_summary.specs.Tables.{no_packets};
 ghost use Rattle.capture_summary.specs.declared.verdict_kind.VerdictKind.TheVariants.{Refused};
 
@@ -118,6 +119,13 @@ impl Summary {
         ensures { result ≡ self.now.bytes }
     {
         self.bytes
+    }
+
+    /// The average number of bytes of a counted packet, rounded down, or `None` if no packet is counted.
+    pub fn average_len(&self) -> Option<u64>
+        ensures { result ≡ average_len self.now.packets self.now.bytes }
+    {
+        self.bytes.checked_div(self.packets)
     }
 
     /// The earliest and the latest of the known packet times, or `None` if no time is known.

@@ -3,16 +3,22 @@ use Rattle.std.specs.Prelude.{ℕ, List, [], ◌++◌, length, codes, decimal, O
 use Rattle.capture_file.specs.declared.packet_time.PacketTime.{PacketTime}
 use Rattle.capture_text.specs.AbsoluteTime.{absolute_text}
 use Rattle.capture_text.specs.Elapsed.{elapsed_text}
-use Rattle.capture_summary.specs.Rates.{rates_of}
+use Rattle.capture_summary.specs.Rates.{average_len, rates_of}
 use Rattle.capture_summary.specs.SummaryTables.{SummaryTables}
 use Rattle.capture_summary.specs.declared.rates.Rates.{Rates}
 use Rattle.capture_summary.specs.declared.time_span.TimeSpan.{TimeSpan}
 
--- the numbers of packets and bytes, and the number of conversations with a count of their own
+-- the average number of bytes of a packet, if there are packets
+abbrev pub average_text : Option ℕ → List ℕ
+average_text None = []
+average_text (Some bytes) = codes ", bytes a packet " ++ decimal bytes
+
+-- the numbers of packets and bytes, their average, and the number of conversations with a count of their own
 abbrev pub counts_text : SummaryTables → List ℕ
 counts_text tables =
     codes "packets " ++ (decimal tables.packets ++ (codes ", bytes " ++ (decimal tables.bytes
-    ++ (codes "\nconversations " ++ (decimal (length tables.flows.rows) ++ codes "\n")))))
+    ++ (average_text (average_len tables.packets tables.bytes)
+    ++ (codes "\nconversations " ++ (decimal (length tables.flows.rows) ++ codes "\n"))))))
 
 -- the numbers of packets and bits per second, if they are known
 abbrev pub rates_text : Option Rates → List ℕ

@@ -10,8 +10,8 @@ use capture_summary::{Rates, Summary, TimeSpan};
 use std::io;
 use std::io::Write;
 
-/// Writes the numbers of packets, bytes and conversations. If a time is known, it also writes the times of the packets. It writes the rates
-/// per second unless the earliest and the latest time are equal.
+/// Writes the numbers of packets, bytes and conversations, and the average number of bytes of a packet. If a time is known, it also writes
+/// the times of the packets. It writes the rates per second unless the earliest and the latest time are equal.
 pub(crate) fn write_totals<W: Write>(output: &mut W, summary: &Summary) -> io::Result<()>
     ensures { OnOk result (Appends (W.contents output.old) (W.contents output.new) (specs.totals_text summary.now)) }
 {
@@ -19,16 +19,25 @@ pub(crate) fn write_totals<W: Write>(output: &mut W, summary: &Summary) -> io::R
     write_times(output, summary, summary.span())
 }
 
-/// Writes the numbers of packets and bytes, and the number of conversations with a count of their own.
+/// Writes the numbers of packets and bytes, their average, and the number of conversations with a count of their own.
 fn write_counts<W: Write>(output: &mut W, summary: &Summary) -> io::Result<()>
     ensures { OnOk result (Appends (W.contents output.old) (W.contents output.new) (specs.counts_text summary.now)) }
 {
     let (packets, bytes) = (summary.packets(), summary.bytes());
     let conversations = summary.flows().counts().len();
-    writeln!(
-        output,
-        "packets {packets}, bytes {bytes}\nconversations {conversations}"
-    )
+    write!(output, "packets {packets}, bytes {bytes}")?;
+    write_average(output, summary.average_len())?;
+    writeln!(output, "\nconversations {conversations}")
+}
+
+/// Writes the average number of bytes of a packet, if there are packets.
+fn write_average<W: Write>(output: &mut W, average: Option<u64>) -> io::Result<()>
+    ensures { OnOk result (Appends (W.contents output.old) (W.contents output.new) (specs.average_text average)) }
+{
+    match average {
+        Some(bytes) => write!(output, ", bytes a packet {bytes}"),
+        None => Ok(()),
+    }
 }
 
 /// Writes the times of the packets, if a time is known.

@@ -563,9 +563,9 @@ const TO_TEN: &str =
 /// The port that is chosen, the status, and the lines of packets and the totals.
 #[rattlefmt::skip]
 const OF_PORTS: [(u16, u8, [&str; 3]); 4] = [
-    (7, 4, [LINE, TO_TEN, "\npackets 2, bytes 58\n"]),
-    (9, 0, [LINE, "", "\npackets 1, bytes 29\n"]),
-    (10, 4, ["", TO_TEN, "\npackets 1, bytes 29\n"]),
+    (7, 4, [LINE, TO_TEN, "\npackets 2, bytes 58, bytes a packet 29\n"]),
+    (9, 0, [LINE, "", "\npackets 1, bytes 29, bytes a packet 29\n"]),
+    (10, 4, ["", TO_TEN, "\npackets 1, bytes 29, bytes a packet 29\n"]),
     (11, 0, ["", "", "\npackets 0, bytes 0\n"]),
 ];
 

@@ -284,9 +284,9 @@ type SummaryRow = (&'static [&'static str], Asked, u8, [&'static str; 3]);
 
 #[rattlefmt::skip]
 static SUMMARIES: [SummaryRow; 4] = [
-    (&["right", "missing", "wrong"], Asked::CheckedAll, 3, [WITH_MISSING, "\n", "packets 2, bytes 58\nconversations 2\n"]),
-    (&["right", "wrong"], Asked::CheckedAll, 4, [OF_TWO, "\n", "packets 2, bytes 58\nconversations 2\n"]),
-    (&["right", "cut", "zero"], Asked::OnlySummary, 1, ["", "", "packets 2, bytes 58\nconversations 1\n"]),
+    (&["right", "missing", "wrong"], Asked::CheckedAll, 3, [WITH_MISSING, "\n", "packets 2, bytes 58, bytes a packet 29\nconversations 2\n"]),
+    (&["right", "wrong"], Asked::CheckedAll, 4, [OF_TWO, "\n", "packets 2, bytes 58, bytes a packet 29\nconversations 2\n"]),
+    (&["right", "cut", "zero"], Asked::OnlySummary, 1, ["", "", "packets 2, bytes 58, bytes a packet 29\nconversations 1\n"]),
     (&["right", "a \"name\"", "wrong"], Asked::AllObjects, 3,
      [OBJECTS, r#"{"busiest_conversations":[{"bytes":29,"destination":"192.0.2.2","destination_port":9,"#, r#""forward":{"bytes":29,"packets":1},"#]),
 ];

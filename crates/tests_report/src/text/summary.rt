@@ -17,7 +17,7 @@ conversations 0
 
 /// The whole summary of four packets: two of UDP, one in each direction, one of ICMPv6 and a refused one.
 const OF_FOUR_PACKETS: &str = "\
-packets 4, bytes 1278
+packets 4, bytes 1278, bytes a packet 319
 conversations 1
 first packet 2023-11-14T22:13:19.000000Z
 last packet 2023-11-14T22:13:24.000000Z
