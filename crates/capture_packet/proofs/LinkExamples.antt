@@ -2,7 +2,7 @@
 use Rattle.std.proofs.Common.{◌≡◌, ◌<◌, ◌≤◌, ℕ, zero, suc, false, List, [], ◌∷◌, ◌++◌, Option, Some, None, Ok, arith, inl, inr, length, refl, replicate}
 use Rattle.capture_file.specs.declared.byte_order.ByteOrder.TheVariants.{BigEndian, LittleEndian}
 use Rattle.capture_file.specs.declared.link_type.LinkType.TheVariants.{BsdLoopback, CiscoHdlc, Ethernet, FrameRelay, Ieee80211, LinuxCooked, LinuxCooked2, OpenBsdLoopback, Ppp, PppHdlc, Radiotap, RawIp}
-use Rattle.capture_packet.specs.Link.{HasEtherHeader, HasLinkHeader, NeedsLinkHeader, after_ether_type, ether_type_after, is_vlan_tag, tagged_len}
+use Rattle.capture_packet.specs.Link.{HasEtherHeader, HasLinkHeader, NeedsLinkHeader, after_tags, ether_type_after, is_vlan_tag, tagged_len}
 use Rattle.capture_packet.specs.declared.content.NetworkProtocol.{NetworkProtocol}
 use Rattle.capture_packet.specs.declared.content.NetworkProtocol.TheVariants.{AddressFamily, EtherType, Ieee80211 as OtherFrame, Llc, Nlpid, PppProtocol}
 use Rattle.capture_packet.specs.declared.link.header.EtherHeader.{EtherHeader}
@@ -20,7 +20,7 @@ addresses = replicate 6 2 ++ replicate 6 3
 -- a header without tags
 no_tag : (header : EtherHeader) (frame : List ℕ) (len : ℕ) (next : Option NetworkProtocol)
     → is_vlan_tag (ether_type_after header frame 0) ≡ false → tagged_len header 0 ≤ length frame
-    → after_ether_type frame (tagged_len header 0) (ether_type_after header frame 0) ≡ Ok (record { len = len; next = next })
+    → after_tags header frame (tagged_len header 0) (ether_type_after header frame 0) ≡ Ok (record { len = len; next = next })
     → HasEtherHeader header frame len next
 no_tag header frame len next last there says = record {
   tags = 0;

@@ -125,7 +125,7 @@ impl Summary {
     pub fn average_len(&self) -> Option<u64>
         ensures { result ≡ average_len self.now.packets self.now.bytes }
     {
-        self.bytes.checked_div(self.packets)
+        self.bytes.checked_div(self.packets())
     }
 
     /// The earliest and the latest of the known packet times, or `None` if no time is known.
