@@ -59,11 +59,11 @@ impl Flows {
         }
     }
 
-    /// Counts a packet of this length in bytes, of this flow or without ports. `packets` returns the number that has to be below `u64::MAX`.
+    /// Counts a packet of this length in bytes, of this flow or without ports. The number that `packets` returns must be below `u64::MAX`.
     ///
     /// # Errors
     ///
-    /// `AllocError` if no memory is left. All counts are then unchanged.
+    /// `AllocError` if no memory is left, and for no other reason. All counts are then unchanged.
     pub fn add(&mut self, flow: Option<Flow>, len: u64) -> Result<(), AllocError>
         requires room { packets_counted self.old < 2 ^ 64 - 1 }
         ensures ok { OnOk result (self.new ≡ table_counted flow len self.old) }
@@ -88,7 +88,7 @@ impl Flows {
         Ok(())
     }
 
-    /// The number of counted packets. `add` accepts one more packet if it is below `u64::MAX`.
+    /// The number of counted packets. If it is below `u64::MAX`, `add` can count one more packet.
     pub fn packets(&self) -> u64
         ensures { result ≡ packets_counted self.now }
     {
@@ -121,7 +121,7 @@ impl Flows {
     ///
     /// # Errors
     ///
-    /// `AllocError` if no memory is left.
+    /// `AllocError` if no memory is left, and for no other reason.
     pub fn busiest(&self, alloc: Global, top: usize) -> Result<Vec<ConversationCount>, AllocError>
         ensures busiest { IfOk result (λ busiest. busiest.items ≡ busiest_of top self.now.rows) }
         ensures ranked { IfOk result (λ busiest. AreBusiest top self.now.rows busiest.items) }

@@ -73,11 +73,12 @@ impl Summary {
         }
     }
 
-    /// Counts a packet of these kinds, of this flow or without ports. `info` is the data about the packet in its capture.
+    /// Counts a packet of these kinds, of this flow or without ports. `info` is the data about the packet in its capture. The number that
+    /// `packets` returns must be below `u64::MAX`.
     ///
     /// # Errors
     ///
-    /// `AllocError` if no memory is left. The packet is then not counted, and all counts are unchanged.
+    /// `AllocError` if no memory is left, and for no other reason. The packet is then not counted, and all counts are unchanged.
     pub fn add(
         &mut self,
         protocol: Protocol,
