@@ -15,19 +15,12 @@ use std::io::Write;
 pub(crate) fn write_totals<W: Write>(output: &mut W, summary: &Summary) -> io::Result<()>
     ensures { OnOk result (Appends (W.contents output.old) (W.contents output.new) (specs.totals_text summary.now)) }
 {
-    write_counts(output, summary)?;
-    write_times(output, summary, summary.span())
-}
-
-/// Writes the numbers of packets and bytes, their average, and the number of conversations with a count of their own.
-fn write_counts<W: Write>(output: &mut W, summary: &Summary) -> io::Result<()>
-    ensures { OnOk result (Appends (W.contents output.old) (W.contents output.new) (specs.counts_text summary.now)) }
-{
     let (packets, bytes) = (summary.packets(), summary.bytes());
     let conversations = summary.flows().counts().len();
     write!(output, "packets {packets}, bytes {bytes}")?;
     write_average(output, summary.average_len())?;
-    writeln!(output, "\nconversations {conversations}")
+    writeln!(output, "\nconversations {conversations}")?;
+    write_times(output, summary, summary.span())
 }
 
 /// Writes the average number of bytes of a packet, if there are packets.

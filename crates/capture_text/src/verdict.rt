@@ -185,12 +185,10 @@ fn write_ip_error<W: Write>(output: &mut W, error: &IpError) -> io::Result<()>
             "IP extension header {} at byte {offset} needs {required_len} bytes, has {len}",
             protocol.0
         ),
-        IpError::JumboPayloadMissing => {
-            write!(
-                output,
-                "IPv6 payload length 0 without a jumbo payload option"
-            )
-        }
+        IpError::JumboPayloadMissing => write!(
+            output,
+            "IPv6 payload length 0 without a jumbo payload option"
+        ),
         IpError::JumboPayloadLength { jumbo_payload_len } => write!(
             output,
             "IPv6 jumbo payload length {jumbo_payload_len}, not above 65535"
