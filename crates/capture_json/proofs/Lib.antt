@@ -1,4 +1,3 @@
 mod JsonLaws
 mod JsonLemmas
-pub mod MembersLemmas
-mod NoFloats
+pub mod TokensLemmas

@@ -123,22 +123,26 @@ AreTcpMembers segment members =
     (header : List Member) × AreTcpHeaderMembers segment header
     × (members ≡ header_port_members segment ++ ((codes "tcp", object_of header) ∷ []))
 
--- an ICMP message with this type, code and text
-abbrev pub message_data : ℕ → ℕ → List ℕ → Data
-message_data type code text = object_of
-    ((codes "type", whole_number type) ∷ (codes "code", whole_number code) ∷ (codes "message", string text) ∷ [])
+-- the type, the code and the text of an ICMP message
+abbrev pub message_fields : ℕ → ℕ → List ℕ → List Member
+message_fields type code text =
+    (codes "type", whole_number type) ∷ (codes "code", whole_number code) ∷ (codes "message", string text) ∷ []
 
 -- an ICMPv4 message; type and code are bytes 0 and 1
 abbrev pub icmpv4_members : List ℕ → List Member
-icmpv4_members message =
-    (codes "icmpv4", message_data (slice_index message 0) (slice_index message 1) (icmpv4_text.message_text (icmpv4.icmp_type_of message)))
-    ∷ []
+icmpv4_members message = (
+  codes "icmpv4",
+  object_of (message_fields (slice_index message 0) (slice_index message 1)
+      (icmpv4_text.message_text (icmpv4.icmp_type_of message))),
+) ∷ []
 
 -- an ICMPv6 message; type and code are bytes 0 and 1
 abbrev pub icmpv6_members : List ℕ → List Member
-icmpv6_members message =
-    (codes "icmpv6", message_data (slice_index message 0) (slice_index message 1) (icmpv6_text.message_text (icmpv6.icmp_type_of message)))
-    ∷ []
+icmpv6_members message = (
+  codes "icmpv6",
+  object_of (message_fields (slice_index message 0) (slice_index message 1)
+      (icmpv6_text.message_text (icmpv6.icmp_type_of message))),
+) ∷ []
 
 -- these members are a transport with a header that is read
 abbrev pub AreReadMembers : TransportSlice → List Member → Type 0
@@ -173,14 +177,14 @@ quoted_port_members None = []
 quoted_port_members (Some ports) = port_members ports.0 ports.1
 
 -- a quoted packet: its addresses, its protocol, and its ports
-abbrev pub quoted_data : Quoted → Data
-quoted_data quoted = object_of
-    (address_members quoted.addresses ++ (ip_protocol_members quoted.protocol quoted.proto ++ quoted_port_members quoted.ports))
+abbrev pub quoted_fields : Quoted → List Member
+quoted_fields quoted =
+    address_members quoted.addresses ++ (ip_protocol_members quoted.protocol quoted.proto ++ quoted_port_members quoted.ports)
 
 -- the packet that an ICMP error quotes, if its IP headers are read
 abbrev pub quoted_members : Option Quoted → List Member
 quoted_members None = []
-quoted_members (Some quoted) = (codes "quoted", quoted_data quoted) ∷ []
+quoted_members (Some quoted) = (codes "quoted", object_of (quoted_fields quoted)) ∷ []
 
 -- ---- the content of a packet
 

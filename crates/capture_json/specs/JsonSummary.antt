@@ -2,9 +2,8 @@
 use Rattle.std.specs.Prelude.{ℕ, ◌-◌, ◌^◌, min, List, [], ◌∷◌, ◌++◌, map, codes, length, Option, Some, None}
 use Rattle.std.specs.Net.Socket.{socket_ip, socket_port}
 use Rattle.std.specs.Net.Text.{ip_text}
-use Rattle.capture_json.specs.Members.{Member, object_of, whole_number}
-use Rattle.serde_json.specs.Data.{Data, array, string}
-use Rattle.serde_json.specs.View.{items_of}
+use Rattle.capture_json.specs.Members.{Member, array_of, object_of, whole_number}
+use Rattle.serde_json.specs.Data.{Data, string}
 use Rattle.capture_summary.specs.Rates.{rates_of}
 use Rattle.capture_summary.specs.declared.rates.Rates.{Rates}
 use Rattle.capture_text.specs.AbsoluteTime.{absolute_text}
@@ -53,16 +52,23 @@ flow_members flow =
     ∷ (codes "destination_port", whole_number (socket_port flow.destination)) ∷ []
 
 -- a conversation with the direction seen first, the count of its packets, and the count of each direction
-abbrev pub conversation_data : ConversationCount → Data
-conversation_data row =
-    object_of (flow_members row.flow ++ (count_members (both row)
-    ++ (codes "forward", object_of (count_members row.forward)) ∷ (codes "reverse", object_of (count_members row.reverse)) ∷ []))
+abbrev pub conversation_members : ConversationCount → List Member
+conversation_members row =
+    flow_members row.flow ++ (count_members (both row)
+    ++ (codes "forward", object_of (count_members row.forward)) ∷ (codes "reverse", object_of (count_members row.reverse)) ∷ [])
 
--- the conversations with the most packets, and the packets that no conversation counts
-abbrev pub conversations_members : List ConversationCount → Count → Count → List Member
-conversations_members busiest without_ports without_room =
-    (codes "busiest_conversations", array (items_of (map conversation_data busiest)))
-    ∷ (codes "packets_without_ports", object_of (count_members without_ports))
+-- a conversation, as an object
+abbrev pub conversation_data : ConversationCount → Data
+conversation_data row = object_of (conversation_members row)
+
+-- the conversations with the most packets
+abbrev pub busiest_member : List ConversationCount → Member
+busiest_member busiest = (codes "busiest_conversations", array_of (map conversation_data busiest))
+
+-- the packets that no conversation counts
+abbrev pub uncounted_members : Count → Count → List Member
+uncounted_members without_ports without_room =
+    (codes "packets_without_ports", object_of (count_members without_ports))
     ∷ (codes "packets_of_other_flows", object_of (count_members without_room)) ∷ []
 
 -- ---- the summary
@@ -87,20 +93,20 @@ totals_members tables =
     (codes "packets", whole_number tables.packets) ∷ (codes "bytes", whole_number tables.bytes)
     ∷ (codes "conversations", whole_number (length tables.flows.rows)) ∷ span_members tables tables.span
 
--- the tables, with these conversations
-abbrev pub rows_members : List ConversationCount → SummaryTables → List Member
-rows_members busiest tables =
+-- the tables of link types, protocols, checksums and refusals
+abbrev pub rows_members : SummaryTables → List Member
+rows_members tables =
     (codes "link_types", rows_data (link_rows tables.links)) ∷ (codes "protocols", counts_data (protocol_rows tables.protocols))
-    ∷ (codes "checksums", rows_data (verdict_rows tables.verdicts)) ∷ (codes "refusals", rows_data (refusal_rows tables.refusals))
-    ∷ conversations_members busiest tables.flows.without_ports tables.flows.without_room
+    ∷ (codes "checksums", rows_data (verdict_rows tables.verdicts)) ∷ (codes "refusals", rows_data (refusal_rows tables.refusals)) ∷ []
 
--- the totals and the tables, with these conversations
-abbrev pub tables_members : List ConversationCount → SummaryTables → List Member
-tables_members busiest tables = totals_members tables ++ rows_members busiest tables
+-- the type, the totals and the tables
+abbrev pub tables_members : SummaryTables → List Member
+tables_members tables = type_member (codes "summary") ∷ (totals_members tables ++ rows_members tables)
 
--- the type, the totals and the tables, with these conversations
+-- the type, the totals, the tables, and these conversations
 abbrev pub summary_members : List ConversationCount → SummaryTables → List Member
-summary_members busiest tables = type_member (codes "summary") ∷ tables_members busiest tables
+summary_members busiest tables =
+    tables_members tables ++ busiest_member busiest ∷ uncounted_members tables.flows.without_ports tables.flows.without_room
 
 -- the line of the summary, with at most this number of the busiest conversations
 abbrev pub json_summary : ℕ → SummaryTables → List ℕ

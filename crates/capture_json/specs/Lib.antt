@@ -1,4 +1,5 @@
 pub mod JsonPacket
 pub mod JsonSummary
 pub mod Members
+pub mod Tokens
 pub mod Words

@@ -5,7 +5,7 @@ ghost use Rattle.std.specs.Io.KnownBytes.{Appends};
 ghost use Rattle.capture_json.specs.JsonPacket.{file_members, json_line};
 
 use crate::text::write_line;
-use crate::{Object, WriteError};
+use crate::{Line, WriteError};
 use std::alloc::Global;
 use std::io::Write;
 
@@ -21,8 +21,9 @@ pub fn write_file_name<W: Write>(
 ) -> Result<(), WriteError>
     ensures { OnOk result (Appends (W.contents output.old) (W.contents output.new) (json_line (file_members name.now))) }
 {
-    let mut object = Object::new(alloc);
-    object.put_text("type", "file")?;
-    object.put_text("file", name)?;
-    write_line(output, object)
+    let mut line = Line::new(alloc)?;
+    line.begin_item()?;
+    line.put_text("type", "file")?;
+    line.put_text("file", name)?;
+    write_line(output, line)
 }

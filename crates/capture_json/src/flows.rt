@@ -1,110 +1,147 @@
 //! The table of conversations, and counts.
 
-ghost use Rattle.std.specs.Prelude.{◌≡◌, ◌++◌, IfOk, OnOk, codes, map};
+ghost use Rattle.std.specs.Prelude.{◌≡◌, OnOk};
+ghost use Rattle.std.specs.Io.KnownBytes.{Appends};
 ghost use Rattle.std.specs.Net.Socket.{socket_ip, socket_port};
 ghost use Rattle.std.specs.Net.Text.{ip_text};
-ghost use Rattle.capture_json.specs.Members.{items_in, members_in, object_of, whole_number, with_members};
-ghost use Rattle.serde_json.specs.Data.{object, put, string};
+ghost use Rattle.capture_json.specs.Members.{object_of, whole_number};
+ghost use Rattle.capture_json.specs.Tokens.{later_row, push, put, rows_text, tokens_in, with_members};
+ghost use Rattle.serde_json.specs.Data.{string};
+ghost use Rattle.serde_json.specs.Written.{compact_text};
 ghost use Rattle.capture_json.specs.JsonSummary as specs;
-ghost use Rattle.capture_json.specs.JsonSummary.{count_members, conversation_data, conversations_members};
+ghost use Rattle.capture_json.specs.JsonSummary.{conversation_data, conversation_members, count_members, uncounted_members};
 
-use crate::{Array, Object};
+use crate::text::{put_written, write_bytes, write_part};
+use crate::{Line, WriteError};
 use capture_summary::{ConversationCount, Count, Flow};
 use std::alloc::{AllocError, Global};
+use std::io;
+use std::io::Write;
 use std::net::SocketAddr;
 
-/// Adds the conversations with the most packets, and the packets that no conversation counts.
-pub fn put_conversations(
-    object: &mut Object,
-    alloc: Global,
-    busiest: &[ConversationCount],
-    without_ports: Count,
-    without_room: Count,
-) -> Result<(), AllocError>
-    ensures { OnOk result (members_in object.new ≡ with_members (conversations_members busiest.now without_ports without_room) (members_in object.old)) }
-{
-    let rows = conversation_rows(alloc, busiest)?;
-    object.put_array("busiest_conversations", rows)?;
-    put_count(object, alloc, "packets_without_ports", without_ports)?;
-    put_count(object, alloc, "packets_of_other_flows", without_room)
-}
-
-/// A row for each of these conversations.
-fn conversation_rows(
+/// Writes a row for each of these conversations, with a comma between two. A row is in memory only until it is written.
+pub fn write_rows<W: Write>(
+    output: &mut W,
     alloc: Global,
     conversations: &[ConversationCount],
-) -> Result<Array, AllocError>
-    ensures { IfOk result (λ rows. items_in rows ≡ map conversation_data conversations.now) }
+) -> Result<(), WriteError>
+    ensures { OnOk result (Appends (W.contents output.old) (W.contents output.new) (rows_text conversation_data conversations.now)) }
 {
-    let mut rows = Array::new(alloc);
-    for conversation in conversations {
-        rows.push_object(conversation_row(alloc, conversation)?)?;
+    let Some((first, others)) = conversations.split_first() else {
+        return Ok(());
+    };
+    write_row(output, alloc, first)?;
+    for conversation in others {
+        write_later_row(output, alloc, conversation)?;
     }
-    Ok(rows)
+    Ok(())
 }
 
-/// A conversation with the direction seen first, the count of its packets, and the count of each direction.
-fn conversation_row(alloc: Global, row: &ConversationCount) -> Result<Object, AllocError>
-    ensures { IfOk result (λ value. object (members_in value) ≡ conversation_data row.now) }
+/// Writes a comma and the row of a conversation.
+fn write_later_row<W: Write>(
+    output: &mut W,
+    alloc: Global,
+    conversation: &ConversationCount,
+) -> Result<(), WriteError>
+    ensures { OnOk result (Appends (W.contents output.old) (W.contents output.new) (later_row conversation_data conversation.now)) }
 {
-    let mut object = Object::new(alloc);
-    put_flow(&mut object, alloc, &row.flow)?;
-    put_packets_and_bytes(&mut object, row.both())?;
-    put_count(&mut object, alloc, "forward", row.forward)?;
-    put_count(&mut object, alloc, "reverse", row.reverse)?;
-    Ok(object)
+    write_bytes(output, b",")?;
+    write_row(output, alloc, conversation)
 }
 
-/// Adds the protocol of a flow, its source and its destination.
-fn put_flow(object: &mut Object, alloc: Global, flow: &Flow) -> Result<(), AllocError>
-    ensures { OnOk result (members_in object.new ≡ with_members (specs.flow_members flow.now) (members_in object.old)) }
+/// Writes the row of a conversation.
+fn write_row<W: Write>(
+    output: &mut W,
+    alloc: Global,
+    conversation: &ConversationCount,
+) -> Result<(), WriteError>
+    ensures { OnOk result (Appends (W.contents output.old) (W.contents output.new) (compact_text (conversation_data conversation.now))) }
 {
-    object.put_number("protocol", u64::from(flow.protocol.number().0))?;
-    object.put_text("protocol_name", flow.protocol.name())?;
-    put_socket(object, alloc, "source", "source_port", &flow.source)?;
+    let mut line = Line::new(alloc)?;
+    let mut room = Vec::new(alloc);
+    match push_row(&mut line, &mut room, conversation) {
+        Ok(()) => write_part(output, line),
+        Err(_) => Err(WriteError::NoMemory),
+    }
+}
+
+/// Writes the row of a conversation as an item.
+fn push_row(line: &mut Line, room: &mut Vec<u8>, row: &ConversationCount) -> io::Result<()>
+    ensures { OnOk result (tokens_in line.new ≡ push (conversation_data row.now) (tokens_in line.old)) }
+{
+    line.begin_item()?;
+    put_conversation(line, room, row)?;
+    Ok(line.end_object()?)
+}
+
+/// Writes a conversation with the direction seen first, the count of its packets, and the count of each direction.
+fn put_conversation(line: &mut Line, room: &mut Vec<u8>, row: &ConversationCount) -> io::Result<()>
+    ensures { OnOk result (tokens_in line.new ≡ with_members (conversation_members row.now) (tokens_in line.old)) }
+{
+    put_flow(line, room, &row.flow)?;
+    put_packets_and_bytes(line, row.both())?;
+    put_count(line, "forward", row.forward)?;
+    Ok(put_count(line, "reverse", row.reverse)?)
+}
+
+/// Writes the protocol of a flow, its source and its destination.
+fn put_flow(line: &mut Line, room: &mut Vec<u8>, flow: &Flow) -> io::Result<()>
+    ensures { OnOk result (tokens_in line.new ≡ with_members (specs.flow_members flow.now) (tokens_in line.old)) }
+{
+    line.put_number("protocol", u64::from(flow.protocol.number().0))?;
+    line.put_text("protocol_name", flow.protocol.name())?;
+    put_socket(line, room, "source", "source_port", &flow.source)?;
     put_socket(
-        object,
-        alloc,
+        line,
+        room,
         "destination",
         "destination_port",
         &flow.destination,
     )
 }
 
-/// Adds an address and a port under these names.
+/// Writes an address and a port under these names.
 fn put_socket(
-    object: &mut Object,
-    alloc: Global,
+    line: &mut Line,
+    room: &mut Vec<u8>,
     address_name: &str,
     port_name: &str,
     socket: &SocketAddr,
-) -> Result<(), AllocError>
-    ensures { OnOk result (members_in object.new ≡ put port_name.now (whole_number (socket_port socket.now))
-        (put address_name.now (string (ip_text (socket_ip socket.now))) (members_in object.old))) }
+) -> io::Result<()>
+    ensures { OnOk result (tokens_in line.new ≡ put port_name.now (whole_number (socket_port socket.now))
+        (put address_name.now (string (ip_text (socket_ip socket.now))) (tokens_in line.old))) }
 {
-    let address = format!(in alloc; "{}", socket.ip())?;
-    object.put_text(address_name, address.as_str())?;
-    object.put_number(port_name, u64::from(socket.port()))
+    room.clear();
+    write!(room, "{}", socket.ip())?;
+    put_written(line, address_name, room.as_slice())?;
+    Ok(line.put_number(port_name, u64::from(socket.port()))?)
 }
 
-/// Adds a count under a name.
-pub fn put_count(
-    object: &mut Object,
-    alloc: Global,
-    name: &str,
-    count: Count,
+/// Writes the packets that no conversation counts.
+pub fn put_uncounted(
+    line: &mut Line,
+    without_ports: Count,
+    without_room: Count,
 ) -> Result<(), AllocError>
-    ensures { OnOk result (members_in object.new ≡ put name.now (object_of (count_members count)) (members_in object.old)) }
+    ensures { OnOk result (tokens_in line.new ≡ with_members (uncounted_members without_ports without_room) (tokens_in line.old)) }
 {
-    let mut value = Object::new(alloc);
-    put_packets_and_bytes(&mut value, count)?;
-    object.put_object(name, value)
+    put_count(line, "packets_without_ports", without_ports)?;
+    put_count(line, "packets_of_other_flows", without_room)
 }
 
-/// Adds the packets and bytes of a count.
-fn put_packets_and_bytes(object: &mut Object, count: Count) -> Result<(), AllocError>
-    ensures { OnOk result (members_in object.new ≡ with_members (count_members count) (members_in object.old)) }
+/// Writes a count under a name.
+pub fn put_count(line: &mut Line, name: &str, count: Count) -> Result<(), AllocError>
+    ensures { OnOk result (tokens_in line.new ≡ put name.now (object_of (count_members count)) (tokens_in line.old)) }
 {
-    object.put_number("packets", count.packets)?;
-    object.put_number("bytes", count.bytes)
+    line.begin_object(name)?;
+    put_packets_and_bytes(line, count)?;
+    line.end_object()
+}
+
+/// Writes the packets and bytes of a count.
+fn put_packets_and_bytes(line: &mut Line, count: Count) -> Result<(), AllocError>
+    ensures { OnOk result (tokens_in line.new ≡ with_members (count_members count) (tokens_in line.old)) }
+{
+    line.put_number("packets", count.packets)?;
+    line.put_number("bytes", count.bytes)
 }

@@ -1,21 +1,20 @@
 //! Packets and the summary as JSON (RFC 8259), each as an object in a line.
 //!
-//! Names are whole words joined by underscores, and numbers are whole numbers. A member that does not apply is left out. `Object` and
-//! `Array` are values of `serde_json`. Their contracts state the text that is written: no number has a fraction.
+//! Names are whole words joined by underscores, and numbers are whole numbers. A member that does not apply is left out. Members are
+//! written in the order of their definitions, into the memory of one `Line`. The contracts state the text that is written.
 //!
 //! ```text
-//! {"number":1,"source":"192.0.2.1","type":"packet","udp":{"length":40}}
+//! {"type":"packet","number":1,"source":"192.0.2.1","udp":{"length":40}}
 //! ```
 #![tactic(auto)]
 
 mod addresses;
-mod array;
 mod file_name;
 mod flows;
 mod icmp;
 pub mod laws;
+mod line;
 mod network;
-mod object;
 mod packet;
 mod protocol;
 mod quoted;
@@ -26,9 +25,8 @@ mod totals;
 mod verdict;
 mod write_error;
 
-pub use array::Array;
 pub use file_name::write_file_name;
-pub use object::Object;
+use line::Line;
 pub use packet::write_packet;
 pub use summary::write_summary;
 pub use write_error::WriteError;

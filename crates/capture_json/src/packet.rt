@@ -2,8 +2,7 @@
 
 ghost use Rattle.std.specs.Prelude.{◌≡◌, OnOk, codes};
 ghost use Rattle.ip_part.specs.Addresses.{by_value};
-ghost use Rattle.capture_json.specs.Members.{PutsOne, members_in, with_members};
-ghost use Rattle.serde_json.specs.Data.{put};
+ghost use Rattle.capture_json.specs.Tokens.{PutsOne, put, tokens_in, with_members};
 ghost use Rattle.capture_json.specs.JsonPacket.{AreContentMembers, ArePacketMembers, AreReadMembers, AreTransportMembers, IsJsonLine, time_data, udp_members};
 ghost use Rattle.capture_text.specs.Written.{AppendsOne};
 
@@ -15,7 +14,7 @@ use crate::quoted::put_quoted;
 use crate::tcp::put_tcp;
 use crate::text::{put_written, write_line};
 use crate::verdict::put_verdict;
-use crate::{Object, WriteError};
+use crate::{Line, WriteError};
 use capture_file::PacketTime;
 use capture_packet::{Content, Packet, Transport};
 use capture_text::{Times, write_time};
@@ -23,6 +22,9 @@ use etherparse_transport::{TransportSlice, UdpSlice};
 use std::alloc::{AllocError, Global};
 use std::io;
 use std::io::Write;
+
+/// The bytes that most texts in a line fit into.
+const TEXT_ROOM: usize = 64;
 
 /// Writes a packet as a JSON object of the type `packet` in a line: its number, its time, its addresses, its content and its verdict.
 ///
@@ -41,58 +43,60 @@ pub fn write_packet<W: Write>(
     ensures { OnOk result (AppendsOne (W.contents output.old) (W.contents output.new)
         (IsJsonLine times number first time packet.now.content packet.now.verdict)) }
 {
-    let mut object = Object::new(alloc);
-    match put_packet(&mut object, alloc, times, number, first, time, packet) {
-        Ok(()) => write_line(output, object),
+    let mut line = Line::new(alloc)?;
+    line.begin_item()?;
+    let mut room = Vec::with_capacity(alloc, TEXT_ROOM)?;
+    match put_packet(&mut line, &mut room, times, number, first, time, packet) {
+        Ok(()) => write_line(output, line),
         Err(_) => Err(WriteError::NoMemory),
     }
 }
 
-/// Adds the members of a packet.
+/// Writes the members of a packet.
 fn put_packet(
-    object: &mut Object,
-    alloc: Global,
+    line: &mut Line,
+    room: &mut Vec<u8>,
     times: Times,
     number: u64,
     first: Option<PacketTime>,
     time: Option<PacketTime>,
     packet: &Packet,
 ) -> io::Result<()>
-    ensures { OnOk result (PutsOne (ArePacketMembers times number first time packet.now.content packet.now.verdict) (members_in object.old) (members_in object.new)) }
+    ensures { OnOk result (PutsOne (ArePacketMembers times number first time packet.now.content packet.now.verdict) (tokens_in line.old) (tokens_in line.new)) }
 {
-    object.put_text("type", "packet")?;
-    object.put_number("number", number)?;
-    put_time(object, alloc, times, first, time)?;
-    put_content(object, alloc, &packet.content)?;
-    put_verdict(object, alloc, &packet.verdict)
+    line.put_text("type", "packet")?;
+    line.put_number("number", number)?;
+    put_time(line, room, times, first, time)?;
+    put_content(line, room, &packet.content)?;
+    put_verdict(line, room, &packet.verdict)
 }
 
-/// Adds the time of a packet, as in a line of text.
+/// Writes the time of a packet, as in a line of text.
 fn put_time(
-    object: &mut Object,
-    alloc: Global,
+    line: &mut Line,
+    room: &mut Vec<u8>,
     times: Times,
     first: Option<PacketTime>,
     time: Option<PacketTime>,
 ) -> io::Result<()>
-    ensures { OnOk result (members_in object.new ≡ put (codes "time") (time_data times first time) (members_in object.old)) }
+    ensures { OnOk result (tokens_in line.new ≡ put (codes "time") (time_data times first time) (tokens_in line.old)) }
 {
     if time.is_none() {
-        return Ok(object.put_null("time")?);
+        return Ok(line.put_null("time")?);
     }
-    let mut text = Vec::new(alloc);
-    write_time(&mut text, times, first, time)?;
-    put_written(object, "time", text.as_slice())
+    room.clear();
+    write_time(room, times, first, time)?;
+    put_written(line, "time", room.as_slice())
 }
 
-/// Adds the content of a packet.
-fn put_content(object: &mut Object, alloc: Global, content: &Content) -> io::Result<()>
-    ensures { OnOk result (PutsOne (AreContentMembers content.now) (members_in object.old) (members_in object.new)) }
+/// Writes the content of a packet.
+fn put_content(line: &mut Line, room: &mut Vec<u8>, content: &Content) -> io::Result<()>
+    ensures { OnOk result (PutsOne (AreContentMembers content.now) (tokens_in line.old) (tokens_in line.new)) }
 {
     match content {
         Content::Unread => Ok(()),
-        Content::IpHeader(addresses) => Ok(put_addresses(object, alloc, *addresses)?),
-        Content::NotIp(protocol) => Ok(put_network_protocol(object, *protocol)?),
+        Content::IpHeader(addresses) => put_addresses(line, room, *addresses),
+        Content::NotIp(protocol) => Ok(put_network_protocol(line, *protocol)?),
         Content::Ip {
             addresses,
             protocol,
@@ -100,48 +104,48 @@ fn put_content(object: &mut Object, alloc: Global, content: &Content) -> io::Res
             transport,
             payload_len,
         } => {
-            put_addresses(object, alloc, *addresses)?;
-            put_ip_protocol(object, *protocol, *proto)?;
-            put_quoted(object, alloc, transport.quoted_packet())?;
-            put_transport(object, alloc, transport)?;
-            Ok(put_payload_len(object, *payload_len, transport.payload())?)
+            put_addresses(line, room, *addresses)?;
+            put_ip_protocol(line, *protocol, *proto)?;
+            put_quoted(line, room, transport.quoted_packet())?;
+            put_transport(line, room, transport)?;
+            Ok(put_payload_len(line, *payload_len, transport.payload())?)
         }
     }
 }
 
-/// Adds the transport of an IP packet.
-fn put_transport(object: &mut Object, alloc: Global, transport: &Transport) -> io::Result<()>
-    ensures { OnOk result (PutsOne (AreTransportMembers transport.now) (members_in object.old) (members_in object.new)) }
+/// Writes the transport of an IP packet.
+fn put_transport(line: &mut Line, room: &mut Vec<u8>, transport: &Transport) -> io::Result<()>
+    ensures { OnOk result (PutsOne (AreTransportMembers transport.now) (tokens_in line.old) (tokens_in line.new)) }
 {
     match transport {
-        Transport::Read(transport) => put_read(object, alloc, transport),
+        Transport::Read(transport) => put_read(line, room, transport),
         Transport::Ports {
             source,
             destination,
             ..
-        } => Ok(put_ports(object, *source, *destination)?),
+        } => Ok(put_ports(line, *source, *destination)?),
         Transport::Unread(_) => Ok(()),
     }
 }
 
-/// Adds a transport with a header that is read.
-fn put_read(object: &mut Object, alloc: Global, transport: &TransportSlice) -> io::Result<()>
-    ensures { OnOk result (PutsOne (AreReadMembers transport.now) (members_in object.old) (members_in object.new)) }
+/// Writes a transport with a header that is read.
+fn put_read(line: &mut Line, room: &mut Vec<u8>, transport: &TransportSlice) -> io::Result<()>
+    ensures { OnOk result (PutsOne (AreReadMembers transport.now) (tokens_in line.old) (tokens_in line.new)) }
 {
     match transport {
-        TransportSlice::Udp(datagram) => Ok(put_udp(object, alloc, datagram)?),
-        TransportSlice::Tcp(segment) => put_tcp(object, alloc, segment),
-        TransportSlice::Icmpv4(message) => put_icmpv4(object, alloc, message),
-        TransportSlice::Icmpv6(message) => put_icmpv6(object, alloc, message),
+        TransportSlice::Udp(datagram) => Ok(put_udp(line, datagram)?),
+        TransportSlice::Tcp(segment) => put_tcp(line, room, segment),
+        TransportSlice::Icmpv4(message) => put_icmpv4(line, room, message),
+        TransportSlice::Icmpv6(message) => put_icmpv6(line, room, message),
     }
 }
 
-/// Adds a UDP datagram.
-fn put_udp(object: &mut Object, alloc: Global, datagram: &UdpSlice) -> Result<(), AllocError>
-    ensures { OnOk result (members_in object.new ≡ with_members (udp_members datagram.now) (members_in object.old)) }
+/// Writes a UDP datagram.
+fn put_udp(line: &mut Line, datagram: &UdpSlice) -> Result<(), AllocError>
+    ensures { OnOk result (tokens_in line.new ≡ with_members (udp_members datagram.now) (tokens_in line.old)) }
 {
-    put_ports(object, datagram.source_port(), datagram.destination_port())?;
-    let mut header = Object::new(alloc);
-    header.put_number("length", u64::from(datagram.length()))?;
-    object.put_object("udp", header)
+    put_ports(line, datagram.source_port(), datagram.destination_port())?;
+    line.begin_object("udp")?;
+    line.put_number("length", u64::from(datagram.length()))?;
+    line.end_object()
 }

@@ -1,23 +1,24 @@
 //! The tables after the last line.
 
-ghost use Rattle.std.specs.Prelude.{◌≡◌, OnOk, codes, map};
+ghost use Rattle.std.specs.Prelude.{◌≡◌, ◌∷◌, [], OnOk, codes, map};
 ghost use Rattle.std.specs.Io.KnownBytes.{Appends};
-ghost use Rattle.capture_json.specs.Members.{members_in, with_members};
-ghost use Rattle.serde_json.specs.Data.{put};
+ghost use Rattle.json.specs.Print.{print};
+ghost use Rattle.json.specs.Token.{begin_object, end_array};
+ghost use Rattle.capture_json.specs.Tokens.{array_begun, line_text, put, tokens_in, with_members};
 ghost use Rattle.capture_json.specs.JsonPacket.{json_line};
-ghost use Rattle.capture_json.specs.JsonSummary.{counts_data, counts_member, row_member, rows_data, summary_members, tables_members};
+ghost use Rattle.capture_json.specs.JsonSummary.{counts_data, counts_member, row_member, rows_data, summary_members, tables_members, uncounted_members};
 
-use crate::flows::{put_conversations, put_count};
-use crate::text::{as_text, with_underscores, write_line};
+use crate::flows::{put_count, put_uncounted, write_rows};
+use crate::text::{as_text, fill_with_underscores, write_line, write_part};
 use crate::totals::put_totals;
-use crate::{Object, WriteError};
+use crate::{Line, WriteError};
 use capture_summary::{ConversationCount, Count, Summary};
 use std::alloc::Global;
 use std::io;
 use std::io::Write;
 
 /// Writes the summary as a JSON object of the type `summary` in a line. It contains the numbers of packets, bytes and conversations, the times of the packets,
-/// and each table under its name.
+/// and each table under its name. The conversations are written row by row, so that the memory does not grow with their number.
 ///
 /// # Errors
 ///
@@ -30,81 +31,102 @@ pub fn write_summary<W: Write>(
 ) -> Result<(), WriteError>
     ensures { OnOk result (Appends (W.contents output.old) (W.contents output.new) (json_line (summary_members busiest.now summary.now))) }
 {
-    let mut object = Object::new(alloc);
-    match put_summary(&mut object, alloc, summary, busiest) {
-        Ok(()) => write_line(output, object),
+    write_tables(output, alloc, summary)?;
+    write_rows(output, alloc, busiest)?;
+    let flows = summary.flows();
+    write_end(output, alloc, flows.without_ports(), flows.without_room())
+}
+
+/// Writes the type, the totals and the tables, and what precedes the first conversation.
+fn write_tables<W: Write>(
+    output: &mut W,
+    alloc: Global,
+    summary: &Summary,
+) -> Result<(), WriteError>
+    ensures { OnOk result (Appends (W.contents output.old) (W.contents output.new)
+        (print (array_begun (codes "busiest_conversations") (with_members (tables_members summary.now) (begin_object ∷ []))))) }
+{
+    let mut line = Line::new(alloc)?;
+    line.begin_item()?;
+    let mut room = Vec::new(alloc);
+    match put_tables(&mut line, &mut room, summary) {
+        Ok(()) => {
+            line.begin_array("busiest_conversations")?;
+            write_part(output, line)
+        }
         Err(_) => Err(WriteError::NoMemory),
     }
 }
 
-/// Adds the type, the totals and the tables.
-fn put_summary(
-    object: &mut Object,
+/// Writes what follows the last conversation: the packets that no conversation counts.
+fn write_end<W: Write>(
+    output: &mut W,
     alloc: Global,
-    summary: &Summary,
-    busiest: &[ConversationCount],
+    without_ports: Count,
+    without_room: Count,
+) -> Result<(), WriteError>
+    ensures { OnOk result (Appends (W.contents output.old) (W.contents output.new)
+        (line_text (with_members (uncounted_members without_ports without_room) (end_array ∷ [])))) }
+{
+    let mut line = Line::new(alloc)?;
+    line.end_array()?;
+    put_uncounted(&mut line, without_ports, without_room)?;
+    write_line(output, line)
+}
+
+/// Writes the type, the totals and the tables.
+fn put_tables(line: &mut Line, room: &mut Vec<u8>, summary: &Summary) -> io::Result<()>
+    ensures { OnOk result (tokens_in line.new ≡ with_members (tables_members summary.now) (tokens_in line.old)) }
+{
+    line.put_text("type", "summary")?;
+    put_totals(line, room, summary)?;
+    put_table(line, room, "link_types", &summary.links())?;
+    put_protocols(line, room, &summary.protocols())?;
+    put_table(line, room, "checksums", &summary.verdicts())?;
+    put_table(line, room, "refusals", &summary.refusals())
+}
+
+/// Writes a table that counts packets: an object with a member for each row.
+fn put_table(
+    line: &mut Line,
+    room: &mut Vec<u8>,
+    name: &str,
+    rows: &[(&str, u64)],
 ) -> io::Result<()>
-    ensures { OnOk result (members_in object.new ≡ with_members (summary_members busiest.now summary.now) (members_in object.old)) }
+    ensures { OnOk result (tokens_in line.new ≡ put name.now (rows_data (map (λ row. (row.0.now, row.1)) rows.now)) (tokens_in line.old)) }
 {
-    object.put_text("type", "summary")?;
-    put_tables(object, alloc, summary, busiest)
+    line.begin_object(name)?;
+    put_rows(line, room, rows)?;
+    Ok(line.end_object()?)
 }
 
-/// Adds the totals and the tables.
-fn put_tables(
-    object: &mut Object,
-    alloc: Global,
-    summary: &Summary,
-    busiest: &[ConversationCount],
-) -> io::Result<()>
-    ensures { OnOk result (members_in object.new ≡ with_members (tables_members busiest.now summary.now) (members_in object.old)) }
-{
-    put_totals(object, alloc, summary)?;
-    put_table(object, alloc, "link_types", &summary.links())?;
-    put_protocols(object, alloc, &summary.protocols())?;
-    put_table(object, alloc, "checksums", &summary.verdicts())?;
-    put_table(object, alloc, "refusals", &summary.refusals())?;
-    let flows = summary.flows();
-    let (without_ports, without_room) = (flows.without_ports(), flows.without_room());
-    Ok(put_conversations(object, alloc, busiest, without_ports, without_room)?)
-}
-
-/// Adds a table that counts packets: an object with a member for each row.
-fn put_table(object: &mut Object, alloc: Global, name: &str, rows: &[(&str, u64)]) -> io::Result<()>
-    ensures { OnOk result (members_in object.new ≡ put name.now (rows_data (map (λ row. (row.0.now, row.1)) rows.now)) (members_in object.old)) }
-{
-    let mut members = Object::new(alloc);
-    put_rows(&mut members, alloc, rows)?;
-    Ok(object.put_object(name, members)?)
-}
-
-/// Adds rows that count packets.
-fn put_rows(members: &mut Object, alloc: Global, rows: &[(&str, u64)]) -> io::Result<()>
-    ensures { OnOk result (members_in members.new ≡ with_members (map (λ row. row_member (row.0.now, row.1)) rows.now) (members_in members.old)) }
+/// Writes rows that count packets.
+fn put_rows(line: &mut Line, room: &mut Vec<u8>, rows: &[(&str, u64)]) -> io::Result<()>
+    ensures { OnOk result (tokens_in line.new ≡ with_members (map (λ row. row_member (row.0.now, row.1)) rows.now) (tokens_in line.old)) }
 {
     for row in rows {
-        let name = with_underscores(alloc, row.0)?;
-        members.put_number(as_text(name.as_slice())?, row.1)?;
+        fill_with_underscores(room, row.0)?;
+        line.put_number(as_text(room.as_slice())?, row.1)?;
     }
     Ok(())
 }
 
-/// Adds the table of protocols, which counts packets and bytes.
-fn put_protocols(object: &mut Object, alloc: Global, rows: &[(&str, Count)]) -> io::Result<()>
-    ensures { OnOk result (members_in object.new ≡ put (codes "protocols") (counts_data (map (λ row. (row.0.now, row.1)) rows.now)) (members_in object.old)) }
+/// Writes the table of protocols, which counts packets and bytes.
+fn put_protocols(line: &mut Line, room: &mut Vec<u8>, rows: &[(&str, Count)]) -> io::Result<()>
+    ensures { OnOk result (tokens_in line.new ≡ put (codes "protocols") (counts_data (map (λ row. (row.0.now, row.1)) rows.now)) (tokens_in line.old)) }
 {
-    let mut members = Object::new(alloc);
-    put_counts(&mut members, alloc, rows)?;
-    Ok(object.put_object("protocols", members)?)
+    line.begin_object("protocols")?;
+    put_counts(line, room, rows)?;
+    Ok(line.end_object()?)
 }
 
-/// Adds rows that count packets and bytes.
-fn put_counts(members: &mut Object, alloc: Global, rows: &[(&str, Count)]) -> io::Result<()>
-    ensures { OnOk result (members_in members.new ≡ with_members (map (λ row. counts_member (row.0.now, row.1)) rows.now) (members_in members.old)) }
+/// Writes rows that count packets and bytes.
+fn put_counts(line: &mut Line, room: &mut Vec<u8>, rows: &[(&str, Count)]) -> io::Result<()>
+    ensures { OnOk result (tokens_in line.new ≡ with_members (map (λ row. counts_member (row.0.now, row.1)) rows.now) (tokens_in line.old)) }
 {
     for row in rows {
-        let name = with_underscores(alloc, row.0)?;
-        put_count(members, alloc, as_text(name.as_slice())?, row.1)?;
+        fill_with_underscores(room, row.0)?;
+        put_count(line, as_text(room.as_slice())?, row.1)?;
     }
     Ok(())
 }

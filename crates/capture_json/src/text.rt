@@ -1,41 +1,59 @@
-//! Texts that are written into memory, and lines.
+//! Lines, and texts that are first written into memory.
 
-ghost use Rattle.std.specs.Prelude.{◌≡◌, ◌++◌, ◌∷◌, [], IfOk, OnOk, codes};
+ghost use Rattle.std.specs.Prelude.{◌≡◌, OnOk, IfOk};
 ghost use Rattle.std.specs.Io.KnownBytes.{Appends};
-ghost use Rattle.capture_json.specs.Members.{members_in, items_in};
-ghost use Rattle.serde_json.specs.Data.{object, put, string};
-ghost use Rattle.serde_json.specs.Written.{compact_text};
+ghost use Rattle.json.specs.Print.{print};
+ghost use Rattle.capture_json.specs.Tokens.{line_text, push, put, tokens_in};
+ghost use Rattle.serde_json.specs.Data.{string};
 ghost use Rattle.capture_json.specs.Words.{underscore_if_space, with_underscores};
 
-use crate::{Array, Object, WriteError};
-use std::alloc::{AllocError, Global};
+use crate::{Line, WriteError};
+use std::alloc::AllocError;
 use std::io::{ErrorKind, Write};
 use std::{io, str};
 
-/// Writes an object, and a line feed.
-pub fn write_line<W: Write>(output: &mut W, line: Object) -> Result<(), WriteError>
-    ensures { OnOk result (Appends (W.contents output.old) (W.contents output.new)
-        (compact_text (object (members_in line)) ++ codes "\n")) }
+/// Writes the closing brace of the object that is the line, then the line with a line feed.
+pub fn write_line<W: Write>(output: &mut W, mut line: Line) -> Result<(), WriteError>
+    ensures { OnOk result (Appends (W.contents output.old) (W.contents output.new) (line_text (tokens_in line))) }
 {
-    let text = line.into_text()?;
-    match writeln!(output, "{}", text.as_str()) {
+    line.end_object()?;
+    let mut bytes = line.into_bytes();
+    match bytes.push(b'\n') {
+        Ok(()) => write_bytes(output, bytes.as_slice()),
+        Err(_) => Err(WriteError::NoMemory),
+    }
+}
+
+/// Writes what is there of a line.
+pub fn write_part<W: Write>(output: &mut W, line: Line) -> Result<(), WriteError>
+    ensures { OnOk result (Appends (W.contents output.old) (W.contents output.new) (print (tokens_in line))) }
+{
+    let bytes = line.into_bytes();
+    write_bytes(output, bytes.as_slice())
+}
+
+/// Writes bytes.
+pub fn write_bytes<W: Write>(output: &mut W, bytes: &[u8]) -> Result<(), WriteError>
+    ensures { OnOk result (Appends (W.contents output.old) (W.contents output.new) bytes.now) }
+{
+    match output.write_all(bytes) {
         Ok(()) => Ok(()),
         Err(error) => Err(WriteError::Write(error)),
     }
 }
 
-/// Adds a text that was written into memory.
-pub fn put_written(object: &mut Object, name: &str, text: &[u8]) -> io::Result<()>
-    ensures { OnOk result (members_in object.new ≡ put name.now (string text.now) (members_in object.old)) }
+/// Writes a member that is a text, which was written into memory.
+pub fn put_written(line: &mut Line, name: &str, text: &[u8]) -> io::Result<()>
+    ensures { OnOk result (tokens_in line.new ≡ put name.now (string text.now) (tokens_in line.old)) }
 {
-    Ok(object.put_text(name, as_text(text)?)?)
+    Ok(line.put_text(name, as_text(text)?)?)
 }
 
-/// Appends a text that was written into memory.
-pub fn push_written(array: &mut Array, text: &[u8]) -> io::Result<()>
-    ensures { OnOk result (items_in array.new ≡ items_in array.old ++ string text.now ∷ []) }
+/// Writes an item of an array that is a text, which was written into memory.
+pub fn push_written(line: &mut Line, text: &[u8]) -> io::Result<()>
+    ensures { OnOk result (tokens_in line.new ≡ push (string text.now) (tokens_in line.old)) }
 {
-    Ok(array.push_text(as_text(text)?)?)
+    Ok(line.push_text(as_text(text)?)?)
 }
 
 /// The text of these bytes. The output of `write!`, and a word with underscores, is UTF-8, so there is no error.
@@ -48,15 +66,15 @@ pub fn as_text(bytes: &[u8]) -> io::Result<&str>
     }
 }
 
-/// A word of a table with underscores instead of its spaces.
-pub fn with_underscores(alloc: Global, word: &str) -> Result<Vec<u8>, AllocError>
-    ensures { IfOk result (λ name. name.items ≡ with_underscores word.now) }
+/// Fills `room` with a word of a table, with underscores instead of its spaces.
+pub fn fill_with_underscores(room: &mut Vec<u8>, word: &str) -> Result<(), AllocError>
+    ensures { OnOk result (room.new.items ≡ with_underscores word.now) }
 {
-    let mut name = Vec::new(alloc);
+    room.clear();
     for byte in word.as_bytes() {
-        name.push(underscore_if_space(*byte))?;
+        room.push(underscore_if_space(*byte))?;
     }
-    Ok(name)
+    Ok(())
 }
 
 /// An underscore if the byte is a space, otherwise the byte.

@@ -85,27 +85,27 @@ fn expect_object(
 #[rattlefmt::skip]
 const OBJECTS: [(Content, Verdict, &str); 9] = [
     (Content::Unread, Verdict::Checksum(ChecksumVerdict::Untested(Untested::CutOff)),
-     r#"{"checksum":"not_looked_at","number":1,"reason":"cut_off","time":null,"type":"packet"}"#),
+     r#"{"type":"packet","number":1,"time":null,"checksum":"not_looked_at","reason":"cut_off"}"#),
     (Content::Unread, Verdict::LengthMissing,
-     r#"{"checksum":"not_looked_at","number":1,"reason":"no_length_stated","time":null,"type":"packet"}"#),
+     r#"{"type":"packet","number":1,"time":null,"checksum":"not_looked_at","reason":"no_length_stated"}"#),
     (Content::Unread, Verdict::TooLong { required_len: 600_000 },
-     r#"{"checksum":"not_looked_at","number":1,"reason":"too_long","required_length":600000,"time":null,"type":"packet"}"#),
+     r#"{"type":"packet","number":1,"time":null,"checksum":"not_looked_at","reason":"too_long","required_length":600000}"#),
     (Content::NotIp(NetworkProtocol::Snap { organization_code: 0x0C, protocol: 0x2000 }),
      Verdict::Checksum(ChecksumVerdict::Untested(Untested::OtherProtocol)),
-     r#"{"checksum":"not_looked_at","number":1,"reason":"another_protocol","snap_organization_code":12,"snap_protocol":8192,"time":null,"type":"packet"}"#),
+     r#"{"type":"packet","number":1,"time":null,"snap_organization_code":12,"snap_protocol":8192,"checksum":"not_looked_at","reason":"another_protocol"}"#),
     (Content::NotIp(NetworkProtocol::EtherType(0x88CC)), Verdict::Checksum(ChecksumVerdict::Untested(Untested::OtherProtocol)),
-     r#"{"checksum":"not_looked_at","ether_type":35020,"number":1,"protocol_name":"LLDP","reason":"another_protocol","time":null,"type":"packet"}"#),
+     r#"{"type":"packet","number":1,"time":null,"ether_type":35020,"protocol_name":"LLDP","checksum":"not_looked_at","reason":"another_protocol"}"#),
     (Content::Ip { addresses: OVER_IPV4, protocol: IpNumber(89), proto: None, transport: Transport::Unread(&[1, 2, 3]), payload_len: 3 },
      Verdict::Checksum(ChecksumVerdict::Untested(Untested::OtherProtocol)),
-     r#"{"checksum":"not_looked_at","destination":"192.0.2.2","number":1,"payload_length":3,"protocol":89,"protocol_name":"OSPF","reason":"another_protocol","source":"192.0.2.1","time":null,"type":"packet"}"#),
+     r#"{"type":"packet","number":1,"time":null,"source":"192.0.2.1","destination":"192.0.2.2","protocol":89,"protocol_name":"OSPF","payload_length":3,"checksum":"not_looked_at","reason":"another_protocol"}"#),
     (Content::IpHeader(OVER_IPV6), Verdict::Refused(Refusal::Ip(IpError::Version { version: 5 })),
-     r#"{"destination":null,"number":1,"refused":"IP version 5","source":"2001:db8::1","time":null,"type":"packet"}"#),
+     r#"{"type":"packet","number":1,"time":null,"source":"2001:db8::1","destination":null,"refused":"IP version 5"}"#),
     (Content::Ip { addresses: OVER_IPV6, protocol: IpNumber(47), proto: None, transport: Transport::Unread(&[1, 2, 3]), payload_len: 1400 },
      Verdict::Checksum(ChecksumVerdict::Untested(Untested::CutOff)),
-     r#"{"checksum":"not_looked_at","destination":null,"number":1,"payload_captured_length":3,"payload_length":1400,"protocol":47,"protocol_name":"GRE","reason":"cut_off","source":"2001:db8::1","time":null,"type":"packet"}"#),
+     r#"{"type":"packet","number":1,"time":null,"source":"2001:db8::1","destination":null,"protocol":47,"protocol_name":"GRE","payload_length":1400,"payload_captured_length":3,"checksum":"not_looked_at","reason":"cut_off"}"#),
     (Content::Ip { addresses: OVER_IPV6, protocol: ip_number::UDP, proto: Some(Proto::Udp), transport: Transport::Unread(&[1, 2, 3]), payload_len: 3 },
      Verdict::Checksum(ChecksumVerdict::Untested(Untested::UnknownDestination)),
-     r#"{"checksum":"not_looked_at","destination":null,"number":1,"payload_length":3,"protocol":17,"protocol_name":"UDP","reason":"final_destination_unknown","source":"2001:db8::1","time":null,"type":"packet"}"#),
+     r#"{"type":"packet","number":1,"time":null,"source":"2001:db8::1","destination":null,"protocol":17,"protocol_name":"UDP","payload_length":3,"checksum":"not_looked_at","reason":"final_destination_unknown"}"#),
 ];
 
 #[test]
@@ -119,17 +119,17 @@ fn objects_of_packets(rt: HostRuntime) -> Result<(), Fail> {
 /// Verdicts on the checksum of a packet that is not read, and the object of each.
 #[rattlefmt::skip]
 static CHECKSUMS: [(ChecksumVerdict, &str); 10] = [
-    (ChecksumVerdict::Right, r#"{"checksum":"right","number":1,"time":null,"type":"packet"}"#),
-    (ChecksumVerdict::Wrong { expected: 10 }, r#"{"checksum":"wrong","expected_checksum":10,"number":1,"time":null,"type":"packet"}"#),
-    (ChecksumVerdict::Partial { expected: 10 }, r#"{"checksum":"not_filled_in","number":1,"time":null,"type":"packet"}"#),
-    (ChecksumVerdict::Absent, r#"{"checksum":"none","number":1,"time":null,"type":"packet"}"#),
-    (ChecksumVerdict::Untested(Untested::Fragment), r#"{"checksum":"not_looked_at","number":1,"reason":"fragment","time":null,"type":"packet"}"#),
-    (ChecksumVerdict::Untested(Untested::CutOff), r#"{"checksum":"not_looked_at","number":1,"reason":"cut_off","time":null,"type":"packet"}"#),
+    (ChecksumVerdict::Right, r#"{"type":"packet","number":1,"time":null,"checksum":"right"}"#),
+    (ChecksumVerdict::Wrong { expected: 10 }, r#"{"type":"packet","number":1,"time":null,"checksum":"wrong","expected_checksum":10}"#),
+    (ChecksumVerdict::Partial { expected: 10 }, r#"{"type":"packet","number":1,"time":null,"checksum":"not_filled_in"}"#),
+    (ChecksumVerdict::Absent, r#"{"type":"packet","number":1,"time":null,"checksum":"none"}"#),
+    (ChecksumVerdict::Untested(Untested::Fragment), r#"{"type":"packet","number":1,"time":null,"checksum":"not_looked_at","reason":"fragment"}"#),
+    (ChecksumVerdict::Untested(Untested::CutOff), r#"{"type":"packet","number":1,"time":null,"checksum":"not_looked_at","reason":"cut_off"}"#),
     (ChecksumVerdict::Untested(Untested::UnknownDestination),
-     r#"{"checksum":"not_looked_at","number":1,"reason":"final_destination_unknown","time":null,"type":"packet"}"#),
-    (ChecksumVerdict::Untested(Untested::OtherProtocol), r#"{"checksum":"not_looked_at","number":1,"reason":"another_protocol","time":null,"type":"packet"}"#),
-    (ChecksumVerdict::Untested(Untested::TooLong), r#"{"checksum":"not_looked_at","number":1,"reason":"too_long","time":null,"type":"packet"}"#),
-    (ChecksumVerdict::Untested(Untested::ZeroLength), r#"{"number":1,"refused":"UDP header needs 8 bytes, the UDP length is 0","time":null,"type":"packet"}"#),
+     r#"{"type":"packet","number":1,"time":null,"checksum":"not_looked_at","reason":"final_destination_unknown"}"#),
+    (ChecksumVerdict::Untested(Untested::OtherProtocol), r#"{"type":"packet","number":1,"time":null,"checksum":"not_looked_at","reason":"another_protocol"}"#),
+    (ChecksumVerdict::Untested(Untested::TooLong), r#"{"type":"packet","number":1,"time":null,"checksum":"not_looked_at","reason":"too_long"}"#),
+    (ChecksumVerdict::Untested(Untested::ZeroLength), r#"{"type":"packet","number":1,"time":null,"refused":"UDP header needs 8 bytes, the UDP length is 0"}"#),
 ];
 
 #[test]
@@ -144,11 +144,11 @@ fn objects_of_verdicts(rt: HostRuntime) -> Result<(), Fail> {
 #[rattlefmt::skip]
 static TRANSPORTS: [(&[u8], ChecksumVerdict, &str); 3] = [
     (&DATAGRAM, ChecksumVerdict::Wrong { expected: 0x1A2B },
-     r#"{"checksum":"wrong","destination":"192.0.2.2","destination_port":9,"expected_checksum":6699,"number":1,"payload_length":1,"protocol":17,"protocol_name":"UDP","source":"192.0.2.1","source_port":7,"time":null,"type":"packet","udp":{"length":9}}"#),
+     r#"{"type":"packet","number":1,"time":null,"source":"192.0.2.1","destination":"192.0.2.2","protocol":17,"protocol_name":"UDP","source_port":7,"destination_port":9,"udp":{"length":9},"payload_length":1,"checksum":"wrong","expected_checksum":6699}"#),
     (&DATAGRAM_OF_0, ChecksumVerdict::Untested(Untested::ZeroLength),
-     r#"{"destination":"192.0.2.2","destination_port":9,"number":1,"payload_length":1,"protocol":17,"protocol_name":"UDP","refused":"UDP header needs 8 bytes, the UDP length is 0","source":"192.0.2.1","source_port":7,"time":null,"type":"packet","udp":{"length":0}}"#),
+     r#"{"type":"packet","number":1,"time":null,"source":"192.0.2.1","destination":"192.0.2.2","protocol":17,"protocol_name":"UDP","source_port":7,"destination_port":9,"udp":{"length":0},"payload_length":1,"refused":"UDP header needs 8 bytes, the UDP length is 0"}"#),
     (&SEGMENT, ChecksumVerdict::Right,
-     r#"{"checksum":"right","destination":"192.0.2.2","destination_port":9,"number":1,"payload_length":0,"protocol":17,"protocol_name":"UDP","source":"192.0.2.1","source_port":7,"tcp":{"acknowledgment":2,"flags":["SYN","URG"],"options":["window scale 7","option 8 with length 1 below 2"],"sequence":1,"urgent_pointer":4,"window":3},"time":null,"type":"packet"}"#),
+     r#"{"type":"packet","number":1,"time":null,"source":"192.0.2.1","destination":"192.0.2.2","protocol":17,"protocol_name":"UDP","source_port":7,"destination_port":9,"tcp":{"flags":["SYN","URG"],"sequence":1,"acknowledgment":2,"window":3,"urgent_pointer":4,"options":["window scale 7","option 8 with length 1 below 2"]},"payload_length":0,"checksum":"right"}"#),
 ];
 
 /// A packet over IPv4 with these bytes as its transport.
@@ -178,8 +178,8 @@ fn objects_of_transports(rt: HostRuntime) -> Result<(), Fail> {
 /// ICMPv4 errors, and the member of each that shows the packet that it quotes.
 #[rattlefmt::skip]
 static ERRORS: [(&[u8], &str, u32); 3] = [
-    (&ERROR, r#","quoted":{"destination":"198.51.100.7","destination_port":33434,"protocol":17,"protocol_name":"UDP","source":"192.0.2.1","source_port":49152}"#, 24),
-    (&ERROR_WITHOUT_PORTS, r#","quoted":{"destination":"198.51.100.7","protocol":17,"protocol_name":"UDP","source":"192.0.2.1"}"#, 23),
+    (&ERROR, r#","quoted":{"source":"192.0.2.1","destination":"198.51.100.7","protocol":17,"protocol_name":"UDP","source_port":49152,"destination_port":33434}"#, 24),
+    (&ERROR_WITHOUT_PORTS, r#","quoted":{"source":"192.0.2.1","destination":"198.51.100.7","protocol":17,"protocol_name":"UDP"}"#, 23),
     (&ERROR_WITHOUT_HEADER, "", 19),
 ];
 
@@ -195,11 +195,11 @@ fn objects_of_quoted_packets(rt: HostRuntime) -> Result<(), Fail> {
             transport: Transport::Read(TransportSlice::Icmpv4(message)),
         };
         let verdict = Verdict::Checksum(ChecksumVerdict::Right);
-        let message = r#"{"code":0,"message":"time exceeded, code 0 (time to live)","type":11}"#;
-        let before = r#"{"checksum":"right","destination":"192.0.2.2","icmpv4":"#;
-        let after = r#","source":"192.0.2.1","time":null,"type":"packet"}"#;
+        let message = r#"{"type":11,"code":0,"message":"time exceeded, code 0 (time to live)"}"#;
+        let before = r#"{"type":"packet","number":1,"time":null,"source":"192.0.2.1","destination":"192.0.2.2","protocol":1,"protocol_name":"ICMPv4""#;
+        let after = r#","checksum":"right"}"#;
         let wanted = format!(in rt.alloc();
-            "{before}{message},\"number\":1,\"payload_length\":{payload_len},\"protocol\":1,\"protocol_name\":\"ICMPv4\"{quoted}{after}"
+            "{before}{quoted},\"icmpv4\":{message},\"payload_length\":{payload_len}{after}"
         )?;
         expect_object(&rt, content, verdict, &wanted)?;
     }
@@ -208,7 +208,7 @@ fn objects_of_quoted_packets(rt: HostRuntime) -> Result<(), Fail> {
 
 /// The object of a summary of three packets of raw IP. The names of rows have underscores between their words.
 const OF_THREE_PACKETS: &str =
-    r#"{"bits_per_second":156,"busiest_conversations":[{"bytes":40,"destination":"192.0.2.2","destination_port":53,"forward":{"bytes":40,"packets":1},"packets":1,"protocol":17,"protocol_name":"UDP","reverse":{"bytes":0,"packets":0},"source":"192.0.2.1","source_port":49152}],"bytes":98,"checksums":{"another_protocol":0,"cut_off":1,"final_destination_unknown":0,"fragment":0,"no_length_stated":0,"none":0,"not_filled_in":1,"refused":1,"right":0,"too_long":0,"wrong":0},"conversations":1,"duration":"00:00:05.000000","first_packet":"2023-11-14T22:13:20.000000Z","last_packet":"2023-11-14T22:13:25.000000Z","link_types":{"BSD_loopback":0,"Cisco_HDLC":0,"Ethernet":0,"Frame_Relay":0,"IEEE_802.11":0,"Linux_cooked":0,"Linux_cooked_version_2":0,"OpenBSD_loopback":0,"PFLOG":0,"PKTAP":0,"PPI":0,"PPP":0,"PPP_or_Cisco_HDLC":0,"PPP_over_Ethernet":0,"Prism":0,"Solaris_ipnet":0,"another_link_type":0,"radiotap":0,"raw_IP":3,"unknown":0},"packets":3,"packets_of_other_flows":{"bytes":0,"packets":0},"packets_per_second":0,"packets_without_ports":{"bytes":58,"packets":2},"protocols":{"ICMPv4":{"bytes":0,"packets":0},"ICMPv6":{"bytes":0,"packets":0},"TCP":{"bytes":0,"packets":0},"UDP":{"bytes":68,"packets":2},"not_IP":{"bytes":0,"packets":0},"other_over_IP":{"bytes":30,"packets":1},"unknown":{"bytes":0,"packets":0}},"refusals":{"ICMPv4_length":0,"ICMPv6_length":0,"IP_extension_header":0,"IP_header_cut_off":0,"IP_header_length":0,"IP_packet_cut_off":0,"IP_total_length":0,"IP_version":0,"TCP_data_offset":0,"TCP_length":0,"UDP_length":1,"link_header_cut_off":0},"type":"summary"}
+    r#"{"type":"summary","packets":3,"bytes":98,"conversations":1,"first_packet":"2023-11-14T22:13:20.000000Z","last_packet":"2023-11-14T22:13:25.000000Z","duration":"00:00:05.000000","packets_per_second":0,"bits_per_second":156,"link_types":{"BSD_loopback":0,"Ethernet":0,"PPP":0,"PPP_or_Cisco_HDLC":0,"PPP_over_Ethernet":0,"raw_IP":3,"Cisco_HDLC":0,"IEEE_802.11":0,"Frame_Relay":0,"OpenBSD_loopback":0,"Linux_cooked":0,"PFLOG":0,"Prism":0,"radiotap":0,"PPI":0,"Solaris_ipnet":0,"PKTAP":0,"Linux_cooked_version_2":0,"another_link_type":0,"unknown":0},"protocols":{"UDP":{"packets":2,"bytes":68},"TCP":{"packets":0,"bytes":0},"ICMPv4":{"packets":0,"bytes":0},"ICMPv6":{"packets":0,"bytes":0},"other_over_IP":{"packets":1,"bytes":30},"not_IP":{"packets":0,"bytes":0},"unknown":{"packets":0,"bytes":0}},"checksums":{"right":0,"wrong":0,"not_filled_in":1,"none":0,"fragment":0,"cut_off":1,"no_length_stated":0,"final_destination_unknown":0,"another_protocol":0,"too_long":0,"refused":1},"refusals":{"link_header_cut_off":0,"IP_header_cut_off":0,"IP_version":0,"IP_header_length":0,"IP_total_length":0,"IP_packet_cut_off":0,"IP_extension_header":0,"UDP_length":1,"TCP_length":0,"TCP_data_offset":0,"ICMPv4_length":0,"ICMPv6_length":0},"busiest_conversations":[{"protocol":17,"protocol_name":"UDP","source":"192.0.2.1","source_port":49152,"destination":"192.0.2.2","destination_port":53,"packets":1,"bytes":40,"forward":{"packets":1,"bytes":40},"reverse":{"packets":0,"bytes":0}}],"packets_without_ports":{"packets":2,"bytes":58},"packets_of_other_flows":{"packets":0,"bytes":0}}
 "#;
 
 /// What a capture of raw IP says of a packet of this many bytes that came at this second.

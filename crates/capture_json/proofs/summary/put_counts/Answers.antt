@@ -1,6 +1,6 @@
 use Rattle.std.proofs.Common.{◌∙◌, refl, rules}
-use Rattle.capture_json.proofs.MembersLemmas.{rows_more, same_put}
-use Rattle.capture_json.specs.Members.{members_in}
+use Rattle.capture_json.proofs.TokensLemmas.{rows_more, same_put}
+use Rattle.capture_json.specs.Tokens.{tokens_in}
 use Rattle.capture_json.specs.JsonSummary.{counts_member}
 use Rattle.capture_json.proofs.summary.put_counts.Goals as goal
 
@@ -8,4 +8,4 @@ use Rattle.capture_json.proofs.summary.put_counts.Goals as goal
 pub loop-row-preserved : goal.loop-row-preserved
 loop-row-preserved c =
     rows_more c.args.rows.now (λ row. counts_member (row.0.now, row.1)) _ _ _ _ _ (search rules) c.loop-row.invariant
-    (c.in_ok-put_count.ensures ∙ same_put (members_in c.loop-row.members) (search rules) refl)
+    (c.in_ok-put_count.ensures ∙ same_put (tokens_in c.loop-row.line) (search rules) refl)

@@ -9,12 +9,12 @@ returns c =
     (λ last. last
     ∙ (simp (
       c.span.ensures,
-      c.in_ok-put_number-3.ensures.ok,
+      c.in_ok-put_number-3.ensures,
       c.counts.ensures.rows,
       c.flows.ensures,
-      c.in_ok-put_number-2.ensures.ok,
+      c.in_ok-put_number-2.ensures,
       c.bytes.ensures,
-      c.in_ok-put_number.ensures.ok,
+      c.in_ok-put_number.ensures,
       c.packets.ensures.packets,
     )))
     c.put_times.ensures

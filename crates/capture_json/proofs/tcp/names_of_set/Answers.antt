@@ -1,8 +1,0 @@
-use Rattle.std.proofs.Common.{rules}
-use Rattle.capture_json.proofs.JsonLemmas.{names_more}
-use Rattle.capture_json.proofs.tcp.names_of_set.Goals as goal
-
--- one more flag
-pub loop-flag-preserved : goal.loop-flag-preserved
-loop-flag-preserved c =
-    names_more c.args.flags.now (λ flag. (flag.0, flag.1.now)) _ _ _ _ (search rules) c.loop-flag.invariant c.in_ok-push_if_set.ensures

@@ -1,0 +1,84 @@
+-- The tokens of a line that is being written (the crate `json`). Only the calls that write a part of a line cite this page.
+use Rattle.std.specs.Prelude.{◌≡◌, ℕ, List, [], ◌∷◌, ◌++◌, codes, map}
+use Rattle.std.specs.List.{flat_map}
+use Rattle.json.specs.Print.{print}
+use Rattle.json.specs.Token as token
+use Rattle.json.specs.Token.{Token}
+use Rattle.json.specs.Tree.{json_tokens}
+use Rattle.serde_json.specs.Data.{Data, string}
+use Rattle.serde_json.specs.Written.{compact_text, outline}
+use Rattle.capture_json.specs.Members.{Member}
+use Rattle.capture_json.specs.declared.line.Line.{Line}
+
+-- the tokens of a line so far
+abbrev pub tokens_in : Line → List Token
+tokens_in line = line.writer.tokens
+
+-- the tokens of a value
+abbrev pub value_tokens : Data → List Token
+value_tokens value = json_tokens (outline value)
+
+-- ---- the tokens after a part is written
+
+-- a member
+unfoldable pub put : List ℕ → Data → List Token → List Token
+put name value before = before ++ token.key name ∷ value_tokens value
+
+-- members, one after the other
+abbrev pub with_members : List Member → List Token → List Token
+with_members [] before = before
+with_members (first ∷ more) before = with_members more (put first.0 first.1 before)
+
+-- an item of an array
+unfoldable pub push : Data → List Token → List Token
+push value before = before ++ value_tokens value
+
+-- items of an array, one after the other
+abbrev pub with_items : List Data → List Token → List Token
+with_items [] before = before
+with_items (first ∷ more) before = with_items more (push first before)
+
+-- the name of an object, and its opening brace
+abbrev pub object_begun : List ℕ → List Token → List Token
+object_begun name before = before ++ token.key name ∷ token.begin_object ∷ []
+
+-- the name of an array, and its opening bracket
+abbrev pub array_begun : List ℕ → List Token → List Token
+array_begun name before = before ++ token.key name ∷ token.begin_array ∷ []
+
+-- the closing brace of an object
+abbrev pub object_ended : List Token → List Token
+object_ended before = before ++ token.end_object ∷ []
+
+-- the closing bracket of an array
+abbrev pub array_ended : List Token → List Token
+array_ended before = before ++ token.end_array ∷ []
+
+-- ---- statements
+
+-- members for which this statement holds were written
+abbrev pub PutsOne : (List Member → Type 0) → List Token → List Token → Type 0
+PutsOne Are before after = (members : List Member) × Are members × (after ≡ with_members members before)
+
+-- texts for which this statement holds were written as items
+abbrev pub PushesTexts : (List (List ℕ) → Type 0) → List Token → List Token → Type 0
+PushesTexts Are before after = (texts : List (List ℕ)) × Are texts × (after ≡ with_items (map string texts) before)
+
+-- a text for which this statement holds was written as an item
+abbrev pub PushesOne : (List ℕ → Type 0) → List Token → List Token → Type 0
+PushesOne IsText before after = (text : List ℕ) × IsText text × (after ≡ push (string text) before)
+
+-- the text of an object that lacks only its closing brace, and a line feed
+abbrev pub line_text : List Token → List ℕ
+line_text tokens = print (object_ended tokens) ++ codes "\n"
+
+-- ---- an array that is written row by row
+
+-- a comma (44) before the text of a row
+abbrev pub later_row : {X : Type 0} → (X → Data) → X → List ℕ
+later_row value row = 44 ∷ compact_text (value row)
+
+-- the texts of rows, with a comma between two
+abbrev pub rows_text : {X : Type 0} → (X → Data) → List X → List ℕ
+rows_text value [] = []
+rows_text value (first ∷ more) = compact_text (value first) ++ flat_map (later_row value) more
