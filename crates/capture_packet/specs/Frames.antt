@@ -1,5 +1,5 @@
 -- The packet in a frame: its content, and the verdict on it.
-use Rattle.std.specs.Prelude.{◌≡◌, ◌⊎◌, ℕ, Bool, true, false, List, length, MatchOption}
+use Rattle.std.specs.Prelude.{◌≡◌, ◌⊎◌, ℕ, Bool, true, false, List, length, map, MatchOption}
 use Rattle.ip_part.specs.Ip.{Carries, IsAfterHeaders, lacks_len, lax_refusal, refusal}
 use Rattle.ip_part.specs.declared.ip_error.IpError.{IpError}
 use Rattle.ip_part.specs.declared.transport.TransportInIp.{TransportInIp}
@@ -8,6 +8,8 @@ use Rattle.capture_file.specs.declared.byte_order.ByteOrder.{ByteOrder}
 use Rattle.capture_file.specs.declared.link_type.LinkType.{LinkType}
 use Rattle.capture_packet.specs.Contents.{Shows, ShowsRefused}
 use Rattle.capture_packet.specs.Link.{HasLinkHeader, IsFoundAfter, NeedsLinkHeader}
+use Rattle.capture_packet.specs.Packets.{in_no_tunnel}
+use Rattle.capture_packet.specs.Tunnels.{Nested, by_value, innermost}
 use Rattle.capture_packet.specs.Verdicts.{JudgesTransport, is_cut_off, unread_verdict, untested}
 use Rattle.capture_packet.specs.declared.content.Content.TheVariants.{NotIp, Unread}
 use Rattle.capture_packet.specs.declared.link.Frame.{Frame}
@@ -45,12 +47,16 @@ abbrev pub IsIpPacket : Bool → List ℕ → Packet → Type 0
 IsIpPacket is_cut bytes packet = MatchOption (lax_refusal bytes) (IsCarried is_cut bytes packet)
     (λ error. IsUnread (is_cut_off is_cut bytes (refusal bytes)) bytes error packet)
 
+-- an IP packet in these tunnels
+abbrev pub IsInTunnels : Nested → Packet → Type 0
+IsInTunnels nested packet = (map by_value packet.tunnels.items ≡ nested.outers) × IsIpPacket nested.is_cut nested.bytes packet
+
 -- ---- frames
 
--- the packet in the frame: an IP packet, or another protocol
+-- the packet in the frame: an IP packet, which is the innermost if it contains others, or another protocol
 abbrev pub IsInFrame : Bool → Frame → Packet → Type 0
-IsInFrame is_cut (Ip bytes) packet = IsIpPacket is_cut bytes.now packet
-IsInFrame is_cut (Other protocol) packet = packet ≡ record { content = NotIp protocol; verdict = untested OtherProtocol }
+IsInFrame is_cut (Ip bytes) packet = IsInTunnels (innermost is_cut bytes.now) packet
+IsInFrame is_cut (Other protocol) packet = packet ≡ in_no_tunnel (NotIp protocol) (untested OtherProtocol)
 
 -- the packet after a whole link header
 pub record IsAfterHeader (link_type : LinkType) (order : ByteOrder) (frame : List ℕ) (is_cut : Bool) (packet : Packet) : Type 0 where
@@ -68,7 +74,7 @@ pub record IsHeaderCutOff (link_type : LinkType) (order : ByteOrder) (frame : Li
   pub error : LinkHeaderCutOff
   pub needs : NeedsLinkHeader link_type order frame error.required_len
   pub len : error.len ≡ length frame
-  pub is : packet ≡ record { content = Unread; verdict = link_verdict is_cut error }
+  pub is : packet ≡ in_no_tunnel Unread (link_verdict is_cut error)
 
 -- the packet in a frame; `is_cut` is true if the capture contains only the first bytes of the frame
 abbrev pub IsRead : LinkType → ByteOrder → List ℕ → Bool → Packet → Type 0

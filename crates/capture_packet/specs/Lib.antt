@@ -4,13 +4,16 @@ pub mod Contents
 pub mod EtherHeaders
 pub mod FrameRelay
 pub mod Frames
+pub mod Gre
 pub mod Ieee80211
 pub mod Link
 pub mod LinkHeaders
 pub mod Llc
 pub mod Metadata
 pub mod Mpls
+pub mod Packets
 pub mod Payloads
 pub mod Ppp
 pub mod Quotes
+pub mod Tunnels
 pub mod Verdicts

@@ -2,6 +2,7 @@ ghost use Rattle.std.specs.Prelude.{◌≡◌, ◌≤◌, ◌+◌, length, slice
 ghost use Rattle.std.specs.Option.{option_map};
 ghost use Rattle.ip_part.specs.Addresses.{by_value};
 ghost use Rattle.capture_packet.specs.Contents as specs;
+ghost use Rattle.capture_packet.specs.Tunnels.{packet_of_version};
 
 use etherparse_transport::ip::IpAddresses;
 
@@ -45,4 +46,24 @@ fn ipv6_address(bytes: &[u8], place: usize) -> &[u8; 16]
     ensures { result.now ≡ slice_range bytes.now place (place + 16) }
 {
     bytes[place..place + 16].as_array().unwrap()
+}
+
+/// These bytes as an IPv4 packet. None if they do not begin with the fixed part of its header.
+pub(crate) fn ipv4_packet(bytes: &[u8]) -> Option<&[u8]>
+    ensures { option_map (λ packet. packet.now) result ≡ packet_of_version 4 bytes.now }
+{
+    if bytes.len() < IPV4_LEN || bytes[0] >> 4 != 4 {
+        return None;
+    }
+    Some(bytes)
+}
+
+/// These bytes as an IPv6 packet. None if they do not begin with its header.
+pub(crate) fn ipv6_packet(bytes: &[u8]) -> Option<&[u8]>
+    ensures { option_map (λ packet. packet.now) result ≡ packet_of_version 6 bytes.now }
+{
+    if bytes.len() < IPV6_LEN || bytes[0] >> 4 != 6 {
+        return None;
+    }
+    Some(bytes)
 }

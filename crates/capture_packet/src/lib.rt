@@ -1,7 +1,7 @@
 //! The content of a packet in a capture, and the verdict on its checksum. Nothing is allocated.
 //!
 //! `link` finds the network packet in a frame. `read_packet` reads it down to its transport: UDP (RFC 768), TCP (RFC 9293), ICMPv4 (RFC
-//! 792) or ICMPv6 (RFC 4443), over IPv4 or IPv6.
+//! 792) or ICMPv6 (RFC 4443), over IPv4 or IPv6. It follows up to four tunnels: IP in IP (RFC 2003; RFC 4213; RFC 2473) and GRE (RFC 2784).
 //!
 //! ```
 //! let packet = read_packet(link_type, captured.byte_order, frame, captured.is_cut());
@@ -16,6 +16,7 @@
 mod addresses;
 mod content;
 mod fixed_header;
+mod gre;
 pub mod link;
 mod packet;
 mod payload;
@@ -23,6 +24,7 @@ mod quoted_packet;
 mod read;
 mod refusal;
 mod transport;
+mod tunnel;
 mod verdict;
 
 pub use addresses::{destination_of, source_of};
@@ -32,4 +34,5 @@ pub use quoted_packet::QuotedPacket;
 pub use read::{MAX_PACKET_LEN, read_packet};
 pub use refusal::Refusal;
 pub use transport::{Transport, ports_in};
+pub use tunnel::{MAX_TUNNELS, Tunnel, Tunnels};
 pub use verdict::Verdict;

@@ -1,10 +1,29 @@
-use crate::{Content, Verdict};
+ghost use Rattle.std.specs.Prelude.{◌≡◌};
+ghost use Rattle.capture_packet.specs.Packets.{in_no_tunnel};
 
-/// A packet of a capture, as far as it can be read.
+use crate::{Content, Tunnels, Verdict};
+use arrayvec::ArrayVec;
+
+/// A packet of a capture, as far as it can be read. If an IP packet contains another IP packet, this is the inner packet.
 #[derive(Debug, PartialEq, Eq, Drop)]
 pub struct Packet<'a> {
+    /// The tunnels around the packet, from the outermost to the innermost.
+    pub tunnels: Tunnels<'a>,
     /// The content of the packet.
     pub content: Content<'a>,
     /// The verdict on its checksum.
     pub verdict: Verdict,
+}
+
+impl<'a> Packet<'a> {
+    /// A packet in no tunnel.
+    pub fn in_no_tunnel(content: Content<'a>, verdict: Verdict) -> Packet<'a>
+        ensures { result ≡ in_no_tunnel content.entry verdict }
+    {
+        Packet {
+            tunnels: ArrayVec::new(),
+            content,
+            verdict,
+        }
+    }
 }

@@ -1,13 +1,18 @@
-ghost use Rattle.std.specs.Prelude.{◌≡◌, None};
+ghost use Rattle.std.specs.Prelude.{◌≡◌, ◌<◌, None};
+ghost use Rattle.std.specs.Option.{option_map};
+ghost use Rattle.arrayvec.specs.ArrayVec.{array_vec_len};
 ghost use Rattle.ip_part.specs.Ip.{Carries, lacks_len, lax_refusal, refusal};
-ghost use Rattle.capture_packet.specs.Frames.{IsInPacket, IsIpPacket, IsRead, IsUnread, link_verdict};
+ghost use Rattle.capture_packet.specs.Frames.{IsInPacket, IsInTunnels, IsRead, IsUnread, link_verdict};
+ghost use Rattle.capture_packet.specs.Tunnels.{innermost, max_tunnels, payload_packet};
 ghost use Rattle.capture_packet.specs.Verdicts as specs;
 
 use crate::fixed_header::{IPV6_LEN, fixed_addresses};
 use crate::link::{Frame, LinkHeaderCutOff, network_packet};
 use crate::payload::{counted_payload_len, payload_len};
-use crate::transport::read_transport;
-use crate::{Content, Packet, Refusal, Verdict};
+use crate::transport::{is_transport_cut_off, read_transport};
+use crate::tunnel::packet_in_payload;
+use crate::{Content, Packet, Refusal, Tunnel, Tunnels, Verdict};
+use arrayvec::ArrayVec;
 use capture_file::{ByteOrder, LinkType};
 use etherparse_transport::Untested;
 use etherparse_transport::ip::{IpError, TransportInIp, transport_in_ip, transport_in_ip_lax};
@@ -22,6 +27,17 @@ pub const MAX_PACKET_LEN: usize = 524_288;
 /// A packet is cut off if its IP header counts more bytes than are present, whatever the capture states about its frame. It is also cut off
 /// if its IP header is incomplete in a frame with `is_cut`. A packet that is cut off is not rejected for an incomplete header. Its checksum
 /// is not tested. A frame may contain padding after its packet. If only the padding was cut, the packet is whole.
+///
+/// If an IP packet contains another IP packet, the inner packet is read, and the outer packet is one of `tunnels`. An IPv4 packet follows an
+/// IP header with protocol 4 (RFC 2003), and an IPv6 packet follows protocol 41 (RFC 4213, section 3.5; RFC 2473). Protocol 47 is GRE,
+/// version 0, with IPv4 or IPv6 after it, and with or without a checksum, a key and a sequence number (RFC 2784; RFC 2890). The checksum of
+/// GRE is not checked. The inner packet is not read, and the payload of the outer packet is of another protocol, if one of these is true:
+/// - The outer packet is a fragment.
+/// - The fixed part of the inner IP header, 20 bytes of version 4 or 40 bytes of version 6, is not present.
+/// - A GRE header has another version, another protocol, or one of the reserved bits that a receiver rejects (RFC 2784, section 2.3).
+/// - `MAX_TUNNELS` tunnels are around the outer packet.
+///
+/// If the outer packet is cut off, the inner packet is cut off if its own IP header counts more bytes than are present.
 pub fn read_packet<'a>(
     link_type: LinkType,
     order: ByteOrder,
@@ -32,14 +48,11 @@ pub fn read_packet<'a>(
 {
     match network_packet(link_type, order, frame) {
         Ok(Frame::Ip(packet)) => read_ip_packet(packet, is_cut),
-        Ok(Frame::Other(protocol)) => Packet {
-            content: Content::NotIp(protocol),
-            verdict: Verdict::untested(Untested::OtherProtocol),
-        },
-        Err(error) => Packet {
-            content: Content::Unread,
-            verdict: link_verdict(error, is_cut),
-        },
+        Ok(Frame::Other(protocol)) => Packet::in_no_tunnel(
+            Content::NotIp(protocol),
+            Verdict::untested(Untested::OtherProtocol),
+        ),
+        Err(error) => Packet::in_no_tunnel(Content::Unread, link_verdict(error, is_cut)),
     }
 }
 
@@ -54,14 +67,41 @@ fn link_verdict(error: LinkHeaderCutOff, is_cut: bool) -> Verdict
     }
 }
 
-/// Reads an IP packet. If `is_cut` is true, the capture contains only the first bytes of its frame.
+/// Reads the IP packet at the front of these bytes, or the innermost packet in its tunnels. If `is_cut` is true, the capture contains only
+/// the first bytes of its frame.
 fn read_ip_packet<'a>(packet: &'a [u8], is_cut: bool) -> Packet<'a>
-    ensures { IsIpPacket is_cut packet.now result }
+    ensures { IsInTunnels (innermost is_cut packet.now) result }
 {
-    match transport_in_ip_lax(packet) {
-        Ok(found) => carried(packet, &found, is_cut),
-        Err(error) => unread(packet, error, is_cut_off(packet, is_cut)),
+    let mut tunnels = ArrayVec::new();
+    let mut rest = packet;
+    let mut is_rest_cut = is_cut;
+    loop {
+        let found = match transport_in_ip_lax(rest) {
+            Ok(found) => found,
+            Err(error) => return unread(tunnels, rest, error, is_cut_off(rest, is_rest_cut)),
+        };
+        let Some(inner) = next_packet(&tunnels, &found) else {
+            return carried(tunnels, rest, &found, is_rest_cut);
+        };
+        tunnels.push(Tunnel {
+            addresses: found.addresses,
+            protocol: found.protocol,
+        });
+        rest = inner;
+        is_rest_cut = is_transport_cut_off(&found, is_rest_cut);
     }
+}
+
+/// The packet in an outer packet, if there is one, and room for one more tunnel.
+fn next_packet<'a>(tunnels: &Tunnels<'_>, outer: &TransportInIp<'a>) -> Option<&'a [u8]>
+    ensures full { array_vec_len tunnels.now ≡ max_tunnels → result ≡ None }
+    ensures room { array_vec_len tunnels.now < max_tunnels → option_map (λ packet. packet.now) result
+        ≡ payload_packet outer.now.is_fragment outer.now.protocol.0 outer.now.payload.now }
+{
+    if tunnels.is_full() {
+        return None;
+    }
+    packet_in_payload(outer)
 }
 
 /// Whether a packet with rejected headers is cut off. Its header counts more bytes than are present. Or it is incomplete or states no
@@ -94,16 +134,23 @@ fn counts_no_payload(packet: &[u8], offset: usize, len: usize) -> bool
     !packet.is_empty() && packet[0] >> 4 == 6 && offset == IPV6_LEN && len == 0
 }
 
-/// An IP packet with this transport.
-fn carried<'a>(packet: &'a [u8], found: &TransportInIp<'a>, is_cut: bool) -> Packet<'a>
+/// An IP packet in these tunnels, with this transport.
+fn carried<'a>(
+    tunnels: Tunnels<'a>,
+    packet: &'a [u8],
+    found: &TransportInIp<'a>,
+    is_cut: bool,
+) -> Packet<'a>
     requires accepted { lax_refusal packet.now ≡ None }
     requires carries { Carries packet.now found.now }
     requires stated { found.now.is_length_missing ≡ lacks_len packet.now }
-    ensures { IsInPacket is_cut packet.now found.now result }
+    ensures tunnels { result.tunnels ≡ tunnels.entry }
+    ensures is { IsInPacket is_cut packet.now found.now result }
 {
     let (transport, verdict) = read_transport(found, is_cut);
     let payload_len = payload_len(&transport, counted_payload_len(packet, found));
     Packet {
+        tunnels,
         content: Content::Ip {
             addresses: found.addresses,
             protocol: found.protocol,
@@ -115,15 +162,22 @@ fn carried<'a>(packet: &'a [u8], found: &TransportInIp<'a>, is_cut: bool) -> Pac
     }
 }
 
-/// An IP packet with rejected headers.
-fn unread<'a>(packet: &'a [u8], error: IpError, is_cut_off: bool) -> Packet<'a>
-    ensures { IsUnread is_cut_off packet.now error result }
+/// An IP packet in these tunnels, with rejected headers.
+fn unread<'a>(
+    tunnels: Tunnels<'a>,
+    packet: &'a [u8],
+    error: IpError,
+    is_cut_off: bool,
+) -> Packet<'a>
+    ensures tunnels { result.tunnels ≡ tunnels.entry }
+    ensures is { IsUnread is_cut_off packet.now error result }
 {
     let content = match fixed_addresses(packet) {
         Some(addresses) => Content::IpHeader(addresses),
         None => Content::Unread,
     };
     Packet {
+        tunnels,
         content,
         verdict: unread_verdict(error, is_cut_off),
     }

@@ -155,11 +155,19 @@ fn refused(found: &TransportInIp<'_>, error: HeaderSliceError, is_cut: bool) -> 
     requires { refusal found.now ≡ Some error }
     ensures { JudgesTransport is_cut found.now result }
 {
-    let is_cut_off = found.is_cut_off || (is_cut && found.is_length_missing);
+    let is_cut_off = is_transport_cut_off(found, is_cut);
     match (proto_in_ip(found), error) {
         (_, HeaderSliceError::Len(_)) if is_cut_off => Verdict::untested(Untested::CutOff),
         (Some(proto), error) => Verdict::Refused(Refusal::Transport(proto, error)),
         // A transport of another protocol is never rejected.
         (None, _) => Verdict::untested(Untested::OtherProtocol),
     }
+}
+
+/// Whether only the first bytes of a transport are present: the IP header counts more bytes than are present, or it states no length and
+/// the capture cut the frame.
+pub(crate) fn is_transport_cut_off(found: &TransportInIp<'_>, is_cut: bool) -> bool
+    ensures { result ≡ specs.is_transport_cut_off is_cut found.now }
+{
+    found.is_cut_off || (is_cut && found.is_length_missing)
 }

@@ -6,6 +6,7 @@ use Rattle.capture_summary.specs.Choice.{IsChosen}
 use Rattle.capture_run.specs.Endings.{max_packets}
 use Rattle.capture_summary.specs.FlowOf.{IsFlowOf}
 use Rattle.capture_packet.specs.Frames.{IsRead, max_packet_len}
+use Rattle.capture_packet.specs.Packets.{in_no_tunnel}
 use Rattle.capture_packet.specs.Verdicts.{untested}
 use Rattle.capture_summary.specs.Kinds.{content_protocol, verdict_kind, verdict_refusal_kind}
 use Rattle.capture_summary.specs.SummaryTables.{CountsOne, SummaryTables}
@@ -49,14 +50,14 @@ pub record CountsPacket (choice : Choice) (IsPacket : Packet → Type 0) (info :
 
 -- a packet that is too long is not read
 abbrev pub IsTooLong : ℕ → Packet → Type 0
-IsTooLong required_len packet = packet ≡ record { content = Unread; verdict = TooLong required_len }
+IsTooLong required_len packet = packet ≡ in_no_tunnel Unread (TooLong required_len)
 
 -- what captured bytes are read as, by their link type; where they are fewer than those of the packet, it was cut
 abbrev pub IsReadAs : Result LinkType ℕ → CapturedPacket → List ℕ → Packet → Type 0
 IsReadAs (Ok link_type) captured frame packet =
     IsRead link_type captured.byte_order frame (nat_lt captured.captured_len captured.original_len) packet
 IsReadAs (Err number) captured frame packet =
-    packet ≡ record { content = NotIp (protocols.LinkType number); verdict = untested OtherProtocol }
+    packet ≡ in_no_tunnel (NotIp (protocols.LinkType number)) (untested OtherProtocol)
 
 -- what a packet of a capture is
 abbrev pub IsPacketOf : FilePacket → Packet → Type 0

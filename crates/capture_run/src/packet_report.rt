@@ -97,12 +97,12 @@ impl PacketReport {
         ensures parts { self.new.parts ≡ self.old.parts }
         ensures first { self.new.first ≡ option_or self.old.first captured.now.time }
     {
-        let packet = Packet {
-            content: Content::Unread,
-            verdict: Verdict::TooLong {
+        let packet = Packet::in_no_tunnel(
+            Content::Unread,
+            Verdict::TooLong {
                 required_len: captured.required_len,
             },
-        };
+        );
         self.add_packet(output, number, &too_long_info(captured), &packet)
     }
 
@@ -182,10 +182,10 @@ fn packet_in_frame<'a>(captured: &CapturedPacket, frame: &'a [u8]) -> Packet<'a>
 {
     match captured.link_type {
         Ok(link_type) => read_packet(link_type, captured.byte_order, frame, captured.is_cut()),
-        Err(number) => Packet {
-            content: Content::NotIp(NetworkProtocol::LinkType(number)),
-            verdict: Verdict::untested(Untested::OtherProtocol),
-        },
+        Err(number) => Packet::in_no_tunnel(
+            Content::NotIp(NetworkProtocol::LinkType(number)),
+            Verdict::untested(Untested::OtherProtocol),
+        ),
     }
 }
 

@@ -17,3 +17,5 @@ mod pcapng;
 mod quoted_packet;
 #[cfg(test)]
 mod reader;
+#[cfg(test)]
+mod tunnels;

@@ -30,14 +30,11 @@ fn expect_other(
 ) {
     let len = frame.len();
     let expected = match expected {
-        Ok(protocol) => Packet {
-            content: Content::NotIp(protocol),
-            verdict: OTHER_PROTOCOL,
-        },
-        Err(required_len) => Packet {
-            content: Content::Unread,
-            verdict: Verdict::Refused(Refusal::Link(LinkHeaderCutOff { required_len, len })),
-        },
+        Ok(protocol) => Packet::in_no_tunnel(Content::NotIp(protocol), OTHER_PROTOCOL),
+        Err(required_len) => Packet::in_no_tunnel(
+            Content::Unread,
+            Verdict::Refused(Refusal::Link(LinkHeaderCutOff { required_len, len })),
+        ),
     };
     let packet = read_packet(link_type, ByteOrder::LittleEndian, frame, false);
     expect_equal(rt, &(&frame, &packet), &(&frame, &expected));

@@ -40,14 +40,16 @@ pub(crate) const IPV4_UDP: [u8; 20] = [
 ];
 
 /// The addresses over IPv6, 2001:db8::1 and 2001:db8::2.
-const IPV6_SOURCE: [u8; 16] = [0x20, 1, 0x0d, 0xb8, 0, 0, 0, 0, 0, 0, 0, 0, 0, 0, 0, 1];
+pub(crate) const IPV6_SOURCE: [u8; 16] = [0x20, 1, 0x0d, 0xb8, 0, 0, 0, 0, 0, 0, 0, 0, 0, 0, 0, 1];
 
-const IPV6_DESTINATION: [u8; 16] = [0x20, 1, 0x0d, 0xb8, 0, 0, 0, 0, 0, 0, 0, 0, 0, 0, 0, 2];
+pub(crate) const IPV6_DESTINATION: [u8; 16] = [
+    0x20, 1, 0x0d, 0xb8, 0, 0, 0, 0, 0, 0, 0, 0, 0, 0, 0, 2,
+];
 
 /// UDP with the checksum that is right over IPv4, with that over IPv6, with another, and with none.
 pub(crate) const UDP_OVER_IPV4: [u8; 11] = [0, 53, 4, 210, 0, 11, 0x22, 0x6C, 97, 98, 99];
 
-const UDP_OVER_IPV6: [u8; 11] = [0, 53, 4, 210, 0, 11, 0xDA, 0xF9, 97, 98, 99];
+pub(crate) const UDP_OVER_IPV6: [u8; 11] = [0, 53, 4, 210, 0, 11, 0xDA, 0xF9, 97, 98, 99];
 
 const UDP_WRONG: [u8; 11] = [0, 53, 4, 210, 0, 11, 0x12, 0x34, 97, 98, 99];
 
@@ -139,7 +141,7 @@ pub(crate) fn joined(alloc: Global, parts: &[&[u8]]) -> Result<Vec<u8>, AllocErr
 }
 
 /// Appends these bytes.
-fn append(rt: &impl Abort, bytes: &mut Vec<u8>, part: &[u8]) {
+pub(crate) fn append(rt: &impl Abort, bytes: &mut Vec<u8>, part: &[u8]) {
     expect_ok(rt, bytes.extend_from_slice(part));
 }
 
@@ -208,7 +210,7 @@ pub(crate) fn over_ipv4(protocol: IpNumber, transport: TransportSlice<'_>) -> Co
 }
 
 /// A packet over IPv6 with this transport.
-fn over_ipv6(protocol: IpNumber, transport: TransportSlice<'_>) -> Content<'_> {
+pub(crate) fn over_ipv6(protocol: IpNumber, transport: TransportSlice<'_>) -> Content<'_> {
     let addresses = IpAddresses::Ipv6 {
         source: &IPV6_SOURCE,
         destination: Some(&IPV6_DESTINATION),
@@ -225,10 +227,7 @@ fn over_ipv6(protocol: IpNumber, transport: TransportSlice<'_>) -> Content<'_> {
 /// The packet of `IPV4_UDP` and `UDP_OVER_IPV4`.
 pub(crate) fn udp_packet(rt: &impl Abort) -> Packet<'static> {
     let udp = expect_ok(rt, UdpSlice::from_slice(&UDP_OVER_IPV4));
-    Packet {
-        content: over_ipv4(ip_number::UDP, TransportSlice::Udp(udp)),
-        verdict: RIGHT,
-    }
+    Packet::in_no_tunnel(over_ipv4(ip_number::UDP, TransportSlice::Udp(udp)), RIGHT)
 }
 
 /// The link type, the byte order, and the link header in front of an IPv4 packet.
@@ -400,18 +399,15 @@ fn expect_network(rt: &impl Abort, row: &NetworkRow) {
     let (link_type, order, frame, expected) = *row;
     let len = frame.len();
     let expected = match expected {
-        Ok(protocol) => Packet {
-            content: Content::NotIp(protocol),
-            verdict: OTHER_PROTOCOL,
-        },
-        Err(0) => Packet {
-            content: Content::Unread,
-            verdict: Verdict::Refused(Refusal::Ip(IpError::Version { version: 0 })),
-        },
-        Err(required_len) => Packet {
-            content: Content::Unread,
-            verdict: Verdict::Refused(Refusal::Link(LinkHeaderCutOff { required_len, len })),
-        },
+        Ok(protocol) => Packet::in_no_tunnel(Content::NotIp(protocol), OTHER_PROTOCOL),
+        Err(0) => Packet::in_no_tunnel(
+            Content::Unread,
+            Verdict::Refused(Refusal::Ip(IpError::Version { version: 0 })),
+        ),
+        Err(required_len) => Packet::in_no_tunnel(
+            Content::Unread,
+            Verdict::Refused(Refusal::Link(LinkHeaderCutOff { required_len, len })),
+        ),
     };
     let packet = read_packet(link_type, order, frame, false);
     expect_equal(rt, &(row, &packet), &(row, &expected));
@@ -427,10 +423,7 @@ fn other_networks_and_cut_link_headers(rt: HostRuntime) {
 #[test]
 fn link_headers_of_cut_frames_are_not_refused(rt: HostRuntime) {
     let packet = read_packet(LinkType::Ethernet, BIG, &ADDRESSES, true);
-    let expected = Packet {
-        content: Content::Unread,
-        verdict: CUT_OFF,
-    };
+    let expected = Packet::in_no_tunnel(Content::Unread, CUT_OFF);
     expect_equal(&rt, &packet, &expected);
 }
 
@@ -488,10 +481,7 @@ fn content<'a>(rt: &impl Abort, header: Header, bytes: &'a [u8]) -> Content<'a> 
 /// Stops the test unless the transport of a row is read, and its checksum has the verdict of the row.
 fn expect_checksum(rt: &(impl Abort + AllocGlobal), row: &ChecksumRow) {
     let (header, transport, verdict) = *row;
-    let expected = Packet {
-        content: content(rt, header, transport),
-        verdict: Verdict::Checksum(verdict),
-    };
+    let expected = Packet::in_no_tunnel(content(rt, header, transport), Verdict::Checksum(verdict));
     let frame = packet_of(rt, header, transport);
     let packet = read_packet(LinkType::RawIp, BIG, &frame, false);
     expect_equal(rt, &(row, &packet), &(row, &expected));

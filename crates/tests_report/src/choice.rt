@@ -100,10 +100,7 @@ static CHOICES: [(&[&str], &[u16], Option<Protocols>, [bool; 5]); 32] = [
 
 /// A fragment, which is chosen as any other packet is.
 fn packet_of(content: Content<'_>) -> Packet<'_> {
-    Packet {
-        content,
-        verdict: Verdict::untested(Untested::Fragment),
-    }
+    Packet::in_no_tunnel(content, Verdict::untested(Untested::Fragment))
 }
 
 /// A packet with the datagram.

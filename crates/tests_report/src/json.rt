@@ -65,7 +65,7 @@ fn expect_object(
     wanted: &str,
 ) -> Result<(), Fail> {
     let mut line = Vec::new(rt.alloc());
-    let packet = Packet { content, verdict };
+    let packet = Packet::in_no_tunnel(content, verdict);
     write_packet(
         &mut line,
         rt.alloc(),

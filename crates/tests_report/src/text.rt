@@ -52,7 +52,7 @@ fn expect_line(
     verdict: Verdict,
     wanted: [&str; 3],
 ) -> Result<(), Fail> {
-    let packet = Packet { content, verdict };
+    let packet = Packet::in_no_tunnel(content, verdict);
     let [before, wanted, after] = wanted;
     let wanted = format!(in rt.alloc(); "length 60: {before}{wanted}{after}")?;
     expect_line_of_length(rt, Some(WHOLE), &packet, &wanted)

@@ -1,7 +1,4 @@
-use Rattle.std.proofs.Common.{refl}
 use Rattle.std.proofs.lemmas.Result.{on_ok_weaker}
-use Rattle.capture_packet.specs.declared.content.Content.TheVariants.{Unread}
-use Rattle.capture_packet.specs.declared.verdict.Verdict.TheVariants.{TooLong}
 use Rattle.capture_run.proofs.packet_report.PacketReport.add_too_long.Goals as goal
 
 -- the text of a packet that is too long
@@ -11,8 +8,8 @@ returns-clause-text g c =
     (λ one. (
       one.0,
       record {
-        packet = record { content = Unread; verdict = TooLong c.args.captured.now.required_len };
-        is_packet = refl;
+        packet = c.in_no_tunnel-packet.result;
+        is_packet = c.in_no_tunnel-packet.ensures;
         is_text = rw c.too_long_info.ensures at one.1;
       },
       one.2,

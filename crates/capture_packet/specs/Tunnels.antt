@@ -1,0 +1,124 @@
+-- Tunnels: IP packets in IP packets (RFC 2003; RFC 4213, section 3; RFC 2473), also after a GRE header (RFC 2784).
+use Rattle.std.specs.Prelude.{ℕ, zero, suc, ◌==◌, Bool, ◌&&◌, ◌||◌, nat_le, if◌then◌else◌, List, [], ◌∷◌, length, drop, Option, Some, None, Result, Ok, Err}
+use Rattle.std.specs.Option.{option_map}
+use Rattle.net_base.specs.IpHeaders.{version}
+use Rattle.ip_part.specs.Addresses as addresses
+use Rattle.ip_part.specs.Addresses.{Addresses}
+use Rattle.ip_part.specs.Headers.{Headers}
+use Rattle.ip_part.specs.Ip.{counted, headers_of, is_cut_off, lacks_len, lax_refusal}
+use Rattle.ip_part.specs.declared.ip_error.IpError.{IpError}
+use Rattle.capture_packet.specs.Gre as gre
+use Rattle.capture_packet.specs.declared.tunnel.Tunnel.{Tunnel}
+
+-- ---- the packet in a payload
+
+-- the length of the fixed part of an IP header: 20 bytes of version 4 (RFC 791, section 3.1), or 40 bytes of version 6 (RFC 8200, section 3)
+abbrev pub fixed_len : ℕ → ℕ
+fixed_len number = if number == 4 then 20 else 40
+
+-- an IP packet of this version, if the bytes begin with the fixed part of its header
+abbrev pub packet_of_version : ℕ → List ℕ → Option (List ℕ)
+packet_of_version number bytes =
+    if nat_le (fixed_len number) (length bytes) && version bytes == number then Some bytes else None
+
+-- the packet of a protocol with this ether type: 0800 is IPv4 (RFC 2784, section 3), and 86DD is IPv6 (RFC 7676, section 3.1)
+abbrev pub packet_of_type : ℕ → List ℕ → Option (List ℕ)
+packet_of_type ether_type bytes =
+    if ether_type == 0x0800 then packet_of_version 4 bytes
+    else if ether_type == 0x86DD then packet_of_version 6 bytes
+    else None
+
+-- the packet after the GRE header at the front of these bytes
+abbrev pub packet_after_gre : List ℕ → Option (List ℕ)
+packet_after_gre bytes =
+    if gre.is_read bytes then packet_of_type (gre.protocol_type bytes) (drop (gre.header_len bytes) bytes) else None
+
+-- The packet in a payload with this protocol number: 4 is IPv4 (RFC 2003, section 3.1), 41 is IPv6 (RFC 4213, section 3.5), and 47 is GRE
+-- (RFC 2784, section 5).
+abbrev pub packet_in : ℕ → List ℕ → Option (List ℕ)
+packet_in number payload =
+    if number == 4 then packet_of_version 4 payload
+    else if number == 41 then packet_of_version 6 payload
+    else if number == 47 then packet_after_gre payload
+    else None
+
+-- the packet in an outer packet; a fragment contains only a part of its payload
+abbrev pub payload_packet : Bool → ℕ → List ℕ → Option (List ℕ)
+payload_packet is_fragment number payload = if is_fragment then None else packet_in number payload
+
+-- ---- one tunnel
+
+-- the outer packet of a tunnel: its addresses, which are the ends of the tunnel, and its protocol number
+pub record Outer : Type 0 where
+  pub addresses : Addresses
+  pub protocol : ℕ
+
+-- the value of a tunnel, wherever its bytes are stored
+abbrev pub by_value : Tunnel → Outer
+by_value tunnel = record { addresses = addresses.by_value tunnel.addresses; protocol = tunnel.protocol.0 }
+
+-- a tunnel: its outer packet, the bytes of the inner packet, and whether the end of the outer packet is missing
+pub record Opened : Type 0 where
+  pub outer : Outer
+  pub bytes : List ℕ
+  pub is_cut : Bool
+
+-- the tunnel with this outer packet, if it contains a packet
+abbrev pub opened_with : Outer → Bool → Bool → List ℕ → Option Opened
+opened_with outer is_fragment is_cut payload =
+    option_map (λ bytes. record { outer = outer; bytes = bytes; is_cut = is_cut }) (payload_packet is_fragment outer.protocol payload)
+
+-- The end of an IP packet is missing. Either its header counts more bytes than are present. Or it states no length, and the end of the bytes
+-- is missing, because the capture or an outer packet is cut off.
+abbrev pub is_end_missing : Bool → List ℕ → Bool
+is_end_missing is_cut packet = is_cut_off (lacks_len packet) packet || (is_cut && lacks_len packet)
+
+-- the tunnel in an outer packet with these IP headers, unless an error rejects them
+abbrev pub opened_after : Bool → List ℕ → Result Headers IpError → Option Opened
+opened_after is_cut packet (Err error) = None
+opened_after is_cut packet (Ok headers) = opened_with (record { addresses = headers.addresses; protocol = headers.protocol.0 })
+    headers.is_fragment (is_end_missing is_cut packet) (drop headers.len (counted (lacks_len packet) packet))
+
+-- the tunnel in an outer packet, unless this error rejects the outer packet
+abbrev pub opened_unless : Option IpError → Bool → List ℕ → Option Opened
+opened_unless (Some error) is_cut packet = None
+opened_unless None is_cut packet = opened_after is_cut packet (headers_of (lacks_len packet) packet)
+
+-- The tunnel in an IP packet. None if the packet contains no other IP packet, if it is a fragment, or if its IP headers are rejected.
+abbrev pub opened : Bool → List ℕ → Option Opened
+opened is_cut packet = opened_unless (lax_refusal packet) is_cut packet
+
+-- ---- tunnels in tunnels
+
+-- an IP packet in tunnels: their outer packets, from the outermost to the innermost, and the packet in them
+pub record Nested : Type 0 where
+  pub outers : List Outer
+  pub bytes : List ℕ
+  pub is_cut : Bool
+
+-- a packet in no tunnel
+abbrev pub alone : Bool → List ℕ → Nested
+alone is_cut packet = record { outers = []; bytes = packet; is_cut = is_cut }
+
+-- a packet in one more tunnel, which contains its other tunnels
+abbrev pub in_tunnel : Outer → Nested → Nested
+in_tunnel outer nested = record { outers = outer ∷ nested.outers; bytes = nested.bytes; is_cut = nested.is_cut }
+
+-- the packet in this tunnel, or this packet if there is no tunnel; `read` reads the bytes in the tunnel
+abbrev pub inside : Option Opened → (Opened → Nested) → Nested → Nested
+inside None read outside = outside
+inside (Some tunnel) read outside = in_tunnel tunnel.outer (read tunnel)
+
+-- The packet at the front of these bytes, in at most this number of tunnels. A packet in more tunnels is not read.
+unfoldable pub nested_in : ℕ → Bool → List ℕ → Nested
+nested_in zero is_cut packet = alone is_cut packet
+nested_in (suc more) is_cut packet =
+    inside (opened is_cut packet) (λ tunnel. nested_in more tunnel.is_cut tunnel.bytes) (alone is_cut packet)
+
+-- the maximum number of tunnels that are read
+abbrev pub max_tunnels : ℕ
+max_tunnels = 4
+
+-- the packet at the front of these bytes, in all tunnels that are read
+abbrev pub innermost : Bool → List ℕ → Nested
+innermost is_cut packet = nested_in max_tunnels is_cut packet

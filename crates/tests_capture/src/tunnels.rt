@@ -1,0 +1,235 @@
+use crate::expect::{expect_equal, expect_ok};
+use crate::packet::{
+    IPV4_UDP, IPV6_DESTINATION, IPV6_SOURCE, OTHER_PROTOCOL, RIGHT, UDP_OVER_IPV4, UDP_OVER_IPV6,
+    append, over_ipv4, over_ipv6,
+};
+use capture_file::{ByteOrder, LinkType};
+use capture_packet::{Content, Packet, Refusal, Tunnel, Verdict, read_packet};
+use etherparse_transport::ip::{IpAddresses, IpError};
+use etherparse_transport::{IpNumber, TransportSlice, UdpSlice, Untested, ip_number};
+use std::alloc::Global;
+use std::process::Abort;
+
+/// The addresses of the outer packets over IPv4, 192.0.2.1 and 192.0.2.2.
+const OUTER_IPV4: IpAddresses = IpAddresses::Ipv4 {
+    source: &[192, 0, 2, 1],
+    destination: &[192, 0, 2, 2],
+};
+
+/// The addresses of the outer packets over IPv6, 2001:db8::1 and 2001:db8::2.
+const OUTER_IPV6: IpAddresses = IpAddresses::Ipv6 {
+    source: &IPV6_SOURCE,
+    destination: Some(&IPV6_DESTINATION),
+};
+
+/// The IPv6 header of `UDP_OVER_IPV6`.
+const IPV6_UDP: [u8; 40] = [
+    0x60, 0, 0, 0, 0, 11, 17, 64, 0x20, 1, 0x0d, 0xb8, 0, 0, 0, 0, 0, 0, 0, 0, 0, 0, 0, 1, 0x20, 1,
+    0x0d, 0xb8, 0, 0, 0, 0, 0, 0, 0, 0, 0, 0, 0, 2,
+];
+
+/// A header before the innermost packet.
+#[derive(Clone, Copy, Debug, PartialEq, Eq)]
+enum Outer {
+    /// An IPv4 header with this protocol.
+    Ipv4(u8),
+    /// An IPv6 header with this next header.
+    Ipv6(u8),
+    /// A GRE header of these bytes.
+    Gre(&'static [u8]),
+}
+
+/// The bytes of a header before this number of bytes.
+fn header_of(rt: &(impl Abort + AllocGlobal), outer: Outer, payload_len: u8) -> Vec<u8> {
+    let mut header = Vec::new(rt.alloc());
+    match outer {
+        Outer::Ipv4(protocol) => {
+            let total_len = payload_len.saturating_add(20);
+            append(rt, &mut header, &[0x45, 0, 0, total_len, 0, 1, 0x40, 0, 64]);
+            append(
+                rt,
+                &mut header,
+                &[protocol, 0, 0, 192, 0, 2, 1, 192, 0, 2, 2],
+            );
+        }
+        Outer::Ipv6(next_header) => {
+            append(
+                rt,
+                &mut header,
+                &[0x60, 0, 0, 0, 0, payload_len, next_header, 64],
+            );
+            append(rt, &mut header, &IPV6_SOURCE);
+            append(rt, &mut header, &IPV6_DESTINATION);
+        }
+        Outer::Gre(bytes) => append(rt, &mut header, bytes),
+    }
+    header
+}
+
+/// A packet with these headers before it, the outermost first.
+fn packet_in(rt: &(impl Abort + AllocGlobal), outers: &[Outer], inner: &[u8]) -> Vec<u8> {
+    let mut packet = Vec::new(rt.alloc());
+    append(rt, &mut packet, inner);
+    for outer in outers.iter().rev() {
+        let len = u8::try_from(packet.len()).unwrap_or(u8::MAX);
+        let mut longer = header_of(rt, *outer, len);
+        append(rt, &mut longer, packet.as_slice());
+        packet = longer;
+    }
+    packet
+}
+
+/// The UDP datagram over IPv4 or over IPv6, and the content of its packet.
+fn datagram(rt: &(impl Abort + AllocGlobal), is_ipv6: bool) -> (Vec<u8>, Content<'static>) {
+    let mut packet = Vec::new(rt.alloc());
+    let content = if is_ipv6 {
+        append(rt, &mut packet, &IPV6_UDP);
+        append(rt, &mut packet, &UDP_OVER_IPV6);
+        let udp = expect_ok(rt, UdpSlice::from_slice(&UDP_OVER_IPV6));
+        over_ipv6(ip_number::UDP, TransportSlice::Udp(udp))
+    } else {
+        append(rt, &mut packet, &IPV4_UDP);
+        append(rt, &mut packet, &UDP_OVER_IPV4);
+        let udp = expect_ok(rt, UdpSlice::from_slice(&UDP_OVER_IPV4));
+        over_ipv4(ip_number::UDP, TransportSlice::Udp(udp))
+    };
+    (packet, content)
+}
+
+/// The tunnel of a header, unless it is a GRE header.
+fn tunnel_of(outer: Outer) -> Option<Tunnel<'static>> {
+    match outer {
+        Outer::Ipv4(protocol) => Some(Tunnel {
+            addresses: OUTER_IPV4,
+            protocol: IpNumber(protocol),
+        }),
+        Outer::Ipv6(protocol) => Some(Tunnel {
+            addresses: OUTER_IPV6,
+            protocol: IpNumber(protocol),
+        }),
+        Outer::Gre(_) => None,
+    }
+}
+
+/// The headers before a UDP datagram over IPv4, or over IPv6 if the second field is true.
+#[rattlefmt::skip]
+static TUNNELS: [(&[Outer], bool); 13] = [
+    (&[Outer::Ipv4(4)], false),
+    (&[Outer::Ipv4(41)], true),
+    (&[Outer::Ipv6(41)], true),
+    (&[Outer::Ipv6(4)], false),
+    (&[Outer::Ipv4(47), Outer::Gre(&[0, 0, 8, 0])], false),
+    (&[Outer::Ipv4(47), Outer::Gre(&[0, 0, 0x86, 0xDD])], true),
+    (&[Outer::Ipv6(47), Outer::Gre(&[3, 0xF8, 8, 0])], false),
+    (&[Outer::Ipv4(47), Outer::Gre(&[0x80, 0, 8, 0, 1, 2, 0, 0])], false),
+    (&[Outer::Ipv4(47), Outer::Gre(&[0x20, 0, 0x86, 0xDD, 0, 0, 0, 7])], true),
+    (&[Outer::Ipv4(47), Outer::Gre(&[0x10, 0, 8, 0, 0, 0, 0, 9])], false),
+    (&[Outer::Ipv4(47), Outer::Gre(&[0xB0, 0, 8, 0, 1, 2, 0, 0, 0, 0, 0, 7, 0, 0, 0, 9])], false),
+    (&[Outer::Ipv4(47), Outer::Gre(&[0, 0, 0x86, 0xDD]), Outer::Ipv6(41), Outer::Ipv6(4)], false),
+    (&[Outer::Ipv4(4), Outer::Ipv4(4), Outer::Ipv4(4), Outer::Ipv4(4)], false),
+];
+
+/// Stops the test unless the datagram after the headers of a row is read, and these headers are its tunnels.
+fn expect_tunnels(rt: &(impl Abort + AllocGlobal), outers: &[Outer], is_ipv6: bool) {
+    let (inner, content) = datagram(rt, is_ipv6);
+    let frame = packet_in(rt, outers, inner.as_slice());
+    let mut expected = Packet::in_no_tunnel(content, RIGHT);
+    for outer in outers {
+        if let Some(tunnel) = tunnel_of(*outer) {
+            expect_ok(rt, expected.tunnels.try_push(tunnel).map_err(|_| ()));
+        }
+    }
+    let packet = read_packet(LinkType::RawIp, ByteOrder::BigEndian, &frame, false);
+    expect_equal(rt, &(outers, &packet), &(outers, &expected));
+}
+
+#[test]
+fn packets_in_tunnels(rt: HostRuntime) {
+    for (outers, is_ipv6) in &TUNNELS {
+        expect_tunnels(&rt, outers, *is_ipv6);
+    }
+}
+
+/// The bytes after an IPv4 header with this protocol and with this byte of flags. The inner packet is not read.
+#[rattlefmt::skip]
+static CLOSED: [(u8, u8, &[&[u8]]); 14] = [
+    (4, 0, &[&IPV6_UDP, &UDP_OVER_IPV6]),
+    (41, 0, &[&IPV4_UDP, &UDP_OVER_IPV4]),
+    (4, 0, &[&[0x45, 0, 0, 31, 0, 1, 0x40, 0, 64, 17, 0, 0, 10, 0, 0, 1, 10, 0, 0]]),
+    (41, 0, &[&[0x60, 0, 0, 0, 0, 11, 17, 64], &IPV6_SOURCE, &[0x20, 1, 0x0d, 0xb8, 0, 0, 0, 0, 0, 0, 0, 0, 0, 0, 0]]),
+    (4, 0, &[]),
+    (4, 0x20, &[&IPV4_UDP, &UDP_OVER_IPV4]),
+    (50, 0, &[&IPV4_UDP, &UDP_OVER_IPV4]),
+    (47, 0, &[&[0, 0, 8]]),
+    (47, 0, &[&[0, 1, 8, 0], &IPV4_UDP, &UDP_OVER_IPV4]),
+    (47, 0, &[&[0x40, 0, 8, 0], &IPV4_UDP, &UDP_OVER_IPV4]),
+    (47, 0, &[&[8, 0, 8, 0], &IPV4_UDP, &UDP_OVER_IPV4]),
+    (47, 0, &[&[4, 0, 8, 0], &IPV4_UDP, &UDP_OVER_IPV4]),
+    (47, 0, &[&[0, 0, 0x65, 0x58], &IPV4_UDP, &UDP_OVER_IPV4]),
+    (47, 0, &[&[0x20, 0, 8, 0, 0, 0]]),
+];
+
+/// The number of tunnels of a packet, and the protocol number of its content.
+fn shape_of(packet: &Packet<'_>) -> (usize, Option<u8>) {
+    let protocol = match &packet.content {
+        Content::Ip { protocol, .. } => Some(protocol.0),
+        Content::Unread | Content::IpHeader(_) | Content::NotIp(_) => None,
+    };
+    (packet.tunnels.len(), protocol)
+}
+
+#[test]
+fn packets_without_an_inner_packet(rt: HostRuntime) {
+    for (protocol, flags, parts) in &CLOSED {
+        let payload = expect_ok(&rt, crate::packet::joined(rt.alloc(), parts));
+        let mut frame = packet_in(&rt, &[Outer::Ipv4(*protocol)], payload.as_slice());
+        frame[6] = *flags;
+        let packet = read_packet(LinkType::RawIp, ByteOrder::BigEndian, &frame, false);
+        let shape = shape_of(&packet);
+        expect_equal(&rt, &(parts, shape), &(parts, (0, Some(*protocol))));
+    }
+}
+
+/// The bytes after an IPv4 header with protocol 4: whether the outer packet is cut off, and the verdict on the inner packet.
+#[rattlefmt::skip]
+static REFUSED: [(&[u8], bool, Verdict); 3] = [
+    (
+        &[0x46, 0, 0, 31, 0, 1, 0x40, 0, 64, 17, 0, 0, 10, 0, 0, 1, 10, 0, 0, 2], false,
+        Verdict::Refused(Refusal::Ip(IpError::HeaderCutOff { required_len: 24, len: 20 })),
+    ),
+    (
+        &[0x46, 0, 0, 31, 0, 1, 0x40, 0, 64, 17, 0, 0, 10, 0, 0, 1, 10, 0, 0, 2], true,
+        Verdict::Checksum(etherparse_transport::ChecksumVerdict::Untested(Untested::CutOff)),
+    ),
+    (
+        &[0x44, 0, 0, 31, 0, 1, 0x40, 0, 64, 17, 0, 0, 10, 0, 0, 1, 10, 0, 0, 2], false,
+        Verdict::Refused(Refusal::Ip(IpError::HeaderLength { header_len: 16 })),
+    ),
+];
+
+#[test]
+fn refused_inner_packets(rt: HostRuntime) {
+    for (inner, is_cut_off, verdict) in &REFUSED {
+        let mut frame = packet_in(&rt, &[Outer::Ipv4(4)], inner);
+        if *is_cut_off {
+            frame[3] = 60;
+        }
+        let packet = read_packet(LinkType::RawIp, ByteOrder::BigEndian, &frame, false);
+        let addresses = IpAddresses::Ipv4 {
+            source: &[10, 0, 0, 1],
+            destination: &[10, 0, 0, 2],
+        };
+        let expected = (&Content::IpHeader(addresses), verdict);
+        expect_equal(&rt, &(&packet.content, &packet.verdict), &expected);
+        expect_equal(&rt, &packet.tunnels.len(), &1);
+    }
+}
+
+#[test]
+fn a_packet_in_five_tunnels(rt: HostRuntime) {
+    let (inner, _) = datagram(&rt, false);
+    let frame = packet_in(&rt, &[Outer::Ipv4(4); 5], inner.as_slice());
+    let packet = read_packet(LinkType::RawIp, ByteOrder::BigEndian, &frame, false);
+    expect_equal(&rt, &shape_of(&packet), &(4, Some(4)));
+    expect_equal(&rt, &packet.verdict, &OTHER_PROTOCOL);
+}
