@@ -22,7 +22,7 @@ has_line lines.None verdict = false
 
 -- a packet has no line: it is not chosen, or its verdict excludes it
 abbrev pub HasNoLine : Parts → Packet → Type 0
-HasNoLine parts packet = (IsChosen parts.choice packet.content → ⊥) ⊎ (has_line parts.lines packet.verdict ≡ false)
+HasNoLine parts packet = (IsChosen parts.choice packet → ⊥) ⊎ (has_line parts.lines packet.verdict ≡ false)
 
 -- the statement holds if one of these packets has no line
 pub record IfNoLine (IsPacket : Packet → Type 0) (parts : Parts) (Statement : Type 0) : Type 0 where

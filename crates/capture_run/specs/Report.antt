@@ -38,7 +38,7 @@ pub record CountsRead (packet : Packet) (info : CaptureInfo) (before after : Sum
 -- it was counted if it is chosen, and else nothing was
 abbrev pub CountsChosen : Choice → Packet → CaptureInfo → SummaryTables → SummaryTables → Type 0
 CountsChosen choice packet info before after =
-    (IsChosen choice packet.content × CountsRead packet info before after) ⊎ ((IsChosen choice packet.content → ⊥) × (after ≡ before))
+    (IsChosen choice packet × CountsRead packet info before after) ⊎ ((IsChosen choice packet → ⊥) × (after ≡ before))
 
 -- one of these packets was counted, if it is chosen
 pub record CountsPacket (choice : Choice) (IsPacket : Packet → Type 0) (info : CaptureInfo) (before after : SummaryTables) : Type 0 where

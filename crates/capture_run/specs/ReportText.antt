@@ -25,8 +25,8 @@ IsTextOfChosen parts number first info packet text =
 -- the text of a packet; it is empty if the packet is not chosen
 abbrev pub IsTextOf : Parts → ℕ → Option PacketTime → CaptureInfo → Packet → List ℕ → Type 0
 IsTextOf parts number first info packet text =
-    (IsChosen parts.choice packet.content × IsTextOfChosen parts number first info packet text)
-    ⊎ ((IsChosen parts.choice packet.content → ⊥) × (text ≡ []))
+    (IsChosen parts.choice packet × IsTextOfChosen parts number first info packet text)
+    ⊎ ((IsChosen parts.choice packet → ⊥) × (text ≡ []))
 
 -- the text of one of these packets
 pub record IsTextOfOne (IsPacket : Packet → Type 0) (parts : Parts) (number : ℕ) (first : Option PacketTime) (info : CaptureInfo) (text : List ℕ) : Type 0 where

@@ -6,6 +6,8 @@ use Rattle.capture_summary.specs.Networks.{IsIpv4In, IsIpv6In}
 use Rattle.capture_packet.specs.declared.content.Content.{Content}
 use Rattle.capture_packet.specs.declared.content.Content.TheVariants as contents
 use Rattle.capture_packet.specs.Quotes.{Quoted, quoted_in}
+use Rattle.capture_packet.specs.declared.packet.Packet.{Packet}
+use Rattle.capture_packet.specs.declared.tunnel.Tunnel.{Tunnel}
 use Rattle.capture_summary.specs.FlowOf.{ports_of}
 use Rattle.capture_summary.specs.declared.choice.Choice.{Choice}
 use Rattle.capture_summary.specs.declared.choice.Protocols.{Protocols}
@@ -51,6 +53,15 @@ HasHost (contents.NotIp protocol) host = ⊥
 HasHost (contents.Ip addresses protocol proto transport payload_len) host =
     IsSourceOrDestination (by_value addresses) host ⊎ QuotesHost (quoted_in transport) host
 
+-- one of these tunnels has an end in the network: the source or the destination of its outer packet
+abbrev pub HasTunnelEnd : List Tunnel → Network → Type 0
+HasTunnelEnd [] host = ⊥
+HasTunnelEnd (tunnel ∷ tunnels) host = IsSourceOrDestination (by_value tunnel.addresses) host ⊎ HasTunnelEnd tunnels host
+
+-- the packet matches this host: it is from or to the host, or quotes such a packet, or the host is an end of one of its tunnels
+abbrev pub MatchesHost : Packet → Network → Type 0
+MatchesHost packet host = HasHost packet.content host ⊎ HasTunnelEnd packet.tunnels.items host
+
 -- a packet from or to this port, or an ICMP error that quotes such a packet
 abbrev pub HasPort : Content → ℕ → Type 0
 HasPort contents.Unread port = ⊥
@@ -70,7 +81,7 @@ is_among chosen NotIp = false
 is_among chosen Unknown = false
 
 -- a packet is chosen: it matches one of the hosts, one of the ports and one of the protocols of the choice, each if they are given
-pub record IsChosen (choice : Choice) (content : Content) : Type 0 where
-  pub hosts : IfSome choice.hosts (HasAny (HasHost content))
-  pub ports : IfSome choice.ports (HasAny (HasPort content))
-  pub protocols : IfSome choice.protocols (λ chosen. is_among chosen (content_protocol content) ≡ true)
+pub record IsChosen (choice : Choice) (packet : Packet) : Type 0 where
+  pub hosts : IfSome choice.hosts (HasAny (MatchesHost packet))
+  pub ports : IfSome choice.ports (HasAny (HasPort packet.content))
+  pub protocols : IfSome choice.protocols (λ chosen. is_among chosen (content_protocol packet.content) ≡ true)

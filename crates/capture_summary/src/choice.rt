@@ -1,13 +1,13 @@
 ghost use Rattle.std.specs.Prelude.{◌≡◌, ◌↔◌, IfSome, IsTrue, None, true};
 ghost use Rattle.ip_part.specs.Addresses.{by_value};
 ghost use Rattle.capture_summary.specs.Kinds.{content_protocol};
-ghost use Rattle.capture_summary.specs.Choice.{HasAny, HasHost, HasPort, IsChosen, IsPortOf, IsSourceOrDestination, QuotesHost, QuotesPort, is_among};
+ghost use Rattle.capture_summary.specs.Choice.{HasAny, HasHost, HasPort, HasTunnelEnd, IsChosen, IsPortOf, IsSourceOrDestination, MatchesHost, QuotesHost, QuotesPort, is_among};
 ghost use Rattle.capture_packet.specs.Quotes.{quoted_in};
 ghost use Rattle.capture_summary.specs.FlowOf.{ports_of};
 
 use crate::packet_flow::ports;
 use crate::{FlowProtocol, Network, Protocol};
-use capture_packet::{Content, Packet, Transport};
+use capture_packet::{Content, Packet, Transport, Tunnel};
 use etherparse_transport::ip::IpAddresses;
 
 /// The most hosts of a choice, and the most ports.
@@ -16,8 +16,8 @@ pub const MAX_CHOSEN: usize = 16;
 /// The packets that are chosen: a packet is chosen if it matches every field that is set.
 #[derive(Clone, Copy, Debug, PartialEq, Eq)]
 pub struct Choice {
-    /// If set, only packets with a source or destination address in one of these networks are chosen, and ICMP errors that quote a packet
-    /// with such an address.
+    /// If set, only packets with a source or destination address in one of these networks are chosen, ICMP errors that quote a packet with
+    /// such an address, and packets in a tunnel with such an outer packet.
     pub hosts: Option<[Option<Network>; MAX_CHOSEN]>,
     /// If set, only packets with one of these as source or destination port are chosen, and ICMP errors that quote a packet with such a
     /// port.
@@ -36,11 +36,11 @@ impl Choice {
 
     /// Whether this packet is chosen. A packet without addresses matches no host, and a packet without ports matches no port. If the final
     /// destination is not known, only the source is compared with the hosts. An ICMP error also matches the addresses and the ports of the
-    /// packet that it quotes, but only its own protocol.
+    /// packet that it quotes, but only its own protocol. A packet in tunnels also matches the addresses of the outer packets.
     pub fn includes(&self, packet: &Packet<'_>) -> bool
-        ensures { IsTrue result ↔ IsChosen self.now packet.now.content }
+        ensures { IsTrue result ↔ IsChosen self.now packet.now }
     {
-        includes_hosts(&self.hosts, &packet.content)
+        includes_hosts(&self.hosts, packet)
             && includes_ports(&self.ports, &packet.content)
             && includes_protocols(self.protocols, &packet.content)
     }
@@ -74,25 +74,46 @@ impl Protocols {
     }
 }
 
-/// Whether a packet, or the packet that it quotes, is from or to one of these hosts, if hosts are given.
-fn includes_hosts(hosts: &Option<[Option<Network>; MAX_CHOSEN]>, content: &Content<'_>) -> bool
-    ensures { IsTrue result ↔ IfSome hosts.now (HasAny (HasHost content.now)) }
+/// Whether a packet matches one of these hosts, if hosts are given.
+fn includes_hosts(hosts: &Option<[Option<Network>; MAX_CHOSEN]>, packet: &Packet<'_>) -> bool
+    ensures { IsTrue result ↔ IfSome hosts.now (HasAny (MatchesHost packet.now)) }
 {
     match hosts {
-        Some(hosts) => has_any_host(hosts.as_slice(), content),
+        Some(hosts) => matches_any_host(hosts.as_slice(), packet),
         None => true,
     }
 }
 
-/// Whether a packet, or the packet that it quotes, is from or to one of these hosts.
-fn has_any_host(hosts: &[Option<Network>], content: &Content<'_>) -> bool
-    ensures { IsTrue result ↔ HasAny (HasHost content.now) hosts.now }
+/// Whether a packet matches one of these hosts.
+fn matches_any_host(hosts: &[Option<Network>], packet: &Packet<'_>) -> bool
+    ensures { IsTrue result ↔ HasAny (MatchesHost packet.now) hosts.now }
 {
     let mut left = hosts;
     while let [first, others @ ..] = left {
         if let Some(host) = first
-            && has_host(content, host)
+            && matches_host(packet, host)
         {
+            return true;
+        }
+        left = others;
+    }
+    false
+}
+
+/// Whether a packet, or the packet that it quotes, is from or to this host, or the host is an end of one of its tunnels.
+fn matches_host(packet: &Packet<'_>, host: &Network) -> bool
+    ensures { IsTrue result ↔ MatchesHost packet.now host.now }
+{
+    has_host(&packet.content, host) || has_tunnel_end(packet.tunnels.as_slice(), host)
+}
+
+/// Whether one of these tunnels has an end in this network.
+fn has_tunnel_end(tunnels: &[Tunnel<'_>], host: &Network) -> bool
+    ensures { IsTrue result ↔ HasTunnelEnd tunnels.now host.now }
+{
+    let mut left = tunnels;
+    while let [first, others @ ..] = left {
+        if is_source_or_destination(first.addresses, host) {
             return true;
         }
         left = others;

@@ -1,9 +1,11 @@
 use crate::expect::expect_equal;
-use capture_packet::{Content, NetworkProtocol, Packet, Transport, Verdict};
+use capture_packet::{Content, NetworkProtocol, Packet, Transport, Tunnel, Verdict};
 use capture_run::Choice;
 use capture_summary::{MAX_CHOSEN, Network, NetworkError, Protocols};
 use etherparse_transport::ip::IpAddresses;
-use etherparse_transport::{Icmpv4Slice, Proto, TransportSlice, UdpSlice, Untested, ip_number};
+use etherparse_transport::{
+    Icmpv4Slice, IpNumber, Proto, TransportSlice, UdpSlice, Untested, ip_number,
+};
 use std::test::Fail;
 
 /// A UDP datagram from port 49152 to port 53, of 9 bytes.
@@ -205,6 +207,28 @@ fn packets_are_chosen(rt: HostRuntime) -> Result<(), Fail> {
             let included = choice.includes(packet);
             expect_equal(&rt, &(&choice, included), &(&choice, *wanted));
         }
+    }
+    Ok(())
+}
+
+/// A host, and whether a packet over IPv4 in a tunnel over IPv6 matches it.
+#[rattlefmt::skip]
+static HOSTS_IN_TUNNELS: [(&str, bool); 7] = [
+    ("192.0.2.1", true), ("192.0.2.2", true), ("192.0.2.3", false), ("2001:db8::1", true), ("2001:db8::2", true), ("2001:db8::3", false),
+    ("2001:db8::/32", true),
+];
+
+#[test]
+fn tunnels_are_chosen(rt: HostRuntime) -> Result<(), Fail> {
+    let mut packet = datagram_over(OVER_IPV4)?;
+    let tunnel = Tunnel {
+        addresses: OVER_IPV6,
+        protocol: IpNumber(4),
+    };
+    packet.tunnels.try_push(tunnel).ok().ok_or("no room")?;
+    for (host, wanted) in &HOSTS_IN_TUNNELS {
+        let included = choice_of(&[host], &[], None)?.includes(&packet);
+        expect_equal(&rt, &(host, included), &(host, *wanted));
     }
     Ok(())
 }
