@@ -238,7 +238,7 @@ fn write_text_line<W: Write>(
     packet: &Packet<'_>,
 ) -> Result<(), WriteError>
     ensures { OnOk result (AppendsOne (W.contents output.old) (W.contents output.new)
-        (IsLine times number first info.now.time info.now.len packet.now.content packet.now.verdict)) }
+        (IsLine times number first info.now.time info.now.len packet.now)) }
 {
     match write_packet_line(output, times, number, first, info.time, info.len, packet) {
         Ok(()) => Ok(()),

@@ -13,9 +13,9 @@ use Rattle.ip_part.specs.declared.proto.Proto.{Proto}
 use Rattle.tcp_part.specs.TcpFormat.{options_of}
 use Rattle.capture_packet.specs.declared.content.Content.{Content}
 use Rattle.capture_packet.specs.declared.content.Content.TheVariants as contents
+use Rattle.capture_packet.specs.declared.packet.Packet.{Packet}
 use Rattle.capture_packet.specs.declared.transport.Transport.{Transport}
 use Rattle.capture_packet.specs.declared.transport.Transport.TheVariants as transports
-use Rattle.capture_packet.specs.declared.verdict.Verdict.{Verdict}
 use Rattle.capture_file.specs.declared.packet_time.PacketTime.{PacketTime}
 use Rattle.capture_summary.specs.declared.capture_info.FrameLen.{FrameLen}
 use Rattle.capture_text.specs.PacketLine.{HasOneLine, IsContentText, IsTcpText, IsTransportText}
@@ -132,7 +132,7 @@ one_content_text (contents.NotIp protocol) text other is also = is ∙ sym also
 one_content_text (contents.Ip addresses protocol proto transport payload_len) text other is also =
     one_of _ _ (one_transport_text (by_value addresses) protocol.0 proto transport) text other is also
 
--- packets with the same number, time, length, content and verdict have the same line
-pub one_line : (times : Times) (number : ℕ) (first time : Option PacketTime) (len : Option FrameLen) (content : Content) (verdict : Verdict)
-    → HasOneLine times number first time len content verdict
-one_line times number first time len content verdict line other is also = one_of _ _ (one_content_text content) line other is also
+-- equal packets with the same number, time and length have the same line
+pub one_line : (times : Times) (number : ℕ) (first time : Option PacketTime) (len : Option FrameLen) (packet : Packet)
+    → HasOneLine times number first time len packet
+one_line times number first time len packet line other is also = one_of _ _ (one_content_text packet.content) line other is also

@@ -1,5 +1,6 @@
 -- The line of a packet.
-use Rattle.std.specs.Prelude.{◌≡◌, ℕ, ◌==◌, if◌then◌else◌, List, [], ◌++◌, length, drop, codes, decimal, Option, Some, None}
+use Rattle.std.specs.Prelude.{◌≡◌, ℕ, ◌==◌, if◌then◌else◌, List, [], ◌++◌, length, codes, decimal, Option, Some, None}
+use Rattle.std.specs.List.{flat_map}
 use Rattle.icmp_part.specs.Icmpv4Format as icmpv4
 use Rattle.icmp_part.specs.Icmpv6Format as icmpv6
 use Rattle.ip_part.specs.Addresses.{Addresses, by_value}
@@ -12,8 +13,10 @@ use Rattle.capture_packet.specs.declared.content.Content.{Content}
 use Rattle.capture_packet.specs.declared.content.Content.TheVariants as contents
 use Rattle.capture_packet.specs.declared.content.NetworkProtocol.{NetworkProtocol}
 use Rattle.capture_packet.specs.declared.content.NetworkProtocol.TheVariants.{AddressFamily, EtherType, FrameRelay, Ieee80211, LinkType, Llc, Nlpid, PppProtocol, Radiotap, Snap}
+use Rattle.capture_packet.specs.declared.packet.Packet.{Packet}
 use Rattle.capture_packet.specs.declared.transport.Transport.{Transport}
 use Rattle.capture_packet.specs.declared.transport.Transport.TheVariants as transports
+use Rattle.capture_packet.specs.declared.tunnel.Tunnel.{Tunnel}
 use Rattle.capture_packet.specs.declared.verdict.Verdict.{Verdict}
 use Rattle.capture_file.specs.declared.packet_time.PacketTime.{PacketTime}
 use Rattle.capture_text.specs.AddressText.{addresses_text, endpoints_text}
@@ -142,13 +145,18 @@ end_text (contents.IpHeader addresses) verdict = verdict_part verdict
 end_text (contents.NotIp protocol) verdict = verdict_part verdict
 end_text (contents.Ip addresses protocol proto transport payload_len) verdict = verdict_part verdict
 
--- this is the line of a packet: its number, its time, the length of its frame, its content, and its verdict
-abbrev pub IsLine : Times → ℕ → Option PacketTime → Option PacketTime → Option FrameLen → Content → Verdict → List ℕ → Type 0
-IsLine times number first time len content verdict line =
-    (what : List ℕ) × IsContentText content what
-    × (line ≡ decimal number ++ (codes " " ++ (time_text times first time ++ (frame_text len ++ (what ++ (end_text content verdict ++ codes "\n"))))))
+-- the outer packet of a tunnel: its addresses and its protocol, and a bar before the packet in it
+abbrev pub tunnel_text : Tunnel → List ℕ
+tunnel_text tunnel = unread_text (by_value tunnel.addresses) tunnel.protocol.0 None None ++ codes " | "
 
--- packets with the same number, time, length, content and verdict have the same line
-abbrev pub HasOneLine : Times → ℕ → Option PacketTime → Option PacketTime → Option FrameLen → Content → Verdict → Type 0
-HasOneLine times number first time len content verdict = (line other : List ℕ)
-    → IsLine times number first time len content verdict line → IsLine times number first time len content verdict other → line ≡ other
+-- this is the line of a packet: its number, its time, the length of its frame, its tunnels, its content, and its verdict
+abbrev pub IsLine : Times → ℕ → Option PacketTime → Option PacketTime → Option FrameLen → Packet → List ℕ → Type 0
+IsLine times number first time len packet line =
+    (what : List ℕ) × IsContentText packet.content what
+    × (line ≡ decimal number ++ (codes " " ++ (time_text times first time ++ (frame_text len
+    ++ (flat_map tunnel_text packet.tunnels.items ++ (what ++ (end_text packet.content packet.verdict ++ codes "\n")))))))
+
+-- equal packets with the same number, time and length have the same line
+abbrev pub HasOneLine : Times → ℕ → Option PacketTime → Option PacketTime → Option FrameLen → Packet → Type 0
+HasOneLine times number first time len packet = (line other : List ℕ)
+    → IsLine times number first time len packet line → IsLine times number first time len packet other → line ≡ other

@@ -1,15 +1,14 @@
 //! Laws of the texts. Each law is the contract of a function, so that it is checked together with the calls.
 
 ghost use Rattle.std.specs.Prelude.{ℕ, Option};
-ghost use Rattle.capture_packet.specs.declared.content.Content.{Content};
-ghost use Rattle.capture_packet.specs.declared.verdict.Verdict.{Verdict};
+ghost use Rattle.capture_packet.specs.declared.packet.Packet.{Packet};
 ghost use Rattle.capture_file.specs.declared.packet_time.PacketTime.{PacketTime};
 ghost use Rattle.capture_summary.specs.declared.capture_info.FrameLen.{FrameLen};
 ghost use Rattle.capture_text.specs.PacketLine.{HasOneLine};
 ghost use Rattle.capture_text.specs.declared.times.Times.{Times};
 
-/// Packets with the same number, time, length, content and verdict have the same line.
+/// Equal packets with the same number, time and length have the same line.
 pub fn one_line()
-    ensures { (times : Times) (number : ℕ) (first time : Option PacketTime) (len : Option FrameLen) (content : Content) (verdict : Verdict)
-        → HasOneLine times number first time len content verdict }
+    ensures { (times : Times) (number : ℕ) (first time : Option PacketTime) (len : Option FrameLen) (packet : Packet)
+        → HasOneLine times number first time len packet }
 {}

@@ -2,10 +2,11 @@
 
 ghost use Rattle.std.specs.Prelude.{◌++◌, codes, OnOk};
 ghost use Rattle.std.specs.Io.KnownBytes.{Appends};
+ghost use Rattle.std.specs.List.{flat_map};
 ghost use Rattle.std.specs.Option.{option_map};
 ghost use Rattle.ip_part.specs.Addresses.{by_value};
 ghost use Rattle.capture_packet.specs.Quotes.{by_value as quoted_by_value};
-ghost use Rattle.capture_text.specs.PacketLine.{IsContentText, IsLine, IsTcpText, IsTransportText, captured_text, end_text, frame_text, icmpv4_line, icmpv6_line, known_endpoints, name_or_number, network_number, network_text, payload_text, quoted_text, udp_text, unread_text, verdict_part};
+ghost use Rattle.capture_text.specs.PacketLine.{IsContentText, IsLine, IsTcpText, IsTransportText, captured_text, end_text, frame_text, icmpv4_line, icmpv6_line, known_endpoints, name_or_number, network_number, network_text, payload_text, quoted_text, tunnel_text, udp_text, unread_text, verdict_part};
 ghost use Rattle.capture_text.specs.Written.{AppendsOne};
 
 use crate::addresses::{write_addresses, write_endpoints};
@@ -14,7 +15,7 @@ use crate::times::Times;
 use crate::verdict::{is_other_protocol, write_verdict};
 use crate::{icmpv4, icmpv6, tcp};
 use capture_file::PacketTime;
-use capture_packet::{Content, NetworkProtocol, Packet, QuotedPacket, Transport, Verdict};
+use capture_packet::{Content, NetworkProtocol, Packet, QuotedPacket, Transport, Tunnel, Verdict};
 use capture_summary::{FrameLen, ip_protocol_name, network_protocol_name};
 use etherparse_transport::ip::IpAddresses;
 use etherparse_transport::{
@@ -23,7 +24,8 @@ use etherparse_transport::{
 use std::io;
 use std::io::Write;
 
-/// Writes the line of a packet: its number, its time, the length of its frame, its addresses, its content, and its verdict.
+/// Writes the line of a packet: its number, its time, the length of its frame, its tunnels, its addresses, its content, and its verdict. A
+/// bar follows each tunnel.
 ///
 /// ```text
 /// 1 00:00:00.000000 length 74: 192.0.2.1:49152 > 192.0.2.2:53 UDP length 40, payload 32; checksum right
@@ -42,11 +44,12 @@ pub fn write_packet_line<W: Write>(
     packet: &Packet,
 ) -> io::Result<()>
     ensures { OnOk result (AppendsOne (W.contents output.old) (W.contents output.new)
-        (IsLine times number first time len packet.now.content packet.now.verdict)) }
+        (IsLine times number first time len packet.now)) }
 {
     write!(output, "{number} ")?;
     write_time(output, times, first, time)?;
     write_frame_len(output, len)?;
+    write_tunnels(output, packet.tunnels.as_slice())?;
     write_content(output, &packet.content)?;
     write_end(output, &packet.content, &packet.verdict)?;
     writeln!(output)
@@ -62,6 +65,17 @@ fn write_frame_len<W: Write>(output: &mut W, len: Option<FrameLen>) -> io::Resul
     write!(output, " length {original}")?;
     write_captured(output, original, captured)?;
     write!(output, ": ")
+}
+
+/// Writes the outer packet of each tunnel: its addresses and its protocol.
+fn write_tunnels<W: Write>(output: &mut W, tunnels: &[Tunnel<'_>]) -> io::Result<()>
+    ensures { OnOk result (Appends (W.contents output.old) (W.contents output.new) (flat_map tunnel_text tunnels.now)) }
+{
+    for tunnel in tunnels {
+        write_unread(output, tunnel.addresses, tunnel.protocol, None, None)?;
+        write!(output, " | ")?;
+    }
+    Ok(())
 }
 
 /// Writes the content of a packet. Nothing is written for a packet that is not read.

@@ -45,17 +45,25 @@ const WHOLE: FrameLen = FrameLen {
     captured: 60,
 };
 
-/// Stops the test unless the three texts together are the first line of a capture, of this packet, after the length of its frame.
+/// Stops the test unless the three texts together are the first line of a capture, of a packet in no tunnel, after the length of its frame.
 fn expect_line(
     rt: &(impl Abort + AllocGlobal),
     content: Content,
     verdict: Verdict,
     wanted: [&str; 3],
 ) -> Result<(), Fail> {
-    let packet = Packet::in_no_tunnel(content, verdict);
+    expect_line_of(rt, &Packet::in_no_tunnel(content, verdict), wanted)
+}
+
+/// Stops the test unless the three texts together are the first line of a capture, of this packet, after the length of its frame.
+fn expect_line_of(
+    rt: &(impl Abort + AllocGlobal),
+    packet: &Packet,
+    wanted: [&str; 3],
+) -> Result<(), Fail> {
     let [before, wanted, after] = wanted;
     let wanted = format!(in rt.alloc(); "length 60: {before}{wanted}{after}")?;
-    expect_line_of_length(rt, Some(WHOLE), &packet, &wanted)
+    expect_line_of_length(rt, Some(WHOLE), packet, &wanted)
 }
 
 /// Stops the test unless this is the first line of a capture, of this packet in a frame of this length, after its time.

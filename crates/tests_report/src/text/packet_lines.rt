@@ -1,8 +1,9 @@
 use super::{
-    OVER_IPV4, OVER_IPV6, expect_line, expect_line_of_length, expect_transport, expect_verdict,
+    OVER_IPV4, OVER_IPV6, expect_line, expect_line_of, expect_line_of_length, expect_transport,
+    expect_verdict,
 };
 use capture_packet::link::LinkHeaderCutOff;
-use capture_packet::{Content, NetworkProtocol, Packet, Refusal, Transport, Verdict};
+use capture_packet::{Content, NetworkProtocol, Packet, Refusal, Transport, Tunnel, Verdict};
 use capture_summary::FrameLen;
 use etherparse_transport::err::tcp::{HeaderError, HeaderSliceError};
 use etherparse_transport::err::{Layer, LenError, LenSource};
@@ -50,6 +51,36 @@ fn whole_lines(rt: HostRuntime) -> Result<(), Fail> {
     ];
     let verdict = Verdict::Checksum(ChecksumVerdict::Wrong { expected: 0x1A2B });
     expect_line(&rt, content, verdict, wanted)
+}
+
+/// The tunnels of a packet, and what is written of them.
+#[rattlefmt::skip]
+static TUNNELS: [(&[(IpAddresses, u8)], &str); 5] = [
+    (&[(OVER_IPV4, 4)], "192.0.2.1 > 192.0.2.2 IPv4 | "),
+    (&[(OVER_IPV4, 41)], "192.0.2.1 > 192.0.2.2 IPv6 | "),
+    (&[(OVER_IPV6, 47)], "2001:db8::1 > 2001:db8::2 GRE | "),
+    (&[(UNKNOWN, 41)], ":: > unknown IPv6 | "),
+    (&[(OVER_IPV4, 47), (OVER_IPV6, 4)], "192.0.2.1 > 192.0.2.2 GRE | 2001:db8::1 > 2001:db8::2 IPv4 | "),
+];
+
+#[test]
+fn tunnels(rt: HostRuntime) -> Result<(), Fail> {
+    for (tunnels, wanted) in &TUNNELS {
+        let mut packet = Packet::in_no_tunnel(
+            Content::IpHeader(OVER_IPV4),
+            Verdict::untested(Untested::CutOff),
+        );
+        for (addresses, protocol) in *tunnels {
+            let tunnel = Tunnel {
+                addresses: *addresses,
+                protocol: IpNumber(*protocol),
+            };
+            packet.tunnels.try_push(tunnel).ok().ok_or("no room")?;
+        }
+        let end = "192.0.2.1 > 192.0.2.2; checksum not looked at: cut off";
+        expect_line_of(&rt, &packet, ["", wanted, end])?;
+    }
+    Ok(())
 }
 
 /// Protocols other than IP, and what is written of each.
@@ -161,10 +192,10 @@ const LENGTHS: [(Option<FrameLen>, &str); 5] = [
 
 #[test]
 fn lengths_of_frames(rt: HostRuntime) -> Result<(), Fail> {
-    let packet = Packet {
-        content: Content::NotIp(NetworkProtocol::EtherType(0x0806)),
-        verdict: Verdict::untested(Untested::OtherProtocol),
-    };
+    let packet = Packet::in_no_tunnel(
+        Content::NotIp(NetworkProtocol::EtherType(0x0806)),
+        Verdict::untested(Untested::OtherProtocol),
+    );
     for (len, wanted) in &LENGTHS {
         expect_line_of_length(&rt, *len, &packet, wanted)?;
     }

@@ -1,0 +1,10 @@
+use Rattle.std.proofs.Common.{rules}
+use Rattle.std.proofs.KnownBytes.{Appends-trans}
+use Rattle.capture_text.proofs.WrittenLemmas.{each_more}
+use Rattle.capture_text.proofs.packet_line.write_tunnels.Goals as goal
+
+-- one more tunnel
+pub loop-tunnel-preserved : goal.loop-tunnel-preserved
+loop-tunnel-preserved g c =
+    each_more c.args.tunnels.now _ _ _ _ _ _ c.loop-tunnel.invariant
+    (Appends-trans _ _ _ _ _ c.in_ok-write_unread.ensures c.in_ok-write.ensures.bytes) (search rules)
