@@ -196,7 +196,8 @@ fn objects_of_quoted_packets(rt: HostRuntime) -> Result<(), Fail> {
         };
         let verdict = Verdict::Checksum(ChecksumVerdict::Right);
         let message = r#"{"type":11,"code":0,"message":"time exceeded, code 0 (time to live)"}"#;
-        let before = r#"{"type":"packet","number":1,"time":null,"source":"192.0.2.1","destination":"192.0.2.2","protocol":1,"protocol_name":"ICMPv4""#;
+        let before =
+            r#"{"type":"packet","number":1,"time":null,"source":"192.0.2.1","destination":"192.0.2.2","protocol":1,"protocol_name":"ICMPv4""#;
         let after = r#","checksum":"right"}"#;
         let wanted = format!(in rt.alloc();
             "{before}{quoted},\"icmpv4\":{message},\"payload_length\":{payload_len}{after}"
