@@ -17,8 +17,9 @@ use std::alloc::Global;
 use std::io;
 use std::io::Write;
 
-/// Writes the summary as a JSON object of the type `summary` in a line. It contains the numbers of packets, bytes and conversations, the times of the packets,
-/// and each table under its name. The conversations are written row by row, so that the memory does not grow with their number.
+/// Writes the summary as a JSON object of the type `summary` in a line. It contains the numbers of packets, bytes and conversations, the times
+/// of the packets, and each table under its name. The conversations are written row by row, so that the memory does not grow with their
+/// number.
 ///
 /// # Errors
 ///

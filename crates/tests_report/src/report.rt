@@ -604,7 +604,7 @@ fn long_capture(alloc: Global) -> Result<Vec<u8>, AllocError> {
 #[rattlefmt::skip]
 static LONG_LINES: [(Format, &str); 2] = [
     (Format::Text, "1 00:00:00.000000 length 528384: checksum not looked at: 528384 bytes, more than 524288\n"),
-    (Format::Json, "{\"checksum\":\"not_looked_at\",\"number\":1,\"reason\":\"too_long\",\"required_length\":528384,\"time\":\"00:00:00.000000\",\"type\":\"packet\"}\n"),
+    (Format::Json, "{\"type\":\"packet\",\"number\":1,\"time\":\"00:00:00.000000\",\"checksum\":\"not_looked_at\",\"reason\":\"too_long\",\"required_length\":528384}\n"),
 ];
 
 #[test]
@@ -623,7 +623,7 @@ fn a_packet_that_is_too_long_is_not_read(rt: HostRuntime) -> Result<(), Fail> {
 
 /// The object of the packet.
 const OBJECT: &str =
-    r#"{"checksum":"right","destination":"192.0.2.2","destination_port":9,"number":1,"payload_length":1,"protocol":17,"protocol_name":"UDP","source":"192.0.2.1","source_port":7,"time":"00:00:00.000000","type":"packet","udp":{"length":9}}"#;
+    r#"{"type":"packet","number":1,"time":"00:00:00.000000","source":"192.0.2.1","destination":"192.0.2.2","protocol":17,"protocol_name":"UDP","source_port":7,"destination_port":9,"udp":{"length":9},"payload_length":1,"checksum":"right"}"#;
 
 /// The first members of the object of the summary.
 const TOTALS: &str =

@@ -142,11 +142,11 @@ static RUNS_OF_ONE: [RunRow; 8] = [
 ];
 
 const RIGHT_OBJECT: &str =
-    r#"{"checksum":"right","destination":"192.0.2.2","destination_port":9,"number":1,"payload_length":1,"protocol":17,"protocol_name":"UDP","source":"192.0.2.1","source_port":7,"time":"00:00:00.000000","type":"packet","udp":{"length":9}}
+    r#"{"type":"packet","number":1,"time":"00:00:00.000000","source":"192.0.2.1","destination":"192.0.2.2","protocol":17,"protocol_name":"UDP","source_port":7,"destination_port":9,"udp":{"length":9},"payload_length":1,"checksum":"right"}
 "#;
 
 const ZERO_OBJECT: &str =
-    r#"{"destination":"192.0.2.2","destination_port":9,"number":1,"payload_length":1,"protocol":17,"protocol_name":"UDP","refused":"UDP header needs 8 bytes, the UDP length is 0","source":"192.0.2.1","source_port":7,"time":"00:00:00.000000","type":"packet","udp":{"length":0}}
+    r#"{"type":"packet","number":1,"time":"00:00:00.000000","source":"192.0.2.1","destination":"192.0.2.2","protocol":17,"protocol_name":"UDP","source_port":7,"destination_port":9,"udp":{"length":0},"payload_length":1,"refused":"UDP header needs 8 bytes, the UDP length is 0"}
 "#;
 
 /// Several names: each capture has a heading, unless no packet has a line. If a capture can't be read, the next one is still reported.
@@ -236,11 +236,11 @@ const OF_WRONG_LINES: &str = "\
 ==> right <==
 ";
 
-const OBJECTS: &str = r#"{"file":"right","type":"file"}
-{"checksum":"right","destination":"192.0.2.2","destination_port":9,"number":1,"payload_length":1,"protocol":17,"protocol_name":"UDP","source":"192.0.2.1","source_port":7,"time":"00:00:00.000000","type":"packet","udp":{"length":9}}
-{"file":"a \"name\"","type":"file"}
-{"file":"wrong","type":"file"}
-{"checksum":"wrong","destination":"192.0.2.2","destination_port":9,"expected_checksum":6344,"number":1,"payload_length":1,"protocol":17,"protocol_name":"UDP","source":"192.0.2.1","source_port":263,"time":"00:00:00.000000","type":"packet","udp":{"length":9}}
+const OBJECTS: &str = r#"{"type":"file","file":"right"}
+{"type":"packet","number":1,"time":"00:00:00.000000","source":"192.0.2.1","destination":"192.0.2.2","protocol":17,"protocol_name":"UDP","source_port":7,"destination_port":9,"udp":{"length":9},"payload_length":1,"checksum":"right"}
+{"type":"file","file":"a \"name\""}
+{"type":"file","file":"wrong"}
+{"type":"packet","number":1,"time":"00:00:00.000000","source":"192.0.2.1","destination":"192.0.2.2","protocol":17,"protocol_name":"UDP","source_port":263,"destination_port":9,"udp":{"length":9},"payload_length":1,"checksum":"wrong","expected_checksum":6344}
 "#;
 
 /// Stops the test unless the run of a row has the status of the row, and writes what the row says.
