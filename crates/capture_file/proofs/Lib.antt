@@ -11,6 +11,7 @@ pub mod PcapngLaws
 pub mod PcapngLemmas
 pub mod PcapngReadingLemmas
 pub mod PieceLaws
+pub mod PlacesLaws
 pub mod ReaderLemmas
 pub mod ReadingLaws
 pub mod ReadingLemmas

@@ -271,14 +271,14 @@ packets_are room reader bytes blocks rest packets next fits reading has =
 -- ---- a whole file
 
 -- the first block of a file, which is an accepted section header block, and the reader after it
-record FirstBlock (room : ℕ) (reader : PcapngReader) (file bytes : List ℕ) : Type 0 where
-  block : List ℕ
-  whole : file ≡ block ++ bytes
-  is_block : IsBlock BigEndian block
-  is_section : is_section_header block ≡ true
-  within : (block_header BigEndian block).total_len ≤ room
-  accepted : section_header_refusal (order_of BigEndian block) (body_of block) ≡ None
-  begins : BeginsFile (block_header BigEndian block) reader
+pub record FirstBlock (room : ℕ) (reader : PcapngReader) (file bytes : List ℕ) : Type 0 where
+  pub block : List ℕ
+  pub whole : file ≡ block ++ bytes
+  pub is_block : IsBlock BigEndian block
+  pub is_section : is_section_header block ≡ true
+  pub within : (block_header BigEndian block).total_len ≤ room
+  pub accepted : section_header_refusal (order_of BigEndian block) (body_of block) ≡ None
+  pub begins : BeginsFile (block_header BigEndian block) reader
 
 first_begins : (refusal : Option BodyError) (header : BlockHeader) (reader : PcapngReader) → BeginsUnless refusal header (Ok reader)
     → (refusal ≡ None) × BeginsFile header reader
@@ -287,7 +287,7 @@ first_begins None header reader begins =
     let same : begins.0 ≡ reader = cc begins.1 in
     (refl, subst (BeginsFile header) same begins.2)
 
-first_block : (room : ℕ) (reader : PcapngReader) (file bytes buffer : List ℕ) (block : NextBlock) → length buffer ≡ room
+pub first_block : (room : ℕ) (reader : PcapngReader) (file bytes buffer : List ℕ) (block : NextBlock) → length buffer ≡ room
     → (reads : ReadsNextBlock BigEndian (Some file) (Some bytes) buffer block) → is_section_header reads.bytes ≡ true
     → IsFirstBlock buffer block (Ok reader) → FirstBlock room reader file bytes
 first_block room reader file bytes buffer (Whole header) has_room reads section is_first =

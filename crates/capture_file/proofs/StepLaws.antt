@@ -70,7 +70,7 @@ said_too_long : (offset : ℕ) (header : BlockHeader) (buffer other : List ℕ)
 said_too_long offset header buffer other = grind (arith, nat_tests)
 
 -- the item of bytes that are not a block is an end without a packet
-said_refused : (offset : ℕ) (buffer : List ℕ) (error : BlockError)
+pub said_refused : (offset : ℕ) (buffer : List ℕ) (error : BlockError)
     → said_of buffer (Some (next_by_refusal offset error)) ≡ last (next_by_refusal offset error)
 said_refused offset buffer error = grind arith
 

@@ -13,5 +13,6 @@ pub mod PcapngOptions
 pub mod PcapngPackets
 pub mod PcapngReading
 pub mod PcapngSteps
+pub mod Places
 pub mod Reading
 pub mod Sections

@@ -12,8 +12,7 @@
 //!         NextPacket::TooLong(_) => continue,
 //!         NextPacket::End | NextPacket::CutOff { .. } | NextPacket::Refused(_) => break,
 //!     };
-//!     let after = buffer.get(packet.start..).unwrap_or(&[]);
-//!     let frame = after.get(..packet.captured_len).unwrap_or(&[]);
+//!     let frame = &buffer.as_slice()[packet.start..packet.start + packet.captured_len];
 //! }
 //! ```
 #![tactic(auto)]

@@ -1,8 +1,9 @@
 //! Laws of the packets of a capture. Each law is the contract of a function that does nothing, so that it is checked with the calls.
-ghost use Rattle.std.specs.Prelude.{ℕ, List};
+ghost use Rattle.std.specs.Prelude.{◌<◌, ◌^◌, ℕ, List, length};
 ghost use Rattle.capture_file.specs.CapturePackets.{AreFirstPackets, ArePacketsBeforeCut, HasPackets};
 ghost use Rattle.capture_file.specs.Laws.{AreUnique, Exist, RemainAtCut};
 ghost use Rattle.capture_file.specs.PacketsOfBlocks.{FilesHavePacketsOfBlocks, ReadPacketsOfBlocks};
+ghost use Rattle.capture_file.specs.Places.{OffsetsArePlaces};
 ghost use Rattle.capture_file.specs.declared.reader.capture_reader.CaptureReader.{CaptureReader};
 
 /// Any bytes after the beginning of a capture are packets and an end, in only one way. Packets that they begin with are the first of these.
@@ -22,4 +23,9 @@ pub fn cut_packets()
 pub fn packets_of_blocks()
     ensures read { (room : ℕ) → ReadPacketsOfBlocks room }
     ensures file { (room : ℕ) → FilesHavePacketsOfBlocks room }
+{}
+
+/// In a file of fewer than 2^64 bytes, the offset of a reader is the number of bytes before the next record or block.
+pub fn places()
+    ensures { (room : ℕ) (file : List ℕ) → length file < 2 ^ 64 → OffsetsArePlaces room file }
 {}
