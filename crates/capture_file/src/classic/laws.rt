@@ -15,7 +15,6 @@ pub fn one_reading()
 {}
 
 /// A capture that was cut after any number of bytes contains exactly the records that end at or before the cut.
-#[tactic(auto, using(crate::proofs::ReadingLaws::records_before_cut))]
 pub fn cut_captures()
     ensures before { (order : ByteOrder) → RemainAtCut (IsReading order) (λ _. AreBeforeCut) }
 {}

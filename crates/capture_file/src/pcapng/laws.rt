@@ -20,7 +20,6 @@ pub fn one_reading()
 {}
 
 /// A file that was cut after any number of bytes contains exactly the blocks that end at or before the cut.
-#[tactic(auto, using(crate::proofs::PcapngLaws::blocks_before_cut))]
 pub fn cut_files()
     ensures before { (section : ByteOrder) → RemainAtCut (IsBlockReading section) (λ _. AreBeforeCut) }
 {}

@@ -14,7 +14,6 @@ pub fn one_list()
 {}
 
 /// A capture that was cut anywhere after its beginning contains exactly the packets whose record or block ends at or before the cut.
-#[tactic(auto, using(crate::proofs::CapturePacketsLaws::packets_before_cut))]
 pub fn cut_packets()
     ensures before { (room : ℕ) (reader : CaptureReader) → RemainAtCut (HasPackets room reader) (ArePacketsBeforeCut room reader) }
 {}
