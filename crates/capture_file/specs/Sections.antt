@@ -14,7 +14,7 @@ use Rattle.capture_file.specs.declared.reader.pcapng_reader.Section.{Section}
 
 -- the maximum number of interfaces of a section
 abbrev pub max_interfaces : ℕ
-max_interfaces = 64
+max_interfaces = 1024
 
 -- an interface is added to the section, or the section already has the maximum number of interfaces
 abbrev pub Describes : Section → InterfaceDescription → Section → Result (Option CapturedPacket) PacketError → Type 0

@@ -200,10 +200,10 @@ fn blocks_are_refused(rt: HostRuntime) -> io::Result<()> {
 #[test]
 fn interfaces_are_counted(rt: HostRuntime) -> io::Result<()> {
     let refused = NextPacket::Refused(PlacedPacketError {
-        offset: 28 + 64 * 20,
-        error: PacketError::Interfaces { max: 64 },
+        offset: 28 + 1024 * 20,
+        error: PacketError::Interfaces { max: 1024 },
     });
-    for (count, last) in [(64, NextPacket::End), (65, refused)] {
+    for (count, last) in [(1024, NextPacket::End), (1025, refused)] {
         let mut file = vec![in rt.alloc()]?;
         file.extend_from_slice(&PCAPNG[..28])?;
         for _ in 0..count {

@@ -136,7 +136,7 @@ fn next_by_too_long(offset: u64, header: BlockHeader) -> Option<NextPacket>
 }
 
 /// How many interfaces of a section are kept; a section that describes more is refused.
-pub const MAX_INTERFACES: usize = 64;
+pub const MAX_INTERFACES: usize = 1024;
 
 /// A section of a pcapng file, as far as it was read: what its packets can't be read without.
 #[derive(Clone, Debug, Drop)]
@@ -144,7 +144,7 @@ pub struct Section {
     /// The byte order of its numbers.
     pub byte_order: ByteOrder,
     /// Its interfaces, in their order.
-    pub interfaces: ArrayVec<InterfaceDescription, 64>,
+    pub interfaces: ArrayVec<InterfaceDescription, 1024>,
 }
 
 impl Section {
