@@ -1,2 +1,3 @@
 mod ChosenLemmas
 mod CommandLemmas
+mod WordLemmas

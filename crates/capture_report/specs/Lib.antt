@@ -4,3 +4,4 @@ pub mod CommandLine
 pub mod Failures
 pub mod Inputs
 pub mod Options
+pub mod Words

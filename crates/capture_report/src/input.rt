@@ -1,12 +1,15 @@
 //! The source of captures.
 
-ghost use Rattle.std.specs.Prelude.{IfOk};
-ghost use Rattle.capture_report.specs.Inputs.{IsRequestedBy};
+ghost use Rattle.std.specs.Prelude.{◌≡◌, IfOk};
+ghost use Rattle.capture_report.specs.Inputs.{IsRequestedBy, is_escaped};
 
 use capture_run::STANDARD_INPUT;
 use std::fs::File;
 use std::io;
-use std::io::{Read, Stdin};
+use std::io::{ErrorKind, Read, Stdin};
+
+/// The error for a name that is not UTF-8.
+const NOT_UTF8: &str = "The name is not UTF-8, and no file is opened by such a name.";
 
 /// The input from which a capture is read.
 #[derive(Drop)]
@@ -22,15 +25,26 @@ impl Input {
     ///
     /// # Errors
     ///
-    /// The error of the system if the file can't be opened.
+    /// The error of the system if the file can't be opened, and `InvalidFilename` if the name is escaped: a file is opened only by a name that
+    /// is UTF-8.
     pub fn open(rt: &HostRuntime, name: &str) -> io::Result<Input>
         ensures { IfOk result (IsRequestedBy name.now) }
     {
         if name == STANDARD_INPUT {
             return Ok(Input::Standard(rt.stdin()));
         }
+        if is_escaped(name) {
+            return Err(io::Error::new(ErrorKind::InvalidFilename, NOT_UTF8));
+        }
         Ok(Input::File(File::open(rt, name)?))
     }
+}
+
+/// Whether a name begins with [`ESCAPED`](capture_run::ESCAPED).
+fn is_escaped(name: &str) -> bool
+    ensures { result ≡ is_escaped name.now }
+{
+    matches!(name.as_bytes(), [0, ..])
 }
 
 impl Read for Input {

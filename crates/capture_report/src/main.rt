@@ -17,14 +17,15 @@ ghost use Rattle.capture_report.specs.Failures.{failure_number, write_failure_nu
 mod arguments;
 mod chosen;
 mod input;
+mod words;
 
 use arguments::Options;
 use capture_run::{ExitStatus, Open, WriteError, run};
 use input::Input;
 use std::hash::RandomState;
 use std::io::{BufReader, BufWriter, ErrorKind, IsTerminal, LineWriter, Write};
+use std::io;
 use std::process::ExitCode;
-use std::{env, io};
 
 /// The size of the input buffer of a capture and of the buffer of standard output, in bytes.
 const BUFFER_LEN: usize = 1 << 16;
@@ -54,7 +55,7 @@ fn failure(rt: &HostRuntime, error: &io::Error) -> u8
 
 /// Reads the arguments, runs the request in them, and returns the exit status.
 fn status(rt: &HostRuntime) -> io::Result<u8> {
-    let words: Vec<String> = env::args(rt)?.collect(rt.alloc())?;
+    let words = words::words_of(rt)?;
     let options = match arguments::requested_options(rt.alloc(), words.as_slice()) {
         Ok(options) => options,
         Err(error) => return answer(rt, error),

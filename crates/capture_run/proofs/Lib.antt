@@ -1,4 +1,5 @@
 mod EndingLemmas
+mod NameLemmas
 mod PacketsTextLemmas
 mod ReportLemmas
 mod RunLemmas

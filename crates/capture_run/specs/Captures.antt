@@ -4,6 +4,7 @@ use Rattle.capture_json.specs.JsonPacket.{file_members, json_line}
 use Rattle.capture_summary.specs.SummaryTables.{SummaryTables, empty_tables}
 use Rattle.capture_run.specs.Endings.{status_of}
 use Rattle.capture_run.specs.ExitStatuses.{final_status, greater}
+use Rattle.capture_run.specs.Names.{shown_name, without_mark}
 use Rattle.capture_run.specs.PacketsText.{IsCaptureText, end_text}
 use Rattle.capture_run.specs.Runs.{EndsAtHeader, ReportsCapture}
 use Rattle.capture_run.specs.declared.capture_reports.CaptureReports.{CaptureReports}
@@ -66,12 +67,12 @@ ReportsNamed Reads parts name before after text = (given : Given) × Reads name 
 
 -- the line before the packets of a capture: its name, after an empty line if it is not the first capture
 abbrev pub text_heading : ℕ → List ℕ → List ℕ
-text_heading place name = (if place == 0 then [] else codes "\n") ++ (codes "==> " ++ (name ++ codes " <==\n"))
+text_heading place name = (if place == 0 then [] else codes "\n") ++ (codes "==> " ++ (shown_name name ++ codes " <==\n"))
 
 -- this line as text, or as a JSON object with the member `file`
 abbrev pub heading_in : Format → ℕ → List ℕ → List ℕ
 heading_in formats.Text place name = text_heading place name
-heading_in formats.Json place name = json_line (file_members name)
+heading_in formats.Json place name = json_line (file_members (without_mark name))
 
 -- some packets may have a line
 abbrev pub has_lines : Lines → Bool

@@ -4,6 +4,7 @@ pub mod Endings
 pub mod ErrorLines
 pub mod ExitStatuses
 pub mod Lines
+pub mod Names
 pub mod PacketsText
 pub mod Report
 pub mod ReportText

@@ -3,10 +3,12 @@ ghost use Rattle.std.specs.Option.{option_map};
 ghost use Rattle.capture_run.specs.Compressions.{compression_of};
 ghost use Rattle.capture_run.specs.Endings.{exit_status};
 ghost use Rattle.capture_run.specs.ErrorLines.{IsErrorText, IsLineOf};
+ghost use Rattle.capture_run.specs.Names.{shown_name};
 ghost use Rattle.capture_text.specs.Written.{AppendsOne};
 
 use crate::ExitStatus;
 use crate::compression::Compression;
+use crate::shown_name::ShownName;
 use capture_file::classic::CaptureHeaderError;
 use capture_file::reader::{OpenError, PacketError, PlacedPacketError};
 use std::alloc::{AllocError, Global};
@@ -96,11 +98,11 @@ pub(crate) fn write_error<E: Write>(
     error: &CaptureError,
 ) -> io::Result<()>
     ensures { OnOk result (AppendsOne (E.contents errors.old) (E.contents errors.new)
-        (IsLineOf (option_map (λ text. text.now) name.entry) (IsErrorText error.now))) }
+        (IsLineOf (option_map (λ text. shown_name text.now) name.entry) (IsErrorText error.now))) }
 {
     let text = text_of(alloc, error)?;
     match name {
-        Some(name) => writeln!(errors, "capture_report: {name}: {text}"),
+        Some(name) => writeln!(errors, "capture_report: {}: {text}", ShownName(name)),
         None => writeln!(errors, "capture_report: {text}"),
     }
 }
@@ -127,8 +129,8 @@ pub(crate) fn write_open_error<E: Write>(
     name: &str,
     error: &io::Error,
 ) -> io::Result<()>
-    ensures { OnOk result (AppendsOne (E.contents errors.old) (E.contents errors.new) (IsLineOf (Some name.now) (λ text. Unit {0}))) }
+    ensures { OnOk result (AppendsOne (E.contents errors.old) (E.contents errors.new) (IsLineOf (Some (shown_name name.now)) (λ text. Unit {0}))) }
 {
     let text = format!(in alloc; "{error}")?;
-    writeln!(errors, "capture_report: {name}: {text}")
+    writeln!(errors, "capture_report: {}: {text}", ShownName(name))
 }

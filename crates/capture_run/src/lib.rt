@@ -14,6 +14,7 @@ mod packet_report;
 mod packets;
 mod parts;
 mod report;
+mod shown_name;
 
 pub use capture_error::CaptureError;
 pub use capture_json::WriteError;
@@ -25,3 +26,4 @@ pub use exit_status::ExitStatus;
 pub use open::Open;
 pub use parts::{Format, Lines, Parts};
 pub use report::{STANDARD_INPUT, run};
+pub use shown_name::ESCAPED;

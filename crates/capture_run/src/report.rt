@@ -8,6 +8,7 @@ ghost use Rattle.capture_text.specs.Written.{AppendsOne};
 
 use crate::capture_error::{write_error, write_open_error};
 use crate::capture_reports::CaptureReports;
+use crate::shown_name::{ShownName, without_mark};
 use crate::{ExitStatus, Format, Lines, Open, Parts, WriteError};
 use capture_json::write_file_name;
 use std::alloc::Global;
@@ -152,7 +153,7 @@ fn write_heading<W: Write>(
             Ok(()) => Ok(()),
             Err(error) => Err(WriteError::Write(error)),
         },
-        Format::Json => write_file_name(output, alloc, name),
+        Format::Json => write_file_name(output, alloc, without_mark(name)),
     }
 }
 
@@ -163,5 +164,5 @@ fn write_text_heading<W: Write>(output: &mut W, place: usize, name: &str) -> io:
     if place > 0 {
         writeln!(output)?;
     }
-    writeln!(output, "==> {name} <==")
+    writeln!(output, "==> {} <==", ShownName(name))
 }

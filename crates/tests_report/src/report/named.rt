@@ -127,7 +127,7 @@ type RunRow = (
 
 /// At most one name: there is no heading, and an error names the capture.
 #[rattlefmt::skip]
-static RUNS_OF_ONE: [RunRow; 8] = [
+static RUNS_OF_ONE: [RunRow; 10] = [
     (&[], Asked::CheckedLines, 0, LINE, ""),
     (&["-"], Asked::CheckedLines, 0, LINE, ""),
     (&["right"], Asked::OnlyObjects, 0, RIGHT_OBJECT, ""),
@@ -138,6 +138,9 @@ static RUNS_OF_ONE: [RunRow; 8] = [
      "1 00:00:00.000000 length 29: 192.0.2.1:7 > 192.0.2.2:9 UDP length 0, payload 1; refused: UDP header needs 8 bytes, the UDP length is 0\n", ""),
     (&["zero"], Asked::OnlyObjects, 0, ZERO_OBJECT, ""),
     (&["missing"], Asked::CheckedLines, 3, "", "capture_report: missing: entity not found\n"),
+    // A control character in a name is shown by its number. After NUL a name is escaped already.
+    (&["a\n\u{1B}[2J\u{9B}\u{FC}\\"], Asked::CheckedLines, 3, "", "capture_report: a\\x0A\\x1B[2J\\x9B\u{FC}\\: entity not found\n"),
+    (&["\0a\\xFC"], Asked::CheckedLines, 3, "", "capture_report: a\\xFC: entity not found\n"),
     (&["link"], Asked::CheckedLines, 1, "", "capture_report: link: The link type 147 is not read.\n"),
 ];
 
@@ -151,7 +154,7 @@ const ZERO_OBJECT: &str =
 
 /// Several names: each capture has a heading, unless no packet has a line. If a capture can't be read, the next one is still reported.
 #[rattlefmt::skip]
-static RUNS: [RunRow; 10] = [
+static RUNS: [RunRow; 12] = [
     (&["right", "wrong"], Asked::CheckedLines, 4, OF_TWO, ""),
     (&["right", "missing", "wrong"], Asked::CheckedLines, 3, WITH_MISSING, "capture_report: missing: entity not found\n"),
     (&["right", "link", "wrong", "cut"], Asked::CheckedLines, 1, OF_FOUR, ERRORS_OF_FOUR),
@@ -161,10 +164,18 @@ static RUNS: [RunRow; 10] = [
     (&["right", "missing", "zero"], Asked::OnlyStatus, 3, "", "capture_report: missing: entity not found\n"),
     (&["right", "zero"], Asked::OnlyStatus, 4, "", ""),
     (&["right", "a \"name\"", "wrong"], Asked::OnlyObjects, 3, OBJECTS, "capture_report: a \"name\": entity not found\n"),
+    (&["a\nb", "\0a\\xFC"], Asked::CheckedLines, 3, "==> a\\x0Ab <==\n\n==> a\\xFC <==\n",
+     "capture_report: a\\x0Ab: entity not found\ncapture_report: a\\xFC: entity not found\n"),
+    (&["a\nb", "\0a\\xFC"], Asked::OnlyObjects, 3, ESCAPED_OBJECTS,
+     "capture_report: a\\x0Ab: entity not found\ncapture_report: a\\xFC: entity not found\n"),
     // The header of no capture is accepted, so there is no summary.
     (&["missing", "link"], Asked::All, 3, "==> missing <==\n\n==> link <==\n",
      "capture_report: missing: entity not found\ncapture_report: link: The link type 147 is not read.\n"),
 ];
+
+const ESCAPED_OBJECTS: &str = r#"{"file":"a\nb","type":"file"}
+{"file":"a\\xFC","type":"file"}
+"#;
 
 const OF_TWO: &str = "\
 ==> right <==
