@@ -2,7 +2,7 @@ ghost use Rattle.std.specs.Prelude.{◌≡◌, IfOk, OnOk, Some, string_bytes};
 ghost use Rattle.std.specs.Option.{option_map};
 ghost use Rattle.capture_run.specs.Compressions.{compression_of};
 ghost use Rattle.capture_run.specs.Endings.{exit_status};
-ghost use Rattle.capture_run.specs.ErrorLines.{IsErrorText, IsLineOf};
+ghost use Rattle.capture_run.specs.ErrorLines.{EndsInHint, IsErrorText, IsLineOf, hint_of};
 ghost use Rattle.capture_run.specs.Names.{shown_name};
 ghost use Rattle.capture_text.specs.Written.{AppendsOne};
 
@@ -122,15 +122,50 @@ fn text_of(alloc: Global, error: &CaptureError) -> Result<String, AllocError>
     }
 }
 
-/// Writes the line of a capture that can't be opened: the names of the program and of the capture, and the text of the error.
+/// The words with which filters of tcpdump begin (pcap-filter(7)).
+static FILTER_WORDS: [&str; 16] = [
+    "tcp",
+    "udp",
+    "icmp",
+    "icmp6",
+    "ip",
+    "ip6",
+    "arp",
+    "ether",
+    "host",
+    "net",
+    "port",
+    "portrange",
+    "src",
+    "dst",
+    "not",
+    "proto",
+];
+
+/// The text for such a word, which is no filter here.
+const FILTER_HINT: &str = "; filters are --host, --port and --protocol";
+
+/// Writes the line of a capture that can't be opened: the names of the program and of the capture, and the text of the error. If the name is
+/// a word of a filter, the options that select packets follow.
 pub(crate) fn write_open_error<E: Write>(
     errors: &mut E,
     alloc: Global,
     name: &str,
     error: &io::Error,
 ) -> io::Result<()>
-    ensures { OnOk result (AppendsOne (E.contents errors.old) (E.contents errors.new) (IsLineOf (Some (shown_name name.now)) (λ text. Unit {0}))) }
+    ensures { OnOk result (AppendsOne (E.contents errors.old) (E.contents errors.new) (IsLineOf (Some (shown_name name.now)) (EndsInHint name.now))) }
 {
     let text = format!(in alloc; "{error}")?;
-    writeln!(errors, "capture_report: {}: {text}", ShownName(name))
+    let hint = hint_of(name);
+    writeln!(errors, "capture_report: {}: {text}{hint}", ShownName(name))
+}
+
+/// The text for the name of a capture that is a word of a filter. It is empty for every other name.
+fn hint_of(name: &str) -> &'static str
+    ensures { result.now ≡ hint_of name.now }
+{
+    if FILTER_WORDS.contains(&name) {
+        return FILTER_HINT;
+    }
+    ""
 }

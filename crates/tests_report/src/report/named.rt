@@ -127,7 +127,7 @@ type RunRow = (
 
 /// At most one name: there is no heading, and an error names the capture.
 #[rattlefmt::skip]
-static RUNS_OF_ONE: [RunRow; 10] = [
+static RUNS_OF_ONE: [RunRow; 12] = [
     (&[], Asked::CheckedLines, 0, LINE, ""),
     (&["-"], Asked::CheckedLines, 0, LINE, ""),
     (&["right"], Asked::OnlyObjects, 0, RIGHT_OBJECT, ""),
@@ -141,6 +141,8 @@ static RUNS_OF_ONE: [RunRow; 10] = [
     // A control character in a name is shown by its number. After NUL a name is escaped already.
     (&["a\n\u{1B}[2J\u{9B}\u{FC}\\"], Asked::CheckedLines, 3, "", "capture_report: a\\x0A\\x1B[2J\\x9B\u{FC}\\: entity not found\n"),
     (&["\0a\\xFC"], Asked::CheckedLines, 3, "", "capture_report: a\\xFC: entity not found\n"),
+    (&["tcp"], Asked::CheckedLines, 3, "", "capture_report: tcp: entity not found; filters are --host, --port and --protocol\n"),
+    (&["portrange"], Asked::CheckedLines, 3, "", "capture_report: portrange: entity not found; filters are --host, --port and --protocol\n"),
     (&["link"], Asked::CheckedLines, 1, "", "capture_report: link: The link type 147 is not read.\n"),
 ];
 
