@@ -106,8 +106,8 @@ impl CaptureReports {
     }
 
     /// Writes the summary of all captures if it is requested and the header of a capture was accepted. Returns the exit status, which is
-    /// the greatest status of the reports. A requested check turns success into `Fault` if the checksum of a packet is wrong or a packet is
-    /// rejected.
+    /// the greatest status of the reports. With a requested check it is `Fault` if the checksum of a packet is wrong or a packet is rejected,
+    /// even if a capture can't be read to its end.
     ///
     /// # Errors
     ///
@@ -142,11 +142,11 @@ impl CaptureReports {
         )
     }
 
-    /// The exit status of all reports: their greatest status, or `Fault` if the greatest status is success and a check finds a fault.
+    /// The exit status of all reports: `Fault` if a check finds a fault, and otherwise their greatest status.
     fn final_status(&self) -> ExitStatus
         ensures { result ≡ final_status self.now.parts.check self.now.status self.now.summary }
     {
-        if self.parts.check && self.status == ExitStatus::Success && self.summary.has_fault() {
+        if self.parts.check && self.summary.has_fault() {
             return ExitStatus::Fault;
         }
         self.status

@@ -1,7 +1,7 @@
 ghost use Rattle.std.specs.Prelude.{◌≡◌};
 ghost use Rattle.capture_run.specs.ExitStatuses.{exit_number};
 
-/// The end of a run, as the exit status of the program. After several captures the status with the greatest number counts.
+/// The end of a run, as the exit status of the program. If several apply, the status with the greatest number counts.
 #[derive(Clone, Copy, Debug, PartialEq, Eq)]
 pub enum ExitStatus {
     /// 0: all captures were read to their ends.

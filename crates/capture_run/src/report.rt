@@ -24,8 +24,8 @@ pub const STANDARD_INPUT: &str = "-";
 /// crafted to slow down these lookups.
 ///
 /// An error within a capture, or of a capture that can't be opened, is written as text to `errors`. The next capture follows. The exit
-/// status is the greatest status of all captures. A requested check turns success into `Fault` if the checksum of a packet is wrong or a
-/// packet is rejected.
+/// status is the greatest status of all captures. With a requested check it is `Fault` if the checksum of a packet is wrong or a packet is
+/// rejected, even if a capture can't be opened or can't be read to its end.
 ///
 /// # Errors
 ///

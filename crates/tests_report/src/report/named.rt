@@ -158,12 +158,12 @@ const ZERO_OBJECT: &str =
 #[rattlefmt::skip]
 static RUNS: [RunRow; 12] = [
     (&["right", "wrong"], Asked::CheckedLines, 4, OF_TWO, ""),
-    (&["right", "missing", "wrong"], Asked::CheckedLines, 3, WITH_MISSING, "capture_report: missing: entity not found\n"),
-    (&["right", "link", "wrong", "cut"], Asked::CheckedLines, 1, OF_FOUR, ERRORS_OF_FOUR),
-    (&["right", "link", "wrong", "cut", "missing"], Asked::OnlyStatus, 3, "", ERRORS_WITH_MISSING),
+    (&["right", "missing", "wrong"], Asked::CheckedLines, 4, WITH_MISSING, "capture_report: missing: entity not found\n"),
+    (&["right", "link", "wrong", "cut"], Asked::CheckedLines, 4, OF_FOUR, ERRORS_OF_FOUR),
+    (&["right", "link", "wrong", "cut", "missing"], Asked::OnlyStatus, 4, "", ERRORS_WITH_MISSING),
     (&["link", "right", "magic", "cut", "-"], Asked::CheckedLines, 2, OF_FIVE, ERRORS_OF_FIVE),
     (&["right", "wrong", "right"], Asked::WrongLines, 0, OF_WRONG_LINES, ""),
-    (&["right", "missing", "zero"], Asked::OnlyStatus, 3, "", "capture_report: missing: entity not found\n"),
+    (&["right", "missing", "zero"], Asked::OnlyStatus, 4, "", "capture_report: missing: entity not found\n"),
     (&["right", "zero"], Asked::OnlyStatus, 4, "", ""),
     (&["right", "a \"name\"", "wrong"], Asked::OnlyObjects, 3, OBJECTS, "capture_report: a \"name\": entity not found\n"),
     (&["a\nb", "\0a\\xFC"], Asked::CheckedLines, 3, "==> a\\x0Ab <==\n\n==> a\\xFC <==\n",
@@ -297,7 +297,7 @@ type SummaryRow = (&'static [&'static str], Asked, u8, [&'static str; 3]);
 
 #[rattlefmt::skip]
 static SUMMARIES: [SummaryRow; 4] = [
-    (&["right", "missing", "wrong"], Asked::CheckedAll, 3, [WITH_MISSING, "\n", "packets 2, bytes 58, bytes a packet 29\nconversations 2\n"]),
+    (&["right", "missing", "wrong"], Asked::CheckedAll, 4, [WITH_MISSING, "\n", "packets 2, bytes 58, bytes a packet 29\nconversations 2\n"]),
     (&["right", "wrong"], Asked::CheckedAll, 4, [OF_TWO, "\n", "packets 2, bytes 58, bytes a packet 29\nconversations 2\n"]),
     (&["right", "cut", "zero"], Asked::OnlySummary, 1, ["", "", "packets 2, bytes 58, bytes a packet 29\nconversations 1\n"]),
     (&["right", "a \"name\"", "wrong"], Asked::AllObjects, 3,
@@ -341,7 +341,7 @@ fn expect_without_errors(
         &mut output,
         &mut errors,
     );
-    expect_equal(rt, &status.ok(), &Some(ExitStatus::Failed));
+    expect_equal(rt, &status.ok(), &Some(ExitStatus::Fault));
     expect_text(rt, output, WITH_MISSING)
 }
 
