@@ -17,8 +17,8 @@ use clap::error::ErrorKind;
 use clap::{Arg, ArgAction, ArgMatches, Command, Error, value_parser};
 use std::alloc::{AllocError, Global};
 
-/// The version of the program.
-const VERSION: &str = "0.1.0";
+/// The version of the program, which is that of the library (`ETHERPARSE_VERSION` in the C header).
+const VERSION: &str = "0.4.0";
 
 /// What help says after the options.
 const AFTER_HELP: &str = "\
