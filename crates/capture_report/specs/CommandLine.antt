@@ -55,6 +55,14 @@ choice_rules names =
     repeated (value_rule (codes "host")) ∷ repeated (parsed_rule (codes "port") (parsers.Signed (pos 0) (pos (2 ^ 16 - 1))))
     ∷ protocol_rule names ∷ []
 
+-- the option for the number of packets, `-c` (99), which is at least 1 and has at most 64 bits
+abbrev pub count_rule : Rule
+count_rule = record (parsed_rule (codes "count") (parsers.Unsigned 1 (2 ^ 64 - 1))) { short = Some 99 }
+
+-- the option for the end of the report
+abbrev pub end_rules : List Rule
+end_rules = count_rule ∷ []
+
 -- the option for writing lines, `-l` (108)
 abbrev pub line_buffered_rule : Rule
 line_buffered_rule = record (flag_rule (codes "line-buffered")) { short = Some 108 }
@@ -85,7 +93,7 @@ bare_command = let app = new_app (codes "capture_report") in record app { top = 
 
 -- the command line, where these are the names of protocols
 abbrev pub command_line : Bor (List (Bor Text)) → App
-command_line names = with_rules bare_command (line_rules ++ form_rules ++ choice_rules names ++ file_rules)
+command_line names = with_rules bare_command (line_rules ++ form_rules ++ choice_rules names ++ end_rules ++ file_rules)
 
 -- this is the command line
 abbrev pub IsCommandLine : App → Type 0

@@ -1,5 +1,5 @@
 -- The options in the matches of a command line.
-use Rattle.std.specs.Prelude.{◌≡◌, ℕ, Bool, List, ◌++◌, not, if◌then◌else◌, codes, map}
+use Rattle.std.specs.Prelude.{◌≡◌, ℕ, Bool, List, ◌++◌, not, if◌then◌else◌, codes, map, None, Some}
 use Rattle.clap.specs.declared.parser.matches.ArgMatches.{ArgMatches}
 use Rattle.capture_run.specs.Lines.{lines_by}
 use Rattle.capture_run.specs.declared.parts.Format.TheVariants as formats
@@ -30,5 +30,6 @@ pub record IsOptionsOf (matches : ArgMatches) (options : Options) : Type 0 where
   pub format : (flag : Bool) → HasFlag matches (codes "json") flag → options.parts.format ≡ (if flag then formats.Json else formats.Text)
   pub top : HasNumberOr matches (codes "top") 64 (λ given. given) default_top options.parts.top
   pub choice : IsChoiceOf matches options.parts.choice
+  pub limit : HasNumberOr matches (codes "count") 64 Some None options.parts.limit
   pub line_buffered : (flag : Bool) → HasFlag matches (codes "line-buffered") flag → options.line_buffered ≡ flag
   pub files : map (λ name. name.now) options.files.items ≡ names_of matches

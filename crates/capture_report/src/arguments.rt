@@ -1,11 +1,11 @@
 //! The arguments of the program.
 
-ghost use Rattle.std.specs.Prelude.{◌≡◌, ◌⊎◌, Bool, IfErr, IfOk, codes, false, if◌then◌else◌, map, string_bytes};
+ghost use Rattle.std.specs.Prelude.{◌≡◌, ◌⊎◌, Bool, IfErr, IfOk, None, Some, codes, false, if◌then◌else◌, map, string_bytes};
 ghost use Rattle.clap.specs.Words.{IsPlainArg, app_of, kind_of, rule_of};
 ghost use Rattle.clap.specs.declared.error.kind.ErrorKind.TheVariants as ErrorKind;
 ghost use Rattle.capture_report.specs.Arguments.{HasFlag, HasNumberOr};
 ghost use Rattle.capture_report.specs.Options.{IsOptionsOf, IsRefusedBy, names_of};
-ghost use Rattle.capture_report.specs.CommandLine.{AreRequestedBy, IsCommandLine, bare_command, choice_rules, conflicting, file_rule, file_rules, flag_rule, form_rules, line_buffered_rule, line_rules, numeric_rule, protocol_names, read_rule, repeated, top_rule, value_rule, with_rules};
+ghost use Rattle.capture_report.specs.CommandLine.{AreRequestedBy, IsCommandLine, bare_command, choice_rules, conflicting, count_rule, end_rules, file_rule, file_rules, flag_rule, form_rules, line_buffered_rule, line_rules, numeric_rule, protocol_names, read_rule, repeated, top_rule, value_rule, with_rules};
 ghost use Rattle.capture_summary.specs.Ranking.{default_top};
 ghost use Rattle.capture_text.specs.TimeText.{times_by};
 ghost use Rattle.capture_run.specs.declared.parts.Format.TheVariants as Format;
@@ -95,6 +95,7 @@ fn options_of<'a>(alloc: Global, matches: &ArgMatches<'a>) -> Result<Options<'a>
             times: times_of(matches),
             format: format_of(matches),
             top: top_of(matches),
+            limit: count_of(matches),
             ..asked
         },
         line_buffered: flag_of(matches, "line-buffered"),
@@ -152,6 +153,13 @@ fn top_of(matches: &ArgMatches<'_>) -> usize
     matches.get_one("top").unwrap_or(BUSIEST)
 }
 
+/// The number of packets after which the report ends, if a number is requested.
+fn count_of(matches: &ArgMatches<'_>) -> Option<u64>
+    ensures { HasNumberOr matches.now (codes "count") 64 Some None result }
+{
+    matches.get_one("count")
+}
+
 /// The error for a choice of packets that is not valid, with the usage.
 fn invalid_choice(alloc: Global, error: ChoiceError<'_>) -> Result<Error, Error>
     ensures kind { IfOk result (λ error. kind_of error ≡ ErrorKind.ValueValidation) }
@@ -201,6 +209,7 @@ fn command<'a>(alloc: Global) -> Result<Command<'a>, Error>
     let command = with_lines(alloc, bare(alloc))?;
     let command = with_form(alloc, command)?;
     let command = with_choice(alloc, command)?;
+    let command = with_end(alloc, command)?;
     Ok(with_files(alloc, command)?)
 }
 
@@ -290,6 +299,28 @@ fn with_choice<'a>(alloc: Global, command: Command<'a>) -> Result<Command<'a>, A
     .value_parser(PROTOCOLS.as_slice())
     .ignore_case(true);
     command.arg(host)?.arg(port)?.arg(protocol)
+}
+
+/// The command line with the option for the end of the report.
+fn with_end<'a>(alloc: Global, command: Command<'a>) -> Result<Command<'a>, AllocError>
+    ensures { IfOk result (λ more. app_of more ≡ with_rules (app_of command.entry) end_rules) }
+{
+    command.arg(count(alloc))
+}
+
+/// The number of packets.
+fn count<'a>(alloc: Global) -> Arg<'a>
+    ensures rule { rule_of result ≡ count_rule }
+    ensures local { result.global ≡ false }
+{
+    valued(
+        alloc,
+        "count",
+        "N",
+        "End after N packets, those that the options above leave out not counted",
+    )
+    .short('c')
+    .value_parser(value_parser!(u64).range(1..))
 }
 
 /// The command line with the captures, and with the option for writing lines.

@@ -10,7 +10,7 @@ use Rattle.capture_file.specs.declared.reader.capture_reader.CaptureReader.{Capt
 use Rattle.capture_file.specs.declared.reader.next_packet.NextPacket.{NextPacket}
 use Rattle.capture_summary.specs.declared.choice.Choice.{Choice}
 use Rattle.capture_run.specs.declared.capture_error.CaptureError.{CaptureError}
-use Rattle.capture_run.specs.declared.capture_error.CaptureError.TheVariants.{Header, Read, ReadHeader, RecordCutOff, Refused, TooManyPackets}
+use Rattle.capture_run.specs.declared.capture_error.CaptureError.TheVariants.{Enough, Header, Read, ReadHeader, RecordCutOff, Refused, TooManyPackets}
 
 -- too many packets were read
 pub too_many_packets : (counted : ℕ) (reader : CaptureReader) (left : Option (List ℕ)) (packets : List FilePacket)
@@ -44,6 +44,7 @@ end_of_packets choice all (Err (Refused error)) before after counted number offs
     let file = counts tt in
     is_capture choice all (Err (Refused error)) before after _ file file.counts.4
 end_of_packets choice all (Err TooManyPackets) before after counted number offset counts places many = many refl
+end_of_packets choice all (Err Enough) before after counted number offset counts places many = tt
 end_of_packets choice all (Err (Read its_number its_offset error)) before after counted number offset counts places many = tt
 end_of_packets choice all (Err (Header error)) before after counted number offset counts places many = absurd places
 end_of_packets choice all (Err (ReadHeader error)) before after counted number offset counts places many = absurd places

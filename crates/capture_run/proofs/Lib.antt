@@ -1,4 +1,5 @@
 mod EndingLemmas
+mod LimitLemmas
 mod NameLemmas
 mod PacketsTextLemmas
 mod ReportLemmas

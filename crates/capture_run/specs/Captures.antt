@@ -1,9 +1,10 @@
 -- The report of a run: captures, one after the other, and then the summary of all captures.
-use Rattle.std.specs.Prelude.{◌≡◌, ◌↔◌, ℕ, ◌+◌, ◌==◌, ◌&&◌, nat_lt, Bool, true, false, IsTrue, if◌then◌else◌, List, [], ◌∷◌, ◌++◌, codes, length, Option, Some, None, Result, IfSome}
+use Rattle.std.specs.Prelude.{◌≡◌, ◌↔◌, ℕ, ◌+◌, ◌==◌, ◌&&◌, nat_lt, Bool, true, false, IsTrue, if◌then◌else◌, List, [], ◌∷◌, ◌++◌, codes, length, MatchBool, Option, Some, None, Result, IfSome}
 use Rattle.capture_json.specs.JsonPacket.{file_members, json_line}
 use Rattle.capture_summary.specs.SummaryTables.{SummaryTables, empty_tables}
 use Rattle.capture_run.specs.Endings.{status_of}
 use Rattle.capture_run.specs.ExitStatuses.{final_status, greater}
+use Rattle.capture_run.specs.Limits.{EndsByLimit, IsWithin, is_full}
 use Rattle.capture_run.specs.Names.{shown_name, without_mark}
 use Rattle.capture_run.specs.PacketsText.{IsCaptureText, end_text}
 use Rattle.capture_run.specs.Runs.{EndsAtHeader, ReportsCapture}
@@ -44,6 +45,8 @@ pub record ReportsOpened (parts : Parts) (left : Option (List ℕ)) (before afte
   pub is_text : IsCaptureText parts left ended before.summary after.summary text
   pub status : after.status ≡ greater before.status (status_of ended)
   pub empty : IsTrue after.is_empty ↔ (IsTrue before.is_empty × EndsAtHeader ended)
+  pub limit : EndsByLimit parts.limit after.summary.packets ended
+  pub within : IsWithin parts.limit before.summary.packets → IsWithin parts.limit after.summary.packets
 
 -- what a name gives: nothing that can be opened, or an input with these bytes, if they are known
 abbrev pub Given : Type 0
@@ -84,12 +87,19 @@ has_lines lines.None = false
 abbrev pub heading_of : Parts → ℕ → ℕ → List ℕ → List ℕ
 heading_of parts count place name = if nat_lt 1 count && has_lines parts.lines then heading_in parts.format place name else []
 
+-- The capture with this name at this place was reported, and this is its text: its heading, and then the text of its packets. If as many packets
+-- were counted before as are requested, the capture is left out.
+abbrev pub ReportsHeaded : (List ℕ → Given → Type 0) → Parts → (ℕ → List ℕ → List ℕ) → ℕ → List ℕ → Progress → Progress → List ℕ → Type 0
+ReportsHeaded Reads parts heading place name before after text =
+    MatchBool (is_full parts.limit before.summary.packets) ((after ≡ before) × (text ≡ []))
+    ((packets : List ℕ) × ReportsNamed Reads parts name before after packets × (text ≡ heading place name ++ packets))
+
 -- the captures with these names were reported one after the other, the first of them at this place, and this is their text
 abbrev pub ReportsEach : (List ℕ → Given → Type 0) → Parts → (ℕ → List ℕ → List ℕ) → ℕ → List (List ℕ) → Progress → Progress → List ℕ → Type 0
 ReportsEach Reads parts heading place [] before after text = (after ≡ before) × (text ≡ [])
 ReportsEach Reads parts heading place (name ∷ names) before after text =
-    (between : Progress) × (packets : List ℕ) × (others : List ℕ) × ReportsNamed Reads parts name before between packets
-    × ReportsEach Reads parts heading (place + 1) names between after others × (text ≡ heading place name ++ (packets ++ others))
+    (between : Progress) × (first : List ℕ) × (others : List ℕ) × ReportsHeaded Reads parts heading place name before between first
+    × ReportsEach Reads parts heading (place + 1) names between after others × (text ≡ first ++ others)
 
 -- the captures that are read: standard input, if there is no name
 abbrev pub captures_of : List (List ℕ) → List (List ℕ)

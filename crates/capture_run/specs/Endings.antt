@@ -13,7 +13,7 @@ use Rattle.capture_packet.specs.Frames.{max_packet_len}
 use Rattle.capture_run.specs.declared.exit_status.ExitStatus.{ExitStatus}
 use Rattle.capture_run.specs.declared.exit_status.ExitStatus.TheVariants.{Failed, NoCapture, Success, Unfinished}
 use Rattle.capture_run.specs.declared.capture_error.CaptureError.{CaptureError}
-use Rattle.capture_run.specs.declared.capture_error.CaptureError.TheVariants.{Header, Read, ReadHeader, RecordCutOff, Refused, TooManyPackets}
+use Rattle.capture_run.specs.declared.capture_error.CaptureError.TheVariants.{Enough, Header, Read, ReadHeader, RecordCutOff, Refused, TooManyPackets}
 
 -- the bytes are the beginning of a capture, then packets, then this next thing
 pub record IsCapture (next : NextPacket) (bytes : List ℕ) : Type 0 where
@@ -55,7 +55,8 @@ IsRefusedCapture error bytes =
     × ReadsBeginning (Some bytes) still_left buffer (Err error)
 
 -- What an error states about the capture, after this number of packets was counted. Its beginning is rejected, it ends within a record or
--- block, a block can't be read, or it has too many packets. If reading failed, the error states nothing.
+-- block, a block can't be read, or it has too many packets. If reading failed, or the requested number of packets is reached, the error states
+-- nothing.
 abbrev pub IsEndOf : ℕ → List ℕ → CaptureError → Type 0
 IsEndOf counted bytes (Header error) = IsRefusedCapture error bytes
 IsEndOf counted bytes (RecordCutOff number offset required len) = IsCutOffCapture number required len bytes
@@ -63,6 +64,7 @@ IsEndOf counted bytes (Refused error) = IsCapture (packets.Refused error) bytes
 IsEndOf counted bytes TooManyPackets = IsTooLongCapture counted bytes
 IsEndOf counted bytes (ReadHeader error) = Unit {0}
 IsEndOf counted bytes (Read number offset error) = Unit {0}
+IsEndOf counted bytes Enough = Unit {0}
 
 -- what the end of a report states about its capture; without an error no part of the capture is missing
 abbrev pub IsReportOf : ℕ → List ℕ → Result (Unit {0}) CaptureError → Type 0
@@ -82,6 +84,7 @@ exit_status (Header (refusals.Pcapng (errors.Interfaces max))) = Unfinished
 exit_status (RecordCutOff number offset required len) = Unfinished
 exit_status (Refused error) = Unfinished
 exit_status TooManyPackets = Unfinished
+exit_status Enough = Success
 exit_status (ReadHeader error) = Failed
 exit_status (Read number offset error) = Failed
 

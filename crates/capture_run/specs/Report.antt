@@ -24,7 +24,7 @@ use Rattle.capture_file.specs.declared.reader.next_packet.TooLongPacket.{TooLong
 use Rattle.capture_file.specs.declared.packet_time.PacketTime.{PacketTime}
 use Rattle.capture_summary.specs.declared.choice.Choice.{Choice}
 use Rattle.capture_run.specs.declared.capture_error.CaptureError.{CaptureError}
-use Rattle.capture_run.specs.declared.capture_error.CaptureError.TheVariants.{Header, Read, ReadHeader, RecordCutOff, Refused, TooManyPackets}
+use Rattle.capture_run.specs.declared.capture_error.CaptureError.TheVariants.{Enough, Header, Read, ReadHeader, RecordCutOff, Refused, TooManyPackets}
 use Rattle.capture_summary.specs.declared.capture_info.CaptureInfo.{CaptureInfo}
 use Rattle.capture_summary.specs.declared.flow.Flow.{Flow}
 
@@ -163,6 +163,7 @@ PlacesError packets number offset (Err (RecordCutOff its_number its_offset requi
 PlacesError packets number offset (Err (Read its_number its_offset error)) = (its_number ≡ number) × (its_offset ≡ offset)
 PlacesError packets number offset (Err (Refused error)) = Unit {0}
 PlacesError packets number offset (Err TooManyPackets) = max_packets ≤ packets
+PlacesError packets number offset (Err Enough) = Unit {0}
 PlacesError packets number offset (Err (Header error)) = ⊥
 PlacesError packets number offset (Err (ReadHeader error)) = ⊥
 

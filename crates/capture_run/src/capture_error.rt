@@ -53,6 +53,9 @@ pub enum CaptureError {
     /// The limit of 2^64 - 2 counted packets is reached.
     #[error("No more packets can be counted.")]
     TooManyPackets,
+    /// As many packets were counted as are requested. The rest of the capture is not read. The report is complete.
+    #[error("The requested number of packets is reached.")]
+    Enough,
 }
 
 impl CaptureError {
@@ -75,6 +78,7 @@ impl CaptureError {
             | CaptureError::Refused(_)
             | CaptureError::TooManyPackets => ExitStatus::Unfinished,
             CaptureError::ReadHeader(_) | CaptureError::Read { .. } => ExitStatus::Failed,
+            CaptureError::Enough => ExitStatus::Success,
         }
     }
 

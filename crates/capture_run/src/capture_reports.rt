@@ -4,6 +4,7 @@ ghost use Rattle.capture_run.specs.Endings.{status_of};
 ghost use Rattle.capture_run.specs.PacketsText.{IsCaptureText, empty_line, end_text, summary_in};
 ghost use Rattle.capture_summary.specs.Ranking.{busiest_of};
 ghost use Rattle.capture_run.specs.ExitStatuses.{final_status, greater};
+ghost use Rattle.capture_run.specs.Limits.{EndsByLimit, IsWithin, is_full};
 ghost use Rattle.capture_run.specs.Runs.{EndsAtHeader, ReportsCapture};
 ghost use Rattle.capture_run.specs.declared.exit_status.ExitStatus.TheVariants as ExitStatus;
 ghost use Rattle.capture_summary.specs.SummaryTables.{empty_tables};
@@ -11,6 +12,7 @@ ghost use Rattle.capture_text.specs.SummaryText.{tables_text};
 ghost use Rattle.capture_text.specs.Written.{AppendsOne};
 ghost use Rattle.capture_run.specs.declared.parts.Lines.TheVariants as Lines;
 
+use crate::packet_report::is_full;
 use crate::packets::report_packets;
 use crate::{CaptureError, ExitStatus, Format, Lines, Parts, WriteError};
 use capture_summary::{ConversationCount, Summary};
@@ -69,6 +71,8 @@ impl CaptureReports {
         ensures text { IfOk result (λ given. AppendsOne (W.contents output.old) (W.contents output.new)
             (IsCaptureText self.parts (R.remaining input.old) given.1 self.summary given.0.summary)) }
         ensures empty { IfOk result (λ given. IsTrue given.0.is_empty ↔ (IsTrue self.is_empty × EndsAtHeader given.1)) }
+        ensures limit { IfOk result (λ given. EndsByLimit self.parts.limit given.0.summary.packets given.1) }
+        ensures within { IsWithin self.parts.limit self.summary.packets → IfOk result (λ given. IsWithin self.parts.limit given.0.summary.packets) }
         ensures silent { self.parts.lines ≡ Lines.None → output.new ≡ output.old }
     {
         let CaptureReports {
@@ -93,6 +97,13 @@ impl CaptureReports {
         ensures { result.now ≡ self.now.parts }
     {
         &self.parts
+    }
+
+    /// Whether as many packets were counted as are requested. No further capture is read then.
+    pub fn is_full(&self) -> bool
+        ensures { result ≡ is_full self.now.parts.limit self.now.summary.packets }
+    {
+        is_full(self.parts.limit, &self.summary)
     }
 
     /// Records that a capture could not be opened: the status becomes at least `Failed`.

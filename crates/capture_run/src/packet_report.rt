@@ -1,5 +1,6 @@
 ghost use Rattle.std.specs.Prelude.{◌≡◌, ◌-◌, ◌^◌, ◌<◌, None, OnOk, false};
 ghost use Rattle.std.specs.Option.{option_or};
+ghost use Rattle.capture_run.specs.Limits.{is_full};
 ghost use Rattle.capture_run.specs.Lines.{HasNoLine, IfNoLine, has_line};
 ghost use Rattle.capture_run.specs.Report.{CountsChosen, CountsRead, CountsPacket, IsReadAs, IsTooLong, captured_info, too_long_info};
 ghost use Rattle.capture_text.specs.PacketLine.{IsLine};
@@ -49,6 +50,13 @@ impl PacketReport {
         ensures { result.now ≡ self.now.summary }
     {
         &self.summary
+    }
+
+    /// Whether as many packets were counted as are requested.
+    pub fn is_full(&self) -> bool
+        ensures { result ≡ is_full self.now.parts.limit self.now.summary.packets }
+    {
+        is_full(self.parts.limit, &self.summary)
     }
 
     /// The counts, after the report ends.
@@ -129,6 +137,16 @@ impl PacketReport {
         }
         count(&mut self.summary, info, packet)?;
         write_if_included(output, self.alloc, &self.parts, number, first, info, packet)
+    }
+}
+
+/// Whether the summary counts as many packets as this limit, if there is one.
+pub(crate) fn is_full(limit: Option<u64>, summary: &Summary) -> bool
+    ensures { result ≡ is_full limit summary.now.packets }
+{
+    match limit {
+        Some(limit) => summary.packets() >= limit,
+        None => false,
     }
 }
 

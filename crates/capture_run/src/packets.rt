@@ -5,6 +5,7 @@ ghost use Rattle.capture_file.specs.CapturePackets.{ArePacketsBeforeCut, BeginsI
 ghost use Rattle.capture_file.specs.declared.reader.next_packet.NextPacket.{NextPacket};
 ghost use Rattle.capture_run.specs.Endings.{HasTooManyPackets};
 ghost use Rattle.capture_packet.specs.Frames.{max_packet_len};
+ghost use Rattle.capture_run.specs.Limits.{EndsByLimit, EndsWithoutLimit, IsWithin};
 ghost use Rattle.capture_run.specs.PacketsText.{IsCaptureText, WritesPacket, WritesPackets};
 ghost use Rattle.capture_run.specs.Report.{CountsCapture, CountsEach, IsPlaced, IsReadToEnd, PlacesEnd, PlacesError, ReadsWholePackets, ReportsNext};
 ghost use Rattle.capture_run.specs.Runs.{EndsAtHeader, IsUnread, ReportsCapture};
@@ -21,7 +22,8 @@ use std::io::{Read, Write};
 use streams::new_buffer;
 
 /// Reads a capture, counts each of its packets that is chosen in the summary, and writes its line if it has one. The error beside the
-/// summary says why the capture is not read, or where its packets can't be read further.
+/// summary says why the capture is not read, or where its packets can't be read further. If a number of packets is requested, the report ends
+/// as soon as it is reached.
 pub(crate) fn report_packets<R: Read, W: Write>(
     alloc: Global,
     summary: Summary,
@@ -32,6 +34,8 @@ pub(crate) fn report_packets<R: Read, W: Write>(
     ensures reports { IfOk result (λ given. IfSome (R.remaining input.old) (λ all. ReportsCapture parts.choice all given.1 summary given.0)) }
     ensures text { IfOk result (λ given. AppendsOne (W.contents output.old) (W.contents output.new)
         (IsCaptureText parts (R.remaining input.old) given.1 summary given.0)) }
+    ensures limit { IfOk result (λ given. EndsByLimit parts.limit given.0.packets given.1) }
+    ensures within { IsWithin parts.limit summary.packets → IfOk result (λ given. IsWithin parts.limit given.0.packets) }
     ensures silent { parts.lines ≡ Lines.None → output.new ≡ output.old }
 {
     let mut buffer = new_buffer(alloc, MAX_PACKET_LEN)?;
@@ -64,8 +68,8 @@ fn read_header<R: Read>(input: &mut R, buffer: &mut [u8]) -> Result<CaptureReade
     }
 }
 
-/// Counts each packet that is chosen, and writes its line if it has one. The inner error says where the packets can't be read further;
-/// after the outer one nothing more can be written or counted.
+/// Counts each packet that is chosen, and writes its line if it has one. The inner error says where the packets can't be read further, or that
+/// as many were counted as are requested; after the outer one nothing more can be written or counted.
 ///
 /// Of a capture of either form that was cut after any number of bytes the packets whose record or block ends before the cut are counted,
 /// and no other.
@@ -89,12 +93,18 @@ fn report_each<R: Read, W: Write>(
     ensures places { IfOk result (PlacesEnd reader.old (R.remaining input.old) packets.old.summary.packets reader.new) }
     ensures too_many { IfOk result (λ ended. ended ≡ Err CaptureError.TooManyPackets
         → IfSome (R.remaining input.old) (HasTooManyPackets packets.old.summary.packets reader.old)) }
+    ensures limit { IfOk result (EndsByLimit packets.old.parts.limit packets.new.summary.packets) }
+    ensures within { IsWithin packets.old.parts.limit packets.old.summary.packets
+        → IfOk result (λ ended. IsWithin packets.old.parts.limit packets.new.summary.packets) }
     ensures after_packets { IfErr result (λ error.
         ReadsWholePackets reader.old (R.remaining input.old) (R.remaining input.new) reader.new) }
     ensures silent { packets.old.parts.lines ≡ Lines.None → output.new ≡ output.old }
 {
     let room = u64::MAX - packets.summary().packets();
     for number in 1..room {
+        if packets.is_full() {
+            return Ok(Err(CaptureError::Enough));
+        }
         if let Some(ended) = report_next(input, output, buffer, reader, packets, number)? {
             return Ok(ended);
         }
@@ -122,6 +132,7 @@ fn report_next<R: Read, W: Write>(
     ensures places { IfOk result (λ ended. IfSome ended (λ done. (packets : ℕ) → PlacesError packets number (offset_of reader.new) done)) }
     ensures seeks { IfOk result (λ ended. IfSome ended (λ done. IsPlaced done
         → Seeks max_packet_len reader.old (R.remaining input.old) reader.new)) }
+    ensures unlimited { IfOk result (λ ended. IfSome ended EndsWithoutLimit) }
     ensures after_packet { IfErr result (λ error. (packet : FilePacket)
         × ReadsOne max_packet_len reader.old (R.remaining input.old) (R.remaining input.new) reader.new packet) }
     ensures silent { packets.old.parts.lines ≡ Lines.None → output.new ≡ output.old }

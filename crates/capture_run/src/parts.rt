@@ -1,6 +1,6 @@
 //! The options of a report.
 
-ghost use Rattle.std.specs.Prelude.{◌≡◌, not};
+ghost use Rattle.std.specs.Prelude.{◌≡◌, None, not};
 ghost use Rattle.capture_summary.specs.Choice.{every_packet};
 ghost use Rattle.capture_run.specs.Lines.{has_line, lines_by};
 ghost use Rattle.capture_summary.specs.Ranking.{default_top};
@@ -28,10 +28,12 @@ pub struct Parts {
     pub top: usize,
     /// Whether the exit status reports a packet with a wrong checksum or a rejected packet.
     pub check: bool,
+    /// The number of chosen packets after which the report ends, if a number is requested. No more packets are read then.
+    pub limit: Option<u64>,
 }
 
 impl Parts {
-    /// The options that these flags request: all packets, as text, with times since the first packet, and with the ten busiest
+    /// The options that these flags request: all packets without a limit, as text, with times since the first packet, and with the ten busiest
     /// conversations.
     pub fn from_flags(
         summary_alone: bool,
@@ -46,6 +48,7 @@ impl Parts {
         ensures format { result.format ≡ Format.Text }
         ensures top { result.top ≡ default_top }
         ensures check { result.check ≡ check }
+        ensures limit { result.limit ≡ None }
     {
         let lines = match (summary_alone, wrong_alone) {
             (true, _) => Lines::None,
@@ -60,6 +63,7 @@ impl Parts {
             format: Format::Text,
             top: BUSIEST,
             check,
+            limit: None,
         }
     }
 }

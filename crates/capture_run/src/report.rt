@@ -1,15 +1,15 @@
 //! The report of a run: captures, one after the other, and then the summary of all captures.
 
-ghost use Rattle.std.specs.Prelude.{◌≡◌, IfOk, OnOk, length, map};
+ghost use Rattle.std.specs.Prelude.{◌≡◌, IfOk, OnOk, codes, length, map};
 ghost use Rattle.std.specs.Io.KnownBytes.{Appends};
 ghost use Rattle.capture_run.specs.Captures as specs;
-ghost use Rattle.capture_run.specs.Captures.{Gives, IsRun, ReportsEach, ReportsNamed, heading_in, heading_of, progress_of, text_heading};
+ghost use Rattle.capture_run.specs.Captures.{Gives, IsRun, ReportsEach, ReportsHeaded, ReportsNamed, heading_in, heading_of, progress_of, text_heading};
 ghost use Rattle.capture_text.specs.Written.{AppendsOne};
 
 use crate::capture_error::{write_error, write_open_error};
 use crate::capture_reports::CaptureReports;
 use crate::shown_name::{ShownName, without_mark};
-use crate::{ExitStatus, Format, Lines, Open, Parts, WriteError};
+use crate::{CaptureError, ExitStatus, Format, Lines, Open, Parts, WriteError};
 use capture_json::write_file_name;
 use std::alloc::Global;
 use std::hash::RandomState;
@@ -22,6 +22,8 @@ pub const STANDARD_INPUT: &str = "-";
 /// Reports the captures with these names, one after the other, or standard input if there is no name. Then it writes the summary of all
 /// captures, and returns the exit status. `state` provides the keys of the hashes that find a flow. With random keys, no capture can be
 /// crafted to slow down these lookups.
+///
+/// If a number of packets is requested, the run ends with the last of them, and reads no further capture.
 ///
 /// An error within a capture, or of a capture that can't be opened, is written as text to `errors`. The next capture follows. The exit
 /// status is the greatest status of all captures. With a requested check it is `Fault` if the checksum of a packet is wrong or a packet is
@@ -62,7 +64,7 @@ fn report_captures<O: Open, W: Write, E: Write>(
     ensures parts { IfOk result (λ after. after.parts ≡ reports.parts) }
 {
     if names.is_empty() {
-        report_capture(alloc, STANDARD_INPUT, None, opener, reports, output, errors)
+        report_unnamed(alloc, opener, reports, output, errors)
     } else {
         report_each(alloc, names, opener, reports, output, errors)
     }
@@ -82,13 +84,63 @@ fn report_each<O: Open, W: Write, E: Write>(
         (map (λ name. name.now) names.now) (progress_of reports) (progress_of after))) }
     ensures parts { IfOk result (λ after. after.parts ≡ reports.parts) }
 {
-    let parts = *reports.parts();
     let mut reports = reports;
     for (place, name) in names.iter().enumerate() {
-        write_heading_if_any(output, alloc, &parts, names.len(), place, name)?;
-        reports = report_capture(alloc, name, Some(name), opener, reports, output, errors)?;
+        reports = report_headed(
+            alloc,
+            names.len(),
+            place,
+            name,
+            opener,
+            reports,
+            output,
+            errors,
+        )?;
     }
     Ok(reports)
+}
+
+/// Reports the capture with this name, after its heading. The capture is left out if as many packets were counted as are requested.
+fn report_headed<O: Open, W: Write, E: Write>(
+    alloc: Global,
+    count: usize,
+    place: usize,
+    name: &str,
+    opener: &O,
+    reports: CaptureReports,
+    output: &mut W,
+    errors: &mut E,
+) -> Result<CaptureReports, WriteError>
+    ensures text { IfOk result (λ after. AppendsOne (W.contents output.old) (W.contents output.new)
+        (ReportsHeaded (Gives (O.misses opener.now) (O.opens opener.now) O.Input.remaining) reports.parts (heading_of reports.parts count) place
+        name.now (progress_of reports) (progress_of after))) }
+    ensures parts { IfOk result (λ after. after.parts ≡ reports.parts) }
+{
+    if reports.is_full() {
+        return Ok(reports);
+    }
+    let parts = *reports.parts();
+    write_heading_if_any(output, alloc, &parts, count, place, name)?;
+    report_capture(alloc, name, Some(name), opener, reports, output, errors)
+}
+
+/// Reports standard input, without a heading. It is left out if no packet is requested.
+fn report_unnamed<O: Open, W: Write, E: Write>(
+    alloc: Global,
+    opener: &O,
+    reports: CaptureReports,
+    output: &mut W,
+    errors: &mut E,
+) -> Result<CaptureReports, WriteError>
+    ensures text { IfOk result (λ after. AppendsOne (W.contents output.old) (W.contents output.new)
+        (ReportsHeaded (Gives (O.misses opener.now) (O.opens opener.now) O.Input.remaining) reports.parts (heading_of reports.parts 0) 0
+        (codes "-") (progress_of reports) (progress_of after))) }
+    ensures parts { IfOk result (λ after. after.parts ≡ reports.parts) }
+{
+    if reports.is_full() {
+        return Ok(reports);
+    }
+    report_capture(alloc, STANDARD_INPUT, None, opener, reports, output, errors)
 }
 
 /// Reports the capture with this name. An error within the capture is written after `shown`.
@@ -114,8 +166,11 @@ fn report_capture<O: Open, W: Write, E: Write>(
         }
     };
     let (reports, ended) = reports.add(alloc, &mut input, output)?;
-    if let Err(error) = &ended {
-        let _ = write_error(errors, alloc, shown, error);
+    match &ended {
+        Ok(()) | Err(CaptureError::Enough) => {}
+        Err(error) => {
+            let _ = write_error(errors, alloc, shown, error);
+        }
     }
     Ok(reports)
 }

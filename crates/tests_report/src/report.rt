@@ -20,6 +20,7 @@ const ALL: Parts = Parts {
     format: Format::Text,
     top: BUSIEST,
     check: false,
+    limit: None,
 };
 
 /// Only the lines of packets.
@@ -586,6 +587,50 @@ fn packets_that_are_not_chosen_are_left_out(rt: HostRuntime) -> Result<(), Fail>
         expect_first_text(&rt, run_alone(&rt, parts, &whole)?, *status, *wanted)?;
     }
     Ok(())
+}
+
+/// A number of packets, the length of the capture that is read, the status, and the lines of packets and the totals. The first packet of a
+/// capture is complete after 69 bytes, and the second after 114.
+#[rattlefmt::skip]
+const LIMITS: [(u64, usize, u8, [&str; 3]); 6] = [
+    (1, 114, 0, [LINE, "", "\npackets 1, bytes 29\n"]),
+    (2, 114, 0, [LINE, TO_TEN, "\npackets 2, bytes 58\n"]),
+    (3, 114, 0, [LINE, TO_TEN, "\npackets 2, bytes 58\n"]),
+    // What follows the last packet is not read.
+    (1, 113, 0, [LINE, "", "\npackets 1, bytes 29\n"]),
+    (2, 113, 1, [LINE, "", "\npackets 1, bytes 29\n"]),
+    (0, 114, 0, ["", "", ""]),
+];
+
+#[test]
+fn the_report_ends_after_a_number_of_packets(rt: HostRuntime) -> Result<(), Fail> {
+    let whole = two_packets(rt.alloc(), 10)?;
+    for (limit, len, status, wanted) in &LIMITS {
+        let parts = Parts {
+            limit: Some(*limit),
+            ..ALL
+        };
+        let ran = run_alone(&rt, parts, first_bytes(&whole, *len))?;
+        expect_first_text(&rt, ran, *status, *wanted)?;
+    }
+    Ok(())
+}
+
+#[test]
+fn packets_that_are_not_chosen_do_not_count(rt: HostRuntime) -> Result<(), Fail> {
+    let mut ports = [None; MAX_CHOSEN];
+    ports[0] = Some(10);
+    let parts = Parts {
+        choice: Choice {
+            ports: Some(ports),
+            ..Choice::ALL
+        },
+        limit: Some(1),
+        ..ALL
+    };
+    let whole = two_packets(rt.alloc(), 10)?;
+    let ran = run_alone(&rt, parts, &whole)?;
+    expect_first_text(&rt, ran, 0, [TO_TEN, "", "\npackets 1, bytes 29\n"])
 }
 
 /// A capture of a packet that has more bytes than are read.

@@ -76,6 +76,8 @@ enum Asked {
     AllObjects,
     /// Only the objects of packets.
     OnlyObjects,
+    /// All of the first packets, up to two.
+    AllOfTwo,
 }
 
 /// The parts of a report that a row asks for.
@@ -103,6 +105,10 @@ fn parts_of(asked: Asked) -> Parts {
         Asked::OnlyObjects => Parts {
             format: Format::Json,
             ..ONLY_LINES
+        },
+        Asked::AllOfTwo => Parts {
+            limit: Some(2),
+            ..ALL
         },
     }
 }
@@ -296,7 +302,9 @@ fn standard_input_that_cannot_be_opened(rt: HostRuntime) -> Result<(), Fail> {
 type SummaryRow = (&'static [&'static str], Asked, u8, [&'static str; 3]);
 
 #[rattlefmt::skip]
-static SUMMARIES: [SummaryRow; 4] = [
+static SUMMARIES: [SummaryRow; 5] = [
+    // Neither the capture after the last packet nor its heading is part of the report.
+    (&["right", "wrong", "missing", "right"], Asked::AllOfTwo, 0, [OF_TWO, "\n", "packets 2, bytes 58, bytes a packet 29\nconversations 2\n"]),
     (&["right", "missing", "wrong"], Asked::CheckedAll, 4, [WITH_MISSING, "\n", "packets 2, bytes 58, bytes a packet 29\nconversations 2\n"]),
     (&["right", "wrong"], Asked::CheckedAll, 4, [OF_TWO, "\n", "packets 2, bytes 58, bytes a packet 29\nconversations 2\n"]),
     (&["right", "cut", "zero"], Asked::OnlySummary, 1, ["", "", "packets 2, bytes 58, bytes a packet 29\nconversations 1\n"]),

@@ -2,6 +2,7 @@ use Rattle.std.proofs.Common.{[], inl, inr, refl}
 use Rattle.std.proofs.KnownBytes.{Appends-nil}
 use Rattle.capture_file.specs.CapturePackets.{offset_of}
 use Rattle.capture_run.proofs.EndingLemmas.{not_at_header, reports_packets}
+use Rattle.capture_run.proofs.LimitLemmas.{limit_at_header}
 use Rattle.capture_run.proofs.packets.report_packets.Goals as goal
 
 -- the packets after the beginning are added to the counts before
@@ -19,6 +20,18 @@ returns-clause-reports g c =
 -- nothing is written if the beginning is not accepted
 pub returns-in-Err-clause-text : goal.returns-in-Err-clause-text
 returns-in-Err-clause-text g c = ([], inl (c.in-Err.ensures.ends, refl, refl), Appends-nil _)
+
+-- nothing is counted if the beginning is not accepted
+pub returns-in-Err-clause-limit : goal.returns-in-Err-clause-limit
+returns-in-Err-clause-limit g c = limit_at_header c.args.parts.limit c.args.summary.packets c.in-Err.error c.in-Err.ensures.ends
+
+-- the packets after the beginning reach the limit, or don't
+pub returns-clause-limit : goal.returns-clause-limit
+returns-clause-limit g c = rw c.into_summary.ensures (rw c.new-packets.ensures.parts at c.in_ok-ended.ensures.limit)
+
+pub returns-clause-within : goal.returns-clause-within
+returns-clause-within g c =
+    rw c.into_summary.ensures (rw (c.new-packets.ensures.parts, c.new-packets.ensures.summary) at c.in_ok-ended.ensures.within)
 
 -- the text of the packets after the beginning
 pub returns-clause-text : goal.returns-clause-text

@@ -22,6 +22,8 @@ returns-clause-text g c =
           is_text = is_text;
           status = added.ensures.status;
           empty = added.ensures.empty;
+          limit = added.ensures.limit;
+          within = added.ensures.within;
         },
       ),
       wrote,

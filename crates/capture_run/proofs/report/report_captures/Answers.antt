@@ -5,8 +5,8 @@ use Rattle.capture_run.proofs.report.report_captures.Goals as goal
 -- standard input
 pub returns-then-is_empty-clause-text : goal.returns-then-is_empty-clause-text
 returns-then-is_empty-clause-text g c =
-    unnamed _ c.args.reports.parts c.args.names.now (λ name. name.now) _ _ _ c.report_capture.result
-    (sym c.is_empty.ensures ∙ c.if-is_empty.true) c.report_capture.ensures.text
+    unnamed _ c.args.reports.parts c.args.names.now (λ name. name.now) _ _ _ c.report_unnamed.result
+    (sym c.is_empty.ensures ∙ c.if-is_empty.true) c.report_unnamed.ensures.text
 
 -- captures by their names
 pub returns-else-is_empty-clause-text : goal.returns-else-is_empty-clause-text

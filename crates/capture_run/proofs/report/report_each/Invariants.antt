@@ -8,5 +8,6 @@ abbrev pub invariant-loop-place : goal.invariant-loop-place
 invariant-loop-place g l =
     (l.reports.parts ≡ l.initial.reports.parts)
     × AppendsOne (g.W.Write.contents l.initial.output) (g.W.Write.contents l.output)
-    (ReportsEach (Gives (g.O.Open.misses l.opener) (g.O.Open.opens l.opener) g.O.Input.Read.remaining) l.parts (heading_of l.parts (length l.names)) 0
+    (ReportsEach (Gives (g.O.Open.misses l.opener) (g.O.Open.opens l.opener) g.O.Input.Read.remaining) l.initial.reports.parts
+    (heading_of l.initial.reports.parts (length l.names)) 0
     (map (λ name. name.now) (take l.place l.names)) (progress_of l.initial.reports) (progress_of l.reports))

@@ -1,0 +1,44 @@
+-- For a requested number of packets.
+use Rattle.std.proofs.Common.{◌≡◌, ◌≤◌, ◌+◌, ℕ, [], ◌∷◌, false, Err, None, Ok, Option, Result, Some, arith, refl}
+use Rattle.capture_run.proofs.ReportLemmas.{counts_at_most}
+use Rattle.capture_run.specs.Limits.{EndsByLimit, EndsWithoutLimit, IsWithin, is_full}
+use Rattle.capture_run.specs.Report.{CountsCaptured}
+use Rattle.capture_run.specs.Runs.{EndsAtHeader}
+use Rattle.capture_file.specs.CapturePackets.{FilePacket}
+use Rattle.capture_summary.specs.SummaryTables.{SummaryTables}
+use Rattle.capture_summary.specs.declared.choice.Choice.{Choice}
+use Rattle.capture_run.specs.declared.capture_error.CaptureError.{CaptureError}
+use Rattle.capture_run.specs.declared.capture_error.CaptureError.TheVariants.{Enough, Header, Read, ReadHeader, RecordCutOff, Refused, TooManyPackets}
+
+-- one more packet, before the limit is reached
+within_more : (limit : Option ℕ) (counted now : ℕ) → is_full limit counted ≡ false → now ≤ counted + 1 → IsWithin limit now
+within_more None counted now more most = tt
+within_more (Some limit) counted now more most = grind (arith, more, most)
+
+-- the same after a packet was counted
+pub within_step : (limit : Option ℕ) (choice : Choice) (packet : FilePacket) (before after : SummaryTables) → is_full limit before.packets ≡ false
+    → CountsCaptured choice packet before after → IsWithin limit after.packets
+within_step limit choice packet before after more counts =
+    within_more limit before.packets after.packets more (counts_at_most choice before (packet ∷ []) after (after, counts, refl))
+
+-- a capture that ended for another reason, before the limit
+pub not_by_limit : (limit : Option ℕ) (counted : ℕ) (ended : Result (Unit {0}) CaptureError) → is_full limit counted ≡ false
+    → EndsWithoutLimit ended → EndsByLimit limit counted ended
+not_by_limit limit counted (Ok done) more without = more
+not_by_limit limit counted (Err Enough) more without = absurd without
+not_by_limit limit counted (Err (RecordCutOff number offset required len)) more without = more
+not_by_limit limit counted (Err (Refused error)) more without = more
+not_by_limit limit counted (Err (Read number offset error)) more without = more
+not_by_limit limit counted (Err TooManyPackets) more without = tt
+not_by_limit limit counted (Err (Header error)) more without = tt
+not_by_limit limit counted (Err (ReadHeader error)) more without = tt
+
+-- at the beginning of a capture nothing is stated
+pub limit_at_header : (limit : Option ℕ) (counted : ℕ) (error : CaptureError) → EndsAtHeader (Err error) → EndsByLimit limit counted (Err error)
+limit_at_header limit counted (Header error) at = tt
+limit_at_header limit counted (ReadHeader error) at = tt
+limit_at_header limit counted (RecordCutOff number offset required len) at = absurd at
+limit_at_header limit counted (Refused error) at = absurd at
+limit_at_header limit counted (Read number offset error) at = absurd at
+limit_at_header limit counted TooManyPackets at = absurd at
+limit_at_header limit counted Enough at = absurd at

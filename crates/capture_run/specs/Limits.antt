@@ -1,0 +1,31 @@
+-- A requested number of packets, after which a report ends.
+use Rattle.std.specs.Prelude.{◌≡◌, ◌≤◌, ℕ, Bool, true, false, nat_lt, not, Option, Some, None, Result, Ok, Err}
+use Rattle.capture_run.specs.declared.capture_error.CaptureError.{CaptureError}
+use Rattle.capture_run.specs.declared.capture_error.CaptureError.TheVariants.{Enough, Header, Read, ReadHeader, RecordCutOff, Refused, TooManyPackets}
+
+-- as many packets were counted as are requested
+abbrev pub is_full : Option ℕ → ℕ → Bool
+is_full None counted = false
+is_full (Some limit) counted = not (nat_lt counted limit)
+
+-- no more packets were counted than are requested
+abbrev pub IsWithin : Option ℕ → ℕ → Type 0
+IsWithin None counted = Unit {0}
+IsWithin (Some limit) counted = counted ≤ limit
+
+-- The report of a capture ended early exactly if as many packets were counted as are requested. Nothing is stated of a capture whose beginning
+-- is not accepted, or with which no more packets can be counted.
+abbrev pub EndsByLimit : Option ℕ → ℕ → Result (Unit {0}) CaptureError → Type 0
+EndsByLimit limit counted (Ok done) = is_full limit counted ≡ false
+EndsByLimit limit counted (Err Enough) = is_full limit counted ≡ true
+EndsByLimit limit counted (Err (RecordCutOff number offset required len)) = is_full limit counted ≡ false
+EndsByLimit limit counted (Err (Refused error)) = is_full limit counted ≡ false
+EndsByLimit limit counted (Err (Read number offset error)) = is_full limit counted ≡ false
+EndsByLimit limit counted (Err TooManyPackets) = Unit {0}
+EndsByLimit limit counted (Err (Header error)) = Unit {0}
+EndsByLimit limit counted (Err (ReadHeader error)) = Unit {0}
+
+-- the report of a capture did not end for a requested number of packets
+abbrev pub EndsWithoutLimit : Result (Unit {0}) CaptureError → Type 0
+EndsWithoutLimit (Err Enough) = ⊥
+EndsWithoutLimit other = Unit {0}
