@@ -181,8 +181,8 @@ static RUNS: [RunRow; 12] = [
      "capture_report: missing: entity not found\ncapture_report: link: The link type 147 is not read.\n"),
 ];
 
-const ESCAPED_OBJECTS: &str = r#"{"file":"a\nb","type":"file"}
-{"file":"a\\xFC","type":"file"}
+const ESCAPED_OBJECTS: &str = r#"{"type":"file","file":"a\nb"}
+{"type":"file","file":"a\\xFC"}
 "#;
 
 const OF_TWO: &str = "\
@@ -309,7 +309,7 @@ static SUMMARIES: [SummaryRow; 5] = [
     (&["right", "wrong"], Asked::CheckedAll, 4, [OF_TWO, "\n", "packets 2, bytes 58, bytes a packet 29\nconversations 2\n"]),
     (&["right", "cut", "zero"], Asked::OnlySummary, 1, ["", "", "packets 2, bytes 58, bytes a packet 29\nconversations 1\n"]),
     (&["right", "a \"name\"", "wrong"], Asked::AllObjects, 3,
-     [OBJECTS, r#"{"busiest_conversations":[{"bytes":29,"destination":"192.0.2.2","destination_port":9,"#, r#""forward":{"bytes":29,"packets":1},"#]),
+     [OBJECTS, r#"{"type":"summary","packets":2,"bytes":58,"#, r#""conversations":2,"#]),
 ];
 
 /// Stops the test unless the run of a row begins as the row says.
