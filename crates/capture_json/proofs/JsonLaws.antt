@@ -7,9 +7,9 @@ use Rattle.etherparse_transport.specs.declared.transport_slice.TransportSlice.{T
 use Rattle.etherparse_transport.specs.declared.transport_slice.TransportSlice.TheVariants as slices
 use Rattle.capture_packet.specs.declared.content.Content.{Content}
 use Rattle.capture_packet.specs.declared.content.Content.TheVariants as contents
+use Rattle.capture_packet.specs.declared.packet.Packet.{Packet}
 use Rattle.capture_packet.specs.declared.transport.Transport.{Transport}
 use Rattle.capture_packet.specs.declared.transport.Transport.TheVariants as transports
-use Rattle.capture_packet.specs.declared.verdict.Verdict.{Verdict}
 use Rattle.capture_file.specs.declared.packet_time.PacketTime.{PacketTime}
 use Rattle.capture_text.proofs.LineLaws.{one_of, one_option_list}
 use Rattle.capture_text.specs.declared.times.Times.{Times}
@@ -43,8 +43,8 @@ one_content (contents.NotIp protocol) members others are also = are ∙ sym also
 one_content (contents.Ip addresses protocol proto transport payload_len) members others are also =
     one_of _ _ (one_transport transport) members others are also
 
--- packets with the same number, content, verdict and time have the same line
-pub one_json_line : (times : Times) (number : ℕ) (first time : Option PacketTime) (content : Content) (verdict : Verdict)
-    → HasOneJsonLine times number first time content verdict
-one_json_line times number first time content verdict line other is also =
-    one_of _ json_line (λ members others. one_of _ _ (one_content content) members others) line other is also
+-- equal packets with the same number and time have the same line
+pub one_json_line : (times : Times) (number : ℕ) (first time : Option PacketTime) (packet : Packet)
+    → HasOneJsonLine times number first time packet
+one_json_line times number first time packet line other is also =
+    one_of _ json_line (λ members others. one_of _ _ (one_content packet.content) members others) line other is also

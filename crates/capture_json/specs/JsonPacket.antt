@@ -1,5 +1,5 @@
 -- A packet as a JSON object (RFC 8259): the members of each part, with the words of its line of text.
-use Rattle.std.specs.Prelude.{◌≡◌, ℕ, ◌==◌, if◌then◌else◌, List, [], ◌∷◌, ◌++◌, length, slice_index, codes, Option, Some, None}
+use Rattle.std.specs.Prelude.{◌≡◌, ℕ, ◌==◌, if◌then◌else◌, List, [], ◌∷◌, ◌++◌, length, map, slice_index, codes, Option, Some, None}
 use Rattle.std.specs.List.{flat_map}
 use Rattle.std.specs.Net.Addr.{segments_of}
 use Rattle.std.specs.Net.Text.{ipv4_text, ipv6_text}
@@ -7,7 +7,7 @@ use Rattle.icmp_part.specs.Icmpv4Format as icmpv4
 use Rattle.icmp_part.specs.Icmpv6Format as icmpv6
 use Rattle.ip_part.specs.Addresses.{Addresses, Ipv4, Ipv6, by_value}
 use Rattle.ip_part.specs.declared.proto.Proto.{Proto}
-use Rattle.capture_json.specs.Members.{Member, object_of, texts_data, whole_number}
+use Rattle.capture_json.specs.Members.{Member, array_of, object_of, texts_data, whole_number}
 use Rattle.net_base.specs.Bytes.{be_number}
 use Rattle.serde_json.specs.Data.{Data, null, string}
 use Rattle.serde_json.specs.Written.{compact_text}
@@ -26,7 +26,9 @@ use Rattle.capture_packet.specs.declared.transport.Transport.TheVariants as tran
 use Rattle.capture_packet.specs.Payloads.{payload_in}
 use Rattle.capture_packet.specs.Quotes.{Quoted, quoted_in}
 use Rattle.capture_packet.specs.Verdicts.{refusal_if_untested}
+use Rattle.capture_packet.specs.declared.packet.Packet.{Packet}
 use Rattle.capture_packet.specs.declared.refusal.Refusal.{Refusal}
+use Rattle.capture_packet.specs.declared.tunnel.Tunnel.{Tunnel}
 use Rattle.capture_packet.specs.declared.verdict.Verdict.{Verdict}
 use Rattle.capture_packet.specs.declared.verdict.Verdict.TheVariants as verdicts
 use Rattle.capture_file.specs.declared.packet_time.PacketTime.{PacketTime}
@@ -186,6 +188,17 @@ abbrev pub quoted_members : Option Quoted → List Member
 quoted_members None = []
 quoted_members (Some quoted) = (codes "quoted", object_of (quoted_fields quoted)) ∷ []
 
+-- ---- tunnels
+
+-- the outer packet of a tunnel: its addresses, and its protocol
+abbrev pub tunnel_data : Tunnel → Data
+tunnel_data tunnel = object_of (address_members (by_value tunnel.addresses) ++ ip_protocol_members tunnel.protocol.0 None)
+
+-- the tunnels around a packet, from the outermost to the innermost, if there are any
+abbrev pub tunnel_members : List Tunnel → List Member
+tunnel_members [] = []
+tunnel_members (tunnel ∷ tunnels) = (codes "tunnels", array_of (map tunnel_data (tunnel ∷ tunnels))) ∷ []
+
 -- ---- the content of a packet
 
 -- the numbers of the protocol of a frame without an IP packet, under the names of their kinds
@@ -264,12 +277,12 @@ verdict_members (verdicts.Refused refusal) = refused_member refusal ∷ []
 abbrev pub type_member : List ℕ → Member
 type_member kind = (codes "type", string kind)
 
--- these members are a packet: its type, its number, its time, its content, and its verdict
-abbrev pub ArePacketMembers : Times → ℕ → Option PacketTime → Option PacketTime → Content → Verdict → List Member → Type 0
-ArePacketMembers times number first time content verdict members =
-    (what : List Member) × AreContentMembers content what
+-- these members are a packet: its type, its number, its time, its tunnels, its content, and its verdict
+abbrev pub ArePacketMembers : Times → ℕ → Option PacketTime → Option PacketTime → Packet → List Member → Type 0
+ArePacketMembers times number first time packet members =
+    (what : List Member) × AreContentMembers packet.content what
     × (members ≡ type_member (codes "packet") ∷ (codes "number", whole_number number) ∷ (codes "time", time_data times first time)
-    ∷ (what ++ verdict_members verdict))
+    ∷ (tunnel_members packet.tunnels.items ++ (what ++ verdict_members packet.verdict)))
 
 -- an object in a line
 abbrev pub json_line : List Member → List ℕ
@@ -280,11 +293,11 @@ abbrev pub file_members : List ℕ → List Member
 file_members name = type_member (codes "file") ∷ (codes "file", string name) ∷ []
 
 -- this is the line of a packet
-abbrev pub IsJsonLine : Times → ℕ → Option PacketTime → Option PacketTime → Content → Verdict → List ℕ → Type 0
-IsJsonLine times number first time content verdict line =
-    (members : List Member) × ArePacketMembers times number first time content verdict members × (line ≡ json_line members)
+abbrev pub IsJsonLine : Times → ℕ → Option PacketTime → Option PacketTime → Packet → List ℕ → Type 0
+IsJsonLine times number first time packet line =
+    (members : List Member) × ArePacketMembers times number first time packet members × (line ≡ json_line members)
 
--- packets with the same number, content, verdict and time have the same line
-abbrev pub HasOneJsonLine : Times → ℕ → Option PacketTime → Option PacketTime → Content → Verdict → Type 0
-HasOneJsonLine times number first time content verdict = (line other : List ℕ)
-    → IsJsonLine times number first time content verdict line → IsJsonLine times number first time content verdict other → line ≡ other
+-- equal packets with the same number and time have the same line
+abbrev pub HasOneJsonLine : Times → ℕ → Option PacketTime → Option PacketTime → Packet → Type 0
+HasOneJsonLine times number first time packet =
+    (line other : List ℕ) → IsJsonLine times number first time packet line → IsJsonLine times number first time packet other → line ≡ other

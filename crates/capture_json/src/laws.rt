@@ -1,14 +1,13 @@
 //! Laws of the JSON format. Each law is the contract of a function, so that it is checked together with the calls.
 
 ghost use Rattle.std.specs.Prelude.{ℕ, Option};
-ghost use Rattle.capture_packet.specs.declared.content.Content.{Content};
-ghost use Rattle.capture_packet.specs.declared.verdict.Verdict.{Verdict};
+ghost use Rattle.capture_packet.specs.declared.packet.Packet.{Packet};
 ghost use Rattle.capture_file.specs.declared.packet_time.PacketTime.{PacketTime};
 ghost use Rattle.capture_json.specs.JsonPacket.{HasOneJsonLine};
 ghost use Rattle.capture_text.specs.declared.times.Times.{Times};
 
-/// Packets with the same number, content, verdict and time have the same line of JSON.
+/// Equal packets with the same number and time have the same line of JSON.
 pub fn one_json_line()
-    ensures { (times : Times) (number : ℕ) (first time : Option PacketTime) (content : Content) (verdict : Verdict)
-        → HasOneJsonLine times number first time content verdict }
+    ensures { (times : Times) (number : ℕ) (first time : Option PacketTime) (packet : Packet)
+        → HasOneJsonLine times number first time packet }
 {}

@@ -22,6 +22,7 @@ mod summary;
 mod tcp;
 mod text;
 mod totals;
+mod tunnels;
 mod verdict;
 mod write_error;
 

@@ -13,6 +13,7 @@ use crate::protocol::put_ip_protocol;
 use crate::quoted::put_quoted;
 use crate::tcp::put_tcp;
 use crate::text::{put_written, write_line};
+use crate::tunnels::put_tunnels;
 use crate::verdict::put_verdict;
 use crate::{Line, WriteError};
 use capture_file::PacketTime;
@@ -26,7 +27,8 @@ use std::io::Write;
 /// The bytes that most texts in a line fit into.
 const TEXT_ROOM: usize = 64;
 
-/// Writes a packet as a JSON object of the type `packet` in a line: its number, its time, its addresses, its content and its verdict.
+/// Writes a packet as a JSON object of the type `packet` in a line: its number, its time, its tunnels, its addresses, its content and its
+/// verdict.
 ///
 /// # Errors
 ///
@@ -41,7 +43,7 @@ pub fn write_packet<W: Write>(
     packet: &Packet,
 ) -> Result<(), WriteError>
     ensures { OnOk result (AppendsOne (W.contents output.old) (W.contents output.new)
-        (IsJsonLine times number first time packet.now.content packet.now.verdict)) }
+        (IsJsonLine times number first time packet.now)) }
 {
     let mut line = Line::new(alloc)?;
     line.begin_item()?;
@@ -62,11 +64,12 @@ fn put_packet(
     time: Option<PacketTime>,
     packet: &Packet,
 ) -> io::Result<()>
-    ensures { OnOk result (PutsOne (ArePacketMembers times number first time packet.now.content packet.now.verdict) (tokens_in line.old) (tokens_in line.new)) }
+    ensures { OnOk result (PutsOne (ArePacketMembers times number first time packet.now) (tokens_in line.old) (tokens_in line.new)) }
 {
     line.put_text("type", "packet")?;
     line.put_number("number", number)?;
     put_time(line, room, times, first, time)?;
+    put_tunnels(line, room, packet.tunnels.as_slice())?;
     put_content(line, room, &packet.content)?;
     put_verdict(line, room, &packet.verdict)
 }

@@ -15,7 +15,7 @@ use Rattle.capture_text.specs.declared.times.Times.{Times}
 -- the line of a packet in a format
 abbrev pub IsLineIn : Format → Times → ℕ → Option PacketTime → CaptureInfo → Packet → List ℕ → Type 0
 IsLineIn formats.Text times number first info packet line = IsLine times number first info.time info.len packet line
-IsLineIn formats.Json times number first info packet line = IsJsonLine times number first info.time packet.content packet.verdict line
+IsLineIn formats.Json times number first info packet line = IsJsonLine times number first info.time packet line
 
 -- the text of a chosen packet: its line in the requested format, if it has a line
 abbrev pub IsTextOfChosen : Parts → ℕ → Option PacketTime → CaptureInfo → Packet → List ℕ → Type 0

@@ -4,7 +4,7 @@ use crate::text::flow_of_ipv4;
 use capture_file::pcapng::TimeResolution;
 use capture_file::{LinkType, PacketTime};
 use capture_json::{write_packet, write_summary};
-use capture_packet::{Content, NetworkProtocol, Packet, Refusal, Transport, Verdict};
+use capture_packet::{Content, NetworkProtocol, Packet, Refusal, Transport, Tunnel, Verdict};
 use capture_run::Times;
 use capture_summary::{CaptureInfo, FrameLen, Protocol, RefusalKind, Summary, VerdictKind};
 use etherparse_transport::ip::{IpAddresses, IpError};
@@ -57,15 +57,23 @@ const ERROR_WITHOUT_HEADER: [u8; 27] = [
     0x45, 0, 0, 60, 0, 0, 0, 0, 1, 17, 0, 0, 192, 0, 2, 1, 198, 51, 100,
 ];
 
-/// Stops the test unless the line of a packet without a time is this object.
+/// Stops the test unless the line of a packet in no tunnel and without a time is this object.
 fn expect_object(
     rt: &(impl Abort + AllocGlobal),
     content: Content,
     verdict: Verdict,
     wanted: &str,
 ) -> Result<(), Fail> {
+    expect_object_of(rt, &Packet::in_no_tunnel(content, verdict), wanted)
+}
+
+/// Stops the test unless the line of a packet without a time is this object.
+fn expect_object_of(
+    rt: &(impl Abort + AllocGlobal),
+    packet: &Packet,
+    wanted: &str,
+) -> Result<(), Fail> {
     let mut line = Vec::new(rt.alloc());
-    let packet = Packet::in_no_tunnel(content, verdict);
     write_packet(
         &mut line,
         rt.alloc(),
@@ -73,12 +81,32 @@ fn expect_object(
         1,
         None,
         None,
-        &packet,
+        packet,
     )
     .ok()
     .ok_or("no line")?;
     let wanted = format!(in rt.alloc(); "{wanted}\n")?;
     expect_text(rt, line, &wanted)
+}
+
+/// The object of a packet in two tunnels.
+#[rattlefmt::skip]
+const IN_TUNNELS: &str = r#"{"type":"packet","number":1,"time":null,"tunnels":[{"source":"192.0.2.1","destination":"192.0.2.2","protocol":47,"protocol_name":"GRE"},{"source":"2001:db8::1","destination":null,"protocol":4,"protocol_name":"IPv4"}],"source":"192.0.2.1","destination":"192.0.2.2","checksum":"not_looked_at","reason":"cut_off"}"#;
+
+#[test]
+fn tunnels(rt: HostRuntime) -> Result<(), Fail> {
+    let mut packet = Packet::in_no_tunnel(
+        Content::IpHeader(OVER_IPV4),
+        Verdict::untested(Untested::CutOff),
+    );
+    for (addresses, protocol) in [(OVER_IPV4, IpNumber(47)), (OVER_IPV6, IpNumber(4))] {
+        let tunnel = Tunnel {
+            addresses,
+            protocol,
+        };
+        packet.tunnels.try_push(tunnel).ok().ok_or("no room")?;
+    }
+    expect_object_of(&rt, &packet, IN_TUNNELS)
 }
 
 /// Packets whose transport is not read, and the object of each.
