@@ -1,6 +1,7 @@
 pub use Rattle.word_sum.specs.Checksum
 pub mod Bytes
 pub mod Detection
+pub mod ErrorTexts
 pub mod Hashes
 pub mod IpHeaders
 pub mod IpNumbers
@@ -9,3 +10,4 @@ pub mod PseudoHeader
 pub mod Refusals
 pub mod StoredChecksum
 pub mod TcpErrors
+pub mod TextParts

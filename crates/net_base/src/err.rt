@@ -1,5 +1,6 @@
 //! The errors of all calls, and the layers, length sources and kinds of values that they name.
 
+mod error_text;
 mod layer;
 mod len_error;
 mod len_source;
@@ -7,6 +8,7 @@ pub mod tcp;
 mod value_too_big_error;
 mod value_type;
 
+pub use error_text::{ErrorText, TextPart};
 pub use layer::Layer;
 pub use len_error::LenError;
 pub use len_source::LenSource;

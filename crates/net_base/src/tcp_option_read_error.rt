@@ -1,4 +1,10 @@
-use thiserror::Error;
+ghost use Rattle.std.specs.Prelude.{◌≡◌, Some};
+ghost use Rattle.net_base.specs.ErrorTexts.{option_text};
+
+use crate::err::ErrorText;
+use crate::err::TextPart::{Number, Words};
+use std::error::Error;
+use std::fmt;
 
 /// Why the option at the front of some bytes can't be read.
 ///
@@ -10,10 +16,9 @@ use thiserror::Error;
 /// let error = TcpOptionReadError::UnexpectedSize { option_id: 2, size: 3 };
 /// assert_eq!(rt; options.next(), Some(Err(error)));
 /// ```
-#[derive(Clone, Debug, PartialEq, Eq, Drop, Error)]
+#[derive(Clone, Debug, PartialEq, Eq, Drop)]
 pub enum TcpOptionReadError {
     /// Fewer bytes are left than the option needs (RFC 9293, section 3.1).
-    #[error("TcpOptionReadError: Not enough memory left in slice to read option of kind {option_id} (expected at least {expected_len} bytes, only {actual_len} bytes available).")]
     UnexpectedEndOfSlice {
         /// The kind of the option.
         option_id: u8,
@@ -24,7 +29,6 @@ pub enum TcpOptionReadError {
         actual_len: usize,
     },
     /// An option of this kind cannot have this length byte (RFC 9293, section 3.1).
-    #[error("TcpOptionReadError: Length value of the option of kind {option_id} had unexpected value {size}.")]
     UnexpectedSize {
         /// The kind of the option.
         option_id: u8,
@@ -33,6 +37,52 @@ pub enum TcpOptionReadError {
     },
     /// An unknown kind. The reading ends here, but a host must skip such an option by its length byte (RFC 1122,
     /// section 4.2.2.5).
-    #[error("TcpOptionReadError: Unknown tcp option kind value {0}.")]
     UnknownId(u8),
 }
+
+impl TcpOptionReadError {
+    /// The text that `Display` writes.
+    pub fn text(&self) -> ErrorText
+        ensures { result ≡ option_text self.now }
+    {
+        match self {
+            TcpOptionReadError::UnexpectedEndOfSlice {
+                option_id,
+                expected_len,
+                actual_len,
+            } => ErrorText::from_parts(&[
+                Words(
+                    "TcpOptionReadError: Not enough memory left in slice to read option of kind ",
+                ),
+                Number(usize::from(*option_id)),
+                Words(" (expected at least "),
+                Number(usize::from(*expected_len)),
+                Words(" bytes, only "),
+                Number(*actual_len),
+                Words(" bytes available)."),
+            ]),
+            TcpOptionReadError::UnexpectedSize { option_id, size } => ErrorText::from_parts(&[
+                Words("TcpOptionReadError: Length value of the option of kind "),
+                Number(usize::from(*option_id)),
+                Words(" had unexpected value "),
+                Number(usize::from(*size)),
+                Words("."),
+            ]),
+            TcpOptionReadError::UnknownId(option_id) => ErrorText::from_parts(&[
+                Words("TcpOptionReadError: Unknown tcp option kind value "),
+                Number(usize::from(*option_id)),
+                Words("."),
+            ]),
+        }
+    }
+}
+
+impl fmt::Display for TcpOptionReadError {
+    ghost output = { λ error. Some (option_text error) };
+
+    fn fmt<W: fmt::Write>(&self, f: &mut fmt::Formatter<W>) -> fmt::Result {
+        fmt::Display::fmt(&self.text(), f)
+    }
+}
+
+impl Error for TcpOptionReadError {}

@@ -1,4 +1,10 @@
-use thiserror::Error;
+ghost use Rattle.std.specs.Prelude.{◌≡◌, Some};
+ghost use Rattle.net_base.specs.ErrorTexts.{options_text};
+
+use crate::err::ErrorText;
+use crate::err::TextPart::{Number, Words};
+use std::error::Error;
+use std::fmt;
 
 /// Why options can't be stored in a TCP header.
 ///
@@ -8,10 +14,37 @@ use thiserror::Error;
 /// let mut header = TcpHeader::new(50_000, 80, 1, 65_535);
 /// assert_eq!(rt; header.set_options_raw(&[1; 41]), Err(TcpOptionWriteError::NotEnoughSpace(41)));
 /// ```
-#[derive(Clone, Debug, PartialEq, Eq, Drop, Error)]
+#[derive(Clone, Debug, PartialEq, Eq, Drop)]
 pub enum TcpOptionWriteError {
     /// The length of the options in bytes, or a lower bound if it is `usize::MAX`. A header has room for 40 bytes,
     /// since its data offset is at most 15 (RFC 9293, section 3.1).
-    #[error("TcpOptionWriteError: Not enough memory to store all options in the options section of a tcp header (maximum 40 bytes can be stored, the options would have needed {0} bytes).")]
     NotEnoughSpace(usize),
 }
+
+impl TcpOptionWriteError {
+    /// The text that `Display` writes.
+    pub fn text(&self) -> ErrorText
+        ensures { result ≡ options_text self.now }
+    {
+        match self {
+            TcpOptionWriteError::NotEnoughSpace(len) => ErrorText::from_parts(&[
+                Words(
+                    "TcpOptionWriteError: Not enough memory to store all options in the options section of a tcp header ",
+                ),
+                Words("(maximum 40 bytes can be stored, the options would have needed "),
+                Number(*len),
+                Words(" bytes)."),
+            ]),
+        }
+    }
+}
+
+impl fmt::Display for TcpOptionWriteError {
+    ghost output = { λ error. Some (options_text error) };
+
+    fn fmt<W: fmt::Write>(&self, f: &mut fmt::Formatter<W>) -> fmt::Result {
+        fmt::Display::fmt(&self.text(), f)
+    }
+}
+
+impl Error for TcpOptionWriteError {}

@@ -67,6 +67,10 @@ pub mod default {
     }
 }
 
+pub mod error {
+    pub trait Error {}
+}
+
 pub mod fmt {
     pub use core::fmt::Result;
 

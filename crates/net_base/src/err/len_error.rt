@@ -1,6 +1,10 @@
-use crate::err::{Layer, LenSource};
-use std::fmt::Debug;
-use thiserror::Error;
+ghost use Rattle.std.specs.Prelude.{◌≡◌, ◌+◌, ◌<◌, ◌^◌, Some};
+ghost use Rattle.net_base.specs.ErrorTexts.{len_text};
+
+use crate::err::TextPart::{Number, Words};
+use crate::err::{ErrorText, Layer, LenSource};
+use std::error::Error;
+use std::fmt;
 
 /// A slice, or a length that a packet states, is too short or too long for a layer.
 ///
@@ -12,8 +16,7 @@ use thiserror::Error;
 /// let error = LenError { required_len: 8, len: 7, len_source, layer, layer_start_offset: 0 };
 /// assert_eq!(rt; UdpHeader::from_slice(&[0; 7]), Err(error));
 /// ```
-#[derive(Clone, Debug, PartialEq, Eq, Hash, Drop, Error)]
-#[error("Length Error: layer {layer:?} at offset {layer_start_offset} requires length {required_len}, the length is {len} (from {len_source:?}).")]
+#[derive(Clone, Debug, PartialEq, Eq, Hash, Drop)]
 pub struct LenError {
     /// The length that would have been accepted, in bytes: the smallest, or the largest if there were too many bytes.
     pub required_len: usize,
@@ -28,8 +31,6 @@ pub struct LenError {
 }
 
 impl LenError {
-    ghost use Rattle.std.specs.Prelude.{◌≡◌, ◌+◌, ◌<◌, ◌^◌};
-
     /// The same error with its layer counted from a start `offset` bytes earlier. A caller that decodes a part of a
     /// packet adds the start of that part. The sum of the offsets must fit `usize`.
     pub fn add_offset(self, offset: usize) -> LenError
@@ -41,4 +42,33 @@ impl LenError {
             ..self
         }
     }
+
+    /// The text that `Display` writes.
+    pub fn text(&self) -> ErrorText
+        ensures { result ≡ len_text self.now }
+    {
+        ErrorText::from_parts(&[
+            Words("Length Error: layer "),
+            Words(self.layer.word()),
+            Words(" at offset "),
+            Number(self.layer_start_offset),
+            Words(" requires length "),
+            Number(self.required_len),
+            Words(", the length is "),
+            Number(self.len),
+            Words(" (from "),
+            Words(self.len_source.word()),
+            Words(")."),
+        ])
+    }
 }
+
+impl fmt::Display for LenError {
+    ghost output = { λ error. Some (len_text error) };
+
+    fn fmt<W: fmt::Write>(&self, f: &mut fmt::Formatter<W>) -> fmt::Result {
+        fmt::Display::fmt(&self.text(), f)
+    }
+}
+
+impl Error for LenError {}

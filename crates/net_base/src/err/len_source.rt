@@ -16,3 +16,18 @@ pub enum LenSource {
     /// The length field of a UDP header (RFC 768).
     UdpHeaderLen,
 }
+
+impl LenSource {
+    ghost use Rattle.std.specs.Prelude.{◌≡◌};
+    ghost use Rattle.net_base.specs.ErrorTexts.{len_source_word};
+
+    /// The variant's name, for example `UdpHeaderLen`.
+    pub fn word(&self) -> &'static str
+        ensures { result.now ≡ len_source_word self.now }
+    {
+        match self {
+            LenSource::Slice => "Slice",
+            LenSource::UdpHeaderLen => "UdpHeaderLen",
+        }
+    }
+}

@@ -21,3 +21,21 @@ pub enum ValueType {
     /// The length of an ICMPv6 payload, in bytes (RFC 4443, section 2.3).
     Icmpv6PayloadLength,
 }
+
+impl ValueType {
+    ghost use Rattle.std.specs.Prelude.{◌≡◌};
+    ghost use Rattle.net_base.specs.ErrorTexts.{value_type_word};
+
+    /// The variant's name, for example `UdpPayloadLengthIpv4`.
+    pub fn word(&self) -> &'static str
+        ensures { result.now ≡ value_type_word self.now }
+    {
+        match self {
+            ValueType::UdpPayloadLengthIpv4 => "UdpPayloadLengthIpv4",
+            ValueType::UdpPayloadLengthIpv6 => "UdpPayloadLengthIpv6",
+            ValueType::TcpPayloadLengthIpv4 => "TcpPayloadLengthIpv4",
+            ValueType::TcpPayloadLengthIpv6 => "TcpPayloadLengthIpv6",
+            ValueType::Icmpv6PayloadLength => "Icmpv6PayloadLength",
+        }
+    }
+}

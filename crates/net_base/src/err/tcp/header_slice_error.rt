@@ -1,6 +1,11 @@
-use crate::err::LenError;
+ghost use Rattle.std.specs.Prelude.{◌≡◌, Some};
+ghost use Rattle.net_base.specs.ErrorTexts.{header_slice_text};
+ghost use Rattle.net_base.specs.TcpErrors.{OffsetFits, with_slice_offset};
+
 use crate::err::tcp::HeaderError;
-use thiserror::Error;
+use crate::err::{ErrorText, LenError};
+use std::error::Error;
+use std::fmt;
 
 /// Why a TCP header could not be read (RFC 9293, section 3.1). `canonical_header` uses it for all four protocols.
 ///
@@ -12,20 +17,15 @@ use thiserror::Error;
 /// assert!(rt; matches!(TcpSlice::from_slice(&[0; 19]), Err(HeaderSliceError::Len(_))));
 /// assert!(rt; matches!(TcpSlice::from_slice(&[0; 20]), Err(HeaderSliceError::Content(_))));
 /// ```
-#[derive(Clone, Debug, PartialEq, Eq, Hash, Drop, Error)]
+#[derive(Clone, Debug, PartialEq, Eq, Hash, Drop)]
 pub enum HeaderSliceError {
     /// The slice is too short for a header, or no packet of its protocol has this length.
-    #[error(transparent)]
     Len(LenError),
     /// A header field contains a value that is never valid.
-    #[error(transparent)]
     Content(HeaderError),
 }
 
 impl HeaderSliceError {
-    ghost use Rattle.std.specs.Prelude.{◌≡◌};
-    ghost use Rattle.net_base.specs.TcpErrors.{OffsetFits, with_slice_offset};
-
     /// The same error with its layer counted from a start `offset` bytes earlier. A caller that reads a part of a
     /// packet adds the start of that part. A `Len` changes as by `LenError::add_offset`, and the caller must prove
     /// that the sum of the offsets fits `usize`. A `Content` stays the same for any offset.
@@ -38,4 +38,24 @@ impl HeaderSliceError {
             HeaderSliceError::Content(error) => HeaderSliceError::Content(error),
         }
     }
+
+    /// The text that `Display` writes.
+    pub fn text(&self) -> ErrorText
+        ensures { result ≡ header_slice_text self.now }
+    {
+        match self {
+            HeaderSliceError::Len(error) => error.text(),
+            HeaderSliceError::Content(error) => error.text(),
+        }
+    }
 }
+
+impl fmt::Display for HeaderSliceError {
+    ghost output = { λ error. Some (header_slice_text error) };
+
+    fn fmt<W: fmt::Write>(&self, f: &mut fmt::Formatter<W>) -> fmt::Result {
+        fmt::Display::fmt(&self.text(), f)
+    }
+}
+
+impl Error for HeaderSliceError {}

@@ -1,0 +1,111 @@
+use arrayvec::ArrayVec;
+use std::fmt;
+use std::marker::Model;
+
+/// The largest number of parts of a text.
+const MAX_TEXT_PARTS: usize = 11;
+
+/// A part of the text of an error.
+///
+/// ```
+/// use etherparse_transport::err::TextPart;
+/// use etherparse_transport::ip::IpError;
+///
+/// let text = IpError::Version { version: 5 }.text();
+/// assert!(rt; matches!(text.parts()[1], TextPart::Number(5)));
+/// ```
+#[derive(Clone, Copy, Debug)]
+pub enum TextPart {
+    /// Words, with the spaces around them.
+    Words(&'static str),
+    /// A number, which is written in decimal.
+    Number(usize),
+}
+
+impl Default for TextPart {
+    fn default() -> TextPart {
+        TextPart::Words("")
+    }
+}
+
+impl fmt::Display for TextPart {
+    ghost use Rattle.std.specs.Prelude.{Some};
+    ghost use Rattle.net_base.specs.TextParts.{part_text};
+
+    ghost output = { λ part. Some (part_text part) };
+
+    fn fmt<W: fmt::Write>(&self, f: &mut fmt::Formatter<W>) -> fmt::Result {
+        match self {
+            TextPart::Words(words) => f.write_str(words),
+            TextPart::Number(number) => write!(f, "{number}"),
+        }
+    }
+}
+
+/// The text of an error as its parts, from the first to the last. `Display` of each error writes these parts. A caller
+/// without a formatter can write them by itself.
+///
+/// ```
+/// use etherparse_transport::ip::IpError;
+///
+/// let error = IpError::Version { version: 5 };
+/// let written = format!(in rt.alloc(); "{}", error.text())?;
+/// assert_eq!(rt; written.as_str(), "IP Error: the version is 5.");
+/// ```
+#[derive(Debug, Drop)]
+pub struct ErrorText {
+    parts: ArrayVec<TextPart, MAX_TEXT_PARTS>,
+}
+
+impl Model for ErrorText {
+    ghost use Rattle.std.specs.Prelude.{ℕ, List};
+    ghost use Rattle.std.specs.List.{flat_map};
+    ghost use Rattle.net_base.specs.TextParts.{part_text};
+
+    ghost Value = { List ℕ };
+
+    ghost view = { λ text. flat_map part_text text.parts.items };
+}
+
+impl ErrorText {
+    ghost use Rattle.std.specs.Prelude.{◌≡◌, ◌≤◌, length};
+    ghost use Rattle.std.specs.List.{flat_map};
+    ghost use Rattle.net_base.specs.TextParts.{max_text_parts, part_text};
+
+    /// The text that consists of these parts, at most 11.
+    pub fn from_parts(parts: &[TextPart]) -> ErrorText
+        requires { length parts.now ≤ max_text_parts }
+        ensures { result ≡ flat_map part_text parts.now }
+    {
+        let mut all = ArrayVec::new();
+        all.try_extend_from_slice(parts).unwrap();
+        ErrorText { parts: all }
+    }
+
+    /// The text that consists of these words.
+    pub fn from_words(words: &'static str) -> ErrorText
+        ensures { result ≡ words.now }
+    {
+        ErrorText::from_parts(&[TextPart::Words(words)])
+    }
+
+    /// The parts of the text.
+    pub fn parts(&self) -> &[TextPart]
+        ensures { flat_map part_text result.now ≡ self.now }
+    {
+        self.parts.as_slice()
+    }
+}
+
+impl fmt::Display for ErrorText {
+    ghost use Rattle.std.specs.Prelude.{Some};
+
+    ghost output = { λ text. Some text };
+
+    fn fmt<W: fmt::Write>(&self, f: &mut fmt::Formatter<W>) -> fmt::Result {
+        for part in self.parts.as_slice() {
+            write!(f, "{part}")?;
+        }
+        Ok(())
+    }
+}
