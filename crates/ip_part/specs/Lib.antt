@@ -1,4 +1,5 @@
 pub mod Addresses
+pub mod ErrorTexts
 pub mod ExtensionHeaders
 pub mod Headers
 pub mod Ip

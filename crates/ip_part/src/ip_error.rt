@@ -1,5 +1,11 @@
+ghost use Rattle.std.specs.Prelude.{◌≡◌, Some};
+ghost use Rattle.ip_part.specs.ErrorTexts.{ip_text};
+
 use net_base::IpNumber;
-use thiserror::Error;
+use net_base::err::ErrorText;
+use net_base::err::TextPart::{Number, Words};
+use std::error::Error;
+use std::fmt;
 
 /// Why the transport in an IP packet was not found.
 ///
@@ -12,11 +18,10 @@ use thiserror::Error;
 /// let error = IpError::PacketCutOff { required_len: 31, len: 20 };
 /// assert_eq!(rt; transport_in_ip(&packet), Err(error));
 /// ```
-#[derive(Clone, Copy, Debug, PartialEq, Eq, Error)]
+#[derive(Clone, Copy, Debug, PartialEq, Eq)]
 pub enum IpError {
     /// The slice is empty, or ends within the IP header. Or it ends within the hop-by-hop options that must contain
     /// the packet length (RFC 2675, section 3), so that the number of counted bytes is unknown.
-    #[error("IP Error: the header has at least {required_len} bytes, and the slice contains {len}.")]
     HeaderCutOff {
         /// The number of bytes needed, as far as it is known: 1 for an empty slice, 20 or the stated header length
         /// for IPv4, 40 for IPv6, and 48 or the end of the hop-by-hop options if they must contain the length.
@@ -25,19 +30,16 @@ pub enum IpError {
         len: usize,
     },
     /// The version is neither 4 nor 6 (the high four bits of byte 0).
-    #[error("IP Error: the version is {version}.")]
     Version {
         /// The version.
         version: u8,
     },
     /// An IPv4 header states a length below the minimum of 20 bytes (the low four bits of byte 0, in words of four bytes).
-    #[error("IP Error: the stated header length is {header_len}.")]
     HeaderLength {
         /// The stated header length, in bytes.
         header_len: usize,
     },
     /// The total length of an IPv4 packet is below its header length (RFC 791, section 3.1). `transport_in_ip_lax` does not reject 0.
-    #[error("IP Error: the total length {total_len} is below the header length {header_len}.")]
     TotalLength {
         /// The total length, in bytes.
         total_len: usize,
@@ -46,16 +48,13 @@ pub enum IpError {
     },
     /// The payload length of an IPv6 packet is 0, and the hop-by-hop options directly after its header contain no
     /// jumbo payload option (RFC 2675, section 3). `transport_in_ip_lax` does not reject it.
-    #[error("IP Error: the payload length is 0, and the hop-by-hop options have no jumbo payload option.")]
     JumboPayloadMissing,
     /// A jumbo payload length that is not above 65,535 (RFC 2675, section 3).
-    #[error("IP Error: the jumbo payload length is {jumbo_payload_len}, which is not above 65535.")]
     JumboPayloadLength {
         /// The jumbo payload length, in bytes.
         jumbo_payload_len: usize,
     },
     /// The header counts more bytes than the slice contains.
-    #[error("IP Error: the header counts {required_len} bytes, and the slice contains {len}.")]
     PacketCutOff {
         /// The number of bytes that the header counts, header included.
         required_len: usize,
@@ -63,7 +62,6 @@ pub enum IpError {
         len: usize,
     },
     /// The packet ends within an extension header of IPv6, or within the authentication header of IPv4.
-    #[error("IP Error: the extension header {protocol:?} at offset {offset} has at least {required_len} bytes, and {len} are left.")]
     ExtensionHeaderCutOff {
         /// The number of the extension header.
         protocol: IpNumber,
@@ -75,15 +73,103 @@ pub enum IpError {
         len: usize,
     },
     /// A jumbo payload option in an IPv6 packet whose payload length is not 0 (RFC 2675, section 3).
-    #[error("IP Error: the payload length is {payload_len}, and the hop-by-hop options have a jumbo payload option.")]
     JumboPayloadUnexpected {
         /// The payload length, in bytes.
         payload_len: usize,
     },
     /// A fragment header in an IPv6 packet with a jumbo payload option (RFC 2675, section 3).
-    #[error("IP Error: a packet with a jumbo payload option has a fragment header at offset {offset}.")]
     JumboPayloadFragment {
         /// The start of the fragment header, in bytes from the start of the packet.
         offset: usize,
     },
 }
+
+impl IpError {
+    /// The text that `Display` writes.
+    pub fn text(&self) -> ErrorText
+        ensures { result ≡ ip_text self.now }
+    {
+        match self {
+            IpError::HeaderCutOff { required_len, len } => ErrorText::from_parts(&[
+                Words("IP Error: the header has at least "),
+                Number(*required_len),
+                Words(" bytes, and the slice contains "),
+                Number(*len),
+                Words("."),
+            ]),
+            IpError::Version { version } => ErrorText::from_parts(&[
+                Words("IP Error: the version is "),
+                Number(usize::from(*version)),
+                Words("."),
+            ]),
+            IpError::HeaderLength { header_len } => ErrorText::from_parts(&[
+                Words("IP Error: the stated header length is "),
+                Number(*header_len),
+                Words("."),
+            ]),
+            IpError::TotalLength {
+                total_len,
+                header_len,
+            } => ErrorText::from_parts(&[
+                Words("IP Error: the total length "),
+                Number(*total_len),
+                Words(" is below the header length "),
+                Number(*header_len),
+                Words("."),
+            ]),
+            IpError::JumboPayloadMissing => ErrorText::from_words(
+                "IP Error: the payload length is 0, and the hop-by-hop options have no jumbo payload option.",
+            ),
+            IpError::JumboPayloadLength { jumbo_payload_len } => ErrorText::from_parts(&[
+                Words("IP Error: the jumbo payload length is "),
+                Number(*jumbo_payload_len),
+                Words(", which is not above 65535."),
+            ]),
+            IpError::PacketCutOff { required_len, len } => ErrorText::from_parts(&[
+                Words("IP Error: the header counts "),
+                Number(*required_len),
+                Words(" bytes, and the slice contains "),
+                Number(*len),
+                Words("."),
+            ]),
+            IpError::ExtensionHeaderCutOff {
+                protocol,
+                offset,
+                required_len,
+                len,
+            } => ErrorText::from_parts(&[
+                Words("IP Error: the extension header IpNumber("),
+                Number(usize::from(protocol.0)),
+                Words(") at offset "),
+                Number(*offset),
+                Words(" has at least "),
+                Number(*required_len),
+                Words(" bytes, and "),
+                Number(*len),
+                Words(" are left."),
+            ]),
+            IpError::JumboPayloadUnexpected { payload_len } => ErrorText::from_parts(&[
+                Words("IP Error: the payload length is "),
+                Number(*payload_len),
+                Words(", and the hop-by-hop options have a jumbo payload option."),
+            ]),
+            IpError::JumboPayloadFragment { offset } => ErrorText::from_parts(&[
+                Words(
+                    "IP Error: a packet with a jumbo payload option has a fragment header at offset ",
+                ),
+                Number(*offset),
+                Words("."),
+            ]),
+        }
+    }
+}
+
+impl fmt::Display for IpError {
+    ghost output = { λ error. Some (ip_text error) };
+
+    fn fmt<W: fmt::Write>(&self, f: &mut fmt::Formatter<W>) -> fmt::Result {
+        fmt::Display::fmt(&self.text(), f)
+    }
+}
+
+impl Error for IpError {}

@@ -1,0 +1,27 @@
+-- The text of each error.
+use Rattle.std.specs.Prelude.{List, ℕ, [], ◌∷◌, codes}
+use Rattle.std.specs.Fmt.{decimal}
+use Rattle.std.specs.List.{concat}
+use Rattle.ip_part.specs.declared.ip_error.IpError.{IpError}
+use Rattle.ip_part.specs.declared.ip_error.IpError.TheVariants.{HeaderCutOff, Version, HeaderLength, TotalLength, PacketCutOff, ExtensionHeaderCutOff, JumboPayloadMissing, JumboPayloadLength, JumboPayloadUnexpected, JumboPayloadFragment}
+
+-- a packet in which the transport was not found
+abbrev pub ip_text : IpError → List ℕ
+ip_text (HeaderCutOff required_len len) = concat (
+    codes "IP Error: the header has at least " ∷ decimal required_len ∷ codes " bytes, and the slice contains " ∷ decimal len ∷ codes "." ∷ [])
+ip_text (Version version) = concat (codes "IP Error: the version is " ∷ decimal version ∷ codes "." ∷ [])
+ip_text (HeaderLength header_len) = concat (codes "IP Error: the stated header length is " ∷ decimal header_len ∷ codes "." ∷ [])
+ip_text (TotalLength total_len header_len) = concat (
+    codes "IP Error: the total length " ∷ decimal total_len ∷ codes " is below the header length " ∷ decimal header_len ∷ codes "." ∷ [])
+ip_text JumboPayloadMissing = codes "IP Error: the payload length is 0, and the hop-by-hop options have no jumbo payload option."
+ip_text (JumboPayloadLength jumbo_payload_len) = concat (
+    codes "IP Error: the jumbo payload length is " ∷ decimal jumbo_payload_len ∷ codes ", which is not above 65535." ∷ [])
+ip_text (PacketCutOff required_len len) = concat (
+    codes "IP Error: the header counts " ∷ decimal required_len ∷ codes " bytes, and the slice contains " ∷ decimal len ∷ codes "." ∷ [])
+ip_text (ExtensionHeaderCutOff protocol offset required_len len) = concat (
+    codes "IP Error: the extension header IpNumber(" ∷ decimal protocol.0 ∷ codes ") at offset " ∷ decimal offset
+    ∷ codes " has at least " ∷ decimal required_len ∷ codes " bytes, and " ∷ decimal len ∷ codes " are left." ∷ [])
+ip_text (JumboPayloadUnexpected payload_len) = concat (
+    codes "IP Error: the payload length is " ∷ decimal payload_len ∷ codes ", and the hop-by-hop options have a jumbo payload option." ∷ [])
+ip_text (JumboPayloadFragment offset) = concat (
+    codes "IP Error: a packet with a jumbo payload option has a fragment header at offset " ∷ decimal offset ∷ codes "." ∷ [])
