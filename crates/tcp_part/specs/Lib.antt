@@ -10,6 +10,7 @@ pub use Rattle.net_base.specs.declared.err.tcp.header_slice_error.HeaderSliceErr
 pub use Rattle.net_base.specs.declared.tcp_option_read_error.TcpOptionReadError
 pub use Rattle.net_base.specs.declared.tcp_option_write_error.TcpOptionWriteError
 pub use Rattle.word_sum.specs.Checksum
+pub mod ErrorTexts
 pub mod TcpFormat
 pub mod TcpOptions
 pub mod TcpOptionsLending

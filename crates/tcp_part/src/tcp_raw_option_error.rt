@@ -1,4 +1,10 @@
-use thiserror::Error;
+ghost use Rattle.std.specs.Prelude.{◌≡◌, Some};
+ghost use Rattle.tcp_part.specs.ErrorTexts.{raw_option_text};
+
+use crate::err::ErrorText;
+use crate::err::TextPart::{Number, Words};
+use std::error::Error;
+use std::fmt;
 
 /// Why the option at the front of some bytes can't be read, for any kind: its length byte is missing, is
 /// below 2, or counts more bytes than are left (RFC 9293, section 3.1).
@@ -11,16 +17,14 @@ use thiserror::Error;
 /// let error = TcpRawOptionError::LengthBeyondEnd { kind: 2, len: 4, available: 3 };
 /// assert_eq!(rt; options.next(), Some(Err(error)));
 /// ```
-#[derive(Clone, Debug, PartialEq, Eq, Drop, Error)]
+#[derive(Clone, Debug, PartialEq, Eq, Drop)]
 pub enum TcpRawOptionError {
     /// The kind is the last byte, so the option has no length byte (RFC 9293, section 3.1).
-    #[error("TcpRawOptionError: The option of kind {kind} has no length byte.")]
     NoLengthByte {
         /// The kind of the option.
         kind: u8,
     },
     /// The length byte, which counts the kind and itself, is 0 or 1 (RFC 9293, section 3.1).
-    #[error("TcpRawOptionError: The length of the option of kind {kind} is {len}, which is below 2.")]
     LengthBelowTwo {
         /// The kind of the option.
         kind: u8,
@@ -28,7 +32,6 @@ pub enum TcpRawOptionError {
         len: u8,
     },
     /// Fewer bytes are left than the length byte counts (RFC 9293, section 3.1).
-    #[error("TcpRawOptionError: The length of the option of kind {kind} is {len}, and only {available} bytes are left.")]
     LengthBeyondEnd {
         /// The kind of the option.
         kind: u8,
@@ -38,3 +41,48 @@ pub enum TcpRawOptionError {
         available: usize,
     },
 }
+
+impl TcpRawOptionError {
+    /// The text that `Display` writes.
+    pub fn text(&self) -> ErrorText
+        ensures { result ≡ raw_option_text self.now }
+    {
+        match self {
+            TcpRawOptionError::NoLengthByte { kind } => ErrorText::from_parts(&[
+                Words("TcpRawOptionError: The option of kind "),
+                Number(usize::from(*kind)),
+                Words(" has no length byte."),
+            ]),
+            TcpRawOptionError::LengthBelowTwo { kind, len } => ErrorText::from_parts(&[
+                Words("TcpRawOptionError: The length of the option of kind "),
+                Number(usize::from(*kind)),
+                Words(" is "),
+                Number(usize::from(*len)),
+                Words(", which is below 2."),
+            ]),
+            TcpRawOptionError::LengthBeyondEnd {
+                kind,
+                len,
+                available,
+            } => ErrorText::from_parts(&[
+                Words("TcpRawOptionError: The length of the option of kind "),
+                Number(usize::from(*kind)),
+                Words(" is "),
+                Number(usize::from(*len)),
+                Words(", and only "),
+                Number(*available),
+                Words(" bytes are left."),
+            ]),
+        }
+    }
+}
+
+impl fmt::Display for TcpRawOptionError {
+    ghost output = { λ error. Some (raw_option_text error) };
+
+    fn fmt<W: fmt::Write>(&self, f: &mut fmt::Formatter<W>) -> fmt::Result {
+        fmt::Display::fmt(&self.text(), f)
+    }
+}
+
+impl Error for TcpRawOptionError {}
