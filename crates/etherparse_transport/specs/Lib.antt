@@ -18,6 +18,7 @@ pub use Rattle.udp_part.specs.UdpFormat
 pub use Rattle.udp_part.specs.UdpSlice
 pub use Rattle.udp_part.specs.UdpValidity
 pub mod EchoReplies
+pub mod ErrorTexts
 pub mod Formats
 pub mod Headers
 pub mod Ipv4Translations

@@ -2,4 +2,6 @@
 
 pub mod packet;
 
-pub use net_base::err::{Layer, LenError, LenSource, ValueTooBigError, ValueType, tcp};
+pub use net_base::err::{
+    ErrorText, Layer, LenError, LenSource, TextPart, ValueTooBigError, ValueType, tcp,
+};

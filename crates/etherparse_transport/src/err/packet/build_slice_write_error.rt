@@ -1,5 +1,10 @@
-use crate::err::LenError;
-use thiserror::Error;
+ghost use Rattle.std.specs.Prelude.{◌≡◌, Some};
+ghost use Rattle.etherparse_transport.specs.ErrorTexts.{build_text};
+
+use crate::err::TextPart::{Number, Words};
+use crate::err::{ErrorText, LenError};
+use std::error::Error;
+use std::fmt;
 
 /// Why a packet was not written to a slice.
 ///
@@ -13,10 +18,9 @@ use thiserror::Error;
 /// let written = write_packet_ipv4(&mut [0; 30], source, destination, 64, &header, b"abc");
 /// assert_eq!(rt; written, Err(BuildSliceWriteError::Space { required_len: 31, len: 30 }));
 /// ```
-#[derive(Clone, Debug, PartialEq, Eq, Drop, Error)]
+#[derive(Clone, Debug, PartialEq, Eq, Drop)]
 pub enum BuildSliceWriteError {
     /// The slice is shorter than the packet.
-    #[error("Space Error: {required_len} bytes are needed, and the slice has {len}.")]
     Space {
         /// The length of the packet, in bytes.
         required_len: usize,
@@ -24,7 +28,6 @@ pub enum BuildSliceWriteError {
         len: usize,
     },
     /// The payload is longer than the IP header can count (RFC 791, section 3.1; RFC 8200, section 3).
-    #[error("Payload Error: a payload of {actual} bytes is above {max_allowed}.")]
     PayloadLen {
         /// The length of the payload, in bytes.
         actual: usize,
@@ -33,12 +36,53 @@ pub enum BuildSliceWriteError {
     },
     /// An ICMPv4 timestamp message or reply is not exactly 20 bytes long with header and payload (RFC 792).
     /// `Icmpv4Slice::from_slice` rejects it with the same error.
-    #[error(transparent)]
     TimestampLen(LenError),
     /// The header is an ICMPv6 header, which is not sent over IPv4 (RFC 4443, section 1).
-    #[error("ICMPv6 Error: there is no packet over IPv4.")]
     Icmpv6InIpv4,
     /// The header is an ICMPv4 header, which is not sent over IPv6 (RFC 792).
-    #[error("ICMPv4 Error: there is no packet over IPv6.")]
     Icmpv4InIpv6,
 }
+
+impl BuildSliceWriteError {
+    /// The text that `Display` writes.
+    pub fn text(&self) -> ErrorText
+        ensures { result ≡ build_text self.now }
+    {
+        match self {
+            BuildSliceWriteError::Space { required_len, len } => ErrorText::from_parts(&[
+                Words("Space Error: "),
+                Number(*required_len),
+                Words(" bytes are needed, and the slice has "),
+                Number(*len),
+                Words("."),
+            ]),
+            BuildSliceWriteError::PayloadLen {
+                actual,
+                max_allowed,
+            } => ErrorText::from_parts(&[
+                Words("Payload Error: a payload of "),
+                Number(*actual),
+                Words(" bytes is above "),
+                Number(*max_allowed),
+                Words("."),
+            ]),
+            BuildSliceWriteError::TimestampLen(error) => error.text(),
+            BuildSliceWriteError::Icmpv6InIpv4 => {
+                ErrorText::from_words("ICMPv6 Error: there is no packet over IPv4.")
+            }
+            BuildSliceWriteError::Icmpv4InIpv6 => {
+                ErrorText::from_words("ICMPv4 Error: there is no packet over IPv6.")
+            }
+        }
+    }
+}
+
+impl fmt::Display for BuildSliceWriteError {
+    ghost output = { λ error. Some (build_text error) };
+
+    fn fmt<W: fmt::Write>(&self, f: &mut fmt::Formatter<W>) -> fmt::Result {
+        fmt::Display::fmt(&self.text(), f)
+    }
+}
+
+impl Error for BuildSliceWriteError {}

@@ -1,6 +1,12 @@
+ghost use Rattle.std.specs.Prelude.{◌≡◌, Some};
+ghost use Rattle.etherparse_transport.specs.ErrorTexts.{translate_text};
+
 use crate::IpNumber;
+use crate::err::ErrorText;
+use crate::err::TextPart::{Number, Words};
 use crate::ip::IpError;
-use thiserror::Error;
+use std::error::Error;
+use std::fmt;
 
 /// Why a packet was not translated.
 ///
@@ -14,23 +20,18 @@ use thiserror::Error;
 /// let error = TranslateError::Protocol(IpNumber(47));
 /// assert_eq!(rt; translate_ipv4(&mut packet, &Ipv4Translation::default()), Err(error));
 /// ```
-#[derive(Clone, Debug, PartialEq, Eq, Drop, Error)]
+#[derive(Clone, Debug, PartialEq, Eq, Drop)]
 pub enum TranslateError {
     /// The transport in the packet was not found.
-    #[error(transparent)]
     Ip(IpError),
     /// The packet has the other IP version.
-    #[error("Translation Error: the packet has the other IP version.")]
     OtherVersion,
     /// The IPv4 options contain a loose or strict source route, whose addresses would stay.
-    #[error("Translation Error: the IPv4 options contain a source route.")]
     SourceRoute,
     /// The protocol is not UDP, TCP or ICMP of this IP version. An authentication header protects the addresses (RFC 4302,
     /// section 2), and so no translated packet would be accepted.
-    #[error("Translation Error: the protocol {} is not translated.", .0.0)]
     Protocol(IpNumber),
     /// The transport header is cut off.
-    #[error("Translation Error: the transport header has at least {required_len} bytes, and the packet contains {len}.")]
     HeaderCutOff {
         /// The length of the shortest header of this protocol, in bytes.
         required_len: usize,
@@ -38,9 +39,52 @@ pub enum TranslateError {
         len: usize,
     },
     /// The ICMP message is no echo message and no error.
-    #[error("Translation Error: the ICMP message is no echo message and no error.")]
     IcmpMessage,
     /// The packet that the ICMP error is about can't be translated.
-    #[error("Translation Error: the packet that the ICMP error is about can't be translated.")]
     QuotedPacket,
 }
+
+impl TranslateError {
+    /// The text that `Display` writes.
+    pub fn text(&self) -> ErrorText
+        ensures { result ≡ translate_text self.now }
+    {
+        match self {
+            TranslateError::Ip(error) => error.text(),
+            TranslateError::OtherVersion => ErrorText::from_words(
+                "Translation Error: the packet has the other IP version.",
+            ),
+            TranslateError::SourceRoute => ErrorText::from_words(
+                "Translation Error: the IPv4 options contain a source route.",
+            ),
+            TranslateError::Protocol(protocol) => ErrorText::from_parts(&[
+                Words("Translation Error: the protocol "),
+                Number(usize::from(protocol.0)),
+                Words(" is not translated."),
+            ]),
+            TranslateError::HeaderCutOff { required_len, len } => ErrorText::from_parts(&[
+                Words("Translation Error: the transport header has at least "),
+                Number(*required_len),
+                Words(" bytes, and the packet contains "),
+                Number(*len),
+                Words("."),
+            ]),
+            TranslateError::IcmpMessage => ErrorText::from_words(
+                "Translation Error: the ICMP message is no echo message and no error.",
+            ),
+            TranslateError::QuotedPacket => ErrorText::from_words(
+                "Translation Error: the packet that the ICMP error is about can't be translated.",
+            ),
+        }
+    }
+}
+
+impl fmt::Display for TranslateError {
+    ghost output = { λ error. Some (translate_text error) };
+
+    fn fmt<W: fmt::Write>(&self, f: &mut fmt::Formatter<W>) -> fmt::Result {
+        fmt::Display::fmt(&self.text(), f)
+    }
+}
+
+impl Error for TranslateError {}

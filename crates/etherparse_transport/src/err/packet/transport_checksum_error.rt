@@ -1,5 +1,9 @@
-use crate::err::ValueTooBigError;
-use thiserror::Error;
+ghost use Rattle.std.specs.Prelude.{◌≡◌, Some};
+ghost use Rattle.etherparse_transport.specs.ErrorTexts.{transport_checksum_text};
+
+use crate::err::{ErrorText, ValueTooBigError};
+use std::error::Error;
+use std::fmt;
 
 /// Why the checksum of a transport header over IPv4 was not calculated.
 ///
@@ -11,12 +15,34 @@ use thiserror::Error;
 /// let updated = header.update_checksum_ipv4(&Ipv4Header::default(), b"ping");
 /// assert_eq!(rt; updated, Err(TransportChecksumError::Icmpv6InIpv4));
 /// ```
-#[derive(Clone, Debug, PartialEq, Eq, Drop, Error)]
+#[derive(Clone, Debug, PartialEq, Eq, Drop)]
 pub enum TransportChecksumError {
     /// The payload is longer than the packet's length can count.
-    #[error(transparent)]
     PayloadLen(ValueTooBigError<usize>),
     /// The header is an ICMPv6 header, whose checksum covers IPv6 addresses (RFC 4443, section 2.3).
-    #[error("ICMPv6 Error: a checksum over IPv4 does not exist.")]
     Icmpv6InIpv4,
 }
+
+impl TransportChecksumError {
+    /// The text that `Display` writes.
+    pub fn text(&self) -> ErrorText
+        ensures { result ≡ transport_checksum_text self.now }
+    {
+        match self {
+            TransportChecksumError::PayloadLen(error) => error.text(),
+            TransportChecksumError::Icmpv6InIpv4 => ErrorText::from_words(
+                "ICMPv6 Error: a checksum over IPv4 does not exist.",
+            ),
+        }
+    }
+}
+
+impl fmt::Display for TransportChecksumError {
+    ghost output = { λ error. Some (transport_checksum_text error) };
+
+    fn fmt<W: fmt::Write>(&self, f: &mut fmt::Formatter<W>) -> fmt::Result {
+        fmt::Display::fmt(&self.text(), f)
+    }
+}
+
+impl Error for TransportChecksumError {}

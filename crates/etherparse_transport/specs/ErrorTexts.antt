@@ -1,0 +1,54 @@
+-- The text of each error of a packet.
+use Rattle.std.specs.Prelude.{ℕ, List, [], ◌∷◌, codes}
+use Rattle.std.specs.Fmt.{decimal}
+use Rattle.std.specs.List.{concat}
+use Rattle.etherparse_transport.specs.declared.err.packet.answer_echo_error.AnswerEchoError.{AnswerEchoError}
+use Rattle.etherparse_transport.specs.declared.err.packet.answer_echo_error.AnswerEchoError.TheVariants as echo
+use Rattle.etherparse_transport.specs.declared.err.packet.build_slice_write_error.BuildSliceWriteError.{BuildSliceWriteError}
+use Rattle.etherparse_transport.specs.declared.err.packet.build_slice_write_error.BuildSliceWriteError.TheVariants as build
+use Rattle.etherparse_transport.specs.declared.err.packet.translate_error.TranslateError.{TranslateError}
+use Rattle.etherparse_transport.specs.declared.err.packet.translate_error.TranslateError.TheVariants as translate
+use Rattle.etherparse_transport.specs.declared.err.packet.transport_checksum_error.TransportChecksumError.{TransportChecksumError}
+use Rattle.etherparse_transport.specs.declared.err.packet.transport_checksum_error.TransportChecksumError.TheVariants as checksum
+use Rattle.ip_part.specs.ErrorTexts.{ip_text}
+use Rattle.net_base.specs.ErrorTexts.{len_text, value_text}
+
+-- an echo request that is not answered
+abbrev pub answer_echo_text : AnswerEchoError → List ℕ
+answer_echo_text (echo.Ip error) = ip_text error
+answer_echo_text echo.Fragment = codes "Echo Error: the packet is a fragment."
+answer_echo_text echo.NoEchoRequest = codes "Echo Error: the packet is no echo request."
+answer_echo_text echo.Options = codes "Echo Error: the packet contains options or extension headers."
+answer_echo_text (echo.Len error) = len_text error
+answer_echo_text echo.HeaderChecksum = codes "Echo Error: the checksum of the IPv4 header is wrong."
+answer_echo_text echo.Checksum = codes "Echo Error: the checksum of the message is wrong."
+answer_echo_text echo.RequestSource = codes "Echo Error: the source of the request is not the address of a host."
+answer_echo_text echo.ReplySource = codes "Echo Error: the source of the reply is not the address of a host."
+
+-- a packet that is not written
+abbrev pub build_text : BuildSliceWriteError → List ℕ
+build_text (build.Space required_len len) = concat (
+    codes "Space Error: " ∷ decimal required_len ∷ codes " bytes are needed, and the slice has " ∷ decimal len ∷ codes "." ∷ [])
+build_text (build.PayloadLen actual max_allowed) = concat (
+    codes "Payload Error: a payload of " ∷ decimal actual ∷ codes " bytes is above " ∷ decimal max_allowed ∷ codes "." ∷ [])
+build_text (build.TimestampLen error) = len_text error
+build_text build.Icmpv6InIpv4 = codes "ICMPv6 Error: there is no packet over IPv4."
+build_text build.Icmpv4InIpv6 = codes "ICMPv4 Error: there is no packet over IPv6."
+
+-- a packet that is not translated
+abbrev pub translate_text : TranslateError → List ℕ
+translate_text (translate.Ip error) = ip_text error
+translate_text translate.OtherVersion = codes "Translation Error: the packet has the other IP version."
+translate_text translate.SourceRoute = codes "Translation Error: the IPv4 options contain a source route."
+translate_text (translate.Protocol protocol) = concat (
+    codes "Translation Error: the protocol " ∷ decimal protocol.0 ∷ codes " is not translated." ∷ [])
+translate_text (translate.HeaderCutOff required_len len) = concat (
+    codes "Translation Error: the transport header has at least " ∷ decimal required_len
+    ∷ codes " bytes, and the packet contains " ∷ decimal len ∷ codes "." ∷ [])
+translate_text translate.IcmpMessage = codes "Translation Error: the ICMP message is no echo message and no error."
+translate_text translate.QuotedPacket = codes "Translation Error: the packet that the ICMP error is about can't be translated."
+
+-- a checksum that is not calculated
+abbrev pub transport_checksum_text : TransportChecksumError → List ℕ
+transport_checksum_text (checksum.PayloadLen error) = value_text error
+transport_checksum_text checksum.Icmpv6InIpv4 = codes "ICMPv6 Error: a checksum over IPv4 does not exist."
