@@ -10,14 +10,6 @@ max_text_len = 256
 abbrev pub IsCut : List ℕ → List ℕ → Type 0
 IsCut text whole = text ≡ take max_text_len whole
 
--- the parts of a text, one after the other
-abbrev pub sentence_from : List ℕ → List (List ℕ) → List ℕ
-sentence_from front [] = front
-sentence_from front (part ∷ parts) = sentence_from (front ++ part) parts
-
-abbrev pub sentence : List (List ℕ) → List ℕ
-sentence parts = sentence_from [] parts
-
 -- a text in a buffer of C: as many of its bytes as leave room for a zero byte, that byte, and after it what stood there before. An
 -- empty buffer has room for neither.
 abbrev pub with_string : List ℕ → List ℕ → List ℕ

@@ -3,9 +3,10 @@ ghost use Rattle.std.specs.Prelude.{◌≡◌, ◌<◌, ◌+◌, ℕ, List, [], 
 ghost use Rattle.etherparse_transport_c.specs.Text.{IsCut, with_string};
 
 use arrayvec::ArrayVec;
+use etherparse_transport::err::{ErrorText, TextPart};
 
 /// No text has more bytes.
-pub(crate) const MAX_TEXT_LEN: usize = 256;
+const MAX_TEXT_LEN: usize = 256;
 
 /// The bytes of a text. One that does not fit loses its end.
 pub(crate) type Text = ArrayVec<u8, MAX_TEXT_LEN>;
@@ -35,7 +36,7 @@ fn put_bytes(text: &mut Text, bytes: &[u8])
 }
 
 /// Appends some words.
-pub(crate) fn put(text: &mut Text, words: &str)
+fn put(text: &mut Text, words: &str)
     ensures { (before : List ℕ) → IsCut text.old.items before → IsCut text.new.items (before ++ words.now) }
 {
     put_bytes(text, words.as_bytes());
@@ -50,7 +51,7 @@ fn put_digit(text: &mut Text, digit: usize)
 }
 
 /// Appends a number in decimal.
-pub(crate) fn put_number(text: &mut Text, number: usize)
+fn put_number(text: &mut Text, number: usize)
     ensures { (before : List ℕ) → IsCut text.old.items before → IsCut text.new.items (before ++ decimal number) }
 {
     if number < 10 {
@@ -59,6 +60,20 @@ pub(crate) fn put_number(text: &mut Text, number: usize)
     }
     put_number(text, number / 10);
     put_digit(text, number % 10);
+}
+
+/// The text of an error. One that does not fit loses its end.
+pub(crate) fn cut(error: &ErrorText) -> Text
+    ensures { IsCut result.items error.now }
+{
+    let mut text = Text::new();
+    for part in error.parts() {
+        match part {
+            TextPart::Words(words) => put(&mut text, words),
+            TextPart::Number(number) => put_number(&mut text, *number),
+        }
+    }
+    text
 }
 
 /// Writes as much of a text as leaves room for a zero byte, and that byte. Returns the length of the whole text.
