@@ -30,9 +30,10 @@ pub struct Sum16BitWords {
 }
 
 /// The length in bytes from which `add_long` is faster than `add_short`.
-// perf: for a shorter slice, joining the two sums of `add_long` takes as long as adding sixteen numbers. At 1,500
-// bytes `add_short` sums 12.3 GB/s and `add_long` 22 to 26 GB/s (23 Nov 2026).
-const LONG_LEN: usize = 128;
+// perf: for a shorter slice, the call and joining the two sums of `add_long` take longer than its loop saves. In Rust,
+// compiled by rustc 1.95 for x86-64-v2, `add_short` takes 8.1 ns for 128 bytes, 11.2 for 192 and 15.0 for 256, and
+// `add_long` 10.2, 12.1 and 14.0 (27 Nov 2026). At 1,500 bytes they sum 12.3 and 22 to 26 GB/s (23 Nov 2026).
+const LONG_LEN: usize = 256;
 
 /// The length of a part in bytes. The upper halves of its 8,192 numbers sum up to less than 2^45, and so do the lower halves.
 const PART_LEN: usize = 65_536;
