@@ -11,7 +11,7 @@ returns-clause-sum c =
     let even_too : length c.args.destination ≡ 16 = search rules in
     let back = to_be_bytes w32 c.args.len ++ (0 ∷ 0 ∷ 0 ∷ c.args.protocol.0 ∷ []) in
     let pseudo_header = total-append_twice c.args.source c.args.destination back (omega arith) (omega arith) in
-    rw (c.add_4bytes-2.ensures, c.add_4bytes.ensures, c.to_be_bytes.ensures, c.add_16bytes-2.ensures, c.add_16bytes.ensures, c.new.ensures)
+    rw (c.add_16bytes-2.ensures, c.add_16bytes.ensures, c.add_4bytes-2.ensures, c.add_4bytes.ensures, c.to_be_bytes.ensures, c.new.ensures)
     (simp folded_twice (ap folded (omega arith)))
 
 pub returns-clause-some : goal.returns-clause-some
