@@ -1,12 +1,14 @@
 -- Laws of a segment and its header.
-use Rattle.std.proofs.Common.{◌≡◌, ℕ, ◌*◌, ◌/◌, List, ◌++◌, length, slice_index, bit_and, None, Result, Ok, Err, ap, sym, subst, ◌∙◌, length-take, arith}
+use Rattle.std.proofs.Common.{◌≡◌, ℕ, zero, suc, ◌+◌, ◌-◌, ◌*◌, ◌/◌, ◌≤◌, List, [], ◌∷◌, ◌++◌, length, take, slice_index, bit_and, None, Result, Ok, Err, ap, sym, subst, ◌∙◌, length-take, arith}
 use Rattle.std.specs.Prelude.{◌↔◌, IfOk}
+use Rattle.net_base.specs.Bytes.{IsBytes, be_number}
 use Rattle.net_base.specs.StoredChecksum.{tcp_checksum_place, with_checksum}
 use Rattle.net_base.proofs.StoredChecksumLemmas.{with_checksum-append}
-use Rattle.word_sum.specs.Checksum.{checksum_of}
+use Rattle.word_sum.specs.Checksum.{AcceptsChecksum, checksum_of}
 use Rattle.std.proofs.lemmas.List.{get_or-take, take-append-drop}
-use Rattle.tcp_part.specs.TcpFormat.{UnusedBitsAreZero, data_offset, header_of, options_of, refusal, wire}
+use Rattle.tcp_part.specs.TcpFormat.{UnusedBitsAreZero, checksummed, data_offset, header_of, options_of, refusal, wire}
 use Rattle.tcp_part.proofs.TcpFormatLemmas.{header_of-take, length-accepted}
+use Rattle.tcp_part.proofs.TcpValidityLemmas.{VerifiesUpTo, accepts}
 use Rattle.tcp_part.specs.TcpSegment.{header_bytes, payload_bytes}
 
 -- the header of an accepted segment is read as the header of the segment
@@ -67,3 +69,24 @@ agrees_in_segment sum_of segment header payload (Ok checksum) accepted is_header
       λ zeros. agrees.1 (bits ∙ zeros) ∙ same,
     )
 agrees_in_segment sum_of segment header payload (Err error) accepted is_header is_payload agrees = agrees
+
+-- the first bytes of bytes are bytes
+IsBytes-take : (count : ℕ) (bytes : List ℕ) → IsBytes bytes → IsBytes (take count bytes)
+IsBytes-take zero bytes fits place = omega arith
+IsBytes-take (suc count) [] fits place = omega arith
+IsBytes-take (suc count) (byte ∷ bytes) fits zero = fits zero
+IsBytes-take (suc count) (byte ∷ bytes) fits (suc place) = IsBytes-take count bytes (λ p. fits (suc p)) place
+
+-- testing a segment means comparing its stored checksum with the computed checksum
+pub accepts_in_segment : (max_len : ℕ) (pseudo_header_of : ℕ → List ℕ) (segment : List ℕ) → 60 ≤ max_len → IsBytes segment → refusal segment ≡ None
+    → length (payload_bytes segment) ≤ max_len - length (header_bytes segment)
+    → VerifiesUpTo max_len pseudo_header_of segment
+    ↔ AcceptsChecksum (checksummed (pseudo_header_of (length (header_bytes segment) + length (payload_bytes segment))) (header_bytes segment) (payload_bytes segment)) (be_number (header_bytes segment) 16 2)
+accepts_in_segment max_len pseudo_header_of segment longest fits accepted within =
+    let five = (length-accepted segment accepted).0 in
+    let len = length_header segment accepted in
+    let computed = checksummed (pseudo_header_of (length (header_bytes segment) + length (payload_bytes segment))) (header_bytes segment) (payload_bytes segment) in
+    let P : List ℕ → Type 0 = λ bytes. VerifiesUpTo max_len pseudo_header_of bytes ↔ AcceptsChecksum computed (be_number (header_bytes segment) 16 2) in
+    subst P (whole_segment segment)
+    (accepts max_len pseudo_header_of (header_bytes segment) (payload_bytes segment) (IsBytes-take (data_offset segment * 4) segment fits)
+    (omega (arith, len, five)) (omega (arith, len)) (omega (arith, len, within, longest, fits 12)))

@@ -107,6 +107,38 @@ pub(crate) fn is_valid_ipv6(
     }
 }
 
+/// Whether pseudo header over IPv4 and segment, as received, sum up to all ones (RFC 9293, section 3.1). A segment that
+/// is too long for the pseudo header is never valid.
+#[inline]
+pub(crate) fn is_segment_valid_ipv4(source: [u8; 4], destination: [u8; 4], segment: &[u8]) -> bool
+    ensures valid { IsTrue result ↔ IsValidTcpIpv4 source destination segment.now }
+    ensures bytes { IsBytes segment.now }
+{
+    match u16::try_from(segment.len()) {
+        Ok(len) => sums_up(
+            pseudo_header_ipv4(source, destination, ip_number::TCP, len),
+            segment,
+        ),
+        Err(_) => false,
+    }
+}
+
+/// Whether pseudo header over IPv6 and segment, as received, sum up to all ones (RFC 9293, section 3.1; RFC 8200,
+/// section 8.1). A segment that is too long for the pseudo header is never valid.
+#[inline]
+pub(crate) fn is_segment_valid_ipv6(source: [u8; 16], destination: [u8; 16], segment: &[u8]) -> bool
+    ensures valid { IsTrue result ↔ IsValidTcpIpv6 source destination segment.now }
+    ensures bytes { IsBytes segment.now }
+{
+    match u32::try_from(segment.len()) {
+        Ok(len) => sums_up(
+            pseudo_header_ipv6(source, destination, ip_number::TCP, len),
+            segment,
+        ),
+        Err(_) => false,
+    }
+}
+
 /// The length of header and payload as the pseudo header over IPv4 counts it, in 16 bits (RFC 9293, section 3.1).
 #[inline]
 pub(crate) fn len_over_ipv4(
@@ -162,4 +194,12 @@ fn verifies(pseudo_header: Sum16BitWords, header: &[u8], payload: &[u8]) -> bool
         .add_slice(payload)
         .ones_complement()
         == 0
+}
+
+/// Whether a pseudo header with this sum, and a segment as received, sum up to all ones.
+#[inline]
+fn sums_up(pseudo_header: Sum16BitWords, segment: &[u8]) -> bool
+    ensures { IsTrue result ↔ IsAllOnes (sum_value pseudo_header + total segment.now) }
+{
+    pseudo_header.add_slice(segment).ones_complement() == 0
 }

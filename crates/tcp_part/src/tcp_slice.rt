@@ -1,3 +1,4 @@
+use crate::header_checksum::{is_segment_valid_ipv4, is_segment_valid_ipv6};
 use crate::{TcpHeader, TcpHeaderSlice, TcpOptionsIterator, TcpRawOptionsIterator};
 use net_base::err::ValueTooBigError;
 use net_base::err::tcp::HeaderSliceError;
@@ -326,15 +327,13 @@ impl<'a> TcpSlice<'a> {
     ///
     /// In a valid segment this check detects each change of one byte, and of one aligned two-byte word except between
     /// 0000 and FFFF. It misses an exchange of two aligned words.
-    #[tactic(auto, using(crate::proofs::TcpSliceLemmas::whole_segment))]
     pub fn is_checksum_valid_ipv4(&self, source: [u8; 4], destination: [u8; 4]) -> bool
         ensures valid { IsTrue result ↔ IsValidTcpIpv4 source destination self.now }
         ensures agrees { length (payload_bytes self.now) ≤ max_payload_len_ipv4 (header_bytes self.now) → (IsTrue result
             ↔ AcceptsChecksum (checksummed_ipv4 source destination (header_bytes self.now) (payload_bytes self.now)) (be_number (header_bytes self.now) 16 2)) }
         ensures detects { IsTrue result → Detects (IsValidTcpIpv4 source destination) self.now }
     {
-        self.header
-            .is_checksum_valid_ipv4(source, destination, self.payload())
+        is_segment_valid_ipv4(source, destination, self.slice)
     }
 
     /// Whether the checksum over IPv6 is right, as a receiver checks it: pseudo header and segment, as received, sum
@@ -346,15 +345,13 @@ impl<'a> TcpSlice<'a> {
     ///
     /// In a valid segment this check detects each change of one byte, and of one aligned two-byte word except between
     /// 0000 and FFFF. It misses an exchange of two aligned words.
-    #[tactic(auto, using(crate::proofs::TcpSliceLemmas::whole_segment))]
     pub fn is_checksum_valid_ipv6(&self, source: [u8; 16], destination: [u8; 16]) -> bool
         ensures valid { IsTrue result ↔ IsValidTcpIpv6 source destination self.now }
         ensures agrees { length (payload_bytes self.now) ≤ max_payload_len_ipv6 (header_bytes self.now) → (IsTrue result
             ↔ AcceptsChecksum (checksummed_ipv6 source destination (header_bytes self.now) (payload_bytes self.now)) (be_number (header_bytes self.now) 16 2)) }
         ensures detects { IsTrue result → Detects (IsValidTcpIpv6 source destination) self.now }
     {
-        self.header
-            .is_checksum_valid_ipv6(source, destination, self.payload())
+        is_segment_valid_ipv6(source, destination, self.slice)
     }
 }
 
