@@ -3,7 +3,7 @@ ghost use Rattle.net_base.specs.Refusals.{RefusesExactly};
 ghost use Rattle.etherparse_transport.specs.Formats.{IsCanonical, WritesDecoded, canonical, layout_of, max_header_len, refusal};
 
 use crate::err::tcp::HeaderSliceError;
-use crate::{Icmpv4Header, Icmpv6Header, Proto, TcpHeader, UdpHeader};
+use crate::{Icmpv4Header, Icmpv6Header, Proto, UdpHeader};
 use arrayvec::ArrayVec;
 
 /// The canonical bytes of a packet's header (RFC 768; RFC 9293, section 3.1; RFC 792; RFC 4443, section 2.1), and the
@@ -55,8 +55,8 @@ fn canonical_tcp(slice: &[u8]) -> Result<(ArrayVec<u8, 60>, &[u8]), HeaderSliceE
     ensures decoded { IfOk result (λ found. WritesDecoded Proto.Tcp slice.now found.0.items found.1.now) }
     ensures canonical { IfOk result (λ found. found.0.items ++ found.1.now ≡ canonical Proto.Tcp slice.now) }
 {
-    let (header, rest) = TcpHeader::from_slice(slice)?;
-    Ok((header.to_bytes(), rest))
+    let (bytes, rest) = tcp_part::canonical_header(slice)?;
+    Ok((bytes, rest))
 }
 
 /// `canonical_header` for an ICMPv4 packet.

@@ -17,6 +17,7 @@
 //! ```
 #![tactic(auto)]
 
+mod canonical;
 mod flag_bits;
 mod header_checksum;
 pub mod laws;
@@ -34,6 +35,7 @@ mod tcp_slice;
 mod translation;
 mod words;
 
+pub use canonical::canonical_header;
 pub use net_base::{LenSource, TcpOptionReadError, TcpOptionWriteError, err};
 pub use tcp_header::{
     TCP_MAXIMUM_DATA_OFFSET, TCP_MINIMUM_DATA_OFFSET, TCP_MINIMUM_HEADER_SIZE, TcpHeader,
