@@ -68,17 +68,17 @@ impl Model for ErrorText {
 }
 
 impl ErrorText {
-    ghost use Rattle.std.specs.Prelude.{◌≡◌, ◌≤◌, length};
+    ghost use Rattle.std.specs.Prelude.{◌≡◌, take};
     ghost use Rattle.std.specs.List.{flat_map};
     ghost use Rattle.net_base.specs.TextParts.{max_text_parts, part_text};
 
-    /// The text that consists of these parts, at most 11.
+    /// The text that consists of these parts. Of more than 11 parts it consists of the first 11.
     pub fn from_parts(parts: &[TextPart]) -> ErrorText
-        requires { length parts.now ≤ max_text_parts }
-        ensures { result ≡ flat_map part_text parts.now }
+        ensures { result ≡ flat_map part_text (take max_text_parts parts.now) }
     {
+        let len = parts.len().min(MAX_TEXT_PARTS);
         let mut all = ArrayVec::new();
-        all.try_extend_from_slice(parts).unwrap();
+        all.try_extend_from_slice(&parts[..len]).unwrap();
         ErrorText { parts: all }
     }
 
