@@ -571,6 +571,7 @@ static TEXTS: [(IpError, &str); 10] = [
 fn errors_have_their_texts(rt: HostRuntime) {
     for (error, expected) in &TEXTS {
         expect_text(&rt, error, expected);
+        expect_text(&rt, &error.text(), expected);
         expect_clone(&rt, error);
     }
     let packet = ipv4_packet(31, [0, 0]);

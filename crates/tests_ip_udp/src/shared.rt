@@ -2,7 +2,9 @@ use crate::expect::{
     bytes_from, bytes_to, expect_clone, expect_debug_text, expect_equal, expect_ok, expect_some,
     expect_text,
 };
-use etherparse_transport::err::{Layer, LenError, ValueTooBigError, ValueType};
+use etherparse_transport::err::{
+    ErrorText, Layer, LenError, TextPart, ValueTooBigError, ValueType,
+};
 use etherparse_transport::{
     IpNumber, Ipv4Header, Ipv4HeaderSlice, Ipv6Header, Ipv6HeaderSlice, LenSource,
     TcpOptionReadError, TcpOptionWriteError, ip_number,
@@ -66,7 +68,24 @@ fn errors_have_their_texts(rt: HostRuntime) {
         &stated.add_offset(6),
         "Length Error: layer UdpPayload at offset 40 requires length 8, the length is 7 (from UdpHeaderLen).",
     );
-    expect_text(&rt, &TOO_BIG_PAYLOAD, "Value Error: UdpPayloadLengthIpv6 65528 is above 65527.");
+    let text = "Length Error: layer UdpPayload at offset 34 requires length 8, the length is 3 (from UdpHeaderLen).";
+    expect_text(&rt, &CUT_OFF_PAYLOAD.text(), text);
+    let text = "Value Error: UdpPayloadLengthIpv6 65528 is above 65527.";
+    expect_text(&rt, &TOO_BIG_PAYLOAD, text);
+    expect_text(&rt, &TOO_BIG_PAYLOAD.text(), text);
+    let error = ValueTooBigError { actual: 300u16, max_allowed: 255u16, value_type: ValueType::TcpPayloadLengthIpv4 };
+    expect_text(&rt, &error, "Value Error: TcpPayloadLengthIpv4 300 is above 255.");
+}
+
+#[rattlefmt::skip]
+#[test]
+fn texts_consist_of_parts(rt: HostRuntime) {
+    let parts = [TextPart::Words("port "), TextPart::Number(80), TextPart::default()];
+    let text = ErrorText::from_parts(&parts);
+    expect_text(&rt, &text, "port 80");
+    expect_equal(&rt, &text.parts().len(), &3);
+    expect_debug_text(&rt, &text, "ErrorText { parts: [Words(\"port \"), Number(80), Words(\"\")] }");
+    expect_text(&rt, &ErrorText::from_words("no port"), "no port");
 }
 
 #[rattlefmt::skip]
@@ -108,7 +127,11 @@ fn values_have_debug_texts(rt: HostRuntime) {
         &Ipv6Header::default(),
         "Ipv6Header { source: [0, 0, 0, 0, 0, 0, 0, 0, 0, 0, 0, 0, 0, 0, 0, 0], destination: [0, 0, 0, 0, 0, 0, 0, 0, 0, 0, 0, 0, 0, 0, 0, 0] }",
     );
+    for source in [LenSource::Slice, LenSource::UdpHeaderLen] {
+        expect_debug_text(rt, &source, source.word());
+    }
     for (value_type, expected) in &VALUE_TYPES {
+        expect_equal(rt, &value_type.word(), expected);
         expect_debug_text(rt, value_type, expected);
     }
 }
@@ -519,14 +542,14 @@ static OPTION_ERROR_TEXTS: [(TcpOptionReadError, &str); 3] = [
 fn option_errors_have_their_texts(rt: HostRuntime) {
     for (error, expected) in &OPTION_ERROR_TEXTS {
         expect_text(&rt, error, expected);
+        expect_text(&rt, &error.text(), expected);
         expect_clone(&rt, error);
     }
     let error = TcpOptionWriteError::NotEnoughSpace(41);
-    expect_text(
-        &rt,
-        &error,
-        "TcpOptionWriteError: Not enough memory to store all options in the options section of a tcp header (maximum 40 bytes can be stored, the options would have needed 41 bytes).",
-    );
+    let expected =
+        "TcpOptionWriteError: Not enough memory to store all options in the options section of a tcp header (maximum 40 bytes can be stored, the options would have needed 41 bytes).";
+    expect_text(&rt, &error, expected);
+    expect_text(&rt, &error.text(), expected);
     expect_debug_text(&rt, &error, "NotEnoughSpace(41)");
     expect_clone(&rt, &error);
 }

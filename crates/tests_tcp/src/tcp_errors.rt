@@ -37,9 +37,11 @@ fn errors_of_a_tcp_header(rt: HostRuntime) {
     let text =
         "TCP Header Error: 'data offset' too small (4). The 'data offset' must be at least 5 so the data is not overlapping with the TCP header itself.";
     expect_text(&rt, &too_small(4), text);
+    expect_text(&rt, &too_small(4).text(), text);
     expect_clone(&rt, &too_small(4));
     let content = HeaderSliceError::Content(too_small(4));
     expect_text(&rt, &content, text);
+    expect_text(&rt, &content.text(), text);
     expect_debug_text(
         &rt,
         &content,

@@ -343,5 +343,6 @@ fn raw_options_are_cloned_compared_and_shown(rt: HostRuntime) {
     for (error, expected) in &TEXTS {
         expect_clone(&rt, error);
         expect_text(&rt, error, expected);
+        expect_text(&rt, &error.text(), expected);
     }
 }

@@ -265,6 +265,7 @@ static TEXTS: [(BuildSliceWriteError, &str); 5] = [
 fn errors_of_built_packets_have_their_texts(rt: HostRuntime) {
     for (error, expected) in &TEXTS {
         expect_text(&rt, error, expected);
+        expect_text(&rt, &error.text(), expected);
         expect_equal(&rt, &expect_ok(&rt, error.clone()), error);
     }
 }

@@ -286,5 +286,6 @@ static TEXTS: [(AnswerEchoError, &str); 8] = [
 fn texts_of_a_packet_without_a_reply(rt: HostRuntime) {
     for (error, text) in &TEXTS {
         expect_text(&rt, error, text);
+        expect_text(&rt, &error.text(), text);
     }
 }

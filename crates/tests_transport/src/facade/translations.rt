@@ -149,5 +149,6 @@ static TEXTS: [(TranslateError, &str); 7] = [
 fn texts_of_a_refused_translation(rt: HostRuntime) {
     for (error, text) in &TEXTS {
         expect_text(&rt, error, text);
+        expect_text(&rt, &error.text(), text);
     }
 }

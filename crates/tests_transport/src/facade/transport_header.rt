@@ -1,6 +1,6 @@
 //! A header of any of the four protocols. The checksums were computed apart from this crate, by RFC 1071.
 
-use crate::expect::{bytes_from, expect_equal, expect_ok, expect_some};
+use crate::expect::{bytes_from, expect_equal, expect_ok, expect_some, expect_text};
 use etherparse_transport::err::packet::TransportChecksumError;
 use etherparse_transport::err::{Layer, LenError, ValueTooBigError, ValueType};
 use etherparse_transport::{Ipv4Header, Ipv6Header, LenSource, Proto, TransportHeader};
@@ -92,6 +92,25 @@ fn payloads_that_are_too_long_leave_the_header(rt: HostRuntime) {
         expect_equal(&rt, &updated, &Err(expected));
         let (unchanged, _) = read(&rt, protocol, &packet);
         expect_equal(&rt, &header, &unchanged);
+    }
+}
+
+#[rattlefmt::skip]
+static TEXTS: [(TransportChecksumError, &str); 2] = [
+    (
+        TransportChecksumError::PayloadLen(ValueTooBigError {
+            actual: 65_528, max_allowed: 65_527, value_type: ValueType::UdpPayloadLengthIpv4,
+        }),
+        "Value Error: UdpPayloadLengthIpv4 65528 is above 65527.",
+    ),
+    (TransportChecksumError::Icmpv6InIpv4, "ICMPv6 Error: a checksum over IPv4 does not exist."),
+];
+
+#[test]
+fn texts_of_a_checksum_that_is_not_calculated(rt: HostRuntime) {
+    for (error, expected) in &TEXTS {
+        expect_text(&rt, error, expected);
+        expect_text(&rt, &error.text(), expected);
     }
 }
 
