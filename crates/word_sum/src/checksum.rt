@@ -31,9 +31,11 @@ pub struct Sum16BitWords {
 
 /// The length in bytes from which `add_long` is faster than `add_short`.
 // perf: for a shorter slice, the call and joining the two sums of `add_long` take longer than its loop saves. In Rust,
-// compiled by rustc 1.95 for x86-64-v2, `add_short` takes 8.1 ns for 128 bytes, 11.2 for 192 and 15.0 for 256, and
-// `add_long` 10.2, 12.1 and 14.0 (27 Nov 2026). At 1,500 bytes they sum 12.3 and 22 to 26 GB/s (23 Nov 2026).
-const LONG_LEN: usize = 256;
+// compiled by rustc 1.95 for x86-64-v2, `add_short` takes 8.1 ns for 128 bytes, 9.6 for 160 and 11.2 for 192, and
+// `add_long` 10.2, 11.1 and 12.1. Above 192 bytes `add_short` waits for its carries: with the fields and addresses of
+// UDP before it, 200 bytes take 16.1 ns and not 15.3 (27 Nov 2026). At 1,500 bytes they sum 12.3 and 22 to 26 GB/s
+// (23 Nov 2026).
+const LONG_LEN: usize = 192;
 
 /// The length of a part in bytes. The upper halves of its 8,192 numbers sum up to less than 2^45, and so do the lower halves.
 const PART_LEN: usize = 65_536;
