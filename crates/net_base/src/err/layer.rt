@@ -32,6 +32,8 @@ impl Layer {
     ghost use Rattle.net_base.specs.Layer.{word_of};
 
     /// The variant's name, for example `UdpHeader`.
+    // If callers contained copies, they would share a table of addresses, which the loader of a program has to fill.
+    #[inline(never)]
     pub fn word(&self) -> &'static str
         ensures { result.now ≡ word_of self.now }
     {
