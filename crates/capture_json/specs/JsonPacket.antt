@@ -36,6 +36,7 @@ use Rattle.capture_packet.specs.Addresses.{source_text}
 use Rattle.capture_summary.specs.Kinds.{untested_kind, verdict_word}
 use Rattle.capture_summary.specs.declared.verdict_kind.VerdictKind.{VerdictKind}
 use Rattle.capture_summary.specs.declared.verdict_kind.VerdictKind.TheVariants as kinds
+use Rattle.capture_json.specs.JsonIcmp.{icmpv4_fields, icmpv6_fields}
 use Rattle.capture_json.specs.Words.{with_underscores}
 use Rattle.capture_text.specs.Flags.{NamedFlag}
 use Rattle.capture_text.specs.Icmpv4Text as icmpv4_text
@@ -126,25 +127,29 @@ AreTcpMembers segment members =
     × (members ≡ header_port_members segment ++ ((codes "tcp", object_of header) ∷ []))
 
 -- the type, the code and the text of an ICMP message
-abbrev pub message_fields : ℕ → ℕ → List ℕ → List Member
-message_fields type code text =
+abbrev pub message_members : ℕ → ℕ → List ℕ → List Member
+message_members type code text =
     (codes "type", whole_number type) ∷ (codes "code", whole_number code) ∷ (codes "message", string text) ∷ []
 
--- an ICMPv4 message; type and code are bytes 0 and 1
-abbrev pub icmpv4_members : List ℕ → List Member
-icmpv4_members message = (
-  codes "icmpv4",
-  object_of (message_fields (slice_index message 0) (slice_index message 1)
-      (icmpv4_text.message_text (icmpv4.icmp_type_of message))),
-) ∷ []
+-- the members of an ICMPv4 message; type and code are bytes 0 and 1
+abbrev pub icmpv4_content : List ℕ → List Member
+icmpv4_content message =
+    let fields = icmpv4.icmp_type_of message in
+    message_members (slice_index message 0) (slice_index message 1) (icmpv4_text.message_text fields) ++ icmpv4_fields fields
 
--- an ICMPv6 message; type and code are bytes 0 and 1
+-- an ICMPv4 message
+abbrev pub icmpv4_members : List ℕ → List Member
+icmpv4_members message = (codes "icmpv4", object_of (icmpv4_content message)) ∷ []
+
+-- the members of an ICMPv6 message; type and code are bytes 0 and 1
+abbrev pub icmpv6_content : List ℕ → List Member
+icmpv6_content message =
+    let fields = icmpv6.icmp_type_of message in
+    message_members (slice_index message 0) (slice_index message 1) (icmpv6_text.message_text fields) ++ icmpv6_fields fields
+
+-- an ICMPv6 message
 abbrev pub icmpv6_members : List ℕ → List Member
-icmpv6_members message = (
-  codes "icmpv6",
-  object_of (message_fields (slice_index message 0) (slice_index message 1)
-      (icmpv6_text.message_text (icmpv6.icmp_type_of message))),
-) ∷ []
+icmpv6_members message = (codes "icmpv6", object_of (icmpv6_content message)) ∷ []
 
 -- these members are a transport with a header that is read
 abbrev pub AreReadMembers : TransportSlice → List Member → Type 0

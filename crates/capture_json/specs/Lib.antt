@@ -1,3 +1,4 @@
+pub mod JsonIcmp
 pub mod JsonPacket
 pub mod JsonSummary
 pub mod Members

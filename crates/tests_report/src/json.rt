@@ -9,7 +9,7 @@ use capture_run::Times;
 use capture_summary::{CaptureInfo, FrameLen, Protocol, RefusalKind, Summary, VerdictKind};
 use etherparse_transport::ip::{IpAddresses, IpError};
 use etherparse_transport::{
-    ChecksumVerdict, Icmpv4Slice, IpNumber, Proto, TcpSlice, TransportSlice, UdpSlice, Untested,
+    ChecksumVerdict, Icmpv4Slice, Icmpv6Slice, IpNumber, Proto, TcpSlice, TransportSlice, UdpSlice, Untested,
     ip_number,
 };
 use std::hash::RandomState;
@@ -199,6 +199,73 @@ fn over_ipv4(bytes: &[u8]) -> Result<Content<'_>, Fail> {
 fn objects_of_transports(rt: HostRuntime) -> Result<(), Fail> {
     for (bytes, verdict, wanted) in &TRANSPORTS {
         expect_object(&rt, over_ipv4(bytes)?, Verdict::Checksum(*verdict), wanted)?;
+    }
+    Ok(())
+}
+
+/// ICMPv4 messages, and the members of each after the type and the code.
+#[rattlefmt::skip]
+const ICMPV4_FIELDS: [(&[u8], &str); 8] = [
+    (&[8, 0, 9, 9, 0, 1, 0, 2], r#""type":8,"code":0,"message":"echo request, code 0, identifier 1, sequence number 2","identifier":1,"sequence":2"#),
+    (&[0, 0, 9, 9, 0, 1, 0, 2], r#""type":0,"code":0,"message":"echo reply, code 0, identifier 1, sequence number 2","identifier":1,"sequence":2"#),
+    (&[3, 4, 9, 9, 0, 0, 5, 0xDC], r#""type":3,"code":4,"message":"destination unreachable, code 4 (fragmentation needed), next-hop MTU 1500","mtu":1500"#),
+    (&[3, 3, 9, 9, 0, 0, 5, 0xDC], r#""type":3,"code":3,"message":"destination unreachable, code 3 (port)""#),
+    (&[5, 1, 9, 9, 192, 0, 2, 1], r#""type":5,"code":1,"message":"redirect, code 1 (host), gateway 192.0.2.1","gateway":"192.0.2.1""#),
+    (&[12, 0, 9, 9, 20, 0, 0, 0], r#""type":12,"code":0,"message":"parameter problem, code 0 (pointer indicates the error), pointer 20","pointer":20"#),
+    (&[12, 2, 9, 9, 20, 0, 0, 0], r#""type":12,"code":2,"message":"parameter problem, code 2 (bad length)""#),
+    (&[42, 0, 9, 9, 0, 0, 0, 0], r#""type":42,"code":0,"message":"type 42, code 0, bytes 5 to 8 00000000""#),
+];
+
+/// ICMPv6 messages, and the members of each.
+#[rattlefmt::skip]
+const ICMPV6_FIELDS: [(&[u8], &str); 4] = [
+    (&[2, 0, 9, 9, 0, 0, 5, 0], r#""type":2,"code":0,"message":"packet too big, code 0, MTU 1280","mtu":1280"#),
+    (&[4, 1, 9, 9, 0, 0, 0, 40], r#""type":4,"code":1,"message":"parameter problem, code 1 (unrecognized next header), pointer 40","pointer":40"#),
+    (&[128, 0, 9, 9, 0, 1, 0, 2], r#""type":128,"code":0,"message":"echo request, code 0, identifier 1, sequence number 2","identifier":1,"sequence":2"#),
+    (&[133, 0, 9, 9, 0, 0, 0, 0], r#""type":133,"code":0,"message":"router solicitation, code 0""#),
+];
+
+/// Stops the test unless the object of a packet over IPv4 with this ICMP message has these members for it.
+fn expect_message(
+    rt: &(impl Abort + AllocGlobal),
+    message: TransportSlice,
+    name: &str,
+    members: &str,
+) -> Result<(), Fail> {
+    let content = Content::Ip {
+        addresses: OVER_IPV4,
+        protocol: ip_number::ICMP,
+        proto: Some(Proto::Icmpv4),
+        payload_len: 0,
+        transport: Transport::Read(message),
+    };
+    let before =
+        r#"{"type":"packet","number":1,"time":null,"source":"192.0.2.1","destination":"192.0.2.2","protocol":1,"protocol_name":"ICMPv4","#;
+    let wanted = format!(in rt.alloc();
+        "{before}\"{name}\":{{{members}}},\"payload_length\":0,\"checksum\":\"right\"}}"
+    )?;
+    expect_object(
+        rt,
+        content,
+        Verdict::Checksum(ChecksumVerdict::Right),
+        &wanted,
+    )
+}
+
+#[test]
+fn objects_of_icmpv4_messages(rt: HostRuntime) -> Result<(), Fail> {
+    for (bytes, members) in &ICMPV4_FIELDS {
+        let message = TransportSlice::Icmpv4(Icmpv4Slice::from_slice(bytes)?);
+        expect_message(&rt, message, "icmpv4", members)?;
+    }
+    Ok(())
+}
+
+#[test]
+fn objects_of_icmpv6_messages(rt: HostRuntime) -> Result<(), Fail> {
+    for (bytes, members) in &ICMPV6_FIELDS {
+        let message = TransportSlice::Icmpv6(Icmpv6Slice::from_slice(bytes)?);
+        expect_message(&rt, message, "icmpv6", members)?;
     }
     Ok(())
 }

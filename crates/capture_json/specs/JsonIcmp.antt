@@ -1,0 +1,46 @@
+-- The fields of ICMP messages as JSON members (RFC 792, RFC 4443).
+use Rattle.std.specs.Prelude.{ℕ, List, [], ◌∷◌, codes, Option, None, Some}
+use Rattle.std.specs.Net.Text.{ipv4_text}
+use Rattle.capture_json.specs.Members.{Member, whole_number}
+use Rattle.capture_text.specs.Icmpv4Text.{mtu_of, pointer_of}
+use Rattle.icmp_part.specs.declared.icmpv4_type.Icmpv4Type.{Icmpv4Type}
+use Rattle.icmp_part.specs.declared.icmpv4_type.Icmpv4Type.TheVariants as icmpv4
+use Rattle.icmp_part.specs.declared.icmpv6_type.Icmpv6Type.{Icmpv6Type}
+use Rattle.icmp_part.specs.declared.icmpv6_type.Icmpv6Type.TheVariants as icmpv6
+use Rattle.serde_json.specs.Data.{string}
+
+-- the identifier and the sequence number of a message and its reply
+abbrev pub echo_fields : ℕ → ℕ → List Member
+echo_fields identifier sequence = (codes "identifier", whole_number identifier) ∷ (codes "sequence", whole_number sequence) ∷ []
+
+-- a number that only some messages of a type have
+abbrev pub optional_number : List ℕ → Option ℕ → List Member
+optional_number name None = []
+optional_number name (Some value) = (name, whole_number value) ∷ []
+
+-- the fields of an ICMPv4 message
+abbrev pub icmpv4_fields : Icmpv4Type → List Member
+icmpv4_fields (icmpv4.Unknown type code bytes) = []
+icmpv4_fields (icmpv4.EchoReply echo) = echo_fields echo.id echo.seq
+icmpv4_fields (icmpv4.DestinationUnreachable header) = optional_number (codes "mtu") (mtu_of header)
+icmpv4_fields (icmpv4.Redirect header) = (codes "gateway", string (ipv4_text header.gateway_internet_address)) ∷ []
+icmpv4_fields (icmpv4.EchoRequest echo) = echo_fields echo.id echo.seq
+icmpv4_fields (icmpv4.TimeExceeded code) = []
+icmpv4_fields (icmpv4.ParameterProblem header) = optional_number (codes "pointer") (pointer_of header)
+icmpv4_fields (icmpv4.TimestampRequest times) = echo_fields times.id times.seq
+icmpv4_fields (icmpv4.TimestampReply times) = echo_fields times.id times.seq
+
+-- the fields of an ICMPv6 message
+abbrev pub icmpv6_fields : Icmpv6Type → List Member
+icmpv6_fields (icmpv6.Unknown type code bytes) = []
+icmpv6_fields (icmpv6.DestinationUnreachable code) = []
+icmpv6_fields (icmpv6.PacketTooBig mtu) = (codes "mtu", whole_number mtu) ∷ []
+icmpv6_fields (icmpv6.TimeExceeded code) = []
+icmpv6_fields (icmpv6.ParameterProblem header) = (codes "pointer", whole_number header.pointer) ∷ []
+icmpv6_fields (icmpv6.EchoRequest echo) = echo_fields echo.id echo.seq
+icmpv6_fields (icmpv6.EchoReply echo) = echo_fields echo.id echo.seq
+icmpv6_fields icmpv6.RouterSolicitation = []
+icmpv6_fields (icmpv6.RouterAdvertisement router) = []
+icmpv6_fields icmpv6.NeighborSolicitation = []
+icmpv6_fields (icmpv6.NeighborAdvertisement neighbor) = []
+icmpv6_fields icmpv6.Redirect = []
