@@ -11,13 +11,14 @@ use Rattle.capture_packet.specs.declared.packet.Packet.{Packet}
 use Rattle.capture_packet.specs.declared.transport.Transport.{Transport}
 use Rattle.capture_packet.specs.declared.transport.Transport.TheVariants as transports
 use Rattle.capture_file.specs.declared.packet_time.PacketTime.{PacketTime}
-use Rattle.capture_text.proofs.LineLaws.{one_of, one_option_list}
+use Rattle.capture_text.proofs.LineLaws.{one_of}
 use Rattle.capture_text.specs.declared.times.Times.{Times}
+use Rattle.capture_json.proofs.OptionLaws.{one_options}
 use Rattle.capture_json.specs.JsonPacket.{AreContentMembers, AreReadMembers, AreTcpHeaderMembers, AreTcpMembers, AreTransportMembers, HasOneJsonLine, json_line, tcp_header_members}
 
 one_header : (header : List ℕ) (members others : List Member)
     → AreTcpHeaderMembers header members → AreTcpHeaderMembers header others → members ≡ others
-one_header header = one_of _ (tcp_header_members header) (one_option_list (options_of header))
+one_header header = one_of _ (tcp_header_members header) (one_options (options_of header))
 
 one_segment : (segment : List ℕ) (members others : List Member) → AreTcpMembers segment members → AreTcpMembers segment others → members ≡ others
 one_segment segment members others are also = one_of _ _ (one_header segment) members others are also

@@ -1,11 +1,12 @@
 -- Members and items that are written one after the other, of packets.
-use Rattle.std.proofs.Common.{◌≡◌, ◌<◌, ◌+◌, ◌∙◌, ℕ, List, [], ◌++◌, OnOk, Result, ap, get_or, length, map, None, Some, sym, take, true, true≢false}
+use Rattle.std.proofs.Common.{◌≡◌, ◌<◌, ◌+◌, ◌∙◌, ◌∷◌, [], ℕ, List, ◌++◌, OnOk, Result, ap, get_or, length, map, None, Some, sym, take, true, true≢false}
 use Rattle.std.proofs.lemmas.List.{flat_map_more, map-append, take_more}
 use Rattle.std.proofs.lemmas.Result.{on_ok_weaker}
+use Rattle.std.specs.List.{flat_map}
 use Rattle.json.specs.Token.{Token}
 use Rattle.capture_json.specs.Members.{Member}
-use Rattle.capture_json.specs.Tokens.{PutsOne, with_items, with_members}
-use Rattle.serde_json.specs.Data.{string}
+use Rattle.capture_json.specs.Tokens.{PutsOne, push, with_items, with_members}
+use Rattle.serde_json.specs.Data.{Data, string}
 use Rattle.ip_part.specs.Addresses.{Addresses, Ipv4, Ipv6}
 use Rattle.capture_packet.specs.Addresses.{destination_text}
 use Rattle.capture_packet.specs.Addresses.{has_destination}
@@ -19,6 +20,27 @@ pub more_texts : (texts more : List (List ℕ)) (before between after : List Tok
 more_texts texts more before between after is_first is_second =
     is_second ∙ ap (with_items (map string more)) is_first ∙ sym (items_append (map string texts) (map string more) before)
     ∙ sym (ap (λ items. with_items items before) (map-append string texts more))
+
+-- one more item
+pub one_more_item : (values : List Data) (value : Data) (before between after : List Token) → between ≡ with_items values before
+    → after ≡ push value between → after ≡ with_items (values ++ value ∷ []) before
+one_more_item values value before between after is_first is_second =
+    is_second ∙ ap (push value) is_first ∙ sym (items_append values (value ∷ []) before)
+
+-- more items
+more_items : (values more : List Data) (before between after : List Token) → between ≡ with_items values before
+    → after ≡ with_items more between → after ≡ with_items (values ++ more) before
+more_items values more before between after is_first is_second =
+    is_second ∙ ap (with_items more) is_first ∙ sym (items_append values more before)
+
+-- the items of one more thing
+pub items_more : {X : Type 0} (xs : List X) (items : X → List Data) (i : ℕ) (d : X) (before between after : List Token) → i < length xs
+    → between ≡ with_items (flat_map items (take i xs)) before → after ≡ with_items (items (get_or xs i d)) between
+    → after ≡ with_items (flat_map items (take (i + 1) xs)) before
+items_more xs items i d before between after below is_first is_second =
+    more_items (flat_map items (take i xs)) (items (get_or xs i d)) before between after is_first is_second
+    ∙ ap (λ values. with_items values before)
+    (flat_map_more items [] (take i xs) (get_or xs i d) ∙ ap (flat_map items) (sym (take_more xs i d below)))
 
 -- one more flag
 pub names_more : {X : Type 0} (flags : List X) (named : X → NamedFlag) (i : ℕ) (d : X) (before between after : List Token) → i < length flags

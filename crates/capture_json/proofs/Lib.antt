@@ -1,3 +1,4 @@
 mod JsonLaws
 mod JsonLemmas
+mod OptionLaws
 pub mod TokensLemmas

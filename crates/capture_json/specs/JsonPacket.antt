@@ -37,13 +37,14 @@ use Rattle.capture_summary.specs.Kinds.{untested_kind, verdict_word}
 use Rattle.capture_summary.specs.declared.verdict_kind.VerdictKind.{VerdictKind}
 use Rattle.capture_summary.specs.declared.verdict_kind.VerdictKind.TheVariants as kinds
 use Rattle.capture_json.specs.JsonIcmp.{icmpv4_fields, icmpv6_fields}
+use Rattle.capture_json.specs.JsonOptions.{AreOptionMembers}
 use Rattle.capture_json.specs.Words.{with_underscores}
 use Rattle.capture_text.specs.Flags.{NamedFlag}
 use Rattle.capture_text.specs.Icmpv4Text as icmpv4_text
 use Rattle.capture_text.specs.Icmpv6Text as icmpv6_text
 use Rattle.capture_summary.specs.ProtocolNames.{ip_protocol_name, network_protocol_name}
 use Rattle.capture_text.specs.Refusals.{refusal_text}
-use Rattle.capture_text.specs.TcpText.{AreOptionTexts, tcp_flags}
+use Rattle.capture_text.specs.TcpText.{tcp_flags}
 use Rattle.capture_text.specs.TimeText.{time_text}
 use Rattle.capture_text.specs.declared.times.Times.{Times}
 
@@ -109,16 +110,16 @@ tcp_number_members header =
 abbrev pub urgent_members : List ℕ → List Member
 urgent_members header = if flag_of header urg_flag then (codes "urgent_pointer", whole_number (be_number header 18 2)) ∷ [] else []
 
--- the fields of a header after its ports, except the checksum; its options have these texts
-abbrev pub tcp_header_members : List ℕ → List (List ℕ) → List Member
+-- the fields of a header after its ports, except the checksum, with these members of its options
+abbrev pub tcp_header_members : List ℕ → List Member → List Member
 tcp_header_members header options =
     (codes "flags", texts_data (names_of_set (λ flag. flag) (tcp_flags header)))
-    ∷ (tcp_number_members header ++ (urgent_members header ++ ((codes "options", texts_data options) ∷ [])))
+    ∷ (tcp_number_members header ++ (urgent_members header ++ options))
 
 -- these members are the fields of a header after its ports, except the checksum
 abbrev pub AreTcpHeaderMembers : List ℕ → List Member → Type 0
 AreTcpHeaderMembers header members =
-    (options : List (List ℕ)) × AreOptionTexts (options_of header) options × (members ≡ tcp_header_members header options)
+    (options : List Member) × AreOptionMembers (options_of header) options × (members ≡ tcp_header_members header options)
 
 -- these members are a TCP segment: its ports and its header
 abbrev pub AreTcpMembers : List ℕ → List Member → Type 0

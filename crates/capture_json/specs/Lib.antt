@@ -1,4 +1,5 @@
 pub mod JsonIcmp
+pub mod JsonOptions
 pub mod JsonPacket
 pub mod JsonSummary
 pub mod Members

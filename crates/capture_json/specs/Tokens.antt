@@ -1,13 +1,15 @@
 -- The tokens of a line that is being written (the crate `json`). Only the calls that write a part of a line cite this page.
-use Rattle.std.specs.Prelude.{◌≡◌, ℕ, List, [], ◌∷◌, ◌++◌, codes, map}
+use Rattle.std.specs.Prelude.{◌≡◌, ℕ, List, [], ◌∷◌, ◌++◌, codes, Option}
 use Rattle.std.specs.List.{flat_map}
 use Rattle.json.specs.Print.{print}
 use Rattle.json.specs.Token as token
 use Rattle.json.specs.Token.{Token}
 use Rattle.json.specs.Tree.{json_tokens}
-use Rattle.serde_json.specs.Data.{Data, string}
+use Rattle.serde_json.specs.Data.{Data}
 use Rattle.serde_json.specs.Written.{compact_text, outline}
+use Rattle.capture_json.specs.JsonOptions.{AreOptionObjects}
 use Rattle.capture_json.specs.Members.{Member}
+use Rattle.tcp_part.specs.declared.tcp_raw_option_error.TcpRawOptionError.{TcpRawOptionError}
 use Rattle.capture_json.specs.declared.line.Line.{Line}
 
 -- the tokens of a line so far
@@ -60,13 +62,14 @@ array_ended before = before ++ token.end_array ∷ []
 abbrev pub PutsOne : (List Member → Type 0) → List Token → List Token → Type 0
 PutsOne Are before after = (members : List Member) × Are members × (after ≡ with_members members before)
 
--- texts for which this statement holds were written as items
-abbrev pub PushesTexts : (List (List ℕ) → Type 0) → List Token → List Token → Type 0
-PushesTexts Are before after = (texts : List (List ℕ)) × Are texts × (after ≡ with_items (map string texts) before)
+-- a value for which this statement holds was written as an item
+abbrev pub PushesItem : (Data → Type 0) → List Token → List Token → Type 0
+PushesItem IsItem before after = (value : Data) × IsItem value × (after ≡ push value before)
 
--- a text for which this statement holds was written as an item
-abbrev pub PushesOne : (List ℕ → Type 0) → List Token → List Token → Type 0
-PushesOne IsText before after = (text : List ℕ) × IsText text × (after ≡ push (string text) before)
+-- the objects of the options in some bytes, up to this fault, were written as items
+abbrev pub PushesOptions : List ℕ → Option TcpRawOptionError → List Token → List Token → Type 0
+PushesOptions bytes fault before after =
+    (values : List Data) × AreOptionObjects bytes values fault × (after ≡ with_items values before)
 
 -- the text of an object that lacks only its closing brace, and a line feed
 abbrev pub line_text : List Token → List ℕ

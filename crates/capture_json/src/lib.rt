@@ -20,6 +20,7 @@ mod protocol;
 mod quoted;
 mod summary;
 mod tcp;
+mod tcp_options;
 mod text;
 mod totals;
 mod tunnels;

@@ -2,17 +2,16 @@
 
 ghost use Rattle.std.specs.Prelude.{◌≡◌, OnOk, codes, map};
 ghost use Rattle.capture_json.specs.Members.{texts_data};
-ghost use Rattle.capture_json.specs.Tokens.{PushesOne, PushesTexts, PutsOne, push, put, tokens_in, with_items, with_members};
+ghost use Rattle.capture_json.specs.Tokens.{PutsOne, put, tokens_in, with_items, with_members};
 ghost use Rattle.serde_json.specs.Data.{string};
-ghost use Rattle.tcp_part.specs.TcpFormat.{options_of};
 ghost use Rattle.capture_json.specs.JsonPacket.{AreTcpHeaderMembers, AreTcpMembers, name_if_set, names_of_set, tcp_number_members, urgent_members};
-ghost use Rattle.capture_text.specs.TcpText.{AreOptionTexts, IsOptionText, fault_text, tcp_flags};
+ghost use Rattle.capture_text.specs.TcpText.{tcp_flags};
 
 use crate::Line;
 use crate::addresses::put_ports;
-use crate::text::push_written;
-use capture_text::{named_flags, write_fault, write_option};
-use etherparse_transport::{TcpRawOption, TcpRawOptionError, TcpSlice};
+use crate::tcp_options::put_options;
+use capture_text::named_flags;
+use etherparse_transport::TcpSlice;
 use std::alloc::AllocError;
 use std::io;
 
@@ -33,9 +32,7 @@ fn put_header(line: &mut Line, room: &mut Vec<u8>, segment: &TcpSlice) -> io::Re
     put_flags(line, segment)?;
     put_numbers(line, segment)?;
     put_urgent_pointer(line, segment)?;
-    line.begin_array("options")?;
-    push_options(line, room, segment)?;
-    Ok(line.end_array()?)
+    put_options(line, room, segment)
 }
 
 /// Writes the names of the flags that are set.
@@ -82,42 +79,4 @@ fn put_urgent_pointer(line: &mut Line, segment: &TcpSlice) -> Result<(), AllocEr
     } else {
         Ok(())
     }
-}
-
-/// Writes the texts of the options as items, up to the end of the list or the first fault.
-fn push_options(line: &mut Line, room: &mut Vec<u8>, segment: &TcpSlice) -> io::Result<()>
-    ensures { OnOk result (PushesTexts (AreOptionTexts (options_of segment.now)) (tokens_in line.old) (tokens_in line.new)) }
-{
-    let mut options = segment.raw_options_iterator();
-    let mut rest = options.rest();
-    while let Some(option) = options.next() {
-        match option {
-            Ok(option) => push_option(line, room, &option)?,
-            Err(error) => return push_fault(line, room, &error),
-        }
-        rest = options.rest();
-    }
-    if rest.is_empty() {
-        return Ok(());
-    }
-    // Bytes are left at the end of the list, so kind 0 is next.
-    Ok(line.push_text("end of options")?)
-}
-
-/// Writes the text of an option as an item.
-fn push_option(line: &mut Line, room: &mut Vec<u8>, option: &TcpRawOption) -> io::Result<()>
-    ensures { OnOk result (PushesOne (IsOptionText option.now) (tokens_in line.old) (tokens_in line.new)) }
-{
-    room.clear();
-    write_option(room, option)?;
-    push_written(line, room.as_slice())
-}
-
-/// Writes the reason why the next option can't be read as an item.
-fn push_fault(line: &mut Line, room: &mut Vec<u8>, error: &TcpRawOptionError) -> io::Result<()>
-    ensures { OnOk result (tokens_in line.new ≡ push (string (fault_text error.now)) (tokens_in line.old)) }
-{
-    room.clear();
-    write_fault(room, error)?;
-    push_written(line, room.as_slice())
 }

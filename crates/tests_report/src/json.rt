@@ -1,4 +1,5 @@
 use crate::expect::{expect_ok, expect_text};
+use crate::report::joined;
 use crate::summary::{judge, refuse};
 use crate::text::flow_of_ipv4;
 use capture_file::pcapng::TimeResolution;
@@ -9,8 +10,8 @@ use capture_run::Times;
 use capture_summary::{CaptureInfo, FrameLen, Protocol, RefusalKind, Summary, VerdictKind};
 use etherparse_transport::ip::{IpAddresses, IpError};
 use etherparse_transport::{
-    ChecksumVerdict, Icmpv4Slice, Icmpv6Slice, IpNumber, Proto, TcpSlice, TransportSlice, UdpSlice, Untested,
-    ip_number,
+    ChecksumVerdict, Icmpv4Slice, Icmpv6Slice, IpNumber, Proto, TcpSlice, TransportSlice, UdpSlice,
+    Untested, ip_number,
 };
 use std::hash::RandomState;
 use std::process::Abort;
@@ -176,7 +177,7 @@ static TRANSPORTS: [(&[u8], ChecksumVerdict, &str); 3] = [
     (&DATAGRAM_OF_0, ChecksumVerdict::Untested(Untested::ZeroLength),
      r#"{"type":"packet","number":1,"time":null,"source":"192.0.2.1","destination":"192.0.2.2","protocol":17,"protocol_name":"UDP","source_port":7,"destination_port":9,"udp":{"length":0},"payload_length":1,"refused":"UDP header needs 8 bytes, the UDP length is 0"}"#),
     (&SEGMENT, ChecksumVerdict::Right,
-     r#"{"type":"packet","number":1,"time":null,"source":"192.0.2.1","destination":"192.0.2.2","protocol":17,"protocol_name":"UDP","source_port":7,"destination_port":9,"tcp":{"flags":["SYN","URG"],"sequence":1,"acknowledgment":2,"window":3,"urgent_pointer":4,"options":["window scale 7","option 8 with length 1 below 2"]},"payload_length":0,"checksum":"right"}"#),
+     r#"{"type":"packet","number":1,"time":null,"source":"192.0.2.1","destination":"192.0.2.2","protocol":17,"protocol_name":"UDP","source_port":7,"destination_port":9,"tcp":{"flags":["SYN","URG"],"sequence":1,"acknowledgment":2,"window":3,"urgent_pointer":4,"options":[{"kind":3,"shift":7}],"options_fault":"option 8 with length 1 below 2"},"payload_length":0,"checksum":"right"}"#),
 ];
 
 /// A packet over IPv4 with these bytes as its transport.
@@ -199,6 +200,43 @@ fn over_ipv4(bytes: &[u8]) -> Result<Content<'_>, Fail> {
 fn objects_of_transports(rt: HostRuntime) -> Result<(), Fail> {
     for (bytes, verdict, wanted) in &TRANSPORTS {
         expect_object(&rt, over_ipv4(bytes)?, Verdict::Checksum(*verdict), wanted)?;
+    }
+    Ok(())
+}
+
+/// Options, and the members of each list of options.
+#[rattlefmt::skip]
+const OPTIONS: [(&[u8], &str); 9] = [
+    (&[2, 4, 5, 0xB4, 4, 2, 8, 10, 0, 0, 0, 100, 0, 0, 0, 9, 1, 3, 3, 7],
+     r#""options":[{"kind":2,"maximum_segment_size":1460},{"kind":4},{"kind":8,"value":100,"echo_reply":9},{"kind":1},{"kind":3,"shift":7}]"#),
+    (&[5, 10, 0, 0, 0, 1, 0, 0, 0, 2, 0, 0], r#""options":[{"kind":5,"selective_acknowledgment":[{"left":1,"right":2}]},{"kind":0}]"#),
+    (&[5, 18, 0, 0, 0, 1, 0, 0, 0, 2, 0, 0, 0, 3, 0xFF, 0xFF, 0xFF, 0xFF, 1, 1],
+     r#""options":[{"kind":5,"selective_acknowledgment":[{"left":1,"right":2},{"left":3,"right":4294967295}]},{"kind":1},{"kind":1}]"#),
+    (&[254, 6, 1, 2, 0xAB, 4, 0, 9], r#""options":[{"kind":254,"data":"0102AB04"},{"kind":0}]"#),
+    (&[253, 2, 3, 4, 7, 7, 0, 0], r#""options":[{"kind":253,"data":""},{"kind":3,"data":"0707"},{"kind":0}]"#),
+    (&[0, 0, 0, 0], r#""options":[{"kind":0}]"#),
+    (&[], r#""options":[]"#),
+    (&[1, 1, 1, 2], r#""options":[{"kind":1},{"kind":1},{"kind":1}],"options_fault":"option 2 without a length byte""#),
+    (&[8, 10, 0, 0], r#""options":[],"options_fault":"option 8 with length 10 above the 4 bytes left""#),
+];
+
+#[test]
+fn objects_of_options(rt: HostRuntime) -> Result<(), Fail> {
+    for (options, wanted) in &OPTIONS {
+        let words = u8::try_from(5 + options.len() / 4)?;
+        let parts: [&[u8]; 3] = [
+            &[0, 7, 0, 9, 0, 0, 0, 1, 0, 0, 0, 2],
+            &[words.saturating_mul(16), 2, 0, 3, 0, 0, 0, 0],
+            options,
+        ];
+        let bytes = joined(rt.alloc(), &parts)?;
+        let before =
+            r#"{"type":"packet","number":1,"time":null,"source":"192.0.2.1","destination":"192.0.2.2","protocol":17,"protocol_name":"UDP","source_port":7,"destination_port":9,"tcp":{"flags":["SYN"],"sequence":1,"acknowledgment":2,"window":3,"#;
+        let wanted = format!(in rt.alloc();
+            "{before}{wanted}}},\"payload_length\":0,\"checksum\":\"right\"}}"
+        )?;
+        let verdict = Verdict::Checksum(ChecksumVerdict::Right);
+        expect_object(&rt, over_ipv4(&bytes)?, verdict, &wanted)?;
     }
     Ok(())
 }
