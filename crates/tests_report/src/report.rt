@@ -672,7 +672,7 @@ const OBJECT: &str =
 
 /// The first members of the object of the summary.
 const TOTALS: &str =
-    r#"{"busiest_conversations":[{"bytes":29,"destination":"192.0.2.2","destination_port":9,"forward":{"bytes":29,"packets":1},"packets":1,"protocol":17,"protocol_name":"UDP","reverse":{"bytes":0,"packets":0},"source":"192.0.2.1","source_port":7}],"bytes":29,"checksums":{"#;
+    r#"{"type":"summary","packets":1,"bytes":29,"conversations":1,"first_packet":"1970-01-01T00:00:05.000007Z","last_packet":"1970-01-01T00:00:05.000007Z","duration":"00:00:00.000000","link_types":{"BSD_loopback":0,"#;
 
 /// Which lines there are, whether there is a summary, and what the report begins with.
 #[rattlefmt::skip]
