@@ -49,7 +49,8 @@ counts_head title =
 abbrev pub counts_row : List ℕ × Count → List ℕ
 counts_row row =
     if row.1.packets == 0 then []
-    else name_cell name_width row.0 ++ (codes " " ++ (number_cell 11 row.1.packets ++ (codes " " ++ (number_cell 17 row.1.bytes ++ codes "\n"))))
+    else name_cell name_width row.0 ++ (codes " " ++ (number_cell 11 row.1.packets ++ (codes " "
+    ++ (number_cell 17 row.1.bytes ++ codes "\n"))))
 
 -- ---- tables: each counts this number of packets, and is left out if the number is 0
 
