@@ -1,9 +1,9 @@
 -- Worked examples of captures, so that a wrong definition fails before any code does.
-use Rattle.std.proofs.Common.{◌≡◌, ℕ, List, [], ◌∷◌, ◌++◌, None, Some, arith, inl, refl, replicate}
-use Rattle.capture_file.specs.Classic.{form_of, header_refusal, link_type_with, record_header, record_len, IsHeaderOf, IsReading, IsRecord}
+use Rattle.std.proofs.Common.{◌≡◌, ℕ, List, [], ◌∷◌, ◌++◌, None, Some, Err, Ok, arith, inl, refl, replicate}
+use Rattle.capture_file.specs.Classic.{form_of, header_refusal, link_type_or_number, link_type_with, record_header, record_len, IsHeaderOf, IsReading, IsRecord}
 use Rattle.capture_file.specs.Reading.{required_len}
 use Rattle.capture_file.specs.declared.byte_order.ByteOrder.TheVariants.{BigEndian, LittleEndian}
-use Rattle.capture_file.specs.declared.classic.capture_header_error.CaptureHeaderError.TheVariants.{CutOff, Magic, Pcapng, LinkType}
+use Rattle.capture_file.specs.declared.classic.capture_header_error.CaptureHeaderError.TheVariants.{CutOff, Magic, Modified, Pcapng, Version}
 use Rattle.capture_file.specs.declared.link_type.LinkType.TheVariants.{Ethernet, LinuxCooked2}
 use Rattle.capture_file.specs.declared.classic.record_header.Resolution.TheVariants.{Microseconds, Nanoseconds}
 
@@ -17,7 +17,7 @@ little_endian_microseconds = refl
 ethernet_is_read : header_refusal ethernet ≡ None
 ethernet_is_read = refl
 
-ethernet_header : IsHeaderOf ethernet (record { byte_order = LittleEndian; resolution = Microseconds; link_type = Ethernet })
+ethernet_header : IsHeaderOf ethernet (record { byte_order = LittleEndian; resolution = Microseconds; link_type = Ok Ethernet })
 ethernet_header = record { resolution = refl; link_type = refl }
 
 big_endian_nanoseconds : form_of (161 ∷ 178 ∷ 60 ∷ 77 ∷ []) ≡ Some (BigEndian, Nanoseconds)
@@ -26,7 +26,13 @@ big_endian_nanoseconds = refl
 other_magic : header_refusal (1 ∷ 2 ∷ 3 ∷ 4 ∷ replicate 20 0) ≡ Some (Magic 16909060)
 other_magic = refl
 
-other_link_type : header_refusal (161 ∷ 178 ∷ 195 ∷ 212 ∷ replicate 19 0 ++ 147 ∷ []) ≡ Some (LinkType 147)
+modified : header_refusal (52 ∷ 205 ∷ 178 ∷ 161 ∷ replicate 20 0) ≡ Some Modified
+modified = refl
+
+version_2_3 : header_refusal (161 ∷ 178 ∷ 195 ∷ 212 ∷ 0 ∷ 2 ∷ 0 ∷ 3 ∷ replicate 16 0) ≡ Some (Version 2 3)
+version_2_3 = refl
+
+other_link_type : link_type_or_number 147 ≡ Err 147
 other_link_type = refl
 
 pcapng_before_length : header_refusal (10 ∷ 13 ∷ 13 ∷ 10 ∷ []) ≡ Some Pcapng

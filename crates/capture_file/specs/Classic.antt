@@ -1,5 +1,5 @@
 -- The classic format of a capture file (draft-ietf-opsawg-pcap, sections 4 and 5): its header, its records, and its division into records.
-use Rattle.std.specs.Prelude.{◌≡◌, ℕ, zero, suc, ◌+◌, ◌*◌, ◌%◌, ◌^◌, ◌<◌, ◌≤◌, ◌==◌, ◌⊎◌, nat_lt, List, [], ◌∷◌, ◌++◌, length, take, slice_index, Option, Some, None, is_none}
+use Rattle.std.specs.Prelude.{◌≡◌, ℕ, zero, suc, ◌+◌, ◌*◌, ◌%◌, ◌^◌, ◌<◌, ◌≤◌, ◌==◌, ◌||◌, ◌&&◌, ◌⊎◌, not, nat_le, nat_lt, ok_or, Bool, if◌then◌else◌, Result, List, [], ◌∷◌, ◌++◌, length, take, slice_index, Option, Some, None, is_none}
 use Rattle.std.specs.List.{AllByRecursion, concat}
 use Rattle.std.specs.Option.{option_map, option_or}
 use Rattle.std.specs.Map.{lookup}
@@ -9,7 +9,7 @@ use Rattle.capture_file.specs.declared.byte_order.ByteOrder.{ByteOrder}
 use Rattle.capture_file.specs.declared.byte_order.ByteOrder.TheVariants.{BigEndian, LittleEndian}
 use Rattle.capture_file.specs.declared.classic.capture_header.CaptureHeader.{CaptureHeader}
 use Rattle.capture_file.specs.declared.classic.capture_header_error.CaptureHeaderError.{CaptureHeaderError}
-use Rattle.capture_file.specs.declared.classic.capture_header_error.CaptureHeaderError.TheVariants.{CutOff, Magic, Pcapng, LinkType as UnknownLinkType}
+use Rattle.capture_file.specs.declared.classic.capture_header_error.CaptureHeaderError.TheVariants.{CutOff, Magic, Modified, Pcapng, Version}
 use Rattle.capture_file.specs.declared.link_type.LinkType.{LinkType}
 use Rattle.capture_file.specs.declared.link_type.LinkType.TheVariants.{BsdLoopback, CiscoHdlc, Ethernet, FrameRelay, Ieee80211, Ipnet, LinuxCooked, LinuxCooked2, OpenBsdLoopback, Pflog, Pktap, Ppi, Ppp, PppHdlc, PppOverEthernet, Prism, Radiotap, RawIp}
 use Rattle.capture_file.specs.declared.classic.record_header.RecordHeader.{RecordHeader}
@@ -59,15 +59,19 @@ link_types =
 abbrev pub link_type_with : ℕ → Option LinkType
 link_type_with number = lookup (λ known. number == known) link_types
 
+-- the link type with this number, or the number, if the link type is not read
+abbrev pub link_type_or_number : ℕ → Result LinkType ℕ
+link_type_or_number number = ok_or (link_type_with number) number
+
 -- the number of the link type: the low 16 bits of the number in bytes 20 to 23
 abbrev pub link_number : ByteOrder → List ℕ → ℕ
 link_number order bytes = number_at order bytes 20 % 65536
 
 -- The header of the capture that begins with these bytes. Its resolution belongs to the magic number in its byte order. Its link type
--- belongs to the number of the link type.
+-- belongs to the number of the link type, or it is this number, if the link type is not read.
 pub record IsHeaderOf (bytes : List ℕ) (header : CaptureHeader) : Type 0 where
   pub resolution : resolution_with (number_at header.byte_order bytes 0) ≡ Some header.resolution
-  pub link_type : link_type_with (link_number header.byte_order bytes) ≡ Some header.link_type
+  pub link_type : header.link_type ≡ link_type_or_number (link_number header.byte_order bytes)
 
 -- this byte order, and the resolution whose magic number is in the first four bytes, if there is one
 abbrev pub form_in : ByteOrder → List ℕ → Option (ByteOrder × Resolution)
@@ -77,20 +81,32 @@ form_in order bytes = option_map (λ resolution. (order, resolution)) (resolutio
 abbrev pub form_of : List ℕ → Option (ByteOrder × Resolution)
 form_of bytes = option_or (form_in BigEndian bytes) (form_in LittleEndian bytes)
 
--- the error for a link type that is not read, in a capture with this byte order and resolution
-abbrev pub link_type_refusal : Option (ByteOrder × Resolution) → List ℕ → Option CaptureHeaderError
-link_type_refusal None bytes = None
-link_type_refusal (Some form) bytes =
-    refused_if (is_none (link_type_with (link_number form.0 bytes))) (UnknownLinkType (link_number form.0 bytes))
+-- The error for the first four bytes, if they are no magic number that is read. A1B2CD34 is the magic number of the modified format of older
+-- Linux systems (libpcap), with longer headers of records.
+abbrev pub magic_error : List ℕ → CaptureHeaderError
+magic_error bytes =
+    if number_at BigEndian bytes 0 == 0xA1B2CD34 || number_at LittleEndian bytes 0 == 0xA1B2CD34 then Modified
+    else Magic (be_number bytes 0 4)
 
--- the errors of a header, in this order: a pcapng file, which begins with a block of this type; fewer than 24 bytes; no magic number;
--- another link type
+-- a version that is read: the major version is 2, and the version is 2.4 or later
+abbrev pub is_version_read : ℕ → ℕ → Bool
+is_version_read major minor = major == 2 && nat_le 4 minor
+
+-- the error for a version that is not read, in a capture with this byte order and resolution
+abbrev pub version_refusal : Option (ByteOrder × Resolution) → List ℕ → Option CaptureHeaderError
+version_refusal None bytes = None
+version_refusal (Some form) bytes =
+    refused_if (not (is_version_read (short_at form.0 bytes 4) (short_at form.0 bytes 6)))
+    (Version (short_at form.0 bytes 4) (short_at form.0 bytes 6))
+
+-- the errors of a header, in this order: a pcapng file, which begins with a block of this type; fewer than 24 bytes; no magic number that is
+-- read; another version
 abbrev pub header_refusal : List ℕ → Option CaptureHeaderError
 header_refusal bytes = first_of (
     refused_if (be_number bytes 0 4 == 0x0A0D0D0A) Pcapng
     ∷ refused_if (nat_lt (length bytes) 24) (CutOff (length bytes))
-    ∷ refused_if (is_none (form_of bytes)) (Magic (be_number bytes 0 4))
-    ∷ link_type_refusal (form_of bytes) bytes
+    ∷ refused_if (is_none (form_of bytes)) (magic_error bytes)
+    ∷ version_refusal (form_of bytes) bytes
     ∷ [])
 
 -- ---- the records (section 5)

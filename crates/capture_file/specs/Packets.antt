@@ -1,8 +1,8 @@
 -- The packets of a capture in one form, whatever the form of its file (draft-ietf-opsawg-pcap, section 5; draft-ietf-opsawg-pcapng,
 -- section 4).
-use Rattle.std.specs.Prelude.{◌≡◌, ℕ, ◌+◌, ◌-◌, ◌^◌, ◌/◌, ◌%◌, ◌==◌, ◌≤◌, if◌then◌else◌, min, ok_or, pos, List, length, Option, Some, None, Ok}
+use Rattle.std.specs.Prelude.{◌≡◌, ℕ, ◌+◌, ◌-◌, ◌^◌, ◌/◌, ◌%◌, ◌==◌, ◌≤◌, if◌then◌else◌, min, pos, List, length, Option, Some, None, Ok}
 use Rattle.std.specs.Option.{option_map}
-use Rattle.capture_file.specs.Classic.{link_type_with}
+use Rattle.capture_file.specs.Classic.{link_type_or_number}
 use Rattle.capture_file.specs.PcapngBody.{simple_packet_type}
 use Rattle.capture_file.specs.PcapngBodies.{units_per_second}
 use Rattle.capture_file.specs.Reading.{ReadsNext}
@@ -55,7 +55,7 @@ begins_records capture = record { header = capture; offset = 24 }
 -- what a record says of its packet; its captured bytes are in front of the buffer
 abbrev pub packet_of_record : CaptureHeader → RecordHeader → CapturedPacket
 packet_of_record capture header = record {
-  link_type = Ok capture.link_type;
+  link_type = capture.link_type;
   byte_order = capture.byte_order;
   time = Some (classic_time capture.resolution header.time);
   start = 0;
@@ -107,7 +107,7 @@ packet_start type = if type == simple_packet_type then 12 else 28
 -- buffer.
 abbrev pub interface_packet : BlockHeader → InterfaceDescription → Option ℕ → ℕ → ℕ → CapturedPacket
 interface_packet header interface timestamp captured_len original_len = record {
-  link_type = ok_or (link_type_with interface.link_type) interface.link_type;
+  link_type = link_type_or_number interface.link_type;
   byte_order = header.byte_order;
   time = option_map (timestamp_time interface) timestamp;
   start = packet_start header.block_type;

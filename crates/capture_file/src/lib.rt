@@ -26,4 +26,4 @@ pub mod reader;
 
 pub use byte_order::ByteOrder;
 pub use link_type::LinkType;
-pub use packet_time::{NANOSECONDS_PER_SECOND, PacketTime, nanoseconds_between, nanoseconds_of};
+pub use packet_time::{NANOSECONDS_PER_SECOND, PacketTime, nanoseconds_of};

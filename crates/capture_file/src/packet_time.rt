@@ -1,6 +1,6 @@
 ghost use Rattle.std.specs.Prelude.{◌≡◌, ◌<◌, ◌^◌};
 ghost use Rattle.capture_file.specs.Packets.{classic_time, timestamp_time};
-ghost use Rattle.capture_file.specs.PacketTimes.{nanoseconds_between, nanoseconds_in, nanoseconds_of, shifted_seconds};
+ghost use Rattle.capture_file.specs.PacketTimes.{nanoseconds_in, nanoseconds_of, shifted_seconds};
 
 use crate::classic::{Resolution, Time};
 use crate::pcapng::{InterfaceDescription, TimeResolution};
@@ -53,13 +53,6 @@ impl PacketTime {
             offset: interface.time_offset,
         }
     }
-}
-
-/// The number of nanoseconds between two times.
-pub fn nanoseconds_between(first: PacketTime, time: PacketTime) -> u128
-    ensures { result ≡ nanoseconds_between first time }
-{
-    nanoseconds_of(first).abs_diff(nanoseconds_of(time))
 }
 
 /// A time as a number of nanoseconds, counted from 2^63 seconds before the beginning of 1970.

@@ -2,7 +2,7 @@
 use Rattle.std.specs.Prelude.{◌≡◌, ◌≤◌, ◌+◌, ℕ, List, length, Some, Option, Result, Ok, Err}
 use Rattle.capture_file.specs.CapturePackets.{Begins, BeginsWithPackets, HasPackets, FilePacket}
 use Rattle.capture_file.specs.Opening.{ReadsBeginning}
-use Rattle.capture_file.specs.declared.classic.capture_header_error.CaptureHeaderError.TheVariants.{CutOff, LinkType, Magic, Pcapng}
+use Rattle.capture_file.specs.declared.classic.capture_header_error.CaptureHeaderError.TheVariants.{CutOff, Magic, Modified, Pcapng, Version}
 use Rattle.capture_file.specs.declared.reader.capture_reader.CaptureReader.{CaptureReader}
 use Rattle.capture_file.specs.declared.reader.next_packet.NextPacket.{NextPacket}
 use Rattle.capture_file.specs.declared.reader.next_packet.NextPacket.TheVariants as packets
@@ -74,7 +74,8 @@ IsReportOf counted bytes (Err error) = IsEndOf counted bytes error
 -- the exit status of an error
 abbrev pub exit_status : CaptureError → ExitStatus
 exit_status (Header (refusals.Classic Pcapng)) = Unfinished
-exit_status (Header (refusals.Classic (LinkType number))) = Unfinished
+exit_status (Header (refusals.Classic Modified)) = Unfinished
+exit_status (Header (refusals.Classic (Version major minor))) = Unfinished
 exit_status (Header (refusals.Classic (CutOff len))) = NoCapture
 exit_status (Header (refusals.Classic (Magic magic))) = NoCapture
 exit_status (Header (refusals.Pcapng (errors.Block error))) = NoCapture

@@ -81,7 +81,7 @@ captured_info packet = record {
 -- length, and requires as many bytes as were captured. A block of a pcapng file is not read.
 abbrev pub too_long_info : TooLongPacket → CaptureInfo
 too_long_info packet = record {
-  link_type = option_map Ok packet.link_type;
+  link_type = packet.link_type;
   time = packet.time;
   len = option_map (λ original. record { original = original; captured = packet.required_len }) packet.original_len;
 }

@@ -65,9 +65,9 @@ impl CaptureError {
     {
         match self {
             CaptureError::Header(OpenError::Classic(error)) => match error {
-                CaptureHeaderError::Pcapng | CaptureHeaderError::LinkType { .. } => {
-                    ExitStatus::Unfinished
-                }
+                CaptureHeaderError::Pcapng
+                | CaptureHeaderError::Modified
+                | CaptureHeaderError::Version { .. } => { ExitStatus::Unfinished }
                 CaptureHeaderError::CutOff { .. } | CaptureHeaderError::Magic { .. } => {
                     ExitStatus::NoCapture
                 }

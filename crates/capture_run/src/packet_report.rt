@@ -188,7 +188,7 @@ fn too_long_info(captured: &TooLongPacket) -> CaptureInfo
         captured: u64::from(captured.required_len),
     };
     CaptureInfo {
-        link_type: captured.link_type.map(Ok),
+        link_type: captured.link_type,
         time: captured.time,
         len: captured.original_len.map(frame_len),
     }

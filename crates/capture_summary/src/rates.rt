@@ -2,7 +2,7 @@ ghost use Rattle.std.specs.Prelude.{◌≡◌, ◌<◌, ◌^◌};
 ghost use Rattle.capture_summary.specs.Rates as specs;
 
 use crate::TimeSpan;
-use capture_file::{NANOSECONDS_PER_SECOND, nanoseconds_between};
+use capture_file::{NANOSECONDS_PER_SECOND, nanoseconds_of};
 
 /// The average rates per second from the earliest packet to the latest, in whole numbers.
 #[derive(Clone, Copy, Debug, PartialEq, Eq)]
@@ -18,7 +18,7 @@ impl Rates {
     pub fn of(packets: u64, bytes: u64, span: TimeSpan) -> Option<Rates>
         ensures { result ≡ specs.rates_of packets bytes span }
     {
-        let nanoseconds = nanoseconds_between(span.earliest, span.latest);
+        let nanoseconds = nanoseconds_of(span.earliest).abs_diff(nanoseconds_of(span.latest));
         if nanoseconds == 0 {
             return None;
         }

@@ -59,7 +59,7 @@ const LINK_TYPES: [(u16, LinkType); 22] = [
     (276, LinkType::LinuxCooked2),
 ];
 
-/// A header with these first bytes and this link type. The high bits of its number say that there is a frame check sequence of 4 bytes.
+/// A header of version 2.4 with these first bytes and this link type. The high bits of its number say that there is a frame check sequence of 4 bytes.
 fn header_bytes(first: [u8; 4], order: ByteOrder, link_type: u16) -> [u8; 24] {
     let mut bytes = [0u8; 24];
     bytes[..4].copy_from_slice(&first);
@@ -69,6 +69,10 @@ fn header_bytes(first: [u8; 4], order: ByteOrder, link_type: u16) -> [u8; 24] {
         ByteOrder::LittleEndian => number.to_le_bytes(),
     };
     bytes[20..].copy_from_slice(&last);
+    bytes[4..8].copy_from_slice(match order {
+        ByteOrder::BigEndian => &[0, 2, 0, 4],
+        ByteOrder::LittleEndian => &[2, 0, 4, 0],
+    });
     bytes
 }
 
@@ -86,23 +90,65 @@ fn headers_are_read(rt: HostRuntime) -> io::Result<()> {
             let header = CaptureHeader {
                 byte_order,
                 resolution,
-                link_type,
+                link_type: Ok(link_type),
             };
             expect_equal(&rt, &read_capture_header(&mut input)?, &Ok(header));
             expect_equal(&rt, &input.len(), &0);
         }
         let unknown = header_bytes(first, byte_order, 2);
-        expect_refusal(&rt, &unknown, CaptureHeaderError::LinkType { number: 2 })?;
+        let header = CaptureHeader {
+            byte_order,
+            resolution,
+            link_type: Err(2),
+        };
+        expect_equal(&rt, &read_capture_header(&mut unknown.as_slice())?, &Ok(header));
         expect_refusal(&rt, &unknown[..23], CaptureHeaderError::CutOff { len: 23 })?;
     }
     expect_refusal(&rt, &[0x0A, 0x0D, 0x0D, 0x0A], CaptureHeaderError::Pcapng)?;
     expect_refusal(&rt, &[], CaptureHeaderError::CutOff { len: 0 })?;
+    let other = b"\xA1\xB2\xCD\x34, and then twenty bytes";
+    expect_refusal(&rt, other, CaptureHeaderError::Modified)?;
+    let other = b"\x34\xCD\xB2\xA1, and then twenty bytes";
+    expect_refusal(&rt, other, CaptureHeaderError::Modified)?;
     let magic = 0x504B_0304;
     expect_refusal(
         &rt,
         b"PK\x03\x04, and then twenty bytes",
         CaptureHeaderError::Magic { magic },
     )
+}
+
+/// The bytes of a version, in the byte order of their capture, and whether the version is read.
+const VERSIONS: [([u8; 4], ByteOrder, Option<(u16, u16)>); 7] = [
+    ([0, 2, 0, 4], ByteOrder::BigEndian, None),
+    ([2, 0, 5, 0], ByteOrder::LittleEndian, None),
+    ([0, 2, 0, 3], ByteOrder::BigEndian, Some((2, 3))),
+    ([2, 0, 0, 0], ByteOrder::LittleEndian, Some((2, 0))),
+    ([0, 1, 0, 4], ByteOrder::BigEndian, Some((1, 4))),
+    ([0, 3, 0, 4], ByteOrder::BigEndian, Some((3, 4))),
+    ([2, 0, 0, 4], ByteOrder::BigEndian, Some((512, 4))),
+];
+
+#[test]
+fn versions_are_read(rt: HostRuntime) -> io::Result<()> {
+    for (version, byte_order, refused) in VERSIONS {
+        let first = match byte_order {
+            ByteOrder::BigEndian => [0xA1, 0xB2, 0xC3, 0xD4],
+            ByteOrder::LittleEndian => [0xD4, 0xC3, 0xB2, 0xA1],
+        };
+        let mut bytes = header_bytes(first, byte_order, 1);
+        bytes[4..8].copy_from_slice(&version);
+        let expected = match refused {
+            Some((major, minor)) => Err(CaptureHeaderError::Version { major, minor }),
+            None => Ok(CaptureHeader {
+                byte_order,
+                resolution: Resolution::Microseconds,
+                link_type: Ok(LinkType::Ethernet),
+            }),
+        };
+        expect_equal(&rt, &read_capture_header(&mut bytes.as_slice())?, &expected);
+    }
+    Ok(())
 }
 
 /// The header of a record with these lengths, captured at 7 seconds and 9 units.
@@ -259,8 +305,12 @@ fn refusals_have_texts(rt: HostRuntime) -> io::Result<()> {
             "The input is no capture: its first four bytes are 0x504b0304.",
         ),
         (
-            CaptureHeaderError::LinkType { number: 147 },
-            "The link type 147 is not read.",
+            CaptureHeaderError::Modified,
+            "The capture is in the modified form of older Linux systems, which is not read.",
+        ),
+        (
+            CaptureHeaderError::Version { major: 2, minor: 3 },
+            "The capture has version 2.3, which is not read.",
         ),
     ];
     for (error, text) in rows {

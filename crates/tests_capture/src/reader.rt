@@ -121,8 +121,8 @@ fn captures_are_refused(rt: HostRuntime) -> io::Result<()> {
             classic(CaptureHeaderError::Magic { magic: 0x0100_0000 }),
         ),
         (
-            b"\xA1\xB2\xC3\xD4\0\x02\0\x04\0\0\0\0\0\0\0\0\0\0\0\0\0\0\0\x02",
-            classic(CaptureHeaderError::LinkType { number: 2 }),
+            b"\xA1\xB2\xC3\xD4\0\x02\0\x03\0\0\0\0\0\0\0\0\0\0\0\0\0\0\0\x01",
+            classic(CaptureHeaderError::Version { major: 2, minor: 3 }),
         ),
         (
             b"\x0A\x0D\x0D\x0A\x1C\0\0\0\x4D\x3C\x2B\x1B",

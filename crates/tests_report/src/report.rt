@@ -70,8 +70,10 @@ fn capture(
 ) -> Result<Vec<u8>, AllocError> {
     let len = u32::try_from(UDP.len() + link.len()).unwrap_or(u32::MAX);
     let mut bytes = Vec::new(alloc);
-    // The magic number, what is not looked at, the link type, the time and both lengths.
-    for number in [0xA1B2_C3D4, 0, 0, 0, 0, link_type, 5, 7, len, len] {
+    // Version 2.4, in two numbers of two bytes.
+    let version = if is_little_endian { 0x4_0002 } else { 0x2_0004 };
+    // The magic number, the version, what is not looked at, the link type, the time and both lengths.
+    for number in [0xA1B2_C3D4, version, 0, 0, 0, link_type, 5, 7, len, len] {
         let number = if is_little_endian {
             u32::to_le_bytes(number)
         } else {
@@ -349,16 +351,18 @@ fn pcapng_files_are_cut(rt: HostRuntime) -> Result<(), Fail> {
 }
 
 /// A place in the capture and its byte, and the status without a check and with one. The places are in the port, the UDP length, the IP
-/// version, the total length, the magic number, the link type, the captured length and the original length of the packet.
+/// version, the total length, the magic number, the version of the capture, the link type, the captured length and the original length of the
+/// packet.
 #[rattlefmt::skip]
-const CHANGES: [(usize, u8, u8, u8); 9] = [
+const CHANGES: [(usize, u8, u8, u8); 10] = [
     (60, 0, 0, 0),
     (60, 1, 0, 4),
     (65, 0, 0, 4),
     (40, 0x55, 0, 4),
     (43, 0, 0, 0),
     (0, 0xA0, 2, 2),
-    (23, 147, 1, 1),
+    (7, 3, 1, 1),
+    (23, 147, 0, 0),
     (35, 30, 1, 1),
     (39, 30, 0, 0),
 ];
@@ -636,7 +640,7 @@ fn packets_that_are_not_chosen_do_not_count(rt: HostRuntime) -> Result<(), Fail>
 /// A capture of a packet that has more bytes than are read.
 fn long_capture(alloc: Global) -> Result<Vec<u8>, AllocError> {
     let mut bytes = Vec::new(alloc);
-    for number in [0xA1B2_C3D4, 0, 0, 0, 0, 101, 5, 7, 528_384, 528_384] {
+    for number in [0xA1B2_C3D4, 0x2_0004, 0, 0, 0, 101, 5, 7, 528_384, 528_384] {
         bytes.extend_from_slice(&u32::to_be_bytes(number))?;
     }
     for _ in 0..129 {

@@ -12,12 +12,13 @@ use Rattle.capture_file.specs.declared.byte_order.ByteOrder.{ByteOrder}
 use Rattle.capture_file.specs.declared.link_type.LinkType.{LinkType}
 use Rattle.capture_file.specs.declared.reader.packet_error.PlacedPacketError.{PlacedPacketError}
 use Rattle.translator.specs.Outcomes.{counted}
-use Rattle.translator.specs.Packets.{TranslatesFrame}
+use Rattle.translator.specs.Packets.{TranslatesCaptured, TranslatesFrame}
 use Rattle.translator.specs.Passing.{Copies, CopiesUpTo, IsPart, IsReadError, IsWriteError, CountsPart, IsWritten, Part, Passes, PassesToError, PassesCapture, PassesUpTo, counted_if, outcomes_of, read_of, written_of}
 use Rattle.translator.specs.declared.capture_error.CaptureError.{CaptureError}
 use Rattle.translator.specs.declared.capture_error.CaptureError.TheVariants.{Block, Header, Read, RecordCutOff, Write}
 use Rattle.translator.specs.declared.counts.Counts.{Counts}
 use Rattle.translator.specs.declared.reason.Reason.{Reason}
+use Rattle.translator.specs.declared.reason.Reason.TheVariants as reasons
 use Rattle.translator.specs.declared.table.Table.{Table}
 
 -- ---- copies
@@ -306,6 +307,14 @@ counts_frame table link_type order frame after (Ok applies) counts now_counts tr
 }
 counts_frame table link_type order frame after (Err reason) counts now_counts translates counts_are =
     record { outcome = Some (Err reason); is_written = translates; counted = counts_are }
+
+-- the packet in a frame of a link type that may not be read is counted
+pub counts_captured : (table : Table) (link_type : Result LinkType ℕ) (order : ByteOrder) (frame after : List ℕ) (result : Result Bool Reason) (counts now_counts : Counts)
+    → TranslatesCaptured table link_type order frame after result → now_counts ≡ counted counts result → CountsPart table frame after counts now_counts
+counts_captured table (Ok link_type) order frame after result counts now_counts translates counts_are =
+    counts_frame table link_type order frame after result counts now_counts translates counts_are
+counts_captured table (Err number) order frame after result counts now_counts translates counts_are =
+    record { outcome = Some (Err reasons.LinkType); is_written = translates.0; counted = counts_are ∙ ap (counted counts) translates.1 }
 
 -- all bytes of a buffer were read
 pub counts_whole : (table : Table) (read written : List ℕ) (counts now_counts : Counts) (len : ℕ)

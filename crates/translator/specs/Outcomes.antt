@@ -1,6 +1,6 @@
 -- The outcomes of packets, their counts, and the exit status.
 use Rattle.std.specs.Prelude.{ℕ, ◌+◌, ◌-◌, ◌^◌, Bool, true, false, min, slice_index, slice_set, zero, suc, Result, Ok, Err}
-use Rattle.capture_file.specs.declared.classic.capture_header_error.CaptureHeaderError.TheVariants.{CutOff, LinkType as OtherLinkType, Magic, Pcapng}
+use Rattle.capture_file.specs.declared.classic.capture_header_error.CaptureHeaderError.TheVariants.{CutOff, Magic, Modified, Pcapng, Version}
 use Rattle.capture_file.specs.declared.classic.capture_header_error.CaptureHeaderError.{CaptureHeaderError}
 use Rattle.capture_file.specs.declared.reader.packet_error.PacketError.{PacketError}
 use Rattle.capture_file.specs.declared.reader.packet_error.PacketError.TheVariants as packet_errors
@@ -53,12 +53,13 @@ counted counts (Err reason) =
 
 -- ---- the exit status
 
--- the exit status for an error of the header: 2 if the input is no capture, and 1 if its link type is not read
+-- the exit status for an error of the header: 2 if the input is no capture, and 1 if it is a capture of a format that is not read
 abbrev pub header_status : CaptureHeaderError → ℕ
 header_status Pcapng = 1
 header_status (CutOff len) = 2
 header_status (Magic magic) = 2
-header_status (OtherLinkType number) = 1
+header_status Modified = 1
+header_status (Version major minor) = 1
 
 -- the exit status for an error of a block: 2 if the input does not begin with a block, and otherwise 1
 abbrev pub block_status : ℕ → PacketError → ℕ

@@ -22,6 +22,7 @@ use Rattle.net_base.specs.declared.ipv4_header.Ipv4Header.{Ipv4Header}
 use Rattle.net_base.specs.declared.ipv6_header.Ipv6Header.{Ipv6Header}
 use Rattle.translator.specs.Replacements.{exchanged, ipv4_translation, ipv6_translation, new_ipv4, new_ipv6}
 use Rattle.translator.specs.declared.reason.Reason.{Reason}
+use Rattle.translator.specs.declared.reason.Reason.TheVariants as reasons
 use Rattle.translator.specs.declared.table.Table.{Table}
 
 -- ---- ICMP errors
@@ -129,3 +130,8 @@ pub record TranslatesWithin (table : Table) (link_type : LinkType) (order : Byte
 abbrev pub TranslatesFrame : Table → LinkType → ByteOrder → List ℕ → List ℕ → Result Bool Reason → Type 0
 TranslatesFrame table link_type order frame after (Ok applies) = TranslatesWithin table link_type order frame after (Ok applies)
 TranslatesFrame table link_type order frame after (Err reason) = after ≡ frame
+
+-- the same for a frame of a link type that may not be read; then the frame stays for this reason
+abbrev pub TranslatesCaptured : Table → Result LinkType ℕ → ByteOrder → List ℕ → List ℕ → Result Bool Reason → Type 0
+TranslatesCaptured table (Ok link_type) order frame after result = TranslatesFrame table link_type order frame after result
+TranslatesCaptured table (Err number) order frame after result = (after ≡ frame) × (result ≡ Err reasons.LinkType)

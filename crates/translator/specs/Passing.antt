@@ -5,7 +5,7 @@ use Rattle.std.specs.Option.{option_to_list}
 use Rattle.capture_file.specs.declared.byte_order.ByteOrder.{ByteOrder}
 use Rattle.capture_file.specs.declared.link_type.LinkType.{LinkType}
 use Rattle.translator.specs.Outcomes.{counted}
-use Rattle.translator.specs.Packets.{TranslatesFrame}
+use Rattle.translator.specs.Packets.{TranslatesCaptured, TranslatesFrame}
 use Rattle.translator.specs.declared.capture_error.CaptureError.{CaptureError}
 use Rattle.translator.specs.declared.capture_error.CaptureError.TheVariants.{Block, Header, Read, RecordCutOff, Write}
 use Rattle.translator.specs.declared.counts.Counts.{Counts}
@@ -44,9 +44,9 @@ pub record CountsPart (table : Table) (read written : List ℕ) (counts now_coun
   pub counted : now_counts ≡ counted_if counts outcome
 
 -- the packet in a frame was translated and counted
-pub record CountsFrame (table : Table) (link_type : LinkType) (order : ByteOrder) (frame after : List ℕ) (counts now_counts : Counts) : Type 0 where
+pub record CountsFrame (table : Table) (link_type : Result LinkType ℕ) (order : ByteOrder) (frame after : List ℕ) (counts now_counts : Counts) : Type 0 where
   pub outcome : Result Bool Reason
-  pub translates : TranslatesFrame table link_type order frame after outcome
+  pub translates : TranslatesCaptured table link_type order frame after outcome
   pub counted : now_counts ≡ counted counts outcome
 
 -- one packet was counted

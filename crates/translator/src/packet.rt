@@ -4,7 +4,7 @@ ghost use Rattle.std.specs.Prelude.{◌≡◌, ◌≤◌, IfOk, None, length};
 ghost use Rattle.std.specs.Option.{option_map};
 ghost use Rattle.capture_packet.specs.Link.{HasLinkHeader};
 ghost use Rattle.translator.specs.Packets as specs;
-ghost use Rattle.translator.specs.Packets.{TranslatesFrame, TranslatesPacket};
+ghost use Rattle.translator.specs.Packets.{TranslatesCaptured, TranslatesFrame, TranslatesPacket};
 
 use crate::ipv4_packet::translate_ipv4_packet;
 use crate::ipv6_packet::translate_ipv6_packet;
@@ -32,6 +32,26 @@ pub fn translate_frame(
 {
     let start = packet_start(link_type, order, frame)?;
     translate_packet(&mut frame[start..], table)
+}
+
+/// Translates the packet in a frame, as `translate_frame` does, if the link type of the frame is read.
+///
+/// # Errors
+///
+/// The errors of `translate_frame`, and `LinkType` if the link type is not read.
+pub fn translate_captured_frame(
+    link_type: Result<LinkType, u16>,
+    order: ByteOrder,
+    frame: &mut [u8],
+    table: &Table,
+) -> Result<bool, Reason>
+    ensures translates { TranslatesCaptured table.now link_type order frame.old frame.new result }
+    ensures len { length frame.new ≡ length frame.old }
+{
+    match link_type {
+        Ok(link_type) => translate_frame(link_type, order, frame, table),
+        Err(_) => Err(Reason::LinkType),
+    }
 }
 
 /// Where the IP packet in a frame begins.

@@ -8,7 +8,7 @@ use etherparse_transport::err::packet::TranslateError;
 pub enum Reason {
     /// The record or block has more bytes of the packet than the buffer has room for.
     TooLong,
-    /// The link type of its interface is not read.
+    /// The link type of its capture, or of its interface in a pcapng file, is not read.
     LinkType,
     /// The frame ends within its link header.
     LinkHeader,

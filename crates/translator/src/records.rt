@@ -7,7 +7,7 @@ ghost use Rattle.translator.specs.Passing.{CountsFrame, CountsPacket, CountsPart
 
 use crate::capture_error::CaptureError;
 use crate::counts::Counts;
-use crate::packet::translate_frame;
+use crate::packet::translate_captured_frame;
 use crate::reason::Reason;
 use crate::table::Table;
 use crate::transfer::{Buffer, copy, read_into, write};
@@ -141,6 +141,7 @@ fn translate_read(
     ensures len { length frame.new ≡ length frame.old }
 {
     if len == frame.len() {
-        counts.add(translate_frame(capture.link_type, capture.byte_order, frame, table));
+        let (link_type, order) = (capture.link_type, capture.byte_order);
+        counts.add(translate_captured_frame(link_type, order, frame, table));
     }
 }

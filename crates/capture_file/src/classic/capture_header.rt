@@ -1,6 +1,6 @@
 ghost use Rattle.std.specs.Prelude.{◌≡◌, ◌≤◌, length, IfOk};
 ghost use Rattle.net_base.specs.Refusals.{RefusesExactly};
-ghost use Rattle.capture_file.specs.Classic.{form_of, header_refusal, IsHeaderOf};
+ghost use Rattle.capture_file.specs.Classic.{form_of, header_refusal, magic_error, IsHeaderOf};
 
 use crate::classic::{CaptureHeaderError, Resolution};
 use crate::pcapng::is_section_header;
@@ -13,22 +13,32 @@ pub struct CaptureHeader {
     pub byte_order: ByteOrder,
     /// The unit of the fractions in the times of the records.
     pub resolution: Resolution,
-    /// The link type of each record.
-    pub link_type: LinkType,
+    /// The link type of each record, or the number of a link type that is not read.
+    pub link_type: Result<LinkType, u16>,
 }
+
+/// The magic number of the modified format of older Linux systems (libpcap's `KUZNETZOV_TCPDUMP_MAGIC`).
+const MODIFIED_MAGIC: u32 = 0xA1B2_CD34;
+
+/// The major version that is read, and its least minor version (draft-ietf-opsawg-pcap, section 4).
+const MAJOR_VERSION: u16 = 2;
+
+const LEAST_MINOR_VERSION: u16 = 4;
 
 impl CaptureHeader {
     /// The length of the header, in bytes.
     pub const LEN: usize = 24;
 
-    /// Reads a header. The magic number is in bytes 0 to 3. The link type is in the low 16 bits of the number in bytes 20 to 23.
+    /// Reads a header. The magic number is in bytes 0 to 3, and the version is in bytes 4 to 7. The link type is in the low 16 bits of the
+    /// number in bytes 20 to 23.
     ///
     /// # Errors
     ///
     /// In this order:
     /// - `Pcapng` if the bytes begin a pcapng file
+    /// - `Modified` if they begin with the magic number of the modified format, in either byte order
     /// - `Magic` if they begin with a magic number in neither byte order
-    /// - `LinkType` if the link type is not read
+    /// - `Version` if the major version is not 2, or the version is below 2.4
     pub fn from_bytes(bytes: &[u8; 24]) -> Result<CaptureHeader, CaptureHeaderError>
         ensures refused { RefusesExactly result (header_refusal bytes.now) }
         ensures read { IfOk result (IsHeaderOf bytes.now) }
@@ -49,19 +59,31 @@ impl CaptureHeader {
             return Err(CaptureHeaderError::CutOff { len });
         }
         let Some((byte_order, resolution)) = form_of(bytes) else {
-            let magic = ByteOrder::BigEndian.number_in(bytes, 0);
-            return Err(CaptureHeaderError::Magic { magic });
+            return Err(magic_error(bytes));
         };
+        let (major, minor) = (byte_order.short_in(bytes, 4), byte_order.short_in(bytes, 6));
+        if major != MAJOR_VERSION || minor < LEAST_MINOR_VERSION {
+            return Err(CaptureHeaderError::Version { major, minor });
+        }
         let number = (byte_order.number_in(bytes, 20) % 0x1_0000) as u16;
-        let Some(link_type) = LinkType::from_number(number) else {
-            return Err(CaptureHeaderError::LinkType { number });
-        };
         Ok(CaptureHeader {
             byte_order,
             resolution,
-            link_type,
+            link_type: LinkType::from_number(number).ok_or(number),
         })
     }
+}
+
+/// The error for the first four bytes of a file, if they are no magic number that is read.
+fn magic_error(bytes: &[u8]) -> CaptureHeaderError
+    requires { 4 ≤ length bytes.now }
+    ensures { result ≡ magic_error bytes.now }
+{
+    let magic = ByteOrder::BigEndian.number_in(bytes, 0);
+    if magic == MODIFIED_MAGIC || ByteOrder::LittleEndian.number_in(bytes, 0) == MODIFIED_MAGIC {
+        return CaptureHeaderError::Modified;
+    }
+    CaptureHeaderError::Magic { magic }
 }
 
 /// The byte order and the resolution according to the first four bytes of a capture, or `None` if they are not a magic number.

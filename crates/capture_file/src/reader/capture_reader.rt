@@ -4,6 +4,7 @@ ghost use Rattle.capture_file.specs.Opening.{ReadsBeginning};
 ghost use Rattle.capture_file.specs.Packets.{IsNextWithin, ReadsRecordPacket, begins_records};
 ghost use Rattle.capture_file.specs.PcapngSteps.{ReadsPacket};
 
+use crate::PacketTime;
 use crate::classic::{CaptureHeader, NextRecord, RecordHeader, read_header_after, read_record};
 use crate::pcapng::{MIN_BLOCK_LEN, is_section_header};
 use crate::reader::{CapturedPacket, NextPacket, OpenError, PcapngReader, TooLongPacket};
@@ -121,9 +122,12 @@ impl ClassicReader {
             NextRecord::Whole(record) => {
                 NextPacket::Whole(CapturedPacket::from_record(self.header, record))
             }
-            NextRecord::TooLong(record) => {
-                NextPacket::TooLong(TooLongPacket::from_record(self.header, record))
-            }
+            NextRecord::TooLong(record) => NextPacket::TooLong(TooLongPacket {
+                link_type: Some(self.header.link_type),
+                time: Some(PacketTime::from_record(self.header.resolution, record.time)),
+                required_len: record.captured_len,
+                original_len: Some(record.original_len),
+            }),
             NextRecord::End => NextPacket::End,
             NextRecord::CutOff { required_len, len } => NextPacket::CutOff { required_len, len },
         })

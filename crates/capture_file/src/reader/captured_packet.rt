@@ -34,7 +34,7 @@ impl CapturedPacket {
         ensures { result ≡ packet_of_record capture header }
     {
         CapturedPacket {
-            link_type: Ok(capture.link_type),
+            link_type: capture.link_type,
             byte_order: capture.byte_order,
             time: Some(PacketTime::from_record(capture.resolution, header.time)),
             start: 0,

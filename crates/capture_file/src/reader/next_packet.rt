@@ -1,8 +1,3 @@
-ghost use Rattle.std.specs.Prelude.{◌≡◌};
-ghost use Rattle.capture_file.specs.Packets.{long_block, long_record};
-
-use crate::classic::{CaptureHeader, RecordHeader};
-use crate::pcapng::BlockHeader;
 use crate::reader::{CapturedPacket, PlacedPacketError};
 use crate::{LinkType, PacketTime};
 
@@ -29,38 +24,13 @@ pub enum NextPacket {
 /// What is known of a packet that the buffer has no room for.
 #[derive(Clone, Copy, Debug, PartialEq, Eq)]
 pub struct TooLongPacket {
-    /// What its bytes begin with. None of a packet of a pcapng file, which says it in the block that was not kept.
-    pub link_type: Option<LinkType>,
+    /// What its bytes begin with, or the number of a link type that is not read. None of a packet of a pcapng file, which says it in the block
+    /// that was not kept.
+    pub link_type: Option<Result<LinkType, u16>>,
     /// When it was captured. None of a packet of a pcapng file.
     pub time: Option<PacketTime>,
     /// How many bytes of the buffer it needs: as many as were captured of it, or in a pcapng file as many as its block has.
     pub required_len: u32,
     /// How many bytes it had. None of a packet of a pcapng file.
     pub original_len: Option<u32>,
-}
-
-impl TooLongPacket {
-    /// The packet of a record of a classic capture.
-    pub fn from_record(capture: CaptureHeader, header: RecordHeader) -> TooLongPacket
-        ensures { result ≡ long_record capture header }
-    {
-        TooLongPacket {
-            link_type: Some(capture.link_type),
-            time: Some(PacketTime::from_record(capture.resolution, header.time)),
-            required_len: header.captured_len,
-            original_len: Some(header.original_len),
-        }
-    }
-
-    /// The packet of a block of a pcapng file.
-    pub fn from_block(header: BlockHeader) -> TooLongPacket
-        ensures { result ≡ long_block header }
-    {
-        TooLongPacket {
-            link_type: None,
-            time: None,
-            required_len: header.total_len,
-            original_len: None,
-        }
-    }
 }

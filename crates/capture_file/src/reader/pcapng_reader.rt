@@ -40,10 +40,9 @@ impl PcapngReader {
                     let body = &buffer[8..header.total_len as usize - 4];
                     let section = Section::new(header.byte_order);
                     let offset = u64::from(header.total_len);
-                    match SectionHeader::from_body(header.byte_order, body) {
-                        Ok(_) => Ok(PcapngReader { section, offset }),
-                        Err(error) => Err(PacketError::Body(error)),
-                    }
+                    SectionHeader::from_body(header.byte_order, body)
+                        .map(|_| PcapngReader { section, offset })
+                        .map_err(PacketError::Body)
                 }
                 NextBlock::TooLong(header) => Err(PacketError::TooLong {
                     block_type: header.block_type,
@@ -128,9 +127,14 @@ fn next_by_too_long(offset: u64, header: BlockHeader) -> Option<NextPacket>
                 total_len: header.total_len,
             },
         })),
-        OBSOLETE_PACKET | SIMPLE_PACKET | ENHANCED_PACKET => Some(NextPacket::TooLong(
-            TooLongPacket::from_block(header),
-        )),
+        OBSOLETE_PACKET | SIMPLE_PACKET | ENHANCED_PACKET => {
+            Some(NextPacket::TooLong(TooLongPacket {
+                link_type: None,
+                time: None,
+                required_len: header.total_len,
+                original_len: None,
+            }))
+        }
         _ => None,
     }
 }

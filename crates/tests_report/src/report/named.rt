@@ -15,13 +15,14 @@ use std::random::RandomSource;
 use std::test::Fail;
 
 /// The names that can be opened. Each is a capture of the packet in which a byte is changed: in the port, in the length of UDP, in the
-/// link type, in the captured length, and in the magic number.
+/// version, in the link type, in the captured length, and in the magic number.
 #[rattlefmt::skip]
-static CHANGED: [(&str, usize, u8); 7] = [
+static CHANGED: [(&str, usize, u8); 8] = [
     ("-", 60, 0),
     ("right", 60, 0),
     ("wrong", 60, 1),
     ("zero", 65, 0),
+    ("version", 7, 3),
     ("link", 23, 147),
     ("cut", 35, 30),
     ("magic", 0, 0xA0),
@@ -133,7 +134,7 @@ type RunRow = (
 
 /// At most one name: there is no heading, and an error names the capture.
 #[rattlefmt::skip]
-static RUNS_OF_ONE: [RunRow; 12] = [
+static RUNS_OF_ONE: [RunRow; 13] = [
     (&[], Asked::CheckedLines, 0, LINE, ""),
     (&["-"], Asked::CheckedLines, 0, LINE, ""),
     (&["right"], Asked::OnlyObjects, 0, RIGHT_OBJECT, ""),
@@ -149,7 +150,8 @@ static RUNS_OF_ONE: [RunRow; 12] = [
     (&["\0a\\xFC"], Asked::CheckedLines, 3, "", "capture_report: a\\xFC: entity not found\n"),
     (&["tcp"], Asked::CheckedLines, 3, "", "capture_report: tcp: entity not found; filters are --host, --port and --protocol\n"),
     (&["portrange"], Asked::CheckedLines, 3, "", "capture_report: portrange: entity not found; filters are --host, --port and --protocol\n"),
-    (&["link"], Asked::CheckedLines, 1, "", "capture_report: link: The link type 147 is not read.\n"),
+    (&["version"], Asked::CheckedLines, 1, "", "capture_report: version: The capture has version 2.3, which is not read.\n"),
+    (&["link"], Asked::CheckedLines, 0, "1 00:00:00.000000 length 29: link type 147\n", ""),
 ];
 
 const RIGHT_OBJECT: &str =
@@ -165,9 +167,9 @@ const ZERO_OBJECT: &str =
 static RUNS: [RunRow; 12] = [
     (&["right", "wrong"], Asked::CheckedLines, 4, OF_TWO, ""),
     (&["right", "missing", "wrong"], Asked::CheckedLines, 4, WITH_MISSING, "capture_report: missing: entity not found\n"),
-    (&["right", "link", "wrong", "cut"], Asked::CheckedLines, 4, OF_FOUR, ERRORS_OF_FOUR),
-    (&["right", "link", "wrong", "cut", "missing"], Asked::OnlyStatus, 4, "", ERRORS_WITH_MISSING),
-    (&["link", "right", "magic", "cut", "-"], Asked::CheckedLines, 2, OF_FIVE, ERRORS_OF_FIVE),
+    (&["right", "version", "wrong", "cut"], Asked::CheckedLines, 4, OF_FOUR, ERRORS_OF_FOUR),
+    (&["right", "version", "wrong", "cut", "missing"], Asked::OnlyStatus, 4, "", ERRORS_WITH_MISSING),
+    (&["version", "right", "magic", "cut", "-"], Asked::CheckedLines, 2, OF_FIVE, ERRORS_OF_FIVE),
     (&["right", "wrong", "right"], Asked::WrongLines, 0, OF_WRONG_LINES, ""),
     (&["right", "missing", "zero"], Asked::OnlyStatus, 4, "", "capture_report: missing: entity not found\n"),
     (&["right", "zero"], Asked::OnlyStatus, 4, "", ""),
@@ -177,8 +179,8 @@ static RUNS: [RunRow; 12] = [
     (&["a\nb", "\0a\\xFC"], Asked::OnlyObjects, 3, ESCAPED_OBJECTS,
      "capture_report: a\\x0Ab: entity not found\ncapture_report: a\\xFC: entity not found\n"),
     // The header of no capture is accepted, so there is no summary.
-    (&["missing", "link"], Asked::All, 3, "==> missing <==\n\n==> link <==\n",
-     "capture_report: missing: entity not found\ncapture_report: link: The link type 147 is not read.\n"),
+    (&["missing", "version"], Asked::All, 3, "==> missing <==\n\n==> version <==\n",
+     "capture_report: missing: entity not found\ncapture_report: version: The capture has version 2.3, which is not read.\n"),
 ];
 
 const ESCAPED_OBJECTS: &str = r#"{"type":"file","file":"a\nb"}
@@ -207,7 +209,7 @@ const OF_FOUR: &str = "\
 ==> right <==
 1 00:00:00.000000 length 29: 192.0.2.1:7 > 192.0.2.2:9 UDP length 9, payload 1; checksum right
 
-==> link <==
+==> version <==
 
 ==> wrong <==
 1 00:00:00.000000 length 29: 192.0.2.1:263 > 192.0.2.2:9 UDP length 9, payload 1; checksum wrong, 18C8 expected
@@ -216,18 +218,18 @@ const OF_FOUR: &str = "\
 ";
 
 const ERRORS_OF_FOUR: &str = "\
-capture_report: link: The link type 147 is not read.
+capture_report: version: The capture has version 2.3, which is not read.
 capture_report: cut: Packet 1, at byte 24 of the capture: its record has at least 46 bytes, and 45 are left.
 ";
 
 const ERRORS_WITH_MISSING: &str = "\
-capture_report: link: The link type 147 is not read.
+capture_report: version: The capture has version 2.3, which is not read.
 capture_report: cut: Packet 1, at byte 24 of the capture: its record has at least 46 bytes, and 45 are left.
 capture_report: missing: entity not found
 ";
 
 const OF_FIVE: &str = "\
-==> link <==
+==> version <==
 
 ==> right <==
 1 00:00:00.000000 length 29: 192.0.2.1:7 > 192.0.2.2:9 UDP length 9, payload 1; checksum right
@@ -241,7 +243,7 @@ const OF_FIVE: &str = "\
 ";
 
 const ERRORS_OF_FIVE: &str = "\
-capture_report: link: The link type 147 is not read.
+capture_report: version: The capture has version 2.3, which is not read.
 capture_report: magic: The input is no capture: its first four bytes are 0xa0b2c3d4.
 capture_report: cut: Packet 1, at byte 24 of the capture: its record has at least 46 bytes, and 45 are left.
 ";
