@@ -1,5 +1,5 @@
 -- For the values of options that choose packets.
-use Rattle.std.proofs.Common.{◌≡◌, ◌+◌, ◌<◌, ◌≤◌, ◌∙◌, ℕ, List, [], ◌∷◌, ◌++◌, Option, Some, None, arith, get_or, length, map, set, subst, sym, take}
+use Rattle.std.proofs.Common.{◌≡◌, ◌+◌, ◌<◌, ◌∙◌, ℕ, List, [], ◌∷◌, ◌++◌, Option, Some, None, arith, get_or, length, map, set, subst, sym, take}
 use Rattle.std.proofs.lemmas.List.{length-map, length-take-le, map_more}
 use Rattle.capture_report.specs.Chosen.{AreEmpty, ReadsPlaces}
 

@@ -1,5 +1,5 @@
 -- The packets that the matches of a command line choose.
-use Rattle.std.specs.Prelude.{◌≡◌, ◌⊎◌, ◌<◌, ◌↔◌, ℕ, Contains, IsTrue, List, [], ◌∷◌, codes, length, map, None, Ok, Option, Result, Err, Some}
+use Rattle.std.specs.Prelude.{◌≡◌, ◌⊎◌, ◌<◌, ◌↔◌, ℕ, Contains, IsTrue, List, [], ◌∷◌, codes, length, map, None, Ok, Option, Err, Some}
 use Rattle.std.specs.Char.{to_ascii_lowercase}
 use Rattle.clap.specs.declared.parser.matches.ArgMatches.{ArgMatches}
 use Rattle.capture_summary.specs.Networks.{ReadsNetwork}

@@ -23,8 +23,8 @@ use arguments::Options;
 use capture_run::{ExitStatus, Open, WriteError, run};
 use input::Input;
 use std::hash::RandomState;
-use std::io::{BufReader, BufWriter, ErrorKind, IsTerminal, LineWriter, Write};
 use std::io;
+use std::io::{BufReader, BufWriter, ErrorKind, IsTerminal, LineWriter, Write};
 use std::process::ExitCode;
 
 /// The size of the input buffer of a capture and of the buffer of standard output, in bytes.

@@ -1,4 +1,4 @@
-use Rattle.std.proofs.Common.{◌∙◌, arith, rules, sym}
+use Rattle.std.proofs.Common.{◌∙◌, arith, sym}
 use Rattle.std.proofs.lemmas.List.{length-set}
 use Rattle.capture_report.specs.Chosen.{ReadsPort}
 use Rattle.capture_report.proofs.ChosenLemmas.{reads-step}
