@@ -317,7 +317,7 @@ fn count<'a>(alloc: Global) -> Arg<'a>
         alloc,
         "count",
         "N",
-        "End after N packets, those that the options above leave out not counted",
+        "End after N packets; packets that are not selected do not count",
     )
     .short('c')
     .value_parser(value_parser!(u64).range(1..))
