@@ -81,8 +81,8 @@ form_in order bytes = option_map (λ resolution. (order, resolution)) (resolutio
 abbrev pub form_of : List ℕ → Option (ByteOrder × Resolution)
 form_of bytes = option_or (form_in BigEndian bytes) (form_in LittleEndian bytes)
 
--- The error for the first four bytes, if they are no magic number that is read. A1B2CD34 is the magic number of the modified format of older
--- Linux systems (libpcap), with longer headers of records.
+-- The error for the first four bytes, if they are no magic number that is read. A1B2CD34 is the magic number of the modified format of
+-- older Linux systems (libpcap), with longer headers of records.
 abbrev pub magic_error : List ℕ → CaptureHeaderError
 magic_error bytes =
     if number_at BigEndian bytes 0 == 0xA1B2CD34 || number_at LittleEndian bytes 0 == 0xA1B2CD34 then Modified
@@ -99,8 +99,8 @@ version_refusal (Some form) bytes =
     refused_if (not (is_version_read (short_at form.0 bytes 4) (short_at form.0 bytes 6)))
     (Version (short_at form.0 bytes 4) (short_at form.0 bytes 6))
 
--- the errors of a header, in this order: a pcapng file, which begins with a block of this type; fewer than 24 bytes; no magic number that is
--- read; another version
+-- the errors of a header, in this order: a pcapng file, which begins with a block of this type; fewer than 24 bytes; no magic number that
+-- is read; another version
 abbrev pub header_refusal : List ℕ → Option CaptureHeaderError
 header_refusal bytes = first_of (
     refused_if (be_number bytes 0 4 == 0x0A0D0D0A) Pcapng

@@ -55,9 +55,9 @@ is_avs magic = magic == 0x80211001 || magic == 0x80211002
 abbrev pub by_avs_len : List ℕ → ℕ → Result FirstHeader LinkHeaderCutOff
 by_avs_len frame len = if nat_le 8 len then frame_at frame len else Ok (unread 8 119)
 
--- LINKTYPE_IEEE802_11_PRISM. A Prism header has 144 bytes: a message code and a message length of four bytes each, the name of a device in 16
--- bytes, and ten items of 12 bytes each. A header of AVS may be in its place: the number that identifies it and its length, in four bytes
--- each, and more fields.
+-- LINKTYPE_IEEE802_11_PRISM. A Prism header has 144 bytes: a message code and a message length of four bytes each, the name of a device in
+-- 16 bytes, and ten items of 12 bytes each. A header of AVS may be in its place: the number that identifies it and its length, in four
+-- bytes each, and more fields.
 abbrev pub after_prism : List ℕ → Result FirstHeader LinkHeaderCutOff
 after_prism frame = with_bytes frame 8 (
     if is_avs (be_number frame 0 4) then by_avs_len frame (be_number frame 4 4) else frame_at frame 144)
@@ -77,23 +77,24 @@ enclosed_in frame place number other = Ok (unread place number)
 abbrev pub enclosed_at : List ℕ → ℕ → ℕ → Result FirstHeader LinkHeaderCutOff
 enclosed_at frame place number = with_bytes frame place (enclosed_in frame place number (link_type_with number))
 
--- the frame after a LINKTYPE_PPI header with this version and length: the version is 0, and the length counts at least the first eight bytes
+-- the frame after a LINKTYPE_PPI header with this version and length: the version is 0, and the length counts at least the first eight
+-- bytes
 abbrev pub by_ppi : List ℕ → ℕ → ℕ → Result FirstHeader LinkHeaderCutOff
 by_ppi frame version len =
     if version == 0 && nat_le 8 len then enclosed_at frame len (short_at LittleEndian frame 4) else Ok (unread 8 192)
 
--- LINKTYPE_PPI, Per-Packet Information: a version and flags in one byte each, the length of the header in two bytes, and a link type in four
--- bytes, whose number has 16 bits. The numbers are little-endian.
+-- LINKTYPE_PPI, Per-Packet Information: a version and flags in one byte each, the length of the header in two bytes, and a link type in
+-- four bytes, whose number has 16 bits. The numbers are little-endian.
 abbrev pub after_ppi : List ℕ → Result FirstHeader LinkHeaderCutOff
 after_ppi frame = with_bytes frame 8 (by_ppi frame (slice_index frame 0) (short_at LittleEndian frame 2))
 
--- the frame after a LINKTYPE_PKTAP header with this length and type of record: the record is a packet, which is type 1, and the length counts
--- at least the first twelve bytes
+-- the frame after a LINKTYPE_PKTAP header with this length and type of record: the record is a packet, which is type 1, and the length
+-- counts at least the first twelve bytes
 abbrev pub by_tap : List ℕ → ℕ → ℕ → Result FirstHeader LinkHeaderCutOff
 by_tap frame len record_type =
     if nat_le 12 len && record_type == 1 then enclosed_at frame len (short_at LittleEndian frame 8) else Ok (unread 12 258)
 
--- LINKTYPE_PKTAP, of the packet tap of Apple: the length of the header, a type of record, and a link type, whose number has 16 bits, in four
--- bytes each, and more fields. The numbers are little-endian.
+-- LINKTYPE_PKTAP, of the packet tap of Apple: the length of the header, a type of record, and a link type, whose number has 16 bits, in
+-- four bytes each, and more fields. The numbers are little-endian.
 abbrev pub after_tap : List ℕ → Result FirstHeader LinkHeaderCutOff
 after_tap frame = with_bytes frame 12 (by_tap frame (number_at LittleEndian frame 0) (number_at LittleEndian frame 4))

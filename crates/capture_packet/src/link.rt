@@ -220,8 +220,8 @@ fn tagged_header(header: EtherHeader, frame: &[u8]) -> Result<LinkHeader, LinkHe
     after_tags(header, frame, len, ether_type)
 }
 
-/// The header that ends after the last ether type of a header and its tags, which end at this place. After a tag, a number below 1536 is the
-/// length of a frame with an LLC header.
+/// The header that ends after the last ether type of a header and its tags, which end at this place. After a tag, a number below 1536 is
+/// the length of a frame with an LLC header.
 fn after_tags(
     header: EtherHeader,
     frame: &[u8],

@@ -59,7 +59,8 @@ const LINK_TYPES: [(u16, LinkType); 22] = [
     (276, LinkType::LinuxCooked2),
 ];
 
-/// A header of version 2.4 with these first bytes and this link type. The high bits of its number say that there is a frame check sequence of 4 bytes.
+/// A header of version 2.4 with these first bytes and this link type. The high bits of its number say that there is a frame check sequence
+/// of 4 bytes.
 fn header_bytes(first: [u8; 4], order: ByteOrder, link_type: u16) -> [u8; 24] {
     let mut bytes = [0u8; 24];
     bytes[..4].copy_from_slice(&first);

@@ -267,7 +267,10 @@ static LINK_HEADERS: [LinkRow; 32] = [
         &[0x81, 0, 0, 0, 0, 0, 0, 1, 0, 1, 0, 6, 0, 0, 0, 0, 0, 0, 0, 0, 0, 1, 8, 0],
     ),
     (LinkType::Ethernet, BIG, &[2, 0, 0, 0, 0, 2, 2, 0, 0, 0, 0, 1, 0x81, 0, 0, 1, 0, 47, 0xAA, 0xAA, 3, 0, 0, 0, 8, 0]),
-    (LinkType::LinuxCooked, BIG, &[2, 0, 0, 0, 0, 2, 2, 0, 0, 0, 0, 1, 0, 1, 0x88, 0xA8, 0, 1, 0x81, 0, 0, 2, 5, 0xFF, 0xAA, 0xAA, 3, 0, 0, 0, 8, 0]),
+    (
+        LinkType::LinuxCooked, BIG,
+        &[2, 0, 0, 0, 0, 2, 2, 0, 0, 0, 0, 1, 0, 1, 0x88, 0xA8, 0, 1, 0x81, 0, 0, 2, 5, 0xFF, 0xAA, 0xAA, 3, 0, 0, 0, 8, 0],
+    ),
     (LinkType::PppOverEthernet, BIG, &[0x11, 0, 0, 1, 0, 34, 0, 0x21]),
     (
         LinkType::Pflog, BIG,

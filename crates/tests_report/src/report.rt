@@ -351,8 +351,8 @@ fn pcapng_files_are_cut(rt: HostRuntime) -> Result<(), Fail> {
 }
 
 /// A place in the capture and its byte, and the status without a check and with one. The places are in the port, the UDP length, the IP
-/// version, the total length, the magic number, the version of the capture, the link type, the captured length and the original length of the
-/// packet.
+/// version, the total length, the magic number, the version of the capture, the link type, the captured length and the original length of
+/// the packet.
 #[rattlefmt::skip]
 const CHANGES: [(usize, u8, u8, u8); 10] = [
     (60, 0, 0, 0),
