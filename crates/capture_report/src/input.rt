@@ -25,8 +25,8 @@ impl Input {
     ///
     /// # Errors
     ///
-    /// The error of the system if the file can't be opened, and `InvalidFilename` if the name is escaped: a file is opened only by a name that
-    /// is UTF-8.
+    /// The error of the system if the file can't be opened, and `InvalidFilename` if the name is escaped: a file is opened only by a name
+    /// that is UTF-8.
     pub fn open(rt: &HostRuntime, name: &str) -> io::Result<Input>
         ensures { IfOk result (IsRequestedBy name.now) }
     {

@@ -87,8 +87,8 @@ has_lines lines.None = false
 abbrev pub heading_of : Parts → ℕ → ℕ → List ℕ → List ℕ
 heading_of parts count place name = if nat_lt 1 count && has_lines parts.lines then heading_in parts.format place name else []
 
--- The capture with this name at this place was reported, and this is its text: its heading, and then the text of its packets. If as many packets
--- were counted before as are requested, the capture is left out.
+-- The capture with this name at this place was reported, and this is its text: its heading, and then the text of its packets. If as many
+-- packets were counted before as are requested, the capture is left out.
 abbrev pub ReportsHeaded : (List ℕ → Given → Type 0) → Parts → (ℕ → List ℕ → List ℕ) → ℕ → List ℕ → Progress → Progress → List ℕ → Type 0
 ReportsHeaded Reads parts heading place name before after text =
     MatchBool (is_full parts.limit before.summary.packets) ((after ≡ before) × (text ≡ []))

@@ -55,8 +55,8 @@ IsRefusedCapture error bytes =
     × ReadsBeginning (Some bytes) still_left buffer (Err error)
 
 -- What an error states about the capture, after this number of packets was counted. Its beginning is rejected, it ends within a record or
--- block, a block can't be read, or it has too many packets. If reading failed, or the requested number of packets is reached, the error states
--- nothing.
+-- block, a block can't be read, or it has too many packets. If reading failed, or the requested number of packets is reached, the error
+-- states nothing.
 abbrev pub IsEndOf : ℕ → List ℕ → CaptureError → Type 0
 IsEndOf counted bytes (Header error) = IsRefusedCapture error bytes
 IsEndOf counted bytes (RecordCutOff number offset required len) = IsCutOffCapture number required len bytes

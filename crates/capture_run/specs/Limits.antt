@@ -13,8 +13,8 @@ abbrev pub IsWithin : Option ℕ → ℕ → Type 0
 IsWithin None counted = Unit {0}
 IsWithin (Some limit) counted = counted ≤ limit
 
--- The report of a capture ended early exactly if as many packets were counted as are requested. Nothing is stated of a capture whose beginning
--- is not accepted, or with which no more packets can be counted.
+-- The report of a capture ended early exactly if as many packets were counted as are requested. Nothing is stated of a capture whose
+-- beginning is not accepted, or with which no more packets can be counted.
 abbrev pub EndsByLimit : Option ℕ → ℕ → Result (Unit {0}) CaptureError → Type 0
 EndsByLimit limit counted (Ok done) = is_full limit counted ≡ false
 EndsByLimit limit counted (Err Enough) = is_full limit counted ≡ true

@@ -149,8 +149,8 @@ static FILTER_WORDS: [&str; 16] = [
 /// The text for such a word, which is no filter here.
 const FILTER_HINT: &str = "; filters are --host, --port and --protocol";
 
-/// Writes the line of a capture that can't be opened: the names of the program and of the capture, and the text of the error. If the name is
-/// a word of a filter, the options that select packets follow.
+/// Writes the line of a capture that can't be opened: the names of the program and of the capture, and the text of the error. If the name
+/// is a word of a filter, the options that select packets follow.
 pub(crate) fn write_open_error<E: Write>(
     errors: &mut E,
     alloc: Global,

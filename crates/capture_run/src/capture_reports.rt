@@ -117,8 +117,8 @@ impl CaptureReports {
     }
 
     /// Writes the summary of all captures if it is requested and the header of a capture was accepted. Returns the exit status, which is
-    /// the greatest status of the reports. With a requested check it is `Fault` if the checksum of a packet is wrong or a packet is rejected,
-    /// even if a capture can't be read to its end.
+    /// the greatest status of the reports. With a requested check it is `Fault` if the checksum of a packet is wrong or a packet is
+    /// rejected, even if a capture can't be read to its end.
     ///
     /// # Errors
     ///

@@ -22,8 +22,8 @@ use std::io::{Read, Write};
 use streams::new_buffer;
 
 /// Reads a capture, counts each of its packets that is chosen in the summary, and writes its line if it has one. The error beside the
-/// summary says why the capture is not read, or where its packets can't be read further. If a number of packets is requested, the report ends
-/// as soon as it is reached.
+/// summary says why the capture is not read, or where its packets can't be read further. If a number of packets is requested, the report
+/// ends as soon as it is reached.
 pub(crate) fn report_packets<R: Read, W: Write>(
     alloc: Global,
     summary: Summary,
@@ -68,8 +68,8 @@ fn read_header<R: Read>(input: &mut R, buffer: &mut [u8]) -> Result<CaptureReade
     }
 }
 
-/// Counts each packet that is chosen, and writes its line if it has one. The inner error says where the packets can't be read further, or that
-/// as many were counted as are requested; after the outer one nothing more can be written or counted.
+/// Counts each packet that is chosen, and writes its line if it has one. The inner error says where the packets can't be read further, or
+/// that as many were counted as are requested; after the outer one nothing more can be written or counted.
 ///
 /// Of a capture of either form that was cut after any number of bytes the packets whose record or block ends before the cut are counted,
 /// and no other.

@@ -33,8 +33,8 @@ pub struct Parts {
 }
 
 impl Parts {
-    /// The options that these flags request: all packets without a limit, as text, with times since the first packet, and with the ten busiest
-    /// conversations.
+    /// The options that these flags request: all packets without a limit, as text, with times since the first packet, and with the ten
+    /// busiest conversations.
     pub fn from_flags(
         summary_alone: bool,
         packets_alone: bool,
