@@ -341,8 +341,13 @@ fn conversations_over_the_limit_find_no_room(rt: HostRuntime) -> Result<(), Fail
         &summary,
         (MAX_CONVERSATIONS, Count::NONE, saturated(5)),
     );
-    expect_equal(&rt, &summary.packets(), &65_543);
-    let rows = summary.flows().counts();
+    let flows = summary.flows();
+    expect_equal(
+        &rt,
+        &(summary.packets(), flows.packets()),
+        &(65_543, 65_543),
+    );
+    let rows = flows.counts();
     for (row, number) in [(rows.first(), 0), (rows.last(), 65_535)] {
         let row = row.ok_or("no flow")?;
         expect_equal(
