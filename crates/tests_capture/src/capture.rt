@@ -102,7 +102,11 @@ fn headers_are_read(rt: HostRuntime) -> io::Result<()> {
             resolution,
             link_type: Err(2),
         };
-        expect_equal(&rt, &read_capture_header(&mut unknown.as_slice())?, &Ok(header));
+        expect_equal(
+            &rt,
+            &read_capture_header(&mut unknown.as_slice())?,
+            &Ok(header),
+        );
         expect_refusal(&rt, &unknown[..23], CaptureHeaderError::CutOff { len: 23 })?;
     }
     expect_refusal(&rt, &[0x0A, 0x0D, 0x0D, 0x0A], CaptureHeaderError::Pcapng)?;

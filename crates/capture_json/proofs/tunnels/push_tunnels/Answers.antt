@@ -1,4 +1,4 @@
-use Rattle.std.proofs.Common.{◌≡◌, ◌<◌, ◌+◌, ◌∙◌, ◌∷◌, [], ℕ, List, ap, get_or, length, map, rules, sym, take}
+use Rattle.std.proofs.Common.{◌≡◌, ◌<◌, ◌+◌, ◌∙◌, ℕ, List, ap, get_or, length, map, rules, sym, take}
 use Rattle.std.proofs.lemmas.List.{map_more}
 use Rattle.capture_packet.specs.declared.tunnel.Tunnel.{Tunnel}
 use Rattle.json.specs.Token.{Token}
