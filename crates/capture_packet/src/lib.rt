@@ -1,6 +1,6 @@
 //! The content of a packet in a capture, and the verdict on its checksum. Nothing is allocated.
 //!
-//! `link` finds the network packet in a frame. `read_packet` reads it down to its transport: UDP (RFC 768), TCP (RFC 9293), ICMPv4 (RFC
+//! `capture_link` finds the network packet in a frame. `read_packet` reads it down to its transport: UDP (RFC 768), TCP (RFC 9293), ICMPv4 (RFC
 //! 792) or ICMPv6 (RFC 4443), over IPv4 or IPv6. It follows up to four tunnels: IP in IP (RFC 2003; RFC 4213; RFC 2473) and GRE (RFC 2784).
 //!
 //! ```
@@ -17,7 +17,6 @@ mod addresses;
 mod content;
 mod fixed_header;
 mod gre;
-pub mod link;
 mod packet;
 mod payload;
 mod quoted_packet;
@@ -28,7 +27,8 @@ mod tunnel;
 mod verdict;
 
 pub use addresses::{destination_of, source_of};
-pub use content::{Content, NetworkProtocol};
+pub use capture_link::NetworkProtocol;
+pub use content::Content;
 pub use packet::Packet;
 pub use quoted_packet::QuotedPacket;
 pub use read::{MAX_PACKET_LEN, read_packet};

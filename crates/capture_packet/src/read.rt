@@ -7,13 +7,13 @@ ghost use Rattle.capture_packet.specs.Tunnels.{innermost, max_tunnels, payload_p
 ghost use Rattle.capture_packet.specs.Verdicts as specs;
 
 use crate::fixed_header::{IPV6_LEN, fixed_addresses};
-use crate::link::{Frame, LinkHeaderCutOff, network_packet};
 use crate::payload::{counted_payload_len, payload_len};
 use crate::transport::{is_transport_cut_off, read_transport};
 use crate::tunnel::packet_in_payload;
 use crate::{Content, Packet, Refusal, Tunnel, Tunnels, Verdict};
 use arrayvec::ArrayVec;
 use capture_file::{ByteOrder, LinkType};
+use capture_link::{Frame, LinkHeaderCutOff, network_packet};
 use etherparse_transport::Untested;
 use etherparse_transport::ip::{IpError, TransportInIp, transport_in_ip, transport_in_ip_lax};
 

@@ -1,4 +1,4 @@
-use crate::link::LinkHeaderCutOff;
+use capture_link::LinkHeaderCutOff;
 use etherparse_transport::Proto;
 use etherparse_transport::err::tcp::HeaderSliceError;
 use etherparse_transport::ip::IpError;

@@ -12,7 +12,7 @@ use Rattle.capture_summary.specs.Kinds.{content_protocol, verdict_kind, verdict_
 use Rattle.capture_summary.specs.SummaryTables.{CountsOne, SummaryTables}
 use Rattle.capture_file.specs.declared.link_type.LinkType.{LinkType}
 use Rattle.capture_packet.specs.declared.content.Content.TheVariants.{NotIp, Unread}
-use Rattle.capture_packet.specs.declared.content.NetworkProtocol.TheVariants as protocols
+use Rattle.capture_link.specs.declared.network_protocol.NetworkProtocol.TheVariants as protocols
 use Rattle.capture_packet.specs.declared.packet.Packet.{Packet}
 use Rattle.capture_packet.specs.declared.verdict.Verdict.TheVariants.{TooLong}
 use Rattle.etherparse_transport.specs.declared.checksum_verdict.Untested.TheVariants.{OtherProtocol}

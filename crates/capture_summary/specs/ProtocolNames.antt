@@ -2,8 +2,8 @@
 use Rattle.std.specs.Prelude.{ℕ, ◌==◌, ◌&&◌, if◌then◌else◌, List, [], ◌∷◌, codes, Option, Some, None}
 use Rattle.std.specs.Map.{lookup}
 use Rattle.ip_part.specs.declared.proto.Proto.{Proto}
-use Rattle.capture_packet.specs.declared.content.NetworkProtocol.{NetworkProtocol}
-use Rattle.capture_packet.specs.declared.content.NetworkProtocol.TheVariants.{AddressFamily, EtherType, FrameRelay, Ieee80211, LinkType, Llc, Nlpid, PppProtocol, Radiotap, Snap}
+use Rattle.capture_link.specs.declared.network_protocol.NetworkProtocol.{NetworkProtocol}
+use Rattle.capture_link.specs.declared.network_protocol.NetworkProtocol.TheVariants.{AddressFamily, EtherType, FrameRelay, Ieee80211, LinkType, Llc, Nlpid, PppProtocol, Radiotap, Snap}
 use Rattle.capture_summary.specs.Kinds.{protocol_of, protocol_word}
 
 -- protocols over IP (the registry "Protocol Numbers" of IANA)

@@ -1,7 +1,7 @@
 use crate::expect::{expect_equal, expect_ok};
 use crate::packet::{IPV4_UDP, OTHER_PROTOCOL, UDP_OVER_IPV4, joined, udp_packet};
 use capture_file::{ByteOrder, LinkType};
-use capture_packet::link::LinkHeaderCutOff;
+use capture_link::LinkHeaderCutOff;
 use capture_packet::{Content, NetworkProtocol, Packet, Refusal, Verdict, read_packet};
 use std::process::Abort;
 

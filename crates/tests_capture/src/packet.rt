@@ -1,6 +1,6 @@
 use crate::expect::{expect_equal, expect_ok};
 use capture_file::{ByteOrder, LinkType};
-use capture_packet::link::LinkHeaderCutOff;
+use capture_link::LinkHeaderCutOff;
 use capture_packet::{Content, NetworkProtocol, Packet, Refusal, Transport, Verdict, read_packet};
 use etherparse_transport::err::tcp::{HeaderError, HeaderSliceError};
 use etherparse_transport::err::{Layer, LenError};

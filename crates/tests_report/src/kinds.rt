@@ -2,7 +2,7 @@
 
 use crate::expect::expect_equal;
 use capture_file::LinkType;
-use capture_packet::link::LinkHeaderCutOff;
+use capture_link::LinkHeaderCutOff;
 use capture_packet::{Content, NetworkProtocol, Refusal, Transport, Verdict};
 use capture_summary::{LinkKind, Protocol, RefusalKind, VerdictKind};
 use etherparse_transport::err::tcp::{HeaderError, HeaderSliceError};

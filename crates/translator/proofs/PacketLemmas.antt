@@ -6,7 +6,7 @@ use borrow.Rule.Slice.PartMut.{Post-is, post_of, put_mid}
 use Rattle.capture_file.specs.declared.byte_order.ByteOrder.{ByteOrder}
 use Rattle.capture_file.specs.declared.link_type.LinkType.{LinkType}
 use Rattle.capture_packet.specs.Contents.{ports_in}
-use Rattle.capture_packet.specs.Link.{HasLinkHeader}
+use Rattle.capture_link.specs.Link.{HasLinkHeader}
 use Rattle.etherparse_transport.specs.declared.ip.ipv4_translation.Ipv4Translation.{Ipv4Translation}
 use Rattle.etherparse_transport.specs.declared.ip.ipv6_translation.Ipv6Translation.{Ipv6Translation}
 use Rattle.ip_part.specs.declared.transport.TransportInIp.{TransportInIp}

@@ -3,7 +3,7 @@ use Rattle.std.specs.Prelude.{◌≡◌, ◌++◌, ◌⊎◌, ℕ, Bool, true, f
 use Rattle.capture_file.specs.declared.byte_order.ByteOrder.{ByteOrder}
 use Rattle.capture_file.specs.declared.link_type.LinkType.{LinkType}
 use Rattle.capture_packet.specs.Contents.{ports_in}
-use Rattle.capture_packet.specs.Link.{HasLinkHeader}
+use Rattle.capture_link.specs.Link.{HasLinkHeader}
 use Rattle.etherparse_transport.specs.Ipv4Translations.{ipv4_translated}
 use Rattle.etherparse_transport.specs.Ipv6Translations.{ipv6_translated}
 use Rattle.etherparse_transport.specs.declared.ip.ipv4_translation.Ipv4Translation.{Ipv4Translation}

@@ -2,7 +2,7 @@
 
 ghost use Rattle.std.specs.Prelude.{◌≡◌, ◌≤◌, IfOk, None, length};
 ghost use Rattle.std.specs.Option.{option_map};
-ghost use Rattle.capture_packet.specs.Link.{HasLinkHeader};
+ghost use Rattle.capture_link.specs.Link.{HasLinkHeader};
 ghost use Rattle.translator.specs.Packets as specs;
 ghost use Rattle.translator.specs.Packets.{TranslatesCaptured, TranslatesFrame, TranslatesPacket};
 
@@ -11,7 +11,7 @@ use crate::ipv6_packet::translate_ipv6_packet;
 use crate::reason::Reason;
 use crate::table::Table;
 use capture_file::{ByteOrder, LinkType};
-use capture_packet::link::{Frame, network_packet};
+use capture_link::{Frame, network_packet};
 use etherparse_transport::ip::TransportInIp;
 use etherparse_transport::{Icmpv4Slice, Icmpv6Slice, Ipv6HeaderSlice, Proto};
 

@@ -2,7 +2,7 @@ use super::{
     OVER_IPV4, OVER_IPV6, expect_line, expect_line_of, expect_line_of_length, expect_transport,
     expect_verdict,
 };
-use capture_packet::link::LinkHeaderCutOff;
+use capture_link::LinkHeaderCutOff;
 use capture_packet::{Content, NetworkProtocol, Packet, Refusal, Transport, Tunnel, Verdict};
 use capture_summary::FrameLen;
 use etherparse_transport::err::tcp::{HeaderError, HeaderSliceError};

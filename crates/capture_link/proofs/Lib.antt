@@ -1,0 +1,4 @@
+mod LinkExamples
+pub mod LinkLaws
+pub mod LinkLemmas
+pub mod MplsLemmas

@@ -1,0 +1,162 @@
+-- Worked examples of link headers: a frame of each link type, and stacks of MPLS labels. A wrong definition fails here before any code does.
+use Rattle.std.proofs.Common.{◌≡◌, ◌<◌, ◌≤◌, ℕ, zero, suc, false, List, [], ◌∷◌, ◌++◌, Option, Some, None, Ok, arith, inl, inr, length, refl, replicate}
+use Rattle.capture_file.specs.declared.byte_order.ByteOrder.TheVariants.{BigEndian, LittleEndian}
+use Rattle.capture_file.specs.declared.link_type.LinkType.TheVariants.{BsdLoopback, CiscoHdlc, Ethernet, FrameRelay, Ieee80211, LinuxCooked, LinuxCooked2, OpenBsdLoopback, Ppp, PppHdlc, Radiotap, RawIp}
+use Rattle.capture_link.specs.Link.{HasEtherHeader, HasLinkHeader, NeedsLinkHeader, after_tags, ether_type_after, is_vlan_tag, tagged_len}
+use Rattle.capture_link.specs.declared.network_protocol.NetworkProtocol.{NetworkProtocol}
+use Rattle.capture_link.specs.declared.network_protocol.NetworkProtocol.TheVariants.{AddressFamily, EtherType, Ieee80211 as OtherFrame, Llc, Nlpid, PppProtocol}
+use Rattle.capture_link.specs.declared.link.header.EtherHeader.{EtherHeader}
+
+-- the first bytes of an IPv4 packet
+abbrev packet : List ℕ
+packet = 0x45 ∷ 0 ∷ []
+
+-- two addresses of Ethernet
+abbrev addresses : List ℕ
+addresses = replicate 6 2 ++ replicate 6 3
+
+-- ---- headers with an ether type
+
+-- a header without tags
+no_tag : (header : EtherHeader) (frame : List ℕ) (len : ℕ) (next : Option NetworkProtocol)
+    → is_vlan_tag (ether_type_after header frame 0) ≡ false → tagged_len header 0 ≤ length frame
+    → after_tags header frame (tagged_len header 0) (ether_type_after header frame 0) ≡ Ok (record { len = len; next = next })
+    → HasEtherHeader header frame len next
+no_tag header frame len next last there says = record {
+  tags = 0;
+  has = record { tagged = λ tag within. absurd (omega (arith, within)); last = last; there = there };
+  says = says;
+}
+
+-- a statement about the first of one tag
+of_first : (P : ℕ → Type 0) → P 0 → (tag : ℕ) → tag < 1 → P tag
+of_first P first zero within = first
+of_first P first (suc tag) within = absurd (omega (arith, within))
+
+ethernet : HasLinkHeader Ethernet LittleEndian (addresses ++ 0x08 ∷ 0x00 ∷ packet) 14 None
+ethernet = no_tag _ _ 14 None refl (omega arith) refl
+
+ethernet_with_tag : HasLinkHeader Ethernet LittleEndian (addresses ++ 0x81 ∷ 0x00 ∷ 0 ∷ 100 ∷ 0x86 ∷ 0xDD ∷ packet) 18 None
+ethernet_with_tag = record {
+  tags = 1;
+  has = record { tagged = of_first _ refl; last = refl; there = omega arith };
+  says = refl;
+}
+
+-- ARP
+ethernet_without_ip : HasLinkHeader Ethernet LittleEndian (addresses ++ 0x08 ∷ 0x06 ∷ []) 14 (Some (EtherType 0x0806))
+ethernet_without_ip = no_tag _ _ 14 _ refl (omega arith) refl
+
+-- the spanning tree protocol, after a length of 38 bytes
+ethernet_with_llc : HasLinkHeader Ethernet LittleEndian (addresses ++ 0 ∷ 38 ∷ 0x42 ∷ 0x42 ∷ 0x03 ∷ []) 17 (Some (Llc 0x42 0x42))
+ethernet_with_llc = (refl, refl)
+
+-- the frame ends within the tag, whose end is at 18 bytes
+ends_in_tag : NeedsLinkHeader Ethernet LittleEndian (addresses ++ 0x81 ∷ 0x00 ∷ 0 ∷ []) 18
+ends_in_tag =
+    inr (inl (record {
+      tags = 0;
+      in_tag = record { tagged = of_first _ refl; there = omega arith; ends = omega arith };
+      is_required_len = refl;
+    }))
+
+linux_cooked : HasLinkHeader LinuxCooked LittleEndian (0 ∷ 0 ∷ 0 ∷ 1 ∷ 0 ∷ 6 ∷ (replicate 8 2 ++ 0x08 ∷ 0x00 ∷ packet)) 16 None
+linux_cooked = no_tag _ _ 16 None refl (omega arith) refl
+
+linux_cooked_2 : HasLinkHeader LinuxCooked2 LittleEndian (0x86 ∷ 0xDD ∷ (replicate 18 0 ++ packet)) 20 None
+linux_cooked_2 = no_tag _ _ 20 None refl (omega arith) refl
+
+cisco_hdlc : HasLinkHeader CiscoHdlc LittleEndian (0x0F ∷ 0x00 ∷ 0x08 ∷ 0x00 ∷ packet) 4 None
+cisco_hdlc = no_tag _ _ 4 None refl (omega arith) refl
+
+-- a PPPoE session: 6 bytes, and the Protocol field of PPP
+session : HasLinkHeader Ethernet LittleEndian
+    (addresses ++ 0x88 ∷ 0x64 ∷ 0x11 ∷ 0x00 ∷ 0 ∷ 1 ∷ 0 ∷ 4 ∷ 0x00 ∷ 0x21 ∷ packet) 22 None
+session = no_tag _ _ 22 None refl (omega arith) refl
+
+-- ---- stacks of MPLS labels
+
+-- label 16, and label 17, which is the last label; the time to live is 64
+abbrev two_labels : List ℕ
+two_labels = 0 ∷ 1 ∷ 0x00 ∷ 64 ∷ 0 ∷ 1 ∷ 0x11 ∷ 64 ∷ []
+
+mpls : HasLinkHeader Ethernet LittleEndian (addresses ++ 0x88 ∷ 0x47 ∷ (two_labels ++ packet)) 22 None
+mpls = no_tag _ _ 22 None refl (omega arith) refl
+
+-- the first byte after the stack is the first byte of a pseudowire
+mpls_with_pseudowire : HasLinkHeader Ethernet LittleEndian (addresses ++ 0x88 ∷ 0x47 ∷ (two_labels ++ 0 ∷ [])) 22 (Some (EtherType 0x8847))
+mpls_with_pseudowire = no_tag _ _ 22 _ refl (omega arith) refl
+
+mpls_over_ppp : HasLinkHeader Ppp LittleEndian (0xFF ∷ 0x03 ∷ 0x02 ∷ 0x81 ∷ (two_labels ++ packet)) 12 None
+mpls_over_ppp = (refl, refl)
+
+-- the frame ends within the second label, whose end is at 22 bytes
+ends_in_label : NeedsLinkHeader Ethernet LittleEndian (addresses ++ 0x88 ∷ 0x47 ∷ 0 ∷ 1 ∷ 0x00 ∷ 64 ∷ 0 ∷ []) 22
+ends_in_label =
+    inr (inr (record {
+      tags = 0;
+      has = record { tagged = λ tag within. absurd (omega (arith, within)); last = refl; there = omega arith };
+      error = record { required_len = 22; len = 19 };
+      says = refl;
+      is_required_len = refl;
+    }))
+
+-- ---- PPP and Frame Relay
+
+ppp : HasLinkHeader Ppp LittleEndian (0xFF ∷ 0x03 ∷ 0x00 ∷ 0x21 ∷ packet) 4 None
+ppp = (refl, refl)
+
+-- without the Address and Control fields, and with a Protocol field of one byte
+short_ppp : HasLinkHeader Ppp LittleEndian (0x21 ∷ packet) 1 None
+short_ppp = (refl, refl)
+
+-- the Link Control Protocol
+ppp_without_ip : HasLinkHeader Ppp LittleEndian (0xFF ∷ 0x03 ∷ 0xC0 ∷ 0x21 ∷ []) 4 (Some (PppProtocol 0xC021))
+ppp_without_ip = (refl, refl)
+
+ppp_hdlc : HasLinkHeader PppHdlc LittleEndian (0xFF ∷ 0x03 ∷ 0x00 ∷ 0x57 ∷ packet) 4 None
+ppp_hdlc = (refl, refl)
+
+cisco_hdlc_as_ppp : HasLinkHeader PppHdlc LittleEndian (0x8F ∷ 0x00 ∷ 0x08 ∷ 0x00 ∷ packet) 4 None
+cisco_hdlc_as_ppp = no_tag _ _ 4 None refl (omega arith) refl
+
+frame_relay : HasLinkHeader FrameRelay LittleEndian (0x18 ∷ 0x41 ∷ 0x03 ∷ 0xCC ∷ packet) 4 None
+frame_relay = (refl, refl)
+
+-- a pad byte, and the network layer protocol ID of IS-IS
+frame_relay_without_ip : HasLinkHeader FrameRelay LittleEndian (0x18 ∷ 0x41 ∷ 0x03 ∷ 0x00 ∷ 0x83 ∷ []) 5 (Some (Nlpid 0x83))
+frame_relay_without_ip = (refl, refl)
+
+-- ---- headers with an address family, and no header
+
+bsd_loopback : HasLinkHeader BsdLoopback LittleEndian (2 ∷ 0 ∷ 0 ∷ 0 ∷ packet) 4 None
+bsd_loopback = (refl, refl)
+
+-- a capture that a machine with the other byte order wrote
+other_order : HasLinkHeader BsdLoopback LittleEndian (0 ∷ 0 ∷ 0 ∷ 2 ∷ packet) 4 None
+other_order = (refl, refl)
+
+other_family : HasLinkHeader BsdLoopback LittleEndian (7 ∷ 0 ∷ 0 ∷ 0 ∷ []) 4 (Some (AddressFamily 7))
+other_family = (refl, refl)
+
+open_bsd_loopback : HasLinkHeader OpenBsdLoopback LittleEndian (0 ∷ 0 ∷ 0 ∷ 24 ∷ packet) 4 None
+open_bsd_loopback = (refl, refl)
+
+raw_ip : HasLinkHeader RawIp LittleEndian packet 0 None
+raw_ip = (refl, refl)
+
+-- ---- IEEE 802.11
+
+-- a data frame to an access point: 24 bytes, an LLC header, a SNAP header, and the ether type of IPv4
+abbrev data_frame : List ℕ
+data_frame = 0x08 ∷ 0x01 ∷ (replicate 22 0 ++ 0xAA ∷ 0xAA ∷ 0x03 ∷ 0 ∷ 0 ∷ 0 ∷ 0x08 ∷ 0x00 ∷ packet)
+
+ieee80211 : HasLinkHeader Ieee80211 LittleEndian data_frame 32 None
+ieee80211 = no_tag _ _ 32 None refl (omega arith) refl
+
+-- a beacon
+ieee80211_without_data : HasLinkHeader Ieee80211 LittleEndian (0x80 ∷ 0x00 ∷ replicate 22 0) 2 (Some (OtherFrame 0x8000))
+ieee80211_without_data = (refl, refl)
+
+radiotap : HasLinkHeader Radiotap BigEndian (0 ∷ 0 ∷ 8 ∷ 0 ∷ (replicate 4 0 ++ data_frame)) 40 None
+radiotap = no_tag _ _ 40 None refl (omega arith) refl

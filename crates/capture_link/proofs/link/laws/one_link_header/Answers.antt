@@ -1,0 +1,19 @@
+use Rattle.std.proofs.Common.{arith}
+use Rattle.capture_link.specs.Link.{first_header}
+use Rattle.capture_link.proofs.LinkLaws.{needs_one_length, one_header, whole_header}
+use Rattle.capture_link.proofs.link.laws.one_link_header.Goals as goal
+
+pub returns-clause-unique : goal.returns-clause-unique
+returns-clause-unique c link_type order frame len other_len next other_next =
+    one_header frame len other_len next other_next (first_header link_type order frame)
+
+pub returns-clause-whole : goal.returns-clause-whole
+returns-clause-whole c link_type order frame len required_len next =
+    whole_header frame len required_len next (first_header link_type order frame)
+
+pub returns-clause-required : goal.returns-clause-required
+returns-clause-required c link_type order frame required_len other_len =
+    needs_one_length frame required_len other_len (first_header link_type order frame)
+
+pub returns-clause-any_order : goal.returns-clause-any_order
+returns-clause-any_order c link_type order other frame required_len needs = grind (arith, needs)

@@ -1,0 +1,42 @@
+-- Frame Relay frames (RFC 2427, section 3).
+use Rattle.std.specs.Prelude.{ℕ, ◌+◌, ◌==◌, ◌||◌, ◌&&◌, Bool, if◌then◌else◌, bit_and, List, slice_index, Some, None, Result, Ok}
+use Rattle.net_base.specs.Bytes.{be_number}
+use Rattle.capture_link.specs.LinkHeaders.{with_bytes}
+use Rattle.capture_link.specs.Llc.{snap_at}
+use Rattle.capture_link.specs.declared.link.LinkHeaderCutOff.{LinkHeaderCutOff}
+use Rattle.capture_link.specs.declared.link.header.FirstHeader.{FirstHeader}
+use Rattle.capture_link.specs.declared.link.header.FirstHeader.TheVariants.{EtherType, Whole}
+use Rattle.capture_link.specs.declared.network_protocol.NetworkProtocol.TheVariants.{FrameRelay, Nlpid}
+
+-- the header that ends with this network layer protocol ID: IPv4 follows CC, IPv6 follows 8E, and a SNAP header follows 80
+abbrev pub by_nlpid : List ℕ → ℕ → ℕ → Result FirstHeader LinkHeaderCutOff
+by_nlpid frame place nlpid =
+    if nlpid == 0x80 then snap_at frame (place + 1)
+    else if nlpid == 0xCC || nlpid == 0x8E then Ok (Whole (record { len = place + 1; next = None }))
+    else Ok (Whole (record { len = place + 1; next = Some (Nlpid nlpid) }))
+
+-- the header with the network layer protocol ID at this place
+abbrev pub nlpid_at : List ℕ → ℕ → Result FirstHeader LinkHeaderCutOff
+nlpid_at frame place = with_bytes frame (place + 1) (by_nlpid frame place (slice_index frame place))
+
+-- a two-byte address, whose lowest bits are 0 and 1 (ITU-T Q.922, annex A), and the control byte 03, unnumbered information
+abbrev pub is_unnumbered : ℕ → Bool
+is_unnumbered header = bit_and header 0x0101FF == 0x000103
+
+-- a two-byte address, and the ether type of IPv4 or IPv6 directly after it, without a control byte, as Cisco's equipment writes it
+abbrev pub has_ether_type : List ℕ → Bool
+has_ether_type frame =
+    bit_and (be_number frame 0 3) 0x010100 == 0x000100 && (be_number frame 2 2 == 0x0800 || be_number frame 2 2 == 0x86DD)
+
+-- the header of a frame without the control byte 03 after a two-byte address
+abbrev pub without_control : List ℕ → FirstHeader
+without_control frame =
+    if has_ether_type frame then EtherType (record { len = 4; ether_type_at = 2 })
+    else Whole (record { len = 3; next = Some (FrameRelay (be_number frame 0 3)) })
+
+-- The first header of a Frame Relay frame. A pad byte 00 may follow the address and the control byte. Then the network layer protocol ID
+-- follows.
+abbrev pub frame_relay : List ℕ → Result FirstHeader LinkHeaderCutOff
+frame_relay frame = with_bytes frame 4 (
+    if is_unnumbered (be_number frame 0 3) then nlpid_at frame (if slice_index frame 3 == 0 then 4 else 3)
+    else Ok (without_control frame))

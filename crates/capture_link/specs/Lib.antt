@@ -1,0 +1,10 @@
+pub mod AddressFamilies
+pub mod EtherHeaders
+pub mod FrameRelay
+pub mod Ieee80211
+pub mod Link
+pub mod LinkHeaders
+pub mod Llc
+pub mod Metadata
+pub mod Mpls
+pub mod Ppp

@@ -1,0 +1,199 @@
+-- The headers of the link layer before a network packet: their lengths, and the protocols that follow them.
+use Rattle.std.specs.Prelude.{◌≡◌, ◌⊎◌, ◌≤◌, ◌<◌, ℕ, zero, suc, ◌+◌, ◌*◌, ◌==◌, ◌||◌, ◌&&◌, nat_le, nat_lt, Bool, true, false, if◌then◌else◌, List, drop, length, slice_index, Option, Some, None, Result, Ok, Err}
+use Rattle.net_base.specs.Bytes.{be_number}
+use Rattle.capture_link.specs.AddressFamilies.{family_at}
+use Rattle.capture_link.specs.EtherHeaders.{ethernet_at}
+use Rattle.capture_link.specs.FrameRelay.{frame_relay}
+use Rattle.capture_link.specs.Ieee80211.{after_radiotap, frame_at}
+use Rattle.capture_link.specs.LinkHeaders.{with_bytes}
+use Rattle.capture_link.specs.Llc.{llc_at}
+use Rattle.capture_link.specs.Metadata.{after_ppi, after_prism, after_tap, filter_header, ipnet_header}
+use Rattle.capture_link.specs.Mpls.{stack_at}
+use Rattle.capture_link.specs.Ppp.{ppp_header, session_at}
+use Rattle.capture_file.specs.declared.byte_order.ByteOrder.{ByteOrder}
+use Rattle.capture_file.specs.declared.byte_order.ByteOrder.TheVariants.{BigEndian}
+use Rattle.capture_file.specs.declared.link_type.LinkType.{LinkType}
+use Rattle.capture_file.specs.declared.link_type.LinkType.TheVariants.{BsdLoopback, CiscoHdlc, Ethernet, FrameRelay, Ieee80211, Ipnet, LinuxCooked, LinuxCooked2, OpenBsdLoopback, Pflog, Pktap, Ppi, Ppp, PppHdlc, PppOverEthernet, Prism, Radiotap, RawIp}
+use Rattle.capture_link.specs.declared.link.Frame.{Frame}
+use Rattle.capture_link.specs.declared.link.Frame.TheVariants.{Ip, Other}
+use Rattle.capture_link.specs.declared.link.LinkHeaderCutOff.{LinkHeaderCutOff}
+use Rattle.capture_link.specs.declared.link.header.EtherHeader.{EtherHeader}
+use Rattle.capture_link.specs.declared.link.header.FirstHeader.{FirstHeader}
+use Rattle.capture_link.specs.declared.link.header.FirstHeader.TheVariants.{EtherType, Whole}
+use Rattle.capture_link.specs.declared.link.header.LinkHeader.{LinkHeader}
+use Rattle.capture_link.specs.declared.network_protocol.NetworkProtocol.{NetworkProtocol}
+use Rattle.capture_link.specs.declared.network_protocol.NetworkProtocol.TheVariants.{EtherType as UnknownEtherType}
+
+-- ---- headers with an ether type
+
+-- the length of a LINKTYPE_LINUX_SLL header without tags, and the place of its ether type (draft-ietf-opsawg-pcaplinktype)
+abbrev pub linux_cooked : EtherHeader
+linux_cooked = record { len = 16; ether_type_at = 14 }
+
+-- the same of LINKTYPE_LINUX_SLL2 (draft-ietf-opsawg-pcaplinktype)
+abbrev pub linux_cooked_2 : EtherHeader
+linux_cooked_2 = record { len = 20; ether_type_at = 0 }
+
+-- LINKTYPE_C_HDLC (RFC 1547, section 4.3.1): an address, a control byte, and the ether type
+abbrev pub cisco_hdlc : EtherHeader
+cisco_hdlc = record { len = 4; ether_type_at = 2 }
+
+-- the ether types before a VLAN tag: 8100 and 88A8 (IEEE 802.1Q, clause 9.5), and 9100 and 9200, which older equipment writes instead of
+-- 88A8
+abbrev pub is_vlan_tag : ℕ → Bool
+is_vlan_tag ether_type = ether_type == 0x8100 || (ether_type == 0x88A8 || (ether_type == 0x9100 || ether_type == 0x9200))
+
+-- the length of a header with this many tags, of four bytes each
+abbrev pub tagged_len : EtherHeader → ℕ → ℕ
+tagged_len header tags = header.len + tags * 4
+
+-- the ether type after this number of tags: the ether type of the header, or the last two bytes of a tag
+abbrev pub ether_type_after : EtherHeader → List ℕ → ℕ → ℕ
+ether_type_after header frame zero = be_number frame header.ether_type_at 2
+ether_type_after header frame (suc tags) = be_number frame (tagged_len header tags + 2) 2
+
+-- this number of ether types, from the first on, are ether types of tags
+abbrev pub IsTagged : EtherHeader → List ℕ → ℕ → Type 0
+IsTagged header frame tags = (tag : ℕ) → tag < tags → is_vlan_tag (ether_type_after header frame tag) ≡ true
+
+-- the ether types of IPv4 and IPv6 (RFC 894; RFC 2464, section 3)
+abbrev pub is_ip : ℕ → Bool
+is_ip ether_type = ether_type == 0x0800 || ether_type == 0x86DD
+
+-- the next protocol according to an ether type; `None` is IP
+abbrev pub by_ether_type : ℕ → Option NetworkProtocol
+by_ether_type ether_type = if is_ip ether_type then None else Some (UnknownEtherType ether_type)
+
+-- The header that ends after an ether type, or after the header that follows it. A PPPoE header follows 8864 (RFC 2516, section 4), and a
+-- stack of MPLS labels follows 8847 and 8848 (RFC 3032, section 5).
+abbrev pub after_ether_type : List ℕ → ℕ → ℕ → Result LinkHeader LinkHeaderCutOff
+after_ether_type frame place ether_type =
+    if ether_type == 0x8864 then session_at frame place
+    else if ether_type == 0x8847 || ether_type == 0x8848 then stack_at frame (UnknownEtherType ether_type) place
+    else Ok (record { len = place; next = by_ether_type ether_type })
+
+-- the header that ends with an LLC header, or with the ether type of a SNAP header after it
+abbrev pub after_llc : List ℕ → Result FirstHeader LinkHeaderCutOff → Result LinkHeader LinkHeaderCutOff
+after_llc frame (Ok (Whole header)) = Ok header
+after_llc frame (Ok (EtherType header)) = after_ether_type frame header.len (be_number frame header.ether_type_at 2)
+after_llc frame (Err error) = Err error
+
+-- The header that ends after the last ether type of a header and its tags, which end at this place. After a tag, a number below 0600 is a
+-- length, and an LLC header follows (IEEE 802.3, clause 3.2.6).
+abbrev pub after_tags : EtherHeader → List ℕ → ℕ → ℕ → Result LinkHeader LinkHeaderCutOff
+after_tags header frame place ether_type =
+    if nat_lt header.len place && nat_lt ether_type 0x0600 then after_llc frame (llc_at frame place)
+    else after_ether_type frame place ether_type
+
+-- the header has exactly this number of tags, and the frame contains all of them
+pub record HasTags (header : EtherHeader) (frame : List ℕ) (tags : ℕ) : Type 0 where
+  pub tagged : IsTagged header frame tags
+  pub last : is_vlan_tag (ether_type_after header frame tags) ≡ false
+  pub there : tagged_len header tags ≤ length frame
+
+-- The frame has a whole link header with an ether type. Its length includes the tags and the header after them, and this protocol comes
+-- next.
+pub record HasEtherHeader (header : EtherHeader) (frame : List ℕ) (len : ℕ) (next : Option NetworkProtocol) : Type 0 where
+  pub tags : ℕ
+  pub has : HasTags header frame tags
+  pub says : after_tags header frame (tagged_len header tags) (ether_type_after header frame tags) ≡ Ok (record { len = len; next = next })
+
+-- the frame contains the header and these tags, and ends within the tag after them
+pub record EndsInTag (header : EtherHeader) (frame : List ℕ) (tags : ℕ) : Type 0 where
+  pub tagged : IsTagged header frame (suc tags)
+  pub there : tagged_len header tags ≤ length frame
+  pub ends : length frame < tagged_len header (suc tags)
+
+-- the frame ends within a tag, whose end is at this length
+pub record NeedsTag (header : EtherHeader) (frame : List ℕ) (required_len : ℕ) : Type 0 where
+  pub tags : ℕ
+  pub in_tag : EndsInTag header frame tags
+  pub is_required_len : required_len ≡ tagged_len header (suc tags)
+
+-- the frame ends within the header after its last ether type, which needs this number of bytes
+pub record NeedsAfterTags (header : EtherHeader) (frame : List ℕ) (required_len : ℕ) : Type 0 where
+  pub tags : ℕ
+  pub has : HasTags header frame tags
+  pub error : LinkHeaderCutOff
+  pub says : after_tags header frame (tagged_len header tags) (ether_type_after header frame tags) ≡ Err error
+  pub is_required_len : required_len ≡ error.required_len
+
+-- the frame ends within a header with an ether type, within a tag, or within the header after its last ether type; at least this number of
+-- bytes is needed
+abbrev pub NeedsEtherHeader : EtherHeader → List ℕ → ℕ → Type 0
+NeedsEtherHeader header frame required_len =
+    ((length frame < header.len) × (required_len ≡ header.len))
+    ⊎ (NeedsTag header frame required_len ⊎ NeedsAfterTags header frame required_len)
+
+-- ---- headers with an ether type or an LLC header
+
+-- a frame of LINKTYPE_LINUX_SLL or LINKTYPE_LINUX_SLL2, with an ether type, or with the protocol 0004 and an LLC header
+abbrev pub cooked_header : EtherHeader → List ℕ → Result FirstHeader LinkHeaderCutOff
+cooked_header header frame = with_bytes frame header.len (
+    if be_number frame header.ether_type_at 2 == 0x0004 then llc_at frame header.len else Ok (EtherType header))
+
+-- ---- all link types
+
+-- a frame with a whole header at its front
+abbrev pub whole : Result LinkHeader LinkHeaderCutOff → Result FirstHeader LinkHeaderCutOff
+whole (Ok header) = Ok (Whole header)
+whole (Err error) = Err error
+
+-- a LINKTYPE_PPP_HDLC frame with an address of Cisco HDLC: 0F to one station, or 8F to all stations
+abbrev pub is_cisco_hdlc : List ℕ → Bool
+is_cisco_hdlc frame = nat_le 1 (length frame) && (slice_index frame 0 == 0x0F || slice_index frame 0 == 0x8F)
+
+-- the first header of a frame of this link type
+abbrev pub first_header : LinkType → ByteOrder → List ℕ → Result FirstHeader LinkHeaderCutOff
+first_header BsdLoopback order frame = family_at order frame 0
+first_header Ethernet order frame = ethernet_at frame 0
+first_header Ppp order frame = whole (ppp_header frame)
+first_header PppHdlc order frame = if is_cisco_hdlc frame then Ok (EtherType cisco_hdlc) else whole (ppp_header frame)
+first_header PppOverEthernet order frame = whole (session_at frame 0)
+first_header RawIp order frame = Ok (Whole (record { len = 0; next = None }))
+first_header CiscoHdlc order frame = Ok (EtherType cisco_hdlc)
+first_header Ieee80211 order frame = frame_at frame 0
+first_header FrameRelay order frame = frame_relay frame
+first_header OpenBsdLoopback order frame = family_at BigEndian frame 0
+first_header LinuxCooked order frame = cooked_header linux_cooked frame
+first_header Pflog order frame = filter_header frame
+first_header Prism order frame = after_prism frame
+first_header Radiotap order frame = after_radiotap frame
+first_header Ppi order frame = after_ppi frame
+first_header Ipnet order frame = ipnet_header frame
+first_header Pktap order frame = after_tap frame
+first_header LinuxCooked2 order frame = cooked_header linux_cooked_2 frame
+
+-- the whole link header has this length, and this protocol comes next, according to the first header; `None` is IP
+abbrev pub HasWhole : List ℕ → ℕ → Option NetworkProtocol → Result FirstHeader LinkHeaderCutOff → Type 0
+HasWhole frame len next (Ok (Whole header)) = (len ≡ header.len) × (next ≡ header.next)
+HasWhole frame len next (Ok (EtherType header)) = HasEtherHeader header frame len next
+HasWhole frame len next (Err error) = ⊥
+
+-- the same for a frame of this link type
+abbrev pub HasLinkHeader : LinkType → ByteOrder → List ℕ → ℕ → Option NetworkProtocol → Type 0
+HasLinkHeader link_type order frame len next = HasWhole frame len next (first_header link_type order frame)
+
+-- the frame ends within its link header, according to the first header; this is the length of the link header, as far as it is known
+abbrev pub NeedsWhole : List ℕ → ℕ → Result FirstHeader LinkHeaderCutOff → Type 0
+NeedsWhole frame required_len (Ok (Whole header)) = ⊥
+NeedsWhole frame required_len (Ok (EtherType header)) = NeedsEtherHeader header frame required_len
+NeedsWhole frame required_len (Err error) = required_len ≡ error.required_len
+
+-- the same for a frame of this link type
+abbrev pub NeedsLinkHeader : LinkType → ByteOrder → List ℕ → ℕ → Type 0
+NeedsLinkHeader link_type order frame required_len = NeedsWhole frame required_len (first_header link_type order frame)
+
+-- the content of a frame after a header of this length: the packet in the bytes after it, or another protocol
+abbrev pub IsCutAfter : List ℕ → ℕ → Option NetworkProtocol → Frame → Type 0
+IsCutAfter frame len None (Ip packet) = (len ≤ length frame) × (packet.now ≡ drop len frame)
+IsCutAfter frame len (Some protocol) (Other other) = other ≡ protocol
+IsCutAfter frame len None (Other other) = ⊥
+IsCutAfter frame len (Some protocol) (Ip packet) = ⊥
+
+-- the content of a frame after its header
+pub record IsFoundAfter (HasHeader : ℕ → Option NetworkProtocol → Type 0) (frame : List ℕ) (found : Frame) : Type 0 where
+  pub len : ℕ
+  pub next : Option NetworkProtocol
+  pub has_header : HasHeader len next
+  pub is_cut : IsCutAfter frame len next found

@@ -1,0 +1,32 @@
+-- MPLS label stacks (RFC 3032).
+use Rattle.std.specs.Prelude.{ℕ, zero, suc, ◌+◌, ◌/◌, ◌%◌, ◌==◌, ◌||◌, ◌&&◌, Bool, nat_le, if◌then◌else◌, List, length, slice_index, Option, Some, None, Result, Ok, Err}
+use Rattle.net_base.specs.Bytes.{flag}
+use Rattle.capture_link.specs.LinkHeaders.{cut_off, with_bytes}
+use Rattle.capture_link.specs.declared.link.LinkHeaderCutOff.{LinkHeaderCutOff}
+use Rattle.capture_link.specs.declared.link.header.LinkHeader.{LinkHeader}
+use Rattle.capture_link.specs.declared.network_protocol.NetworkProtocol.{NetworkProtocol}
+
+-- A packet with this first byte is an IP packet. Its version is 4, with a header of at least five words (RFC 791, section 3.1), or 6. No
+-- label names the next protocol. A pseudowire begins with other bytes (RFC 4928, section 3).
+abbrev pub begins_ip : ℕ → Bool
+begins_ip first = first / 16 == 4 && nat_le 5 (first % 16) || first / 16 == 6
+
+-- the protocol after the last label: IP if the first byte is the first byte of an IP packet, otherwise this protocol
+abbrev pub by_first_byte : NetworkProtocol → ℕ → Option NetworkProtocol
+by_first_byte other first = if begins_ip first then None else Some other
+
+-- the header that ends with a label stack
+abbrev pub after_stack : List ℕ → NetworkProtocol → ℕ → Result LinkHeader LinkHeaderCutOff
+after_stack frame other place = with_bytes frame (place + 1) (
+    Ok (record { len = place; next = by_first_byte other (slice_index frame place) }))
+
+-- the label stack at this place, if it has at most this number of labels; a label has four bytes, and the lowest bit of its third byte
+-- marks the last label (section 2.1)
+abbrev pub stack_within : ℕ → List ℕ → NetworkProtocol → ℕ → Result LinkHeader LinkHeaderCutOff
+stack_within zero frame other place = Err (cut_off frame (place + 4))
+stack_within (suc more) frame other place = with_bytes frame (place + 4) (
+    if flag frame (place + 2) 0x01 then after_stack frame other (place + 4) else stack_within more frame other (place + 4))
+
+-- the label stack at this place, after the number of this protocol; a frame contains fewer labels than bytes
+abbrev pub stack_at : List ℕ → NetworkProtocol → ℕ → Result LinkHeader LinkHeaderCutOff
+stack_at frame other place = stack_within (length frame) frame other place

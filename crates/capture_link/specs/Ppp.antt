@@ -1,0 +1,43 @@
+-- PPP frames (RFC 1661 and RFC 1662), and frames of PPP over Ethernet (RFC 2516).
+use Rattle.std.specs.Prelude.{ℕ, ◌+◌, ◌==◌, ◌||◌, ◌&&◌, Bool, nat_le, if◌then◌else◌, List, length, slice_index, Option, Some, None, Result, Ok}
+use Rattle.net_base.specs.Bytes.{be_number, flag}
+use Rattle.capture_link.specs.LinkHeaders.{with_bytes}
+use Rattle.capture_link.specs.Mpls.{stack_at}
+use Rattle.capture_link.specs.declared.link.LinkHeaderCutOff.{LinkHeaderCutOff}
+use Rattle.capture_link.specs.declared.link.header.LinkHeader.{LinkHeader}
+use Rattle.capture_link.specs.declared.network_protocol.NetworkProtocol.{NetworkProtocol}
+use Rattle.capture_link.specs.declared.network_protocol.NetworkProtocol.TheVariants.{EtherType, PppProtocol}
+
+-- the next protocol according to a protocol number: 0021 is IPv4 (RFC 1332, section 2.1), and 0057 is IPv6 (RFC 5072, section 2); `None` is
+-- IP
+abbrev pub by_ppp_protocol : ℕ → Option NetworkProtocol
+by_ppp_protocol number = if number == 0x0021 || number == 0x0057 then None else Some (PppProtocol number)
+
+-- The header that ends with this protocol number, or with the stack of MPLS labels after it. The numbers are 0281 and, for a multicast
+-- packet, 0283 (RFC 3032, section 4.3).
+abbrev pub after_protocol : List ℕ → ℕ → ℕ → Result LinkHeader LinkHeaderCutOff
+after_protocol frame place number =
+    if number == 0x0281 || number == 0x0283 then stack_at frame (PppProtocol number) place
+    else Ok (record { len = place; next = by_ppp_protocol number })
+
+-- The header that ends after the Protocol field at this place, a number of two bytes, or of one byte if it is compressed. A number of one
+-- byte is odd, and the first byte of a number of two bytes is even (RFC 1661, sections 2 and 6.5).
+abbrev pub protocol_at : List ℕ → ℕ → Result LinkHeader LinkHeaderCutOff
+protocol_at frame place = with_bytes frame (place + 1) (
+    if flag frame place 0x01 then after_protocol frame (place + 1) (slice_index frame place)
+    else with_bytes frame (place + 2) (after_protocol frame (place + 2) (be_number frame place 2)))
+
+-- the frame begins with the Address and Control fields FF 03, which may be left out (RFC 1662, section 3.1; RFC 1661, section 6.6)
+abbrev pub has_address : List ℕ → Bool
+has_address frame = nat_le 2 (length frame) && be_number frame 0 2 == 0xFF03
+
+-- the Protocol field follows the Address and Control fields
+abbrev pub ppp_header : List ℕ → Result LinkHeader LinkHeaderCutOff
+ppp_header frame = protocol_at frame (if has_address frame then 2 else 0)
+
+-- A PPPoE header at this place (RFC 2516, section 4). It contains version 1 and type 1 in a byte, the code, which is 0 in a session, the
+-- number of the session, and a length. The Protocol field of PPP follows.
+abbrev pub session_at : List ℕ → ℕ → Result LinkHeader LinkHeaderCutOff
+session_at frame place = with_bytes frame (place + 6) (
+    if be_number frame place 2 == 0x1100 then protocol_at frame (place + 6)
+    else Ok (record { len = place + 6; next = Some (EtherType 0x8864) }))

@@ -1,0 +1,354 @@
+//! The network packet in the bytes of a record, after the headers of the link layer.
+
+ghost use Rattle.std.specs.Prelude.{◌≡◌, ◌+◌, ◌≤◌, IfErr, IfOk, length};
+ghost use Rattle.capture_link.specs.AddressFamilies as families;
+ghost use Rattle.capture_link.specs.EtherHeaders.{ethernet_at};
+ghost use Rattle.capture_link.specs.Link as specs;
+ghost use Rattle.capture_link.specs.Link.{HasEtherHeader, HasLinkHeader, IsFoundAfter, NeedsEtherHeader, NeedsLinkHeader, by_ether_type};
+ghost use Rattle.capture_link.specs.LinkHeaders.{Fits, max_frame_place};
+
+mod ether_type;
+mod frame_relay;
+mod header;
+mod ieee80211;
+pub mod laws;
+mod llc;
+mod metadata;
+mod mpls;
+mod ppp;
+
+use crate::NetworkProtocol;
+use crate::link::ether_type::{
+    CUSTOMER_TAG, IPV4, IPV6, MPLS, MPLS_MULTICAST, OLD_SERVICE_TAG, OTHER_OLD_SERVICE_TAG,
+    PPPOE_SESSION, SERVICE_TAG,
+};
+use crate::link::frame_relay::frame_relay;
+use crate::link::header::{EtherHeader, FirstHeader, LinkHeader, expect_len, number_at, short_at};
+use crate::link::ieee80211::{after_radiotap, frame_at};
+use crate::link::llc::llc_at;
+use crate::link::metadata::{after_ppi, after_prism, after_tap, filter_header, ipnet_header};
+use crate::link::mpls::stack_at;
+use crate::link::ppp::{ppp_header, session_at};
+use capture_file::{ByteOrder, LinkType};
+
+/// The content of a frame after its link header.
+#[derive(Debug, PartialEq, Eq, Drop)]
+pub enum Frame<'a> {
+    /// The frame contains an IPv4 or IPv6 packet, at the front of these bytes.
+    Ip(&'a [u8]),
+    /// The frame contains another network protocol.
+    Other(NetworkProtocol),
+}
+
+/// The frame ends within its link header.
+#[derive(Clone, Copy, Debug, PartialEq, Eq)]
+pub struct LinkHeaderCutOff {
+    /// The length of the link header in bytes, as far as it is known.
+    pub required_len: usize,
+    /// The length of the frame, in bytes.
+    pub len: usize,
+}
+
+/// The place of the ether type in the header of an Ethernet frame, after two addresses (IEEE 802.3, clause 3.2).
+const ETHER_TYPE_AT: usize = 12;
+
+/// The length of the header of an Ethernet frame, in bytes.
+const ETHERNET_LEN: usize = 14;
+
+/// LINKTYPE_LINUX_SLL: the protocol is at the end.
+const LINUX_COOKED: EtherHeader = EtherHeader {
+    len: 16,
+    ether_type_at: 14,
+};
+
+/// LINKTYPE_LINUX_SLL2: the protocol is at the front.
+const LINUX_COOKED_2: EtherHeader = EtherHeader {
+    len: 20,
+    ether_type_at: 0,
+};
+
+/// LINKTYPE_C_HDLC: an address, a control byte, and the protocol (RFC 1547, section 4.3.1).
+const CISCO_HDLC: EtherHeader = EtherHeader {
+    len: 4,
+    ether_type_at: 2,
+};
+
+/// The protocol of a Linux cooked frame with an LLC header (LINKTYPE_LINUX_SLL).
+const COOKED_LLC: u16 = 0x0004;
+
+/// The length of a VLAN tag (IEEE 802.1Q, clause 9.5), in bytes: two bytes of control information, and the next ether type.
+const TAG_LEN: usize = 4;
+
+/// The length of the header of a loopback frame, in bytes: the address family.
+const FAMILY_LEN: usize = 4;
+
+/// The address family of IPv4 in a loopback header (LINKTYPE_NULL).
+const IPV4_FAMILY: u32 = 2;
+
+/// The address families of IPv6 in a loopback header: on NetBSD and OpenBSD, on FreeBSD, and on Darwin.
+const IPV6_FAMILY_NETBSD: u32 = 24;
+
+const IPV6_FAMILY_FREEBSD: u32 = 28;
+
+const IPV6_FAMILY_DARWIN: u32 = 30;
+
+/// The first byte of a Cisco HDLC frame to one station, and of a Cisco HDLC frame to all stations (RFC 1547, section 4.3.1).
+const TO_ONE_STATION: u8 = 0x0F;
+
+const TO_ALL_STATIONS: u8 = 0x8F;
+
+/// The network packet in a frame with the link type of its capture. `order` is the byte order of the numbers in the capture.
+///
+/// The call skips these headers:
+/// - Ethernet, 14 bytes
+/// - LINKTYPE_LINUX_SLL, 16 bytes, and LINKTYPE_LINUX_SLL2, 20 bytes
+/// - Cisco HDLC, 4 bytes
+/// - radiotap, the header of an IEEE 802.11 data frame, and the LLC and SNAP headers after it
+/// - a Prism header or a header of AVS, and the same headers after it
+/// - PPP, PPP over Ethernet, and Frame Relay
+/// - LINKTYPE_PFLOG, and LINKTYPE_IPNET, 24 bytes
+/// - LINKTYPE_PPI and LINKTYPE_PKTAP, and the header of the Ethernet, raw IP, loopback or IEEE 802.11 frame after it
+/// - the address family of a loopback frame, 4 bytes
+///
+/// Ethernet and Linux cooked frames can also contain LLC and SNAP headers.
+///
+/// A raw IP frame is the packet itself.
+///
+/// After an ether type the call skips VLAN tags of 4 bytes each. A tag follows the ether types 8100 and 88A8 (IEEE 802.1Q, clause 9), and
+/// 9100 and 9200, older forms of 88A8. After a tag, a number below 1536 is a length, and LLC and SNAP headers follow. Then the call skips
+/// the header of a PPPoE session (RFC 2516) or a stack of MPLS labels (RFC 3032). A stack of MPLS labels is also skipped after the PPP
+/// protocols 0281 and 0283.
+///
+/// These numbers identify an IP packet:
+/// - the ether types 0800 and 86DD
+/// - the address families 2, 24, 28 and 30, in either byte order
+/// - the PPP protocols 0021 and 0057
+/// - the network layer protocol IDs CC and 8E
+///
+/// # Errors
+///
+/// `LinkHeaderCutOff` if the frame ends within its link header.
+pub fn network_packet(
+    link_type: LinkType,
+    order: ByteOrder,
+    frame: &[u8],
+) -> Result<Frame<'_>, LinkHeaderCutOff>
+    ensures found { IfOk result (λ found. IsFoundAfter (HasLinkHeader link_type order frame.now) frame.now found) }
+    ensures refused { IfErr result (λ error. NeedsLinkHeader link_type order frame.now error.required_len) }
+    ensures len { IfErr result (λ error. error.len ≡ length frame.now) }
+{
+    let header = link_header(link_type, order, frame)?;
+    match header.next {
+        None => Ok(Frame::Ip(&frame[header.len..])),
+        Some(protocol) => Ok(Frame::Other(protocol)),
+    }
+}
+
+/// The link header of a frame, with its tags.
+fn link_header(
+    link_type: LinkType,
+    order: ByteOrder,
+    frame: &[u8],
+) -> Result<LinkHeader, LinkHeaderCutOff>
+    ensures found { IfOk result (λ header. HasLinkHeader link_type order frame.now header.len header.next) }
+    ensures within { IfOk result (λ header. header.len ≤ length frame.now) }
+    ensures refused { IfErr result (λ error. NeedsLinkHeader link_type order frame.now error.required_len) }
+    ensures len { IfErr result (λ error. error.len ≡ length frame.now) }
+{
+    match first_header(link_type, order, frame)? {
+        FirstHeader::Whole(header) => Ok(header),
+        FirstHeader::EtherType(header) => tagged_header(header, frame),
+    }
+}
+
+/// The first header of a frame.
+fn first_header(
+    link_type: LinkType,
+    order: ByteOrder,
+    frame: &[u8],
+) -> Result<FirstHeader, LinkHeaderCutOff>
+    ensures is { result ≡ specs.first_header link_type order frame.now }
+    ensures fits { IfOk result (Fits frame.now) }
+    ensures len { IfErr result (λ error. error.len ≡ length frame.now) }
+{
+    match link_type {
+        LinkType::BsdLoopback => family_at(order, frame, 0),
+        LinkType::Ethernet => ethernet_at(frame, 0),
+        LinkType::Ppp => Ok(FirstHeader::Whole(ppp_header(frame)?)),
+        LinkType::PppHdlc if is_cisco_hdlc(frame) => Ok(FirstHeader::EtherType(CISCO_HDLC)),
+        LinkType::PppHdlc => Ok(FirstHeader::Whole(ppp_header(frame)?)),
+        LinkType::PppOverEthernet => Ok(FirstHeader::Whole(session_at(frame, 0)?)),
+        LinkType::RawIp => Ok(FirstHeader::Whole(LinkHeader { len: 0, next: None })),
+        LinkType::CiscoHdlc => Ok(FirstHeader::EtherType(CISCO_HDLC)),
+        LinkType::Ieee80211 => frame_at(frame, 0),
+        LinkType::FrameRelay => frame_relay(frame),
+        LinkType::OpenBsdLoopback => family_at(ByteOrder::BigEndian, frame, 0),
+        LinkType::LinuxCooked => cooked_header(LINUX_COOKED, frame),
+        LinkType::Pflog => filter_header(frame),
+        LinkType::Prism => after_prism(frame),
+        LinkType::Radiotap => after_radiotap(frame),
+        LinkType::Ppi => after_ppi(frame),
+        LinkType::Ipnet => ipnet_header(frame),
+        LinkType::Pktap => after_tap(frame),
+        LinkType::LinuxCooked2 => cooked_header(LINUX_COOKED_2, frame),
+    }
+}
+
+/// Whether the address of a LINKTYPE_PPP_HDLC frame is an address of Cisco HDLC.
+fn is_cisco_hdlc(frame: &[u8]) -> bool
+    ensures { result ≡ specs.is_cisco_hdlc frame.now }
+{
+    !frame.is_empty() && matches!(frame[0], TO_ONE_STATION | TO_ALL_STATIONS)
+}
+
+/// A header with an ether type, and its tags.
+fn tagged_header(header: EtherHeader, frame: &[u8]) -> Result<LinkHeader, LinkHeaderCutOff>
+    requires { header.ether_type_at + 2 ≤ header.len }
+    ensures found { IfOk result (λ found. HasEtherHeader header frame.now found.len found.next) }
+    ensures within { IfOk result (λ found. found.len ≤ length frame.now) }
+    ensures refused { IfErr result (λ error. NeedsEtherHeader header frame.now error.required_len) }
+    ensures len { IfErr result (λ error. error.len ≡ length frame.now) }
+{
+    let mut len = header.len;
+    expect_len(frame, len)?;
+    let mut ether_type = short_at(frame, header.ether_type_at);
+    while is_vlan_tag(ether_type) {
+        len += TAG_LEN;
+        expect_len(frame, len)?;
+        ether_type = short_at(frame, len - 2);
+    }
+    after_tags(header, frame, len, ether_type)
+}
+
+/// The header that ends after the last ether type of a header and its tags, which end at this place. After a tag, a number below 1536 is
+/// the length of a frame with an LLC header.
+fn after_tags(
+    header: EtherHeader,
+    frame: &[u8],
+    place: usize,
+    ether_type: u16,
+) -> Result<LinkHeader, LinkHeaderCutOff>
+    requires { place ≤ length frame.now }
+    ensures is { result ≡ specs.after_tags header frame.now place ether_type }
+    ensures within { IfOk result (λ header. header.len ≤ length frame.now) }
+    ensures len { IfErr result (λ error. error.len ≡ length frame.now) }
+{
+    if place <= header.len || ether_type >= ether_type::LEAST {
+        return after_ether_type(frame, place, ether_type);
+    }
+    match llc_at(frame, place)? {
+        FirstHeader::Whole(header) => Ok(header),
+        FirstHeader::EtherType(header) => {
+            after_ether_type(frame, header.len, short_at(frame, header.ether_type_at))
+        }
+    }
+}
+
+/// The header that ends after this ether type, or after the PPPoE header or the MPLS label stack that comes next.
+fn after_ether_type(
+    frame: &[u8],
+    len: usize,
+    ether_type: u16,
+) -> Result<LinkHeader, LinkHeaderCutOff>
+    requires { len ≤ length frame.now }
+    ensures is { result ≡ specs.after_ether_type frame.now len ether_type }
+    ensures within { IfOk result (λ header. header.len ≤ length frame.now) }
+    ensures len { IfErr result (λ error. error.len ≡ length frame.now) }
+{
+    match ether_type {
+        PPPOE_SESSION => session_at(frame, len),
+        MPLS | MPLS_MULTICAST => stack_at(frame, NetworkProtocol::EtherType(ether_type), len),
+        _ => Ok(LinkHeader {
+            len,
+            next: protocol_of(ether_type),
+        }),
+    }
+}
+
+/// The header of the loopback frame at this place: its address family.
+fn family_at(order: ByteOrder, frame: &[u8], place: usize) -> Result<FirstHeader, LinkHeaderCutOff>
+    requires { place ≤ max_frame_place }
+    ensures is { result ≡ families.family_at order frame.now place }
+    ensures fits { IfOk result (Fits frame.now) }
+    ensures len { IfErr result (λ error. error.len ≡ length frame.now) }
+{
+    let len = place + FAMILY_LEN;
+    expect_len(frame, len)?;
+    Ok(FirstHeader::Whole(LinkHeader {
+        len,
+        next: by_family(order, frame, place),
+    }))
+}
+
+/// The network protocol of the loopback frame at this place. `None` is IP, whose address families count in either byte order.
+fn by_family(order: ByteOrder, frame: &[u8], place: usize) -> Option<NetworkProtocol>
+    requires { place + 4 ≤ length frame.now }
+    ensures { result ≡ families.by_family order frame.now place }
+{
+    if is_ip_family(number_at(ByteOrder::BigEndian, frame, place))
+        || is_ip_family(number_at(ByteOrder::LittleEndian, frame, place))
+    {
+        return None;
+    }
+    Some(NetworkProtocol::AddressFamily(number_at(order, frame, place)))
+}
+
+/// Whether this is an address family of IP.
+fn is_ip_family(number: u32) -> bool
+    ensures { result ≡ families.is_ip_family number }
+{
+    matches!(
+        number,
+        IPV4_FAMILY | IPV6_FAMILY_NETBSD | IPV6_FAMILY_FREEBSD | IPV6_FAMILY_DARWIN
+    )
+}
+
+/// The header of the Ethernet frame at this place: a header with an ether type, or an LLC header after a length.
+fn ethernet_at(frame: &[u8], place: usize) -> Result<FirstHeader, LinkHeaderCutOff>
+    requires { place ≤ max_frame_place }
+    ensures is { result ≡ ethernet_at frame.now place }
+    ensures fits { IfOk result (Fits frame.now) }
+    ensures len { IfErr result (λ error. error.len ≡ length frame.now) }
+{
+    let (len, ether_type_at) = (place + ETHERNET_LEN, place + ETHER_TYPE_AT);
+    expect_len(frame, len)?;
+    if short_at(frame, ether_type_at) < ether_type::LEAST {
+        llc_at(frame, len)
+    } else {
+        Ok(FirstHeader::EtherType(EtherHeader { len, ether_type_at }))
+    }
+}
+
+/// The header of a Linux cooked frame: a header with an ether type, or an LLC header after it.
+fn cooked_header(header: EtherHeader, frame: &[u8]) -> Result<FirstHeader, LinkHeaderCutOff>
+    requires { (header.ether_type_at + 2 ≤ header.len) × (header.len ≤ 20) }
+    ensures is { result ≡ specs.cooked_header header frame.now }
+    ensures fits { IfOk result (Fits frame.now) }
+{
+    expect_len(frame, header.len)?;
+    if short_at(frame, header.ether_type_at) == COOKED_LLC {
+        llc_at(frame, header.len)
+    } else {
+        Ok(FirstHeader::EtherType(header))
+    }
+}
+
+/// The network protocol with this ether type. `None` is IP.
+fn protocol_of(ether_type: u16) -> Option<NetworkProtocol>
+    ensures { result ≡ by_ether_type ether_type }
+{
+    match ether_type {
+        IPV4 | IPV6 => None,
+        _ => Some(NetworkProtocol::EtherType(ether_type)),
+    }
+}
+
+/// Whether a VLAN tag follows this ether type: the tag of a customer, or of a service in its current form or an older form.
+fn is_vlan_tag(ether_type: u16) -> bool
+    ensures { result ≡ specs.is_vlan_tag ether_type }
+{
+    matches!(
+        ether_type,
+        CUSTOMER_TAG | SERVICE_TAG | OLD_SERVICE_TAG | OTHER_OLD_SERVICE_TAG
+    )
+}

@@ -1,0 +1,20 @@
+//! Laws of link headers. Each law is the contract of a function that does nothing, so that it is checked together with the calls.
+ghost use Rattle.std.specs.Prelude.{◌≡◌, ℕ, List, Option};
+ghost use Rattle.capture_link.specs.Link.{HasLinkHeader, NeedsLinkHeader};
+ghost use Rattle.capture_file.specs.declared.byte_order.ByteOrder.{ByteOrder};
+ghost use Rattle.capture_file.specs.declared.link_type.LinkType.{LinkType};
+ghost use Rattle.capture_link.specs.declared.network_protocol.NetworkProtocol.{NetworkProtocol};
+
+/// A frame has at most one link header. A frame that ends within its link header has none. The number of missing bytes is the same in any
+/// byte order.
+pub fn one_link_header()
+    ensures unique { (link_type : LinkType) (order : ByteOrder) (frame : List ℕ) (len other_len : ℕ) (next other_next : Option NetworkProtocol)
+        → HasLinkHeader link_type order frame len next → HasLinkHeader link_type order frame other_len other_next
+        → (len ≡ other_len) × (next ≡ other_next) }
+    ensures whole { (link_type : LinkType) (order : ByteOrder) (frame : List ℕ) (len required_len : ℕ) (next : Option NetworkProtocol)
+        → HasLinkHeader link_type order frame len next → ¬ NeedsLinkHeader link_type order frame required_len }
+    ensures required { (link_type : LinkType) (order : ByteOrder) (frame : List ℕ) (required_len other_len : ℕ)
+        → NeedsLinkHeader link_type order frame required_len → NeedsLinkHeader link_type order frame other_len → required_len ≡ other_len }
+    ensures any_order { (link_type : LinkType) (order other : ByteOrder) (frame : List ℕ) (required_len : ℕ)
+        → NeedsLinkHeader link_type order frame required_len → NeedsLinkHeader link_type other frame required_len }
+{}

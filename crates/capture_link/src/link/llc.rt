@@ -1,0 +1,83 @@
+//! LLC and SNAP headers (IEEE 802.2; RFC 1042).
+
+ghost use Rattle.std.specs.Prelude.{◌≡◌, ◌+◌, ◌≤◌, IfOk, length};
+ghost use Rattle.capture_link.specs.Llc as specs;
+ghost use Rattle.capture_link.specs.LinkHeaders.{Fits, first_len};
+
+use crate::NetworkProtocol;
+use crate::link::LinkHeaderCutOff;
+use crate::link::header::{EtherHeader, FirstHeader, LinkHeader, expect_len, short_at, three_at};
+
+/// The length of an LLC header, in bytes: DSAP, SSAP and control.
+const LLC_LEN: usize = 3;
+
+/// The length of a SNAP header, in bytes: an organization code, and a protocol.
+const SNAP_LEN: usize = 5;
+
+/// The LLC header that precedes a SNAP header.
+const SNAP_IS_NEXT: u32 = 0xAA_AA_03;
+
+/// The LLC header that precedes a network layer protocol ID (ISO/IEC TR 9577).
+const NLPID_IS_NEXT: u32 = 0xFE_FE_03;
+
+/// The header that ends with the LLC header at this place, or with the SNAP header or the network layer protocol ID after it.
+pub(super) fn llc_at(frame: &[u8], place: usize) -> Result<FirstHeader, LinkHeaderCutOff>
+    requires { place ≤ specs.max_llc_place }
+    ensures is { result ≡ specs.llc_at frame.now place }
+    ensures fits { IfOk result (Fits frame.now) }
+    ensures within { IfOk result (λ first. first_len first ≤ length frame.now) }
+{
+    expect_len(frame, place + LLC_LEN)?;
+    match three_at(frame, place) {
+        SNAP_IS_NEXT => snap_at(frame, place + LLC_LEN),
+        NLPID_IS_NEXT => osi_at(frame, place + LLC_LEN),
+        _ => Ok(FirstHeader::Whole(LinkHeader {
+            len: place + LLC_LEN,
+            next: Some(NetworkProtocol::Llc {
+                dsap: frame[place],
+                ssap: frame[place + 1],
+            }),
+        })),
+    }
+}
+
+/// The header that ends with the network layer protocol ID at this place.
+fn osi_at(frame: &[u8], place: usize) -> Result<FirstHeader, LinkHeaderCutOff>
+    requires { place ≤ specs.max_llc_place + 3 }
+    ensures is { result ≡ specs.osi_at frame.now place }
+    ensures fits { IfOk result (Fits frame.now) }
+    ensures within { IfOk result (λ first. first_len first ≤ length frame.now) }
+{
+    let len = place + 1;
+    expect_len(frame, len)?;
+    Ok(FirstHeader::Whole(LinkHeader {
+        len,
+        next: Some(NetworkProtocol::Nlpid(frame[place])),
+    }))
+}
+
+/// The header that ends with the SNAP header at this place. If its organization code is 0, it contains an ether type.
+pub(super) fn snap_at(frame: &[u8], place: usize) -> Result<FirstHeader, LinkHeaderCutOff>
+    requires { place ≤ specs.max_llc_place + 3 }
+    ensures is { result ≡ specs.snap_at frame.now place }
+    ensures fits { IfOk result (Fits frame.now) }
+    ensures within { IfOk result (λ first. first_len first ≤ length frame.now) }
+{
+    let len = place + SNAP_LEN;
+    expect_len(frame, len)?;
+    let organization_code = three_at(frame, place);
+    if organization_code == 0 {
+        return Ok(FirstHeader::EtherType(EtherHeader {
+            len,
+            ether_type_at: place + 3,
+        }));
+    }
+    let protocol = short_at(frame, place + 3);
+    Ok(FirstHeader::Whole(LinkHeader {
+        len,
+        next: Some(NetworkProtocol::Snap {
+            organization_code,
+            protocol,
+        }),
+    }))
+}

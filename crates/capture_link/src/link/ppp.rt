@@ -1,0 +1,119 @@
+//! PPP frames (RFC 1661 and RFC 1662), and frames of PPP over Ethernet (RFC 2516).
+
+ghost use Rattle.std.specs.Prelude.{◌≡◌, ◌+◌, ◌≤◌, IfErr, IfOk, length, true};
+ghost use Rattle.capture_link.specs.Ppp as specs;
+
+use crate::NetworkProtocol;
+use crate::link::LinkHeaderCutOff;
+use crate::link::ether_type::PPPOE_SESSION;
+use crate::link::header::{LinkHeader, expect_len, short_at};
+use crate::link::mpls::stack_at;
+
+/// The length of the Address and Control fields, in bytes.
+const ADDRESS_LEN: usize = 2;
+
+/// The length of a PPPoE header, in bytes: version and type, code, session and length.
+const SESSION_LEN: usize = 6;
+
+/// The Address and Control fields for all stations and unnumbered information (RFC 1662, section 3.1).
+const ADDRESS_AND_CONTROL: u16 = 0xFF03;
+
+/// The first two bytes of a PPPoE header: version 1, type 1, and code 0 (RFC 2516, section 4).
+const SESSION_DATA: u16 = 0x1100;
+
+/// The lowest bit of the first byte of a Protocol field. It is set if the field has no second byte (RFC 1661, section 2).
+const LAST_BYTE: u8 = 0x01;
+
+/// The PPP protocol of IPv4 (RFC 1332, section 2.1).
+const IPV4: u16 = 0x0021;
+
+/// The PPP protocol of IPv6 (RFC 5072, section 2).
+const IPV6: u16 = 0x0057;
+
+/// The PPP protocol of a stack of MPLS labels (RFC 3032, section 4.3).
+const MPLS: u16 = 0x0281;
+
+/// The PPP protocol of a stack of MPLS labels of a multicast packet (RFC 3032, section 4.3).
+const MPLS_MULTICAST: u16 = 0x0283;
+
+/// The header of a PPP frame.
+pub(super) fn ppp_header(frame: &[u8]) -> Result<LinkHeader, LinkHeaderCutOff>
+    ensures is { result ≡ specs.ppp_header frame.now }
+    ensures within { IfOk result (λ header. header.len ≤ length frame.now) }
+    ensures len { IfErr result (λ error. error.len ≡ length frame.now) }
+{
+    if has_address(frame) {
+        protocol_at(frame, ADDRESS_LEN)
+    } else {
+        protocol_at(frame, 0)
+    }
+}
+
+/// The header that ends with the Protocol field after the PPPoE header at this place.
+pub(super) fn session_at(frame: &[u8], place: usize) -> Result<LinkHeader, LinkHeaderCutOff>
+    requires { place ≤ length frame.now }
+    ensures is { result ≡ specs.session_at frame.now place }
+    ensures within { IfOk result (λ header. header.len ≤ length frame.now) }
+    ensures len { IfErr result (λ error. error.len ≡ length frame.now) }
+{
+    let len = place + SESSION_LEN;
+    expect_len(frame, len)?;
+    if short_at(frame, place) == SESSION_DATA {
+        protocol_at(frame, len)
+    } else {
+        Ok(LinkHeader {
+            len,
+            next: Some(NetworkProtocol::EtherType(PPPOE_SESSION)),
+        })
+    }
+}
+
+/// Whether the frame begins with the Address and Control fields.
+fn has_address(frame: &[u8]) -> bool
+    ensures is { result ≡ specs.has_address frame.now }
+    ensures there { result ≡ true → 2 ≤ length frame.now }
+{
+    frame.len() >= ADDRESS_LEN && short_at(frame, 0) == ADDRESS_AND_CONTROL
+}
+
+/// The header that ends after the Protocol field at this place. A number of one byte is odd.
+fn protocol_at(frame: &[u8], place: usize) -> Result<LinkHeader, LinkHeaderCutOff>
+    requires { place ≤ length frame.now }
+    ensures is { result ≡ specs.protocol_at frame.now place }
+    ensures within { IfOk result (λ header. header.len ≤ length frame.now) }
+    ensures len { IfErr result (λ error. error.len ≡ length frame.now) }
+{
+    expect_len(frame, place + 1)?;
+    let first = frame[place];
+    if first & LAST_BYTE != 0 {
+        return after_protocol(frame, place + 1, u16::from(first));
+    }
+    expect_len(frame, place + 2)?;
+    after_protocol(frame, place + 2, short_at(frame, place))
+}
+
+/// The header that ends with this protocol number, or with the stack of MPLS labels after it.
+fn after_protocol(frame: &[u8], place: usize, number: u16) -> Result<LinkHeader, LinkHeaderCutOff>
+    requires { place ≤ length frame.now }
+    ensures is { result ≡ specs.after_protocol frame.now place number }
+    ensures within { IfOk result (λ header. header.len ≤ length frame.now) }
+    ensures len { IfErr result (λ error. error.len ≡ length frame.now) }
+{
+    match number {
+        MPLS | MPLS_MULTICAST => stack_at(frame, NetworkProtocol::PppProtocol(number), place),
+        _ => Ok(LinkHeader {
+            len: place,
+            next: protocol_of(number),
+        }),
+    }
+}
+
+/// The network protocol with this number. `None` is IP.
+fn protocol_of(number: u16) -> Option<NetworkProtocol>
+    ensures { result ≡ specs.by_ppp_protocol number }
+{
+    match number {
+        IPV4 | IPV6 => None,
+        _ => Some(NetworkProtocol::PppProtocol(number)),
+    }
+}

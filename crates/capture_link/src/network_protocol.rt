@@ -1,0 +1,47 @@
+/// The network protocol of a frame without an IP packet.
+#[derive(Clone, Copy, Debug, PartialEq, Eq)]
+pub enum NetworkProtocol {
+    /// A protocol with this ether type (IEEE 802.3, clause 3.2.6).
+    EtherType(u16),
+    /// A protocol with this address family in a loopback header.
+    AddressFamily(u32),
+    /// An unknown protocol: the frame is of the link type with this number, which is not read, or its header is not read.
+    LinkType(u16),
+    /// An IEEE 802.11 frame with a body that is not read. The frame is not a data frame, contains no data, is encrypted, or contains
+    /// something other than one whole data unit.
+    Ieee80211 {
+        /// The Frame Control field (IEEE 802.11, clause 9.2.4.1), its first byte first.
+        frame_control: u16,
+    },
+    /// A frame after a radiotap header that is not read. Its version is not 0, or its length does not count the first fields of the header.
+    Radiotap {
+        /// The version of the header.
+        version: u8,
+        /// The stated length of the header, in bytes.
+        len: u16,
+    },
+    /// A protocol with these service access points in an LLC header (IEEE 802.2).
+    Llc {
+        /// The service access point of the destination.
+        dsap: u8,
+        /// The service access point of the source.
+        ssap: u8,
+    },
+    /// A protocol in a SNAP header (RFC 1042) with an organization code other than 0.
+    Snap {
+        /// The organization code, three bytes.
+        organization_code: u32,
+        /// The number of the protocol, assigned by this organization.
+        protocol: u16,
+    },
+    /// A protocol with this number in the Protocol field of PPP (RFC 1661, section 2).
+    PppProtocol(u16),
+    /// A Frame Relay frame with an address longer than two bytes, or with a control byte other than unnumbered information.
+    FrameRelay {
+        /// The first three bytes of the frame: an address (ITU-T Q.922, annex A), and the control byte if the address is two bytes long.
+        header: u32,
+    },
+    /// A protocol with this network layer protocol ID in a Frame Relay frame (RFC 2427, section 3), or after an LLC header (ISO/IEC TR
+    /// 9577).
+    Nlpid(u8),
+}
