@@ -29,8 +29,7 @@ impl CaptureHeader {
     /// The length of the header, in bytes.
     pub const LEN: usize = 24;
 
-    /// Reads a header. The magic number is in bytes 0 to 3, and the version is in bytes 4 to 7. The link type is in the low 16 bits of the
-    /// number in bytes 20 to 23.
+    /// Reads a header: the magic number in bytes 0 to 3, the version in bytes 4 to 7, the link type in the low 16 bits of bytes 20 to 23.
     ///
     /// # Errors
     ///
