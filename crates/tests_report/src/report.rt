@@ -597,12 +597,12 @@ fn packets_that_are_not_chosen_are_left_out(rt: HostRuntime) -> Result<(), Fail>
 /// capture is complete after 69 bytes, and the second after 114.
 #[rattlefmt::skip]
 const LIMITS: [(u64, usize, u8, [&str; 3]); 6] = [
-    (1, 114, 0, [LINE, "", "\npackets 1, bytes 29\n"]),
-    (2, 114, 0, [LINE, TO_TEN, "\npackets 2, bytes 58\n"]),
-    (3, 114, 0, [LINE, TO_TEN, "\npackets 2, bytes 58\n"]),
+    (1, 114, 0, [LINE, "", "\npackets 1, bytes 29, bytes a packet 29\n"]),
+    (2, 114, 0, [LINE, TO_TEN, "\npackets 2, bytes 58, bytes a packet 29\n"]),
+    (3, 114, 0, [LINE, TO_TEN, "\npackets 2, bytes 58, bytes a packet 29\n"]),
     // What follows the last packet is not read.
-    (1, 113, 0, [LINE, "", "\npackets 1, bytes 29\n"]),
-    (2, 113, 1, [LINE, "", "\npackets 1, bytes 29\n"]),
+    (1, 113, 0, [LINE, "", "\npackets 1, bytes 29, bytes a packet 29\n"]),
+    (2, 113, 1, [LINE, "", "\npackets 1, bytes 29, bytes a packet 29\n"]),
     (0, 114, 0, ["", "", ""]),
 ];
 
@@ -634,7 +634,12 @@ fn packets_that_are_not_chosen_do_not_count(rt: HostRuntime) -> Result<(), Fail>
     };
     let whole = two_packets(rt.alloc(), 10)?;
     let ran = run_alone(&rt, parts, &whole)?;
-    expect_first_text(&rt, ran, 0, [TO_TEN, "", "\npackets 1, bytes 29\n"])
+    expect_first_text(
+        &rt,
+        ran,
+        0,
+        [TO_TEN, "", "\npackets 1, bytes 29, bytes a packet 29\n"],
+    )
 }
 
 /// A capture of a packet that has more bytes than are read.
