@@ -82,6 +82,12 @@ fn expect_refusal(rt: &impl Abort, mut input: &[u8], error: CaptureHeaderError) 
     Ok(())
 }
 
+/// Stops the test unless a header of 23 bytes is cut off.
+fn expect_cut_off(rt: &impl Abort, first: [u8; 4], byte_order: ByteOrder) -> io::Result<()> {
+    let header = header_bytes(first, byte_order, 2);
+    expect_refusal(rt, &header[..23], CaptureHeaderError::CutOff { len: 23 })
+}
+
 #[test]
 fn headers_are_read(rt: HostRuntime) -> io::Result<()> {
     for (first, byte_order, resolution) in FORMS {
@@ -107,7 +113,7 @@ fn headers_are_read(rt: HostRuntime) -> io::Result<()> {
             &read_capture_header(&mut unknown.as_slice())?,
             &Ok(header),
         );
-        expect_refusal(&rt, &unknown[..23], CaptureHeaderError::CutOff { len: 23 })?;
+        expect_cut_off(&rt, first, byte_order)?;
     }
     expect_refusal(&rt, &[0x0A, 0x0D, 0x0D, 0x0A], CaptureHeaderError::Pcapng)?;
     expect_refusal(&rt, &[], CaptureHeaderError::CutOff { len: 0 })?;

@@ -183,7 +183,9 @@ fn packets_without_an_inner_packet(rt: HostRuntime) {
     for (protocol, flags, parts) in &CLOSED {
         let payload = expect_ok(&rt, crate::packet::joined(rt.alloc(), parts));
         let mut frame = packet_in(&rt, &[Outer::Ipv4(*protocol)], payload.as_slice());
-        frame[6] = *flags;
+        if let Some(byte) = frame.get_mut(6) {
+            *byte = *flags;
+        }
         let packet = read_packet(LinkType::RawIp, ByteOrder::BigEndian, &frame, false);
         let shape = shape_of(&packet);
         expect_equal(&rt, &(parts, shape), &(parts, (0, Some(*protocol))));
@@ -211,8 +213,8 @@ static REFUSED: [(&[u8], bool, Verdict); 3] = [
 fn refused_inner_packets(rt: HostRuntime) {
     for (inner, is_cut_off, verdict) in &REFUSED {
         let mut frame = packet_in(&rt, &[Outer::Ipv4(4)], inner);
-        if *is_cut_off {
-            frame[3] = 60;
+        if *is_cut_off && let Some(len) = frame.get_mut(3) {
+            *len = 60;
         }
         let packet = read_packet(LinkType::RawIp, ByteOrder::BigEndian, &frame, false);
         let addresses = IpAddresses::Ipv4 {

@@ -1,5 +1,4 @@
 use crate::expect::{expect_ok, expect_text};
-use crate::report::joined;
 use crate::summary::{judge, refuse};
 use crate::text::flow_of_ipv4;
 use capture_file::pcapng::TimeResolution;
@@ -13,6 +12,7 @@ use etherparse_transport::{
     ChecksumVerdict, Icmpv4Slice, Icmpv6Slice, IpNumber, Proto, TcpSlice, TransportSlice, UdpSlice,
     Untested, ip_number,
 };
+use std::alloc::Global;
 use std::hash::RandomState;
 use std::process::Abort;
 use std::test::Fail;
@@ -220,16 +220,20 @@ const OPTIONS: [(&[u8], &str); 9] = [
     (&[8, 10, 0, 0], r#""options":[],"options_fault":"option 8 with length 10 above the 4 bytes left""#),
 ];
 
+/// A TCP segment with these options, whose length is a multiple of four bytes.
+fn segment_with(alloc: Global, options: &[u8]) -> Result<Vec<u8>, Fail> {
+    let words = u8::try_from(5 + options.len() / 4)?;
+    let mut bytes = Vec::new(alloc);
+    bytes.extend_from_slice(&[0, 7, 0, 9, 0, 0, 0, 1, 0, 0, 0, 2])?;
+    bytes.extend_from_slice(&[words.saturating_mul(16), 2, 0, 3, 0, 0, 0, 0])?;
+    bytes.extend_from_slice(options)?;
+    Ok(bytes)
+}
+
 #[test]
 fn objects_of_options(rt: HostRuntime) -> Result<(), Fail> {
     for (options, wanted) in &OPTIONS {
-        let words = u8::try_from(5 + options.len() / 4)?;
-        let parts: [&[u8]; 3] = [
-            &[0, 7, 0, 9, 0, 0, 0, 1, 0, 0, 0, 2],
-            &[words.saturating_mul(16), 2, 0, 3, 0, 0, 0, 0],
-            options,
-        ];
-        let bytes = joined(rt.alloc(), &parts)?;
+        let bytes = segment_with(rt.alloc(), options)?;
         let before =
             r#"{"type":"packet","number":1,"time":null,"source":"192.0.2.1","destination":"192.0.2.2","protocol":17,"protocol_name":"UDP","source_port":7,"destination_port":9,"tcp":{"flags":["SYN"],"sequence":1,"acknowledgment":2,"window":3,"#;
         let wanted = format!(in rt.alloc();
