@@ -3,7 +3,7 @@
 #![allow(unsafe_op_in_unsafe_fn, dead_code)]
 
 use measure::{add_kept, measure, Input, Row, WalkInPlace};
-use plain::Side;
+use plain::{Side, Transport};
 
 // So many bytes before all other code, as in `main.rs`.
 std::arch::global_asm!(concat!(
@@ -21,11 +21,16 @@ mod library {
         ($($name:ident)*) => { unsafe extern "C" { $( pub fn $name(packets: *mut u8, size: usize, lens: *const u32, count: usize) -> u64; )* } };
     }
     walks! { library_in_place_nothing library_outbound_ipv4 library_inbound_ipv4 library_outbound_ipv6 library_answer_echo }
+    walks! { library_is_reply_to library_write_udp_ipv4 library_write_tcp_ipv4 library_write_udp_ipv6 library_write_tcp_ipv6 }
 }
 
 /// The address that a translator has outside, over IPv4 and over IPv6.
 const ADDRESS4: [u8; 4] = [203, 0, 113, 7];
 const ADDRESS6: [u8; 16] = [0x20, 0x01, 0x0d, 0xb8, 0, 0, 0, 0, 0, 0, 0, 0, 0, 0, 0, 7];
+
+/// The address of the other side.
+const OTHER4: [u8; 4] = [198, 51, 100, 7];
+const OTHER6: [u8; 16] = [0x20, 0x01, 0x0d, 0xb8, 0, 1, 0, 0, 0, 0, 0, 0, 0, 0, 0, 9];
 
 /// What a walk answers of a packet that was refused.
 const REFUSED: u64 = 0x55;
@@ -76,6 +81,52 @@ walks! {
         Ok(len) => len as u64,
         Err(_) => REFUSED,
     };
+    is_reply_to = |packet, turn| match packet.split_at_checked(packet.len() / 2) {
+        Some((request, reply)) => u64::from(plain::is_reply_to(request, reply)) ^ u64::from(turn) << 1,
+        None => REFUSED,
+    };
+    write_udp_ipv4 = |packet, turn| write_ipv4(packet, 28, &udp(turn));
+    write_tcp_ipv4 = |packet, turn| write_ipv4(packet, 40, &tcp(turn));
+    write_udp_ipv6 = |packet, turn| write_ipv6(packet, 48, &udp(turn));
+    write_tcp_ipv6 = |packet, turn| write_ipv6(packet, 60, &tcp(turn));
+}
+
+#[inline(always)]
+fn udp(turn: u16) -> Transport {
+    Transport::Udp {
+        source_port: turn,
+        destination_port: 53,
+    }
+}
+
+#[inline(always)]
+fn tcp(turn: u16) -> Transport {
+    Transport::Tcp {
+        source_port: turn,
+        destination_port: 80,
+        sequence_number: 0x0102_0304,
+        window_size: 0x2000,
+    }
+}
+
+/// The place of a packet, and its payload after it.
+#[inline(always)]
+fn write_ipv4(packet: &mut [u8], headers_len: usize, transport: &Transport) -> u64 {
+    let payload_len = packet.len().wrapping_sub(headers_len) / 2;
+    let Some((out, payload)) = packet.split_at_mut_checked(headers_len + payload_len) else {
+        return REFUSED;
+    };
+    plain::write_packet_ipv4(out, ADDRESS4, OTHER4, 64, transport, payload).map_or(REFUSED, |len| len as u64)
+}
+
+/// The same over IPv6.
+#[inline(always)]
+fn write_ipv6(packet: &mut [u8], headers_len: usize, transport: &Transport) -> u64 {
+    let payload_len = packet.len().wrapping_sub(headers_len) / 2;
+    let Some((out, payload)) = packet.split_at_mut_checked(headers_len + payload_len) else {
+        return REFUSED;
+    };
+    plain::write_packet_ipv6(out, ADDRESS6, OTHER6, 64, transport, payload).map_or(REFUSED, |len| len as u64)
 }
 
 fn main() {
@@ -92,6 +143,18 @@ fn main() {
         inputs(&|n| packets::ipv6(6, n)),
         inputs(&|n| packets::ipv6(58, n)),
     );
+    let answered = |input: &Input| packets::requests_and_replies(input, |packet| drop(plain::answer_echo(packet, 64)));
+    let answered: Vec<(&str, usize, Input)> = [("IPv4", &echo4), ("IPv6", &echo6)]
+        .iter()
+        .flat_map(|(kind, inputs)| inputs.iter().map(|(n, input)| (*kind, *n, answered(input))))
+        .collect();
+    let written: [(&str, usize, WalkInPlace, WalkInPlace); 4] = [
+        ("ipv4, compared with plain Rust, UDP", 28, library::library_write_udp_ipv4, write_udp_ipv4),
+        ("ipv4, compared with plain Rust, TCP", 40, library::library_write_tcp_ipv4, write_tcp_ipv4),
+        ("ipv6, compared with plain Rust, UDP", 48, library::library_write_udp_ipv6, write_udp_ipv6),
+        ("ipv6, compared with plain Rust, TCP", 60, library::library_write_tcp_ipv6, write_tcp_ipv6),
+    ];
+    let places = written.map(|(_, headers_len, _, _)| inputs(&|n| packets::places(headers_len, n)));
 
     let mut rows: Vec<Row> = Vec::new();
     let mut row = |name: &str, input, library: WalkInPlace, plain: WalkInPlace, is_changed| {
@@ -147,6 +210,21 @@ fn main() {
                 answer_echo,
                 true,
             );
+        }
+    }
+
+    for (kind, n, input) in &answered {
+        row(
+            &format!("is_reply_to, compared with plain Rust, {kind}, {n} B"),
+            input,
+            library::library_is_reply_to,
+            is_reply_to,
+            false,
+        );
+    }
+    for ((kind, _, library, plain), inputs) in written.into_iter().zip(&places) {
+        for (n, input) in inputs {
+            row(&format!("write_packet_{kind}, {n} B"), input, library, plain, true);
         }
     }
 

@@ -46,6 +46,7 @@ mod library {
     walks! { library_verdict library_verdict_by_hand library_transport_slice library_transport_slice_by_hand }
     walks! { library_is_checksum_valid library_is_checksum_valid_by_hand library_change library_change_by_hand }
     walks! { library_translate_tcp library_translate_tcp_by_hand library_translate_udp library_translate_udp_by_hand }
+    walks! { library_quoted_packet library_quoted_packet_by_hand }
     unsafe extern "C" {
         pub fn library_call_nothing(bytes: *const u8, len: usize, out: &mut Answer) -> bool;
         pub fn library_call_udp_header(bytes: *const u8, len: usize, out: &mut Answer) -> bool;
@@ -608,6 +609,15 @@ fn main() {
             transport_in_ip_plain
         );
     }
+    for (name, input) in &ip[..2] {
+        row!(
+            &format!("transport_in_ip, {name}, compared with a reader that looks for source routes"),
+            0,
+            input,
+            library_transport_in_ip,
+            transport_in_ip_routes_plain
+        );
+    }
     // ---- the sum alone
     row!(
         "add_slice, ones_complement, mixed 0 to 125 B",
@@ -650,6 +660,15 @@ fn main() {
             input,
             library_transport_slice,
             library_transport_slice_by_hand
+        );
+    }
+    for (name, input) in &icmp4[..2] {
+        by_hand!(
+            &format!("Icmpv4Slice::quoted_packet, {name}"),
+            0,
+            input,
+            library_quoted_packet,
+            library_quoted_packet_by_hand
         );
     }
     for (n, input) in &segments {

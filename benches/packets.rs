@@ -467,3 +467,25 @@ pub fn ipv6(protocol: u8, payload: usize) -> Input {
         [&[0x60, 0, 0, 0], &len[..], &[protocol, 64], &addresses, &packet].concat()
     })
 }
+
+/// Places of packets with headers of this length, with the payload in them, and the payload once more after each.
+pub fn places(headers_len: usize, payload: usize) -> Input {
+    let mut numbers = Numbers(headers_len as u64 * 11 + payload as u64);
+    many(headers_len + 2 * payload, |_| {
+        let payload = numbers.bytes(payload);
+        [&vec![0; headers_len][..], &payload, &payload].concat()
+    })
+}
+
+/// Echo requests, and the reply that is made of each after it.
+pub fn requests_and_replies(requests: &Input, reply_of: impl Fn(&mut [u8])) -> Input {
+    let mut start = 0;
+    let pairs = requests.lens.iter().map(|len| {
+        let request = &requests.packets[start..start + *len as usize];
+        start += *len as usize;
+        let mut reply = request.to_vec();
+        reply_of(&mut reply);
+        [request, &reply].concat()
+    });
+    joined(pairs.collect())
+}

@@ -1,5 +1,5 @@
-//! What a program writes by hand in plain Rust without this library: a translator of addresses, and a responder to echo requests. Both
-//! check what the calls of the library check, and write the same bytes.
+//! What a program writes by hand in plain Rust without this library: a translator of addresses, a responder to echo requests, the test of
+//! an echo reply, and a writer of packets. They check what the calls of the library check, and write the same bytes.
 
 use std::net::{Ipv4Addr, Ipv6Addr};
 
@@ -20,6 +20,7 @@ pub enum Refused {
     Quoted,
     Checksum,
     Address,
+    Space,
 }
 
 /// Which address and port are replaced: the source of what goes out, and the destination of what comes in.
@@ -357,6 +358,179 @@ fn answer_echo_ipv6(packet: &mut [u8], hop_limit: u8) -> Result<usize, Refused> 
     packet[40] = 129;
     write(packet, 42, checksum.to_be_bytes());
     Ok(end)
+}
+
+/// Whether a packet is the reply to an echo request.
+pub fn is_reply_to(request: &[u8], reply: &[u8]) -> bool {
+    match request.first() {
+        Some(first) if first >> 4 == 6 => is_reply_ipv6(request, reply).unwrap_or(false),
+        _ => is_reply_ipv4(request, reply).unwrap_or(false),
+    }
+}
+
+fn is_reply_ipv4(request: &[u8], reply: &[u8]) -> Result<bool, Refused> {
+    let (sent, received) = (ipv4_place(request, false)?, ipv4_place(reply, false)?);
+    if sent.protocol != ICMP || received.protocol != ICMP || (word(request, 6) | word(reply, 6)) & 0x3fff != 0 {
+        return Ok(false);
+    }
+    let (asked, answered) = (&request[20..sent.end], &reply[20..received.end]);
+    if asked.len() < 8 || asked.len() != answered.len() || word(asked, 0) != 0x0800 || word(answered, 0) != 0 {
+        return Ok(false);
+    }
+    let destination = read::<4>(request, 16);
+    let responder = read::<4>(reply, 12);
+    let address = Ipv4Addr::from(destination);
+    let is_from = if address.is_multicast() || address.is_broadcast() {
+        is_host_ipv4(responder.into())
+    } else {
+        responder == destination
+    };
+    Ok(read::<4>(reply, 16) == read::<4>(request, 12)
+        && is_from
+        && asked[4..] == answered[4..]
+        && folded(sum(answered)) == 0xffff
+        && folded(sum(&reply[..20])) == 0xffff)
+}
+
+fn is_reply_ipv6(request: &[u8], reply: &[u8]) -> Result<bool, Refused> {
+    let (sent, received) = (ipv6_place(request)?, ipv6_place(reply)?);
+    let (asked, answered) = (&request[40..sent.end], &reply[40..received.end]);
+    if sent.protocol != ICMPV6 || received.protocol != ICMPV6 || asked.len() < 8 || asked.len() != answered.len() {
+        return Ok(false);
+    }
+    if word(asked, 0) != 0x8000 || word(answered, 0) != 0x8100 {
+        return Ok(false);
+    }
+    let destination = read::<16>(request, 24);
+    let responder = read::<16>(reply, 8);
+    let is_from = if Ipv6Addr::from(destination).is_multicast() {
+        is_host_ipv6(responder.into())
+    } else {
+        responder == destination
+    };
+    let pseudo_header = u64::from((answered.len() as u32).to_be()) + u64::from(u32::from(ICMPV6).to_be());
+    Ok(read::<16>(reply, 24) == read::<16>(request, 8)
+        && is_from
+        && asked[4..] == answered[4..]
+        && folded(pseudo_header + sum(&reply[8..40]) + sum(answered)) == 0xffff)
+}
+
+// ---- the writer
+
+/// The transport header of a packet that is written.
+pub enum Transport {
+    Udp {
+        source_port: u16,
+        destination_port: u16,
+    },
+    Tcp {
+        source_port: u16,
+        destination_port: u16,
+        sequence_number: u32,
+        window_size: u16,
+    },
+}
+
+impl Transport {
+    fn protocol(&self) -> u8 {
+        match self {
+            Transport::Udp { .. } => UDP,
+            Transport::Tcp { .. } => TCP,
+        }
+    }
+
+    fn header_len(&self) -> usize {
+        match self {
+            Transport::Udp { .. } => 8,
+            Transport::Tcp { .. } => 20,
+        }
+    }
+
+    /// Writes header and payload with the checksum, after a pseudo header with this sum.
+    fn write(&self, message: &mut [u8], payload: &[u8], pseudo_header: u64) {
+        let len = message.len();
+        let place = match *self {
+            Transport::Udp {
+                source_port,
+                destination_port,
+            } => {
+                write(message, 0, source_port.to_be_bytes());
+                write(message, 2, destination_port.to_be_bytes());
+                write(message, 4, (len as u16).to_be_bytes());
+                6
+            }
+            Transport::Tcp {
+                source_port,
+                destination_port,
+                sequence_number,
+                window_size,
+            } => {
+                write(message, 0, source_port.to_be_bytes());
+                write(message, 2, destination_port.to_be_bytes());
+                write(message, 4, sequence_number.to_be_bytes());
+                write(message, 8, [0, 0, 0, 0, 0x50, 0]);
+                write(message, 14, window_size.to_be_bytes());
+                write(message, 18, [0, 0]);
+                16
+            }
+        };
+        write(message, place, [0, 0]);
+        message[self.header_len()..].copy_from_slice(payload);
+        let counted = u64::from((len as u32).to_be()) + u64::from(u32::from(self.protocol()).to_be());
+        let checksum = !folded(pseudo_header + counted + sum(message));
+        let is_zero = checksum == 0 && self.protocol() == UDP;
+        write(message, place, if is_zero { [0xff, 0xff] } else { checksum.to_ne_bytes() });
+    }
+}
+
+/// Writes an IPv4 packet to the front of the slice, and returns its length.
+pub fn write_packet_ipv4(
+    out: &mut [u8],
+    source: [u8; 4],
+    destination: [u8; 4],
+    time_to_live: u8,
+    transport: &Transport,
+    payload: &[u8],
+) -> Result<usize, Refused> {
+    let len = 20 + transport.header_len() + payload.len();
+    if len > 0xffff {
+        return Err(Refused::TotalLength);
+    }
+    let packet = out.get_mut(..len).ok_or(Refused::Space)?;
+    write(packet, 0, [0x45, 0]);
+    write(packet, 2, (len as u16).to_be_bytes());
+    write(packet, 4, [0, 0, 0x40, 0, time_to_live, transport.protocol(), 0, 0]);
+    write(packet, 12, source);
+    write(packet, 16, destination);
+    let checksum = !folded(sum(&packet[..20]));
+    write(packet, 10, checksum.to_ne_bytes());
+    let pseudo_header = sum(&packet[12..20]);
+    transport.write(&mut packet[20..], payload, pseudo_header);
+    Ok(len)
+}
+
+/// Writes an IPv6 packet to the front of the slice, and returns its length.
+pub fn write_packet_ipv6(
+    out: &mut [u8],
+    source: [u8; 16],
+    destination: [u8; 16],
+    hop_limit: u8,
+    transport: &Transport,
+    payload: &[u8],
+) -> Result<usize, Refused> {
+    let message_len = transport.header_len() + payload.len();
+    if message_len > 0xffff {
+        return Err(Refused::TotalLength);
+    }
+    let packet = out.get_mut(..40 + message_len).ok_or(Refused::Space)?;
+    write(packet, 0, [0x60, 0, 0, 0]);
+    write(packet, 4, (message_len as u16).to_be_bytes());
+    write(packet, 6, [transport.protocol(), hop_limit]);
+    write(packet, 8, source);
+    write(packet, 24, destination);
+    let pseudo_header = sum(&packet[8..40]);
+    transport.write(&mut packet[40..], payload, pseudo_header);
+    Ok(40 + message_len)
 }
 
 fn is_host_ipv4(address: Ipv4Addr) -> bool {

@@ -47,9 +47,37 @@ pub mod ip {
         },
     }
 
-    /// As one writes it by hand: one function, the addresses last.
+    /// The last address of the first source route if it has an address left, otherwise the address in the header.
+    fn final_destination(header: &[u8]) -> [u8; 4] {
+        let mut rest = &header[20..];
+        while let [kind, others @ ..] = rest {
+            match (*kind, others.first()) {
+                (0, _) => break,
+                (1, _) => rest = others,
+                (kind, Some(&len)) if len >= 2 && usize::from(len) <= rest.len() => {
+                    let (option, behind) = rest.split_at(usize::from(len));
+                    if kind == 131 || kind == 137 {
+                        let len = option.len();
+                        if len < 7 || len % 4 != 3 {
+                            break;
+                        }
+                        let pointer = usize::from(option[2]);
+                        if pointer < 4 || pointer % 4 != 0 || pointer > len {
+                            break;
+                        }
+                        return option[len - 4..].try_into().unwrap();
+                    }
+                    rest = behind;
+                }
+                _ => break,
+            }
+        }
+        header[16..20].try_into().unwrap()
+    }
+
+    /// As one writes it by hand: one function, the addresses last. It looks for source routes if `ROUTES` is true.
     #[inline]
-    pub fn transport_in_ip(p: &[u8]) -> Result<TransportInIp<'_>, IpError> {
+    pub fn transport_in_ip<const ROUTES: bool>(p: &[u8]) -> Result<TransportInIp<'_>, IpError> {
         let len = p.len();
         if len == 0 {
             return Err(IpError::HeaderCutOff { required_len: 1, len });
@@ -82,7 +110,11 @@ pub mod ip {
                 Ok(TransportInIp {
                     addresses: IpAddresses::Ipv4 {
                         source: p[12..16].try_into().unwrap(),
-                        destination: p[16..20].try_into().unwrap(),
+                        destination: if ROUTES {
+                            final_destination(&p[..header_len])
+                        } else {
+                            p[16..20].try_into().unwrap()
+                        },
                     },
                     protocol: p[9],
                     payload: &p[header_len..total_len],
@@ -203,17 +235,20 @@ pub mod ip {
         }
     }
 
-    pub struct InIp;
-    impl Timed for InIp {
+    pub struct InIp<const ROUTES: bool>;
+    impl<const ROUTES: bool> Timed for InIp<ROUTES> {
         #[inline(always)]
         fn call(packet: &[u8], turn: u16) -> u64 {
-            match transport_in_ip(packet) {
+            match transport_in_ip::<ROUTES>(packet) {
                 Ok(transport) => found(&transport, turn),
                 Err(error) => not_found(&error),
             }
         }
     }
-    walks! { transport_in_ip_plain = InIp; }
+    walks! {
+        transport_in_ip_plain = InIp<false>;
+        transport_in_ip_routes_plain = InIp<true>;
+    }
 }
 
-pub use ip::transport_in_ip_plain;
+pub use ip::{transport_in_ip_plain, transport_in_ip_routes_plain};

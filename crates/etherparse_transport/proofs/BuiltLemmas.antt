@@ -1,11 +1,11 @@
 -- Laws of built packets: the slice of the protocol accepts the sent message, and its checksum is right.
-use Rattle.std.proofs.Common.{◌≡◌, ◌≢◌, ◌⊎◌, ℕ, ◌+◌, ◌-◌, ◌*◌, ◌<◌, ◌≤◌, ◌==◌, ◌&&◌, not, nat_lt, Bool, true, false, if◌then◌else◌, List, [], ◌∷◌, ◌++◌, length, take, slice_index, length-append, Option, Some, None, inl, inr, refl, sym, ap, ◌∙◌, subst, arith}
+use Rattle.std.proofs.Common.{◌≡◌, ◌≢◌, ◌⊎◌, ℕ, ◌+◌, ◌-◌, ◌*◌, ◌<◌, ◌≤◌, ◌==◌, ◌&&◌, not, nat_lt, Bool, true, false, if◌then◌else◌, List, [], ◌∷◌, ◌++◌, length, take, drop, slice_index, length-append, Option, Some, None, inl, inr, refl, sym, ap, ◌∙◌, subst, arith}
 use Rattle.std.specs.Prelude.{⊤, MatchBool, MatchOption, Result, Ok, Err, IfErr}
 use Rattle.std.specs.Option.{option_map, unwrap_or}
 use Rattle.std.specs.Int.{to_be_bytes, w16}
 use Rattle.std.proofs.Math.Seq.{take-length}
 use Rattle.std.proofs.lemmas.Bool.Decides.{nat_tests}
-use Rattle.std.proofs.lemmas.List.{append-nil, append_assoc}
+use Rattle.std.proofs.lemmas.List.{append-nil, append_assoc, drop-drop}
 use Rattle.icmp_part.specs.Icmpv4Format as icmpv4
 use Rattle.icmp_part.specs.Icmpv4ReadsBack as icmpv4_back
 use Rattle.icmp_part.specs.Icmpv6Format as icmpv6
@@ -301,6 +301,15 @@ header_long (headers.Udp header) back = omega arith
 header_long (headers.Tcp header) back = omega arith
 header_long (headers.Icmpv4 header) back = icmpv4_header_long header back
 header_long (headers.Icmpv6 header) back = icmpv6_header_long header back
+
+-- ---- the parts of a slice that is written
+
+-- if the front of a slice becomes the IP header, and the rest becomes the message and what was after it
+pub joined : (slice front rest header message : List ℕ) (header_len len : ℕ) → front ≡ header
+    → rest ≡ message ++ drop len (drop header_len slice) → front ++ rest ≡ (header ++ message) ++ drop (header_len + len) slice
+joined slice front rest header message header_len len is_front is_rest =
+    ap (λ bytes. bytes ++ rest) is_front ∙ ap (λ bytes. header ++ bytes) is_rest
+    ∙ ap (λ bytes. header ++ (message ++ bytes)) (drop-drop len header_len slice) ∙ sym (append_assoc header message (drop (header_len + len) slice))
 
 -- ---- the header that is sent
 

@@ -1,3 +1,5 @@
+ghost use Rattle.std.specs.Prelude.{◌≡◌};
+ghost use Rattle.net_base.specs.Refusals as specs;
 ghost use Rattle.net_base.specs.Refusals.{RefusesExactly, no_room, too_big};
 
 use crate::UdpHeaderSlice;
@@ -199,6 +201,9 @@ impl UdpHeader {
         ensures decode_alike { IfOk result (λ found. (other : List ℕ) → IsBytes other → refusal other ≡ None
             → (DecodesAs other found.0 found.1.now ↔ (canonical other ≡ canonical slice.now))) }
     {
+        if slice.len() < UdpHeader::LEN {
+            return Err(header_cut_off(slice.len()));
+        }
         let header = UdpHeaderSlice::from_slice(slice)?;
         Ok((header.to_header(), &slice[UdpHeader::LEN..]))
     }
@@ -447,4 +452,15 @@ impl UdpHeader {
             .add_2bytes([0, ip_number::UDP.0])
             .add_2bytes(self.length.to_be_bytes())
     }
+}
+
+/// The error if a slice of this length, in bytes, ends within the header.
+// perf: as a call, the refusal is out of the way of accepted headers. `UdpHeader::from_slice` then takes 1.9 instead of 3.0 ns, but a
+// refusal takes 2.7 instead of 1.7 (27 Nov 2026).
+#[cold]
+#[inline(never)]
+fn header_cut_off(len: usize) -> LenError
+    ensures { result ≡ specs.wrong_length Layer.UdpHeader 8 len }
+{
+    wrong_length(Layer::UdpHeader, UdpHeader::LEN, len)
 }

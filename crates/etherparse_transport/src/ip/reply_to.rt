@@ -50,6 +50,7 @@ pub fn is_reply_to(request: &[u8], reply: &[u8]) -> bool
 // ---- the packets
 
 /// The whole ICMP message in a packet. `None` if there is none.
+#[inline(always)]
 fn icmp_in(packet: &[u8]) -> Option<TransportInIp<'_>>
     ensures { MatchOption result ((between : Addresses) (message : List ℕ) → ¬ CarriesIcmp packet.now between message)
         (λ found. CarriesIcmp packet.now (by_value found.addresses) found.payload.now) }

@@ -4,17 +4,19 @@ ghost use Rattle.icmp_part.specs.Icmpv4Format as icmpv4;
 ghost use Rattle.ip_part.specs.Ip as ip;
 ghost use Rattle.ip_part.specs.Addresses as addresses;
 ghost use Rattle.net_base.specs.Refusals.{RefusesExactly};
+ghost use Rattle.tcp_part.specs.TcpFormat as tcp;
 ghost use Rattle.word_sum.specs.Checksum.{Verifies};
-ghost use Rattle.etherparse_transport.specs.Formats.{IsReadBack, proto_of, wire};
+ghost use Rattle.etherparse_transport.specs.Formats.{IsReadBack, max_header_len, proto_of, wire};
 ghost use Rattle.etherparse_transport.specs.Headers.{IsValidOverIpv4, IsValidOverIpv6};
 ghost use Rattle.etherparse_transport.specs.declared.err.packet.build_slice_write_error.BuildSliceWriteError.TheVariants.{TimestampLen};
+ghost use Rattle.etherparse_transport.specs.declared.transport_header.TransportHeader.TheVariants as headers;
 ghost use Rattle.etherparse_transport.specs.Packets as specs;
 ghost use Rattle.etherparse_transport.specs.Packets.{IsReadAs, ipv4_message_refusal, ipv4_packet, ipv4_write_refusal, ipv6_message_refusal, ipv6_packet, ipv6_write_refusal, max_message_len_ipv6, number_of, payload_above};
 
 use crate::err::Layer;
 use crate::err::packet::BuildSliceWriteError;
 use crate::ip::ip_header::{IPV4_LEN, IPV6_LEN, ipv4_header, ipv6_header};
-use crate::{IpNumber, Ipv4Header, Ipv6Header, TransportHeader, UdpHeader, ip_number};
+use crate::{IpNumber, Ipv4Header, Ipv6Header, TcpHeader, TransportHeader, UdpHeader, ip_number};
 use net_base::wrong_length;
 
 /// The longest transport header and payload that the total length can count in addition to the IPv4 header, in bytes.
@@ -61,9 +63,9 @@ pub fn write_packet_ipv4(
     // The checksum of the IP header is also right.
     ensures verifies { IfOk result (λ _. Verifies [] (ip.ipv4_header slice.new)) }
 {
-    let header_bytes = header.to_bytes();
-    check_ipv4(header, &header_bytes, payload)?;
-    let len = IPV4_LEN + header_bytes.len() + payload.len();
+    let header_len = counted_header_len(header);
+    check_ipv4(header, header_len, payload)?;
+    let len = IPV4_LEN + header_len + payload.len();
     if slice.len() < len {
         return Err(BuildSliceWriteError::Space {
             required_len: len,
@@ -74,8 +76,9 @@ pub fn write_packet_ipv4(
     let [len_high, len_low] = (len as u16).to_be_bytes();
     let start = [0x45, 0, len_high, len_low, 0, 0, 0x40, 0];
     let ip_header = ipv4_header(start, time_to_live, protocol, source, destination);
-    let sent = sent_over_ipv4(source, destination, header, payload);
-    write_parts(slice, &ip_header, &sent.to_bytes(), payload);
+    let (front, message) = slice.split_at_mut(IPV4_LEN);
+    front.copy_from_slice(&ip_header);
+    write_message_ipv4(message, source, destination, header, payload);
     Ok(len)
 }
 
@@ -110,9 +113,9 @@ pub fn write_packet_ipv6(
         (ipv6_packet source destination hop_limit header.now payload.now ++ padding) (addresses.Ipv6 source (Some destination))
         (specs.sent_over_ipv6 source destination header.now payload.now) payload.now) }
 {
-    let header_bytes = header.to_bytes();
-    check_ipv6(header, header_bytes.len(), payload)?;
-    let message_len = header_bytes.len() + payload.len();
+    let header_len = counted_header_len(header);
+    check_ipv6(header, header_len, payload)?;
+    let message_len = header_len + payload.len();
     let len = IPV6_LEN + message_len;
     if slice.len() < len {
         return Err(BuildSliceWriteError::Space {
@@ -124,8 +127,9 @@ pub fn write_packet_ipv6(
     let [len_high, len_low] = (message_len as u16).to_be_bytes();
     let start = [0x60, 0, 0, 0, len_high, len_low];
     let ip_header = ipv6_header(start, protocol, hop_limit, source, destination);
-    let sent = sent_over_ipv6(source, destination, header, payload);
-    write_parts(slice, &ip_header, &sent.to_bytes(), payload);
+    let (front, message) = slice.split_at_mut(IPV6_LEN);
+    front.copy_from_slice(&ip_header);
+    write_message_ipv6(message, source, destination, header, payload);
     Ok(len)
 }
 
@@ -141,24 +145,37 @@ fn number_of_header(header: &TransportHeader) -> IpNumber
     }
 }
 
+/// The length of a header in bytes, with a bound that the lengths of packets are proved by.
+#[inline(always)]
+fn counted_header_len(header: &TransportHeader) -> usize
+    ensures value { result ≡ length (wire header.now) }
+    ensures bound { result ≤ max_header_len }
+{
+    match header {
+        TransportHeader::Udp(header) => header.header_len(),
+        TransportHeader::Tcp(header) => header.header_len(),
+        TransportHeader::Icmpv4(header) => header.to_bytes().len(),
+        TransportHeader::Icmpv6(header) => header.to_bytes().len(),
+    }
+}
+
 // ---- errors
 
 /// Rejects a header and a payload that can't form an IPv4 packet, for any slice.
 fn check_ipv4(
     header: &TransportHeader,
-    header_bytes: &[u8],
+    header_len: usize,
     payload: &[u8],
 ) -> Result<(), BuildSliceWriteError>
-    requires bytes { header_bytes.now ≡ wire header.now }
-    requires reads_back { (payload : List ℕ) → IsReadBack header.now payload }
+    requires len { header_len ≡ length (wire header.now) }
     ensures refused { RefusesExactly result (ipv4_message_refusal header.now payload.now) }
 {
     if let TransportHeader::Icmpv6(_) = header {
         return Err(BuildSliceWriteError::Icmpv6InIpv4);
     }
-    check_counted(MAX_MESSAGE_LEN_IPV4, header_bytes.len(), payload.len())?;
-    if let TransportHeader::Icmpv4(_) = header {
-        check_timestamp(header_bytes, payload)?;
+    check_counted(MAX_MESSAGE_LEN_IPV4, header_len, payload.len())?;
+    if let TransportHeader::Icmpv4(header) = header {
+        check_timestamp(&header.to_bytes(), payload)?;
     }
     Ok(())
 }
@@ -272,15 +289,270 @@ fn with_length(header: &TransportHeader, payload_len: usize) -> TransportHeader
 
 // ---- the packet
 
-/// Writes the parts of a packet to the front of the slice, one after the other.
-fn write_parts(slice: &mut [u8], ip_header: &[u8], header: &[u8], payload: &[u8])
-    requires room { length ip_header.now + length header.now + length payload.now ≤ length slice.old }
-    ensures { slice.new ≡ (ip_header.now ++ (header.now ++ payload.now))
-        ++ drop (length ip_header.now + length header.now + length payload.now) slice.old }
+/// Writes the transport header that is sent over IPv4, with its length and its checksum, and the payload after it.
+#[inline(always)]
+fn write_message_ipv4(
+    message: &mut [u8],
+    source: [u8; 4],
+    destination: [u8; 4],
+    header: &TransportHeader,
+    payload: &[u8],
+)
+    requires accepted { ipv4_message_refusal header.now payload.now ≡ None }
+    requires counted { length (wire header.now) + length payload.now ≤ 65535 }
+    requires room { length (wire header.now) + length payload.now ≤ length message.old }
+    ensures written { message.new ≡ (wire (specs.sent_over_ipv4 source destination header.now payload.now) ++ payload.now)
+        ++ drop (length (wire header.now) + length payload.now) message.old }
+    ensures valid { IsValidOverIpv4 source destination (specs.sent_over_ipv4 source destination header.now payload.now) payload.now }
+    ensures reads_back { IsReadBack (specs.sent_over_ipv4 source destination header.now payload.now) payload.now }
 {
-    let (first, after_ip) = slice.split_at_mut(ip_header.len());
-    first.copy_from_slice(ip_header);
-    let (second, rest) = after_ip.split_at_mut(header.len());
-    second.copy_from_slice(header);
+    match header {
+        TransportHeader::Udp(header) => write_udp_ipv4(
+            message,
+            source,
+            destination,
+            header,
+            payload,
+        ),
+        TransportHeader::Tcp(header) => write_tcp_ipv4(
+            message,
+            source,
+            destination,
+            header,
+            payload,
+        ),
+        TransportHeader::Icmpv4(_) => write_icmp_ipv4(
+            message,
+            source,
+            destination,
+            header,
+            payload,
+        ),
+        TransportHeader::Icmpv6(_) => write_icmp_ipv4(
+            message,
+            source,
+            destination,
+            header,
+            payload,
+        ),
+    }
+}
+
+/// Writes a UDP header over IPv4, with its length and its checksum, and the payload after it.
+#[inline(always)]
+fn write_udp_ipv4(
+    message: &mut [u8],
+    source: [u8; 4],
+    destination: [u8; 4],
+    header: &UdpHeader,
+    payload: &[u8],
+)
+    requires counted { 8 + length payload.now ≤ 65535 }
+    requires room { 8 + length payload.now ≤ length message.old }
+    ensures written { message.new ≡ (wire (specs.sent_over_ipv4 source destination (headers.Udp header.now) payload.now) ++ payload.now)
+        ++ drop (8 + length payload.now) message.old }
+    ensures valid { IsValidOverIpv4 source destination (specs.sent_over_ipv4 source destination (headers.Udp header.now) payload.now) payload.now }
+    ensures reads_back { IsReadBack (specs.sent_over_ipv4 source destination (headers.Udp header.now) payload.now) payload.now }
+{
+    let mut sent = with_udp_length(header, payload.len());
+    sent.checksum = sent
+        .calc_checksum_ipv4_raw(source, destination, payload)
+        .unwrap();
+    write_parts(message, &sent.to_bytes(), payload);
+}
+
+/// Writes a TCP header over IPv4, with its checksum, and the payload after it.
+#[inline(always)]
+fn write_tcp_ipv4(
+    message: &mut [u8],
+    source: [u8; 4],
+    destination: [u8; 4],
+    header: &TcpHeader,
+    payload: &[u8],
+)
+    requires counted { length (tcp.wire header.now) + length payload.now ≤ 65535 }
+    requires room { length (tcp.wire header.now) + length payload.now ≤ length message.old }
+    ensures written { message.new ≡ (wire (specs.sent_over_ipv4 source destination (headers.Tcp header.now) payload.now) ++ payload.now)
+        ++ drop (length (tcp.wire header.now) + length payload.now) message.old }
+    ensures valid { IsValidOverIpv4 source destination (specs.sent_over_ipv4 source destination (headers.Tcp header.now) payload.now) payload.now }
+    ensures reads_back { IsReadBack (specs.sent_over_ipv4 source destination (headers.Tcp header.now) payload.now) payload.now }
+{
+    let checksum = header
+        .calc_checksum_ipv4_raw(source, destination, payload)
+        .unwrap();
+    let sent = with_tcp_checksum(header, checksum);
+    let (front, rest) = message.split_at_mut(sent.header_len());
+    sent.write_to_slice(front).unwrap();
+    rest[..payload.len()].copy_from_slice(payload);
+}
+
+/// Writes an ICMP header over IPv4, with its checksum, and the payload after it.
+fn write_icmp_ipv4(
+    message: &mut [u8],
+    source: [u8; 4],
+    destination: [u8; 4],
+    header: &TransportHeader,
+    payload: &[u8],
+)
+    requires accepted { ipv4_message_refusal header.now payload.now ≡ None }
+    requires room { length (wire header.now) + length payload.now ≤ length message.old }
+    ensures written { message.new ≡ (wire (specs.sent_over_ipv4 source destination header.now payload.now) ++ payload.now)
+        ++ drop (length (wire header.now) + length payload.now) message.old }
+    ensures valid { IsValidOverIpv4 source destination (specs.sent_over_ipv4 source destination header.now payload.now) payload.now }
+    ensures reads_back { IsReadBack (specs.sent_over_ipv4 source destination header.now payload.now) payload.now }
+{
+    let sent = sent_over_ipv4(source, destination, header, payload);
+    write_parts(message, &sent.to_bytes(), payload);
+}
+
+/// Writes the transport header that is sent over IPv6, with its length and its checksum, and the payload after it.
+#[inline(always)]
+fn write_message_ipv6(
+    message: &mut [u8],
+    source: [u8; 16],
+    destination: [u8; 16],
+    header: &TransportHeader,
+    payload: &[u8],
+)
+    requires accepted { ipv6_message_refusal header.now payload.now ≡ None }
+    requires counted { length (wire header.now) + length payload.now ≤ 65535 }
+    requires room { length (wire header.now) + length payload.now ≤ length message.old }
+    ensures written { message.new ≡ (wire (specs.sent_over_ipv6 source destination header.now payload.now) ++ payload.now)
+        ++ drop (length (wire header.now) + length payload.now) message.old }
+    ensures valid { IsValidOverIpv6 source destination (specs.sent_over_ipv6 source destination header.now payload.now) payload.now }
+    ensures reads_back { IsReadBack (specs.sent_over_ipv6 source destination header.now payload.now) payload.now }
+{
+    match header {
+        TransportHeader::Udp(header) => write_udp_ipv6(
+            message,
+            source,
+            destination,
+            header,
+            payload,
+        ),
+        TransportHeader::Tcp(header) => write_tcp_ipv6(
+            message,
+            source,
+            destination,
+            header,
+            payload,
+        ),
+        TransportHeader::Icmpv4(_) => write_icmp_ipv6(
+            message,
+            source,
+            destination,
+            header,
+            payload,
+        ),
+        TransportHeader::Icmpv6(_) => write_icmp_ipv6(
+            message,
+            source,
+            destination,
+            header,
+            payload,
+        ),
+    }
+}
+
+/// Writes a UDP header over IPv6, with its length and its checksum, and the payload after it.
+#[inline(always)]
+fn write_udp_ipv6(
+    message: &mut [u8],
+    source: [u8; 16],
+    destination: [u8; 16],
+    header: &UdpHeader,
+    payload: &[u8],
+)
+    requires counted { 8 + length payload.now ≤ 65535 }
+    requires room { 8 + length payload.now ≤ length message.old }
+    ensures written { message.new ≡ (wire (specs.sent_over_ipv6 source destination (headers.Udp header.now) payload.now) ++ payload.now)
+        ++ drop (8 + length payload.now) message.old }
+    ensures valid { IsValidOverIpv6 source destination (specs.sent_over_ipv6 source destination (headers.Udp header.now) payload.now) payload.now }
+    ensures reads_back { IsReadBack (specs.sent_over_ipv6 source destination (headers.Udp header.now) payload.now) payload.now }
+{
+    let mut sent = with_udp_length(header, payload.len());
+    sent.checksum = sent
+        .calc_checksum_ipv6_raw(source, destination, payload)
+        .unwrap();
+    write_parts(message, &sent.to_bytes(), payload);
+}
+
+/// Writes a TCP header over IPv6, with its checksum, and the payload after it.
+#[inline(always)]
+fn write_tcp_ipv6(
+    message: &mut [u8],
+    source: [u8; 16],
+    destination: [u8; 16],
+    header: &TcpHeader,
+    payload: &[u8],
+)
+    requires counted { length (tcp.wire header.now) + length payload.now ≤ 65535 }
+    requires room { length (tcp.wire header.now) + length payload.now ≤ length message.old }
+    ensures written { message.new ≡ (wire (specs.sent_over_ipv6 source destination (headers.Tcp header.now) payload.now) ++ payload.now)
+        ++ drop (length (tcp.wire header.now) + length payload.now) message.old }
+    ensures valid { IsValidOverIpv6 source destination (specs.sent_over_ipv6 source destination (headers.Tcp header.now) payload.now) payload.now }
+    ensures reads_back { IsReadBack (specs.sent_over_ipv6 source destination (headers.Tcp header.now) payload.now) payload.now }
+{
+    let checksum = header
+        .calc_checksum_ipv6_raw(source, destination, payload)
+        .unwrap();
+    let sent = with_tcp_checksum(header, checksum);
+    let (front, rest) = message.split_at_mut(sent.header_len());
+    sent.write_to_slice(front).unwrap();
+    rest[..payload.len()].copy_from_slice(payload);
+}
+
+/// Writes an ICMP header over IPv6, with its checksum, and the payload after it.
+fn write_icmp_ipv6(
+    message: &mut [u8],
+    source: [u8; 16],
+    destination: [u8; 16],
+    header: &TransportHeader,
+    payload: &[u8],
+)
+    requires accepted { ipv6_message_refusal header.now payload.now ≡ None }
+    requires room { length (wire header.now) + length payload.now ≤ length message.old }
+    ensures written { message.new ≡ (wire (specs.sent_over_ipv6 source destination header.now payload.now) ++ payload.now)
+        ++ drop (length (wire header.now) + length payload.now) message.old }
+    ensures valid { IsValidOverIpv6 source destination (specs.sent_over_ipv6 source destination header.now payload.now) payload.now }
+    ensures reads_back { IsReadBack (specs.sent_over_ipv6 source destination header.now payload.now) payload.now }
+{
+    let sent = sent_over_ipv6(source, destination, header, payload);
+    write_parts(message, &sent.to_bytes(), payload);
+}
+
+/// A UDP header without a checksum, whose length field counts a payload of this length.
+#[inline(always)]
+fn with_udp_length(header: &UdpHeader, payload_len: usize) -> UdpHeader
+    requires { 8 + payload_len ≤ 65535 }
+    ensures { result ≡ record header.now { length = 8 + payload_len; checksum = 0 } }
+{
+    UdpHeader {
+        source_port: header.source_port,
+        destination_port: header.destination_port,
+        length: (UdpHeader::LEN + payload_len) as u16,
+        checksum: 0,
+    }
+}
+
+/// A TCP header with this checksum.
+#[inline(always)]
+fn with_tcp_checksum(header: &TcpHeader, checksum: u16) -> TcpHeader
+    ensures value { result ≡ record header.now { checksum = checksum } }
+    ensures reads_back { (payload : List ℕ) → tcp.DecodesAs (tcp.wire result ++ payload) result payload }
+{
+    let mut sent = header.clone().unwrap();
+    sent.checksum = checksum;
+    sent
+}
+
+/// Writes a header and its payload to the front of the slice, one after the other.
+#[inline(always)]
+fn write_parts(slice: &mut [u8], header: &[u8], payload: &[u8])
+    requires room { length header.now + length payload.now ≤ length slice.old }
+    ensures { slice.new ≡ (header.now ++ payload.now) ++ drop (length header.now + length payload.now) slice.old }
+{
+    let (front, rest) = slice.split_at_mut(header.len());
+    front.copy_from_slice(header);
     rest[..payload.len()].copy_from_slice(payload);
 }
