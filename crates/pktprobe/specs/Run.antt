@@ -1,19 +1,13 @@
 -- What one run of the program reads and writes, as far as the bytes of its reader and its writer are known.
-use Rattle.std.specs.Prelude.{◌≡◌, ℕ, List, ◌++◌, take, Option, IfSome}
+use Rattle.std.specs.Prelude.{◌≡◌, ℕ, List, take, Option, IfSome}
 use Rattle.std.specs.Io.KnownBytes.{Appends, Consumes}
+use Rattle.streams.specs.Streams.{AppendsBeginning}
 use Rattle.pktprobe.specs.Report.{max_input_len, report}
 
 -- the input is all that the reader had left, and the reader gave its first 8,194 bytes, or all of it, and no more
 pub record ReadsInput (left still_left : Option (List ℕ)) (input : List ℕ) : Type 0 where
   pub is_all : IfSome left (λ all. input ≡ all)
   pub consumes : Consumes left still_left (take max_input_len input)
-
--- the writer took a beginning of the text
-pub record AppendsBeginning (before after : Option (List ℕ)) (text : List ℕ) : Type 0 where
-  pub written : List ℕ
-  pub unwritten : List ℕ
-  pub parts : text ≡ written ++ unwritten
-  pub appends : Appends before after written
 
 -- an input was read; it has this status, and its whole text was written
 pub record WritesReport (left still_left before after : Option (List ℕ)) (status : ℕ) : Type 0 where

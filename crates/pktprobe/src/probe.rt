@@ -4,7 +4,8 @@ ghost use Rattle.std.specs.Io.KnownBytes.{Appends, Keeps};
 ghost use Rattle.arrayvec.specs.ArrayVec.{array_vec_len};
 ghost use Rattle.hex.specs.Hex.{decode_of};
 ghost use Rattle.pktprobe.specs.Report.{accepted_text, bad_input, line_of, max_input_len, packet_report, request_of, refused_text, report};
-ghost use Rattle.pktprobe.specs.Run.{AppendsBeginning, WritesBeginningOfReport, WritesReport};
+ghost use Rattle.pktprobe.specs.Run.{WritesBeginningOfReport, WritesReport};
+ghost use Rattle.streams.specs.Streams.{AppendsBeginning};
 
 use arrayvec::ArrayVec;
 use etherparse_transport::err::LenError;
@@ -12,8 +13,8 @@ use etherparse_transport::err::tcp::{HeaderError, HeaderSliceError};
 use etherparse_transport::{Proto, canonical_header};
 use itoa::Buffer;
 use std::io;
-use std::io::{ErrorKind, Read, Write};
-use streams::fill;
+use std::io::{Read, Write};
+use streams::{fill, write_whole};
 
 /// The longest line, in bytes.
 const MAX_LINE_LEN: usize = 8192;
@@ -228,13 +229,7 @@ fn write_out<W: Write>(output: &mut W, text: &[u8]) -> io::Result<()>
     ensures written { OnOk result (Appends (W.contents output.old) (W.contents output.new) text.now) }
     ensures begun { AppendsBeginning (W.contents output.old) (W.contents output.new) text.now }
 {
-    let mut rest = text;
-    while !rest.is_empty() {
-        match output.write(rest)? {
-            0 => return Err(io::Error::from(ErrorKind::WriteZero)),
-            len => rest = &rest[len..],
-        }
-    }
+    write_whole(output, text)?;
     output.flush()
 }
 

@@ -1,6 +1,6 @@
--- The bytes of a stream, by the bytes that its reader had left before and has left afterwards.
+-- The bytes of a stream, by the bytes that its reader has left or its writer holds, before and afterwards.
 use Rattle.std.specs.Prelude.{◌≡◌, ℕ, ◌+◌, ◌<◌, ◌≤◌, List, ◌++◌, length, take, Option}
-use Rattle.std.specs.Io.KnownBytes.{Consumes, IsAtEnd}
+use Rattle.std.specs.Io.KnownBytes.{Appends, Consumes, IsAtEnd}
 
 -- the reader returned `len` bytes: as many as requested, or fewer at its end
 pub record Skips (left still_left : Option (List ℕ)) (count len : ℕ) : Type 0 where
@@ -18,3 +18,10 @@ pub record FillsAfter (first : List ℕ) (left still_left : Option (List ℕ)) (
   pub has_len : len ≡ length first + length bytes
   pub within : len ≤ length buffer
   pub end : len < length buffer → IsAtEnd still_left
+
+-- the writer took a beginning of the text
+pub record AppendsBeginning (before after : Option (List ℕ)) (text : List ℕ) : Type 0 where
+  pub written : List ℕ
+  pub unwritten : List ℕ
+  pub parts : text ≡ written ++ unwritten
+  pub appends : Appends before after written

@@ -1,13 +1,13 @@
-//! Reads whole parts from a stream, for the programs.
+//! Reads whole parts from a stream, and writes whole texts, for the programs.
 #![tactic(auto)]
 
-ghost use Rattle.std.specs.Prelude.{◌≡◌, ◌<◌, ◌≤◌, IfOk, IfSome, length, take};
-ghost use Rattle.std.specs.Io.KnownBytes.{Consumes, IsAtEnd};
-ghost use Rattle.streams.specs.Streams.{FillsAfter, Skips};
+ghost use Rattle.std.specs.Prelude.{◌≡◌, ◌<◌, ◌≤◌, IfOk, IfSome, OnOk, length, take};
+ghost use Rattle.std.specs.Io.KnownBytes.{Appends, Consumes, IsAtEnd};
+ghost use Rattle.streams.specs.Streams.{AppendsBeginning, FillsAfter, Skips};
 
 use std::alloc::{AllocError, Global};
 use std::io;
-use std::io::Read;
+use std::io::{ErrorKind, Read, Write};
 
 /// A buffer with this length in bytes, on the heap.
 ///
@@ -92,4 +92,23 @@ pub fn skip<R: Read>(input: &mut R, count: usize) -> io::Result<usize>
         }
     }
     Ok(skipped)
+}
+
+/// Writes the whole text. If writing fails, a beginning of the text was written.
+///
+/// # Errors
+///
+/// The error of the first write that fails, and `WriteZero` if a write takes no byte.
+pub fn write_whole<W: Write>(output: &mut W, text: &[u8]) -> io::Result<()>
+    ensures written { OnOk result (Appends (W.contents output.old) (W.contents output.new) text.now) }
+    ensures begun { AppendsBeginning (W.contents output.old) (W.contents output.new) text.now }
+{
+    let mut rest = text;
+    while !rest.is_empty() {
+        match output.write(rest)? {
+            0 => return Err(io::Error::from(ErrorKind::WriteZero)),
+            len => rest = &rest[len..],
+        }
+    }
+    Ok(())
 }

@@ -4,7 +4,8 @@ use Rattle.std.proofs.KnownBytes.{Keeps-refl}
 use Rattle.std.specs.Io.KnownBytes.{Appends, Consumes}
 use Rattle.std.specs.Prelude.{OnErr}
 use Rattle.pktprobe.specs.Report.{max_input_len, report}
-use Rattle.pktprobe.specs.Run.{AppendsBeginning, ReadsInput, WritesBeginningOfReport}
+use Rattle.pktprobe.specs.Run.{ReadsInput, WritesBeginningOfReport}
+use Rattle.streams.specs.Streams.{AppendsBeginning}
 use Rattle.pktprobe.proofs.ReportLemmas.{first_bytes_decide}
 use Rattle.pktprobe.proofs.probe.respond.Goals as goal
 

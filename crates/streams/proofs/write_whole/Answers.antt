@@ -1,7 +1,7 @@
 use Rattle.std.proofs.Common.{◌≡◌, ℕ, ◌-◌, List, ◌++◌, length, take, drop, sym, ap, ◌∙◌, append_assoc, take-append-drop}
 use Rattle.std.proofs.lemmas.List.{take_rest}
 use Rattle.std.proofs.KnownBytes.{Appends-trans}
-use Rattle.pktprobe.proofs.probe.write_out.Goals as goal
+use Rattle.streams.proofs.write_whole.Goals as goal
 
 -- a beginning of the rest moves to what was written
 moves_front : (text written rest : List ℕ) (n : ℕ) → text ≡ written ++ rest

@@ -1,6 +1,6 @@
 use Rattle.std.proofs.Common.{◌≡◌, ℕ, List, ◌++◌, length}
 use Rattle.std.specs.Io.KnownBytes.{Appends}
-use Rattle.pktprobe.proofs.probe.write_out.Given as goal
+use Rattle.streams.proofs.write_whole.Given as goal
 
 -- what was written so far, and then what is left, is the text
 abbrev pub invariant-loop-rest : goal.invariant-loop-rest
