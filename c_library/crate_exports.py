@@ -22,7 +22,7 @@ def numbers():
 
 def header_numbers():
     """The names of the header's numbers, enumerators and macros, but for lengths, which specs/Numbers.antt doesn't have."""
-    for enumerator, macro in re.findall(r"\b(ETHERPARSE_\w+) = |^#define (ETHERPARSE_\w+) \w+$", HEADER.read_text(), re.M):
+    for enumerator, macro in re.findall(r"\b(ETHERPARSE_\w+) = |^#define (ETHERPARSE_\w+) \d\w*$", HEADER.read_text(), re.M):
         if not macro.endswith("_LEN"):
             yield enumerator or macro
 

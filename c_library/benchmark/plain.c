@@ -326,6 +326,79 @@ etherparse_status plain_icmpv4_packet_read(const uint8_t *bytes, size_t len, eth
     return ETHERPARSE_OK;
 }
 
+/* Sets the kind of a message with its fields in a header in which none of these is set. */
+static void set_icmpv6_message(const uint8_t *bytes, etherparse_icmpv6_header *header)
+{
+    static const uint32_t kinds[] = {
+        ETHERPARSE_ICMPV6_ROUTER_SOLICITATION, ETHERPARSE_ICMPV6_ROUTER_ADVERTISEMENT, ETHERPARSE_ICMPV6_NEIGHBOR_SOLICITATION,
+        ETHERPARSE_ICMPV6_NEIGHBOR_ADVERTISEMENT, ETHERPARSE_ICMPV6_REDIRECT};
+    switch (bytes[0]) {
+    case 1:
+        if (bytes[1] <= 6)
+            header->kind = ETHERPARSE_ICMPV6_DESTINATION_UNREACHABLE;
+        break;
+    case 2:
+        if (bytes[1] != 0)
+            break;
+        header->kind = ETHERPARSE_ICMPV6_PACKET_TOO_BIG;
+        header->mtu = big_endian_32(bytes + 4);
+        break;
+    case 3:
+        if (bytes[1] <= 1)
+            header->kind = ETHERPARSE_ICMPV6_TIME_EXCEEDED;
+        break;
+    case 4:
+        if (bytes[1] > 10)
+            break;
+        header->kind = ETHERPARSE_ICMPV6_PARAMETER_PROBLEM;
+        header->pointer = big_endian_32(bytes + 4);
+        break;
+    case 128:
+    case 129:
+        if (bytes[1] != 0)
+            break;
+        header->kind = bytes[0] == 128 ? ETHERPARSE_ICMPV6_ECHO_REQUEST : ETHERPARSE_ICMPV6_ECHO_REPLY;
+        header->id = big_endian_16(bytes + 4);
+        header->sequence_number = big_endian_16(bytes + 6);
+        break;
+    case 133:
+    case 134:
+    case 135:
+    case 136:
+    case 137:
+        if (bytes[1] != 0)
+            break;
+        header->kind = kinds[bytes[0] - 133];
+        if (bytes[0] == 134) {
+            header->cur_hop_limit = bytes[4];
+            header->flags = bytes[5] & (ETHERPARSE_ICMPV6_ROUTER_MANAGED | ETHERPARSE_ICMPV6_ROUTER_OTHER_CONFIG);
+            header->router_lifetime = big_endian_16(bytes + 6);
+        } else if (bytes[0] == 136) {
+            header->flags = bytes[4] & (ETHERPARSE_ICMPV6_NEIGHBOR_ROUTER | ETHERPARSE_ICMPV6_NEIGHBOR_SOLICITED
+                                        | ETHERPARSE_ICMPV6_NEIGHBOR_OVERRIDE);
+        }
+        break;
+    default:
+        break;
+    }
+}
+
+etherparse_status plain_icmpv6_packet_read(const uint8_t *bytes, size_t len, etherparse_icmpv6_packet *packet, etherparse_error *error)
+{
+    etherparse_icmpv6_header *header = &packet->header;
+    if (len < 8 || len > UINT32_MAX)
+        return refuse(error, 8, len);
+    memset(header, 0, sizeof *header);
+    header->type = bytes[0];
+    header->code = bytes[1];
+    header->checksum = big_endian_16(bytes + 2);
+    memcpy(header->bytes4to7, bytes + 4, 4);
+    set_icmpv6_message(bytes, header);
+    packet->payload_offset = 8;
+    packet->payload_len = len - 8;
+    return ETHERPARSE_OK;
+}
+
 /* The sum of eight bytes at a time, as RFC 1071, section 2 (C) allows. */
 static uint64_t add(uint64_t sum, const uint8_t *bytes, size_t len)
 {

@@ -17,6 +17,7 @@ etherparse_status plain_tcp_option_next(const uint8_t *options, size_t options_l
 etherparse_status plain_tcp_raw_option_next(const uint8_t *options, size_t options_len, size_t *place, etherparse_tcp_raw_option *option,
                                             etherparse_error *error);
 etherparse_status plain_icmpv4_packet_read(const uint8_t *bytes, size_t len, etherparse_icmpv4_packet *packet, etherparse_error *error);
+etherparse_status plain_icmpv6_packet_read(const uint8_t *bytes, size_t len, etherparse_icmpv6_packet *packet, etherparse_error *error);
 etherparse_status plain_udp_checksum_test_ipv4(const uint8_t *bytes, size_t len, const uint8_t source[4], const uint8_t destination[4],
                                                etherparse_error *error);
 etherparse_status plain_udp_header_write(const etherparse_udp_header *header, uint8_t *buffer, size_t buffer_len, size_t *written,

@@ -29,6 +29,7 @@ static const uint8_t over_ipv6[56] = {0x60, 0, 0, 0, 0, 16, 0, 64, 0x20, 0x01, 0
 static const uint8_t syn[40] = {0xc3, 0x50, 0, 0x50, 0, 0, 0, 1, 0, 0, 0, 0, 0xa0, 0x02, 0xff, 0xf0, 0x37, 0x39, 0, 0,
                                 2, 4, 0x05, 0xb4, 4, 2, 8, 10, 0, 0, 0, 7, 0, 0, 0, 0, 1, 3, 3, 7};
 static const uint8_t ping[12] = {8, 0, 0x19, 0x2c, 0, 1, 0, 2, 'p', 'i', 'n', 'g'};
+static const uint8_t ping6[12] = {128, 0, 0x19, 0x2c, 0, 1, 0, 2, 'p', 'i', 'n', 'g'};
 static uint8_t long_packet[1508];
 static const uint8_t udp_over_ipv4[31] = {0x45, 0, 0, 31, 0, 7, 0, 0, 64, 17, 0xf7, 0x73, 192, 168, 1, 1,
                                           192, 168, 1, 2, 0, 21, 4, 210, 0, 11, 0xb3, 0x3a, 'a', 'b', 'c'};
@@ -47,6 +48,7 @@ static etherparse_ip_transport transport;
 static etherparse_udp_packet udp_packet;
 static etherparse_tcp_packet tcp_packet;
 static etherparse_icmpv4_packet icmpv4_packet;
+static etherparse_icmpv6_packet icmpv6_packet;
 static etherparse_tcp_option option;
 static etherparse_tcp_raw_option raw_option;
 static uint8_t buffer[64];
@@ -117,6 +119,8 @@ ROW(options, options_of(etherparse_tcp_option_next), options_of(plain_tcp_option
 ROW(raw_options, raw_options_of(etherparse_tcp_raw_option_next), raw_options_of(plain_tcp_raw_option_next))
 ROW(icmpv4_read, etherparse_icmpv4_packet_read(ping, sizeof ping, &icmpv4_packet, &error),
     plain_icmpv4_packet_read(ping, sizeof ping, &icmpv4_packet, &error))
+ROW(icmpv6_read, etherparse_icmpv6_packet_read(ping6, sizeof ping6, &icmpv6_packet, &error),
+    plain_icmpv6_packet_read(ping6, sizeof ping6, &icmpv6_packet, &error))
 ROW(translate, etherparse_translate_ipv4(next_of(udp_over_ipv4, sizeof udp_over_ipv4), sizeof udp_over_ipv4, &outbound, &error),
     plain_translate_ipv4(next_of(udp_over_ipv4, sizeof udp_over_ipv4), sizeof udp_over_ipv4, &outbound, &error))
 ROW(echo,
@@ -139,6 +143,7 @@ static const struct {
     {"tcp_option_next, six options of a SYN and the end", options},
     {"tcp_raw_option_next, six options of a SYN and the end", raw_options},
     {"icmpv4_packet_read, echo request", icmpv4_read},
+    {"icmpv6_packet_read, echo request", icmpv6_read},
     {"translate_ipv4, UDP with 3 bytes, source address and port", translate},
     {"echo_answer_ipv4, 4 bytes", echo},
 };
@@ -185,6 +190,7 @@ static size_t answer(int row, int is_plain)
     memset(&udp_packet, 0x11, sizeof udp_packet);
     memset(&tcp_packet, 0, sizeof tcp_packet);
     memset(&icmpv4_packet, 0, sizeof icmpv4_packet);
+    memset(&icmpv6_packet, 0, sizeof icmpv6_packet);
     memset(&option, 0, sizeof option);
     memset(&raw_option, 0, sizeof raw_option);
     memset(buffer, 0, sizeof buffer);
@@ -202,6 +208,7 @@ static size_t answer(int row, int is_plain)
     all = mixed(mixed(all, tcp_packet.header.sequence_number), tcp_packet.header.flags);
     all = mixed(mixed(all, tcp_packet.options_len), tcp_packet.payload_len);
     all = mixed(mixed(all, icmpv4_packet.header.kind), icmpv4_packet.header.sequence_number);
+    all = mixed(mixed(all, icmpv6_packet.header.kind), icmpv6_packet.header.sequence_number);
     all = mixed(mixed(all, option.value_count), option.values[0]);
     all = mixed(mixed(all, raw_option.value_offset), raw_option.value_len);
     all = mixed_bytes(mixed(all, reply_len), changed[0], sizeof changed[0]);

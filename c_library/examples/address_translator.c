@@ -65,12 +65,12 @@ static int find_identifier(const etherparse_ip_transport *ip, const uint8_t *pay
     etherparse_icmpv4_packet icmpv4;
     etherparse_icmpv6_packet icmpv6;
     if (ip->protocol == ETHERPARSE_PROTOCOL_ICMPV4) {
-        if (etherparse_icmpv4_packet_read(payload, ip->payload_len, &icmpv4, ETHERPARSE_NO_ERROR) != ETHERPARSE_OK)
+        if (etherparse_icmpv4_packet_read(payload, ip->payload_len, &icmpv4, NULL) != ETHERPARSE_OK)
             return 0;
         *identifier = icmpv4.header.id;
         return icmpv4.header.kind == (is_source ? ETHERPARSE_ICMPV4_ECHO_REQUEST : ETHERPARSE_ICMPV4_ECHO_REPLY);
     }
-    if (etherparse_icmpv6_packet_read(payload, ip->payload_len, &icmpv6, ETHERPARSE_NO_ERROR) != ETHERPARSE_OK)
+    if (etherparse_icmpv6_packet_read(payload, ip->payload_len, &icmpv6, NULL) != ETHERPARSE_OK)
         return 0;
     *identifier = icmpv6.header.id;
     return icmpv6.header.kind == (is_source ? ETHERPARSE_ICMPV6_ECHO_REQUEST : ETHERPARSE_ICMPV6_ECHO_REPLY);
@@ -81,7 +81,7 @@ static int find_end(const uint8_t *packet, size_t len, int is_source, struct end
 {
     etherparse_ip_transport ip;
     const uint8_t *payload;
-    if (etherparse_transport_in_ip_lax(packet, len, &ip, ETHERPARSE_NO_ERROR) != ETHERPARSE_OK || ip.is_fragment)
+    if (etherparse_transport_in_ip_lax(packet, len, &ip, NULL) != ETHERPARSE_OK || ip.is_fragment)
         return 0;
     payload = packet + ip.payload_offset;
     end->version = ip.version;
@@ -102,13 +102,13 @@ static int find_quoted_packet(const uint8_t *packet, size_t len, const uint8_t *
     etherparse_ip_transport ip;
     etherparse_status status = ETHERPARSE_STATUS_NO_ICMP_ERROR;
     size_t offset = 0;
-    if (etherparse_transport_in_ip(packet, len, &ip, ETHERPARSE_NO_ERROR) != ETHERPARSE_OK || ip.is_fragment)
+    if (etherparse_transport_in_ip(packet, len, &ip, NULL) != ETHERPARSE_OK || ip.is_fragment)
         return 0;
     packet += ip.payload_offset;
     if (ip.protocol == ETHERPARSE_PROTOCOL_ICMPV4)
-        status = etherparse_icmpv4_quoted_packet(packet, ip.payload_len, &offset, quoted_len, ETHERPARSE_NO_ERROR);
+        status = etherparse_icmpv4_quoted_packet(packet, ip.payload_len, &offset, quoted_len, NULL);
     else if (ip.protocol == ETHERPARSE_PROTOCOL_ICMPV6)
-        status = etherparse_icmpv6_quoted_packet(packet, ip.payload_len, &offset, quoted_len, ETHERPARSE_NO_ERROR);
+        status = etherparse_icmpv6_quoted_packet(packet, ip.payload_len, &offset, quoted_len, NULL);
     *quoted = packet + offset;
     return status == ETHERPARSE_OK;
 }
@@ -150,10 +150,10 @@ static int replace_end(uint8_t *packet, size_t len, int is_source, const struct 
                                         .has_destination = !is_source, .has_destination_port = !is_source, .destination_port = by->port};
     if (by->version == 4) {
         memcpy(is_source ? ipv4.source : ipv4.destination, by->address, sizeof ipv4.source);
-        return etherparse_translate_ipv4(packet, len, &ipv4, ETHERPARSE_NO_ERROR) == ETHERPARSE_OK;
+        return etherparse_translate_ipv4(packet, len, &ipv4, NULL) == ETHERPARSE_OK;
     }
     memcpy(is_source ? ipv6.source : ipv6.destination, by->address, sizeof ipv6.source);
-    return etherparse_translate_ipv6(packet, len, &ipv6, ETHERPARSE_NO_ERROR) == ETHERPARSE_OK;
+    return etherparse_translate_ipv6(packet, len, &ipv6, NULL) == ETHERPARSE_OK;
 }
 
 /* Translates a packet from inside. Returns whether it was translated. An ICMP error begins no flow. */

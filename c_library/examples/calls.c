@@ -1104,8 +1104,12 @@ static void texts(void)
     EXPECT(etherparse_error_text(&error, text, sizeof text) == strlen(text) && text[0] != 0);
 }
 
-/* Each pointer that has a number beside it, as NULL with 0; and without the error. */
-static void nulls(void)
+/* The same where `told` is &error or NULL. */
+#define REFUSED_TO(call, wanted) EXPECT((call) == (wanted) && (told == NULL || error.status == (wanted)))
+#define FILLED_TO(call, wanted) (memset(&error, 0x77, sizeof error), EXPECT((call) == (wanted) && (told == NULL || error_is_only(wanted))))
+
+/* Each pointer that has a number beside it, as NULL with 0; and each call with this error, or without one. */
+static void nulls(etherparse_error *told)
 {
     static const etherparse_udp_header udp_header;
     static const etherparse_tcp_header tcp_header;
@@ -1125,61 +1129,62 @@ static void nulls(void)
     etherparse_sum sum = {3};
     size_t place = 0;
     clear();
-    REFUSED(etherparse_transport_in_ip(NULL, 0, &transport, &error), ETHERPARSE_STATUS_IP_HEADER_CUT_OFF);
-    REFUSED(etherparse_transport_in_ip_lax(NULL, 0, &transport, &error), ETHERPARSE_STATUS_IP_HEADER_CUT_OFF);
-    REFUSED(etherparse_ip_header_addresses(NULL, 0, &addresses_found, &error), ETHERPARSE_STATUS_IP_HEADER_CUT_OFF);
-    REFUSED(etherparse_ipv4_header_checksum(NULL, 0, &checksum, &error), ETHERPARSE_STATUS_IP_HEADER_CUT_OFF);
-    REFUSED(etherparse_ipv4_header_checksum_store(NULL, 0, &error), ETHERPARSE_STATUS_IP_HEADER_CUT_OFF);
-    REFUSED(etherparse_ipv4_header_checksum_test(NULL, 0, &error), ETHERPARSE_STATUS_IP_HEADER_CUT_OFF);
-    REFUSED(etherparse_packet_verdict(NULL, 0, &packet, &error), ETHERPARSE_STATUS_IP_HEADER_CUT_OFF);
-    REFUSED(etherparse_packet_verdict_lax(NULL, 0, &packet, &error), ETHERPARSE_STATUS_IP_HEADER_CUT_OFF);
-    REFUSED(etherparse_udp_packet_read(NULL, 0, &udp_packet, &error), ETHERPARSE_STATUS_LENGTH);
-    REFUSED(etherparse_udp_packet_read_lax(NULL, 0, &udp_packet, &error), ETHERPARSE_STATUS_LENGTH);
-    REFUSED(etherparse_udp_header_write(&udp_header, NULL, 0, &written, &error), ETHERPARSE_STATUS_BUFFER_TOO_SMALL);
-    REFUSED(etherparse_udp_checksum_ipv4(NULL, 0, source4, destination4, &checksum, &error), ETHERPARSE_STATUS_LENGTH);
-    REFUSED(etherparse_udp_checksum_ipv6(NULL, 0, source6, destination6, &checksum, &error), ETHERPARSE_STATUS_LENGTH);
-    REFUSED(etherparse_udp_checksum_store_ipv4(NULL, 0, source4, destination4, &error), ETHERPARSE_STATUS_LENGTH);
-    REFUSED(etherparse_udp_checksum_store_ipv6(NULL, 0, source6, destination6, &error), ETHERPARSE_STATUS_LENGTH);
-    REFUSED(etherparse_udp_checksum_test_ipv4(NULL, 0, source4, destination4, &error), ETHERPARSE_STATUS_LENGTH);
-    REFUSED(etherparse_udp_checksum_test_ipv6(NULL, 0, source6, destination6, &error), ETHERPARSE_STATUS_LENGTH);
-    REFUSED(etherparse_tcp_packet_read(NULL, 0, &tcp_packet, &error), ETHERPARSE_STATUS_LENGTH);
-    REFUSED(etherparse_tcp_header_write(&tcp_header, NULL, 0, NULL, 0, &written, &error), ETHERPARSE_STATUS_BUFFER_TOO_SMALL);
-    REFUSED(etherparse_tcp_header_store(&tcp_header, NULL, 0, &error), ETHERPARSE_STATUS_LENGTH);
-    REFUSED(etherparse_tcp_checksum_ipv4(NULL, 0, source4, destination4, &checksum, &error), ETHERPARSE_STATUS_LENGTH);
-    REFUSED(etherparse_tcp_checksum_ipv6(NULL, 0, source6, destination6, &checksum, &error), ETHERPARSE_STATUS_LENGTH);
-    REFUSED(etherparse_tcp_checksum_store_ipv4(NULL, 0, source4, destination4, &error), ETHERPARSE_STATUS_LENGTH);
-    REFUSED(etherparse_tcp_checksum_store_ipv6(NULL, 0, source6, destination6, &error), ETHERPARSE_STATUS_LENGTH);
-    REFUSED(etherparse_tcp_checksum_test_ipv4(NULL, 0, source4, destination4, &error), ETHERPARSE_STATUS_LENGTH);
-    REFUSED(etherparse_tcp_checksum_test_ipv6(NULL, 0, source6, destination6, &error), ETHERPARSE_STATUS_LENGTH);
-    FILLED(etherparse_tcp_option_next(NULL, 0, &place, &option, &error), ETHERPARSE_STATUS_OPTIONS_END);
-    FILLED(etherparse_tcp_raw_option_next(NULL, 0, &place, &raw_option, &error), ETHERPARSE_STATUS_OPTIONS_END);
-    REFUSED(etherparse_icmpv4_packet_read(NULL, 0, &icmpv4_packet, &error), ETHERPARSE_STATUS_LENGTH);
-    REFUSED(etherparse_icmpv4_header_write(&echo4, NULL, 0, &written, &error), ETHERPARSE_STATUS_BUFFER_TOO_SMALL);
-    REFUSED(etherparse_icmpv4_checksum(NULL, 0, &checksum, &error), ETHERPARSE_STATUS_LENGTH);
-    REFUSED(etherparse_icmpv4_checksum_store(NULL, 0, &error), ETHERPARSE_STATUS_LENGTH);
-    REFUSED(etherparse_icmpv4_checksum_test(NULL, 0, &error), ETHERPARSE_STATUS_LENGTH);
-    REFUSED(etherparse_icmpv6_packet_read(NULL, 0, &icmpv6_packet, &error), ETHERPARSE_STATUS_LENGTH);
-    REFUSED(etherparse_icmpv6_header_write(&echo6, NULL, 0, &written, &error), ETHERPARSE_STATUS_BUFFER_TOO_SMALL);
-    REFUSED(etherparse_icmpv6_checksum(NULL, 0, source6, destination6, &checksum, &error), ETHERPARSE_STATUS_LENGTH);
-    REFUSED(etherparse_icmpv6_checksum_store(NULL, 0, source6, destination6, &error), ETHERPARSE_STATUS_LENGTH);
-    REFUSED(etherparse_icmpv6_checksum_test(NULL, 0, source6, destination6, &error), ETHERPARSE_STATUS_LENGTH);
-    REFUSED(etherparse_icmpv4_quoted_packet(NULL, 0, &place, &written, &error), ETHERPARSE_STATUS_LENGTH);
-    REFUSED(etherparse_icmpv6_quoted_packet(NULL, 0, &place, &written, &error), ETHERPARSE_STATUS_LENGTH);
-    REFUSED(etherparse_echo_answer(NULL, 0, 64, &written, &error), ETHERPARSE_STATUS_IP_HEADER_CUT_OFF);
-    REFUSED(etherparse_echo_answer_ipv4(NULL, 0, source4, 64, &written, &error), ETHERPARSE_STATUS_IP_HEADER_CUT_OFF);
-    REFUSED(etherparse_echo_answer_ipv6(NULL, 0, source6, 64, &written, &error), ETHERPARSE_STATUS_IP_HEADER_CUT_OFF);
-    FILLED(etherparse_echo_is_reply(NULL, 0, NULL, 0, &error), ETHERPARSE_STATUS_ECHO_NO_REPLY);
-    REFUSED(etherparse_translate_ipv4(NULL, 0, &to_outside, &error), ETHERPARSE_STATUS_IP_HEADER_CUT_OFF);
-    REFUSED(etherparse_translate_ipv6(NULL, 0, &new_parts, &error), ETHERPARSE_STATUS_IP_HEADER_CUT_OFF);
-    REFUSED(etherparse_canonical_header(17, NULL, 0, NULL, 0, &written, &error), ETHERPARSE_STATUS_LENGTH);
-    REFUSED(etherparse_canonical_header(17, over_ipv4, 8, NULL, 0, &written, &error), ETHERPARSE_STATUS_BUFFER_TOO_SMALL);
+    REFUSED_TO(etherparse_transport_in_ip(NULL, 0, &transport, told), ETHERPARSE_STATUS_IP_HEADER_CUT_OFF);
+    REFUSED_TO(etherparse_transport_in_ip_lax(NULL, 0, &transport, told), ETHERPARSE_STATUS_IP_HEADER_CUT_OFF);
+    REFUSED_TO(etherparse_ip_header_addresses(NULL, 0, &addresses_found, told), ETHERPARSE_STATUS_IP_HEADER_CUT_OFF);
+    REFUSED_TO(etherparse_ipv4_header_checksum(NULL, 0, &checksum, told), ETHERPARSE_STATUS_IP_HEADER_CUT_OFF);
+    REFUSED_TO(etherparse_ipv4_header_checksum_store(NULL, 0, told), ETHERPARSE_STATUS_IP_HEADER_CUT_OFF);
+    REFUSED_TO(etherparse_ipv4_header_checksum_test(NULL, 0, told), ETHERPARSE_STATUS_IP_HEADER_CUT_OFF);
+    REFUSED_TO(etherparse_packet_verdict(NULL, 0, &packet, told), ETHERPARSE_STATUS_IP_HEADER_CUT_OFF);
+    REFUSED_TO(etherparse_packet_verdict_lax(NULL, 0, &packet, told), ETHERPARSE_STATUS_IP_HEADER_CUT_OFF);
+    REFUSED_TO(etherparse_udp_packet_read(NULL, 0, &udp_packet, told), ETHERPARSE_STATUS_LENGTH);
+    REFUSED_TO(etherparse_udp_packet_read_lax(NULL, 0, &udp_packet, told), ETHERPARSE_STATUS_LENGTH);
+    REFUSED_TO(etherparse_udp_header_write(&udp_header, NULL, 0, &written, told), ETHERPARSE_STATUS_BUFFER_TOO_SMALL);
+    REFUSED_TO(etherparse_udp_checksum_ipv4(NULL, 0, source4, destination4, &checksum, told), ETHERPARSE_STATUS_LENGTH);
+    REFUSED_TO(etherparse_udp_checksum_ipv6(NULL, 0, source6, destination6, &checksum, told), ETHERPARSE_STATUS_LENGTH);
+    REFUSED_TO(etherparse_udp_checksum_store_ipv4(NULL, 0, source4, destination4, told), ETHERPARSE_STATUS_LENGTH);
+    REFUSED_TO(etherparse_udp_checksum_store_ipv6(NULL, 0, source6, destination6, told), ETHERPARSE_STATUS_LENGTH);
+    REFUSED_TO(etherparse_udp_checksum_test_ipv4(NULL, 0, source4, destination4, told), ETHERPARSE_STATUS_LENGTH);
+    REFUSED_TO(etherparse_udp_checksum_test_ipv6(NULL, 0, source6, destination6, told), ETHERPARSE_STATUS_LENGTH);
+    REFUSED_TO(etherparse_tcp_packet_read(NULL, 0, &tcp_packet, told), ETHERPARSE_STATUS_LENGTH);
+    REFUSED_TO(etherparse_tcp_header_write(&tcp_header, NULL, 0, NULL, 0, &written, told), ETHERPARSE_STATUS_BUFFER_TOO_SMALL);
+    REFUSED_TO(etherparse_tcp_header_store(&tcp_header, NULL, 0, told), ETHERPARSE_STATUS_LENGTH);
+    REFUSED_TO(etherparse_tcp_checksum_ipv4(NULL, 0, source4, destination4, &checksum, told), ETHERPARSE_STATUS_LENGTH);
+    REFUSED_TO(etherparse_tcp_checksum_ipv6(NULL, 0, source6, destination6, &checksum, told), ETHERPARSE_STATUS_LENGTH);
+    REFUSED_TO(etherparse_tcp_checksum_store_ipv4(NULL, 0, source4, destination4, told), ETHERPARSE_STATUS_LENGTH);
+    REFUSED_TO(etherparse_tcp_checksum_store_ipv6(NULL, 0, source6, destination6, told), ETHERPARSE_STATUS_LENGTH);
+    REFUSED_TO(etherparse_tcp_checksum_test_ipv4(NULL, 0, source4, destination4, told), ETHERPARSE_STATUS_LENGTH);
+    REFUSED_TO(etherparse_tcp_checksum_test_ipv6(NULL, 0, source6, destination6, told), ETHERPARSE_STATUS_LENGTH);
+    FILLED_TO(etherparse_tcp_option_next(NULL, 0, &place, &option, told), ETHERPARSE_STATUS_OPTIONS_END);
+    FILLED_TO(etherparse_tcp_raw_option_next(NULL, 0, &place, &raw_option, told), ETHERPARSE_STATUS_OPTIONS_END);
+    REFUSED_TO(etherparse_icmpv4_packet_read(NULL, 0, &icmpv4_packet, told), ETHERPARSE_STATUS_LENGTH);
+    REFUSED_TO(etherparse_icmpv4_header_write(&echo4, NULL, 0, &written, told), ETHERPARSE_STATUS_BUFFER_TOO_SMALL);
+    REFUSED_TO(etherparse_icmpv4_checksum(NULL, 0, &checksum, told), ETHERPARSE_STATUS_LENGTH);
+    REFUSED_TO(etherparse_icmpv4_checksum_store(NULL, 0, told), ETHERPARSE_STATUS_LENGTH);
+    REFUSED_TO(etherparse_icmpv4_checksum_test(NULL, 0, told), ETHERPARSE_STATUS_LENGTH);
+    REFUSED_TO(etherparse_icmpv6_packet_read(NULL, 0, &icmpv6_packet, told), ETHERPARSE_STATUS_LENGTH);
+    REFUSED_TO(etherparse_icmpv6_header_write(&echo6, NULL, 0, &written, told), ETHERPARSE_STATUS_BUFFER_TOO_SMALL);
+    REFUSED_TO(etherparse_icmpv6_checksum(NULL, 0, source6, destination6, &checksum, told), ETHERPARSE_STATUS_LENGTH);
+    REFUSED_TO(etherparse_icmpv6_checksum_store(NULL, 0, source6, destination6, told), ETHERPARSE_STATUS_LENGTH);
+    REFUSED_TO(etherparse_icmpv6_checksum_test(NULL, 0, source6, destination6, told), ETHERPARSE_STATUS_LENGTH);
+    REFUSED_TO(etherparse_icmpv4_quoted_packet(NULL, 0, &place, &written, told), ETHERPARSE_STATUS_LENGTH);
+    REFUSED_TO(etherparse_icmpv6_quoted_packet(NULL, 0, &place, &written, told), ETHERPARSE_STATUS_LENGTH);
+    REFUSED_TO(etherparse_echo_answer(NULL, 0, 64, &written, told), ETHERPARSE_STATUS_IP_HEADER_CUT_OFF);
+    REFUSED_TO(etherparse_echo_answer_ipv4(NULL, 0, source4, 64, &written, told), ETHERPARSE_STATUS_IP_HEADER_CUT_OFF);
+    REFUSED_TO(etherparse_echo_answer_ipv6(NULL, 0, source6, 64, &written, told), ETHERPARSE_STATUS_IP_HEADER_CUT_OFF);
+    FILLED_TO(etherparse_echo_is_reply(NULL, 0, NULL, 0, told), ETHERPARSE_STATUS_ECHO_NO_REPLY);
+    REFUSED_TO(etherparse_translate_ipv4(NULL, 0, &to_outside, told), ETHERPARSE_STATUS_IP_HEADER_CUT_OFF);
+    REFUSED_TO(etherparse_translate_ipv6(NULL, 0, &new_parts, told), ETHERPARSE_STATUS_IP_HEADER_CUT_OFF);
+    REFUSED_TO(etherparse_canonical_header(17, NULL, 0, NULL, 0, &written, told), ETHERPARSE_STATUS_LENGTH);
+    REFUSED_TO(etherparse_canonical_header(17, over_ipv4, 8, NULL, 0, &written, told), ETHERPARSE_STATUS_BUFFER_TOO_SMALL);
     EXPECT(written == 77 && checksum == 0x7777);
-    OK(etherparse_tcp_options_write(NULL, 0, NULL, 0, &written, &error));
+    OK(etherparse_tcp_options_write(NULL, 0, NULL, 0, &written, told));
     EXPECT(written == 0 && etherparse_sum_add(sum, NULL, 0).value == 3 && etherparse_sum_add_at(sum, 1, NULL, 0).value == 3);
     change = etherparse_checksum_change_replace(change, NULL, 0, NULL, 0);
     EXPECT(change.removed == 1 && change.added == 2);
     EXPECT(etherparse_error_text(&error, NULL, 0) > 0 && etherparse_status_name(ETHERPARSE_OK, NULL, 0) == 13);
     EXPECT(etherparse_status_text(ETHERPARSE_OK, NULL, 0) == 8);
+    EXPECT(etherparse_icmpv4_checksum_test(NULL, 0, NULL) == ETHERPARSE_STATUS_LENGTH);
     EXPECT(etherparse_icmpv4_checksum_test(NULL, 0, ETHERPARSE_NO_ERROR) == ETHERPARSE_STATUS_LENGTH);
 }
 
@@ -1210,7 +1215,8 @@ int main(void)
     texts();
     names();
     meanings();
-    nulls();
+    nulls(&error);
+    nulls(NULL);
     printf("%d compared, %s\n", compared, wrong ? "some wrong" : "all right");
     return wrong;
 }

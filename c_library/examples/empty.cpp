@@ -8,7 +8,7 @@
 /* What a C++ program passes: the data of an empty vector, which may be null, and no error. */
 static etherparse_status test(bool is_tested, const std::vector<uint8_t> &bytes)
 {
-    return is_tested ? etherparse_icmpv4_checksum_test(bytes.data(), bytes.size(), ETHERPARSE_NO_ERROR) : ETHERPARSE_OK;
+    return is_tested ? etherparse_icmpv4_checksum_test(bytes.data(), bytes.size(), nullptr) : ETHERPARSE_OK;
 }
 
 int main()

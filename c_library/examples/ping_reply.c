@@ -76,7 +76,7 @@ static void send_back(const struct ip_packet *ip)
     if (ip->transport.version == 4) {
         ip->header[8] = FIRST_HOP_LIMIT;
         /* The header was read before, so it is not refused. */
-        (void)(etherparse_ipv4_header_checksum_store(ip->header, ip->transport.payload_offset, ETHERPARSE_NO_ERROR) == ETHERPARSE_OK);
+        (void)(etherparse_ipv4_header_checksum_store(ip->header, ip->transport.payload_offset, NULL) == ETHERPARSE_OK);
     } else {
         ip->header[7] = FIRST_HOP_LIMIT;
     }

@@ -36,7 +36,7 @@ enum { IPV4_HEADER_LEN = 20, IPV6_HEADER_LEN = 40, LONGEST_PACKET = IPV6_HEADER_
 static size_t reply(uint8_t *packet, size_t len)
 {
     size_t reply_len;
-    etherparse_status status = etherparse_echo_answer(packet, len, FIRST_HOP_LIMIT, &reply_len, ETHERPARSE_NO_ERROR);
+    etherparse_status status = etherparse_echo_answer(packet, len, FIRST_HOP_LIMIT, &reply_len, NULL);
     return status == ETHERPARSE_OK ? reply_len : 0;
 }
 

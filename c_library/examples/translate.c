@@ -37,7 +37,7 @@ static etherparse_status test(const struct ip_packet *ip, etherparse_error *erro
 
 static int ipv4_header_is_right(const struct ip_packet *ip)
 {
-    return etherparse_ipv4_header_checksum_test(ip->header, ip->transport.payload_offset, ETHERPARSE_NO_ERROR) == ETHERPARSE_OK;
+    return etherparse_ipv4_header_checksum_test(ip->header, ip->transport.payload_offset, NULL) == ETHERPARSE_OK;
 }
 
 /*

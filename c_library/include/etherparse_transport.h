@@ -12,8 +12,8 @@
  *    written: results, buffers and lengths are as they were. Only the two calls that read the next option also move `*place`, and
  *    their comments say so.
  *  - Bytes are passed as a pointer and a number of bytes, and a call reads and writes none beyond that number. The number may be 0.
- *  - A pointer that has a number beside it may be NULL where that number is 0. No other may: gcc and clang warn of one that they see.
- *    Whoever doesn't want the error passes ETHERPARSE_NO_ERROR.
+ *  - `error` may be NULL if it is not wanted. A pointer that has a number beside it may be NULL if that number is 0. No other may: gcc
+ *    and clang warn of one that they see.
  *  - What a pointer without `const` points to may not overlap what another argument of the same call points to. Arguments with
  *    `const` may overlap each other.
  *  - A packet is changed in place: read its header into a struct, write the struct to the front of the packet's bytes, of TCP with
@@ -237,12 +237,8 @@ typedef struct etherparse_error {
     size_t max_allowed;        /* the largest value that is allowed */
 } etherparse_error;
 
-/* In place of &error, for whoever wants the status alone: the address of an error that is there until the call returns. */
-#ifdef __cplusplus
-#define ETHERPARSE_NO_ERROR (etherparse_unwanted::address(etherparse_error{}))
-#else
-#define ETHERPARSE_NO_ERROR (&(etherparse_error){0})
-#endif
+/* NULL for `error`. Programs for earlier versions pass it. */
+#define ETHERPARSE_NO_ERROR (NULL)
 
 /* No text of an error has more bytes. */
 #define ETHERPARSE_ERROR_TEXT_MAX_LEN 256
@@ -1098,14 +1094,194 @@ uint16_t etherparse_checksum_change_apply(etherparse_checksum_change change, uin
 ETHERPARSE_CHECK_RESULT
 uint16_t etherparse_checksum_change_apply_udp(etherparse_checksum_change change, uint16_t checksum);
 
-#ifdef __cplusplus
-}
+/* ---- NULL for `error` ------------------------------------------------------------------------------------------------------ */
 
-namespace etherparse_unwanted {
-inline etherparse_error *address(etherparse_error &&error)
-{
-    return &error;
-}
+/*
+ * The library requires an error. So the name of each call with an error stands for an inline function. If `error` is NULL, the inline
+ * function passes an error of its own. If the compiler knows that `error` is not NULL, the inline function costs nothing.
+ *
+ * The symbols of the library have the names of the calls. Who calls a symbol, as a program with dlsym or in another language does, passes
+ * an error. If a program defines ETHERPARSE_ERROR_REQUIRED before this file, the names stand for the symbols. Then `error` may not be NULL,
+ * and ETHERPARSE_NO_ERROR is not defined.
+ */
+#ifdef ETHERPARSE_ERROR_REQUIRED
+#undef ETHERPARSE_NO_ERROR
+#else
+#ifdef __cplusplus
+#define ETHERPARSE_INLINE inline
+#elif defined(__GNUC__) || defined(__clang__)
+#define ETHERPARSE_INLINE static inline __attribute__((unused))
+#else
+#define ETHERPARSE_INLINE static inline
+#endif
+#define ETHERPARSE_ERROR_OPTIONAL(call, not_null, parameters, arguments)                                                               \
+    ETHERPARSE_CHECK_RESULT not_null ETHERPARSE_INLINE etherparse_status call##_or_null parameters                                     \
+    {                                                                                                                                  \
+        etherparse_error unwanted;                                                                                                     \
+        if (!error)                                                                                                                    \
+            error = &unwanted;                                                                                                         \
+        return call arguments;                                                                                                         \
+    }
+
+/* Each call with an error, in the order of the prototypes. c_library/optional_error writes these lines. */
+ETHERPARSE_ERROR_OPTIONAL(etherparse_transport_in_ip, ETHERPARSE_NOT_NULL(3), (const uint8_t *bytes, size_t len,
+    etherparse_ip_transport *transport, etherparse_error *error), (bytes, len, transport, error))
+#define etherparse_transport_in_ip etherparse_transport_in_ip_or_null
+ETHERPARSE_ERROR_OPTIONAL(etherparse_transport_in_ip_lax, ETHERPARSE_NOT_NULL(3), (const uint8_t *bytes, size_t len,
+    etherparse_ip_transport *transport, etherparse_error *error), (bytes, len, transport, error))
+#define etherparse_transport_in_ip_lax etherparse_transport_in_ip_lax_or_null
+ETHERPARSE_ERROR_OPTIONAL(etherparse_ip_header_addresses, ETHERPARSE_NOT_NULL(3), (const uint8_t *bytes, size_t len,
+    etherparse_ip_addresses *addresses, etherparse_error *error), (bytes, len, addresses, error))
+#define etherparse_ip_header_addresses etherparse_ip_header_addresses_or_null
+ETHERPARSE_ERROR_OPTIONAL(etherparse_ipv4_header_checksum, ETHERPARSE_NOT_NULL(3), (const uint8_t *bytes, size_t len, uint16_t *checksum,
+    etherparse_error *error), (bytes, len, checksum, error))
+#define etherparse_ipv4_header_checksum etherparse_ipv4_header_checksum_or_null
+ETHERPARSE_ERROR_OPTIONAL(etherparse_ipv4_header_checksum_store, , (uint8_t *bytes, size_t len, etherparse_error *error), (bytes, len,
+    error))
+#define etherparse_ipv4_header_checksum_store etherparse_ipv4_header_checksum_store_or_null
+ETHERPARSE_ERROR_OPTIONAL(etherparse_ipv4_header_checksum_test, , (const uint8_t *bytes, size_t len, etherparse_error *error), (bytes, len,
+    error))
+#define etherparse_ipv4_header_checksum_test etherparse_ipv4_header_checksum_test_or_null
+ETHERPARSE_ERROR_OPTIONAL(etherparse_packet_verdict, ETHERPARSE_NOT_NULL(3), (const uint8_t *bytes, size_t len,
+    etherparse_ip_packet *packet, etherparse_error *error), (bytes, len, packet, error))
+#define etherparse_packet_verdict etherparse_packet_verdict_or_null
+ETHERPARSE_ERROR_OPTIONAL(etherparse_packet_verdict_lax, ETHERPARSE_NOT_NULL(3), (const uint8_t *bytes, size_t len,
+    etherparse_ip_packet *packet, etherparse_error *error), (bytes, len, packet, error))
+#define etherparse_packet_verdict_lax etherparse_packet_verdict_lax_or_null
+ETHERPARSE_ERROR_OPTIONAL(etherparse_udp_packet_read, ETHERPARSE_NOT_NULL(3), (const uint8_t *bytes, size_t len,
+    etherparse_udp_packet *packet, etherparse_error *error), (bytes, len, packet, error))
+#define etherparse_udp_packet_read etherparse_udp_packet_read_or_null
+ETHERPARSE_ERROR_OPTIONAL(etherparse_udp_packet_read_lax, ETHERPARSE_NOT_NULL(3), (const uint8_t *bytes, size_t len,
+    etherparse_udp_packet *packet, etherparse_error *error), (bytes, len, packet, error))
+#define etherparse_udp_packet_read_lax etherparse_udp_packet_read_lax_or_null
+ETHERPARSE_ERROR_OPTIONAL(etherparse_udp_header_write, ETHERPARSE_NOT_NULL(1, 4), (const etherparse_udp_header *header, uint8_t *buffer,
+    size_t buffer_len, size_t *written, etherparse_error *error), (header, buffer, buffer_len, written, error))
+#define etherparse_udp_header_write etherparse_udp_header_write_or_null
+ETHERPARSE_ERROR_OPTIONAL(etherparse_udp_checksum_ipv4, ETHERPARSE_NOT_NULL(3, 4, 5), (const uint8_t *bytes, size_t len,
+    const uint8_t source[4], const uint8_t destination[4], uint16_t *checksum, etherparse_error *error), (bytes, len, source, destination,
+    checksum, error))
+#define etherparse_udp_checksum_ipv4 etherparse_udp_checksum_ipv4_or_null
+ETHERPARSE_ERROR_OPTIONAL(etherparse_udp_checksum_ipv6, ETHERPARSE_NOT_NULL(3, 4, 5), (const uint8_t *bytes, size_t len,
+    const uint8_t source[16], const uint8_t destination[16], uint16_t *checksum, etherparse_error *error), (bytes, len, source, destination,
+    checksum, error))
+#define etherparse_udp_checksum_ipv6 etherparse_udp_checksum_ipv6_or_null
+ETHERPARSE_ERROR_OPTIONAL(etherparse_udp_checksum_store_ipv4, ETHERPARSE_NOT_NULL(3, 4), (uint8_t *bytes, size_t len,
+    const uint8_t source[4], const uint8_t destination[4], etherparse_error *error), (bytes, len, source, destination, error))
+#define etherparse_udp_checksum_store_ipv4 etherparse_udp_checksum_store_ipv4_or_null
+ETHERPARSE_ERROR_OPTIONAL(etherparse_udp_checksum_store_ipv6, ETHERPARSE_NOT_NULL(3, 4), (uint8_t *bytes, size_t len,
+    const uint8_t source[16], const uint8_t destination[16], etherparse_error *error), (bytes, len, source, destination, error))
+#define etherparse_udp_checksum_store_ipv6 etherparse_udp_checksum_store_ipv6_or_null
+ETHERPARSE_ERROR_OPTIONAL(etherparse_udp_checksum_test_ipv4, ETHERPARSE_NOT_NULL(3, 4), (const uint8_t *bytes, size_t len,
+    const uint8_t source[4], const uint8_t destination[4], etherparse_error *error), (bytes, len, source, destination, error))
+#define etherparse_udp_checksum_test_ipv4 etherparse_udp_checksum_test_ipv4_or_null
+ETHERPARSE_ERROR_OPTIONAL(etherparse_udp_checksum_test_ipv6, ETHERPARSE_NOT_NULL(3, 4), (const uint8_t *bytes, size_t len,
+    const uint8_t source[16], const uint8_t destination[16], etherparse_error *error), (bytes, len, source, destination, error))
+#define etherparse_udp_checksum_test_ipv6 etherparse_udp_checksum_test_ipv6_or_null
+ETHERPARSE_ERROR_OPTIONAL(etherparse_tcp_packet_read, ETHERPARSE_NOT_NULL(3), (const uint8_t *bytes, size_t len,
+    etherparse_tcp_packet *packet, etherparse_error *error), (bytes, len, packet, error))
+#define etherparse_tcp_packet_read etherparse_tcp_packet_read_or_null
+ETHERPARSE_ERROR_OPTIONAL(etherparse_tcp_header_write, ETHERPARSE_NOT_NULL(1, 6), (const etherparse_tcp_header *header,
+    const uint8_t *options, size_t options_len, uint8_t *buffer, size_t buffer_len, size_t *written, etherparse_error *error), (header,
+    options, options_len, buffer, buffer_len, written, error))
+#define etherparse_tcp_header_write etherparse_tcp_header_write_or_null
+ETHERPARSE_ERROR_OPTIONAL(etherparse_tcp_header_store, ETHERPARSE_NOT_NULL(1), (const etherparse_tcp_header *header, uint8_t *bytes,
+    size_t len, etherparse_error *error), (header, bytes, len, error))
+#define etherparse_tcp_header_store etherparse_tcp_header_store_or_null
+ETHERPARSE_ERROR_OPTIONAL(etherparse_tcp_checksum_ipv4, ETHERPARSE_NOT_NULL(3, 4, 5), (const uint8_t *bytes, size_t len,
+    const uint8_t source[4], const uint8_t destination[4], uint16_t *checksum, etherparse_error *error), (bytes, len, source, destination,
+    checksum, error))
+#define etherparse_tcp_checksum_ipv4 etherparse_tcp_checksum_ipv4_or_null
+ETHERPARSE_ERROR_OPTIONAL(etherparse_tcp_checksum_ipv6, ETHERPARSE_NOT_NULL(3, 4, 5), (const uint8_t *bytes, size_t len,
+    const uint8_t source[16], const uint8_t destination[16], uint16_t *checksum, etherparse_error *error), (bytes, len, source, destination,
+    checksum, error))
+#define etherparse_tcp_checksum_ipv6 etherparse_tcp_checksum_ipv6_or_null
+ETHERPARSE_ERROR_OPTIONAL(etherparse_tcp_checksum_store_ipv4, ETHERPARSE_NOT_NULL(3, 4), (uint8_t *bytes, size_t len,
+    const uint8_t source[4], const uint8_t destination[4], etherparse_error *error), (bytes, len, source, destination, error))
+#define etherparse_tcp_checksum_store_ipv4 etherparse_tcp_checksum_store_ipv4_or_null
+ETHERPARSE_ERROR_OPTIONAL(etherparse_tcp_checksum_store_ipv6, ETHERPARSE_NOT_NULL(3, 4), (uint8_t *bytes, size_t len,
+    const uint8_t source[16], const uint8_t destination[16], etherparse_error *error), (bytes, len, source, destination, error))
+#define etherparse_tcp_checksum_store_ipv6 etherparse_tcp_checksum_store_ipv6_or_null
+ETHERPARSE_ERROR_OPTIONAL(etherparse_tcp_checksum_test_ipv4, ETHERPARSE_NOT_NULL(3, 4), (const uint8_t *bytes, size_t len,
+    const uint8_t source[4], const uint8_t destination[4], etherparse_error *error), (bytes, len, source, destination, error))
+#define etherparse_tcp_checksum_test_ipv4 etherparse_tcp_checksum_test_ipv4_or_null
+ETHERPARSE_ERROR_OPTIONAL(etherparse_tcp_checksum_test_ipv6, ETHERPARSE_NOT_NULL(3, 4), (const uint8_t *bytes, size_t len,
+    const uint8_t source[16], const uint8_t destination[16], etherparse_error *error), (bytes, len, source, destination, error))
+#define etherparse_tcp_checksum_test_ipv6 etherparse_tcp_checksum_test_ipv6_or_null
+ETHERPARSE_ERROR_OPTIONAL(etherparse_tcp_option_next, ETHERPARSE_NOT_NULL(3, 4), (const uint8_t *options, size_t options_len, size_t *place,
+    etherparse_tcp_option *option, etherparse_error *error), (options, options_len, place, option, error))
+#define etherparse_tcp_option_next etherparse_tcp_option_next_or_null
+ETHERPARSE_ERROR_OPTIONAL(etherparse_tcp_raw_option_next, ETHERPARSE_NOT_NULL(3, 4), (const uint8_t *options, size_t options_len,
+    size_t *place, etherparse_tcp_raw_option *option, etherparse_error *error), (options, options_len, place, option, error))
+#define etherparse_tcp_raw_option_next etherparse_tcp_raw_option_next_or_null
+ETHERPARSE_ERROR_OPTIONAL(etherparse_tcp_options_write, ETHERPARSE_NOT_NULL(5), (const etherparse_tcp_option *options, size_t option_count,
+    uint8_t *buffer, size_t buffer_len, size_t *written, etherparse_error *error), (options, option_count, buffer, buffer_len, written,
+    error))
+#define etherparse_tcp_options_write etherparse_tcp_options_write_or_null
+ETHERPARSE_ERROR_OPTIONAL(etherparse_icmpv4_packet_read, ETHERPARSE_NOT_NULL(3), (const uint8_t *bytes, size_t len,
+    etherparse_icmpv4_packet *packet, etherparse_error *error), (bytes, len, packet, error))
+#define etherparse_icmpv4_packet_read etherparse_icmpv4_packet_read_or_null
+ETHERPARSE_ERROR_OPTIONAL(etherparse_icmpv4_header_write, ETHERPARSE_NOT_NULL(1, 4), (const etherparse_icmpv4_header *header,
+    uint8_t *buffer, size_t buffer_len, size_t *written, etherparse_error *error), (header, buffer, buffer_len, written, error))
+#define etherparse_icmpv4_header_write etherparse_icmpv4_header_write_or_null
+ETHERPARSE_ERROR_OPTIONAL(etherparse_icmpv4_checksum, ETHERPARSE_NOT_NULL(3), (const uint8_t *bytes, size_t len, uint16_t *checksum,
+    etherparse_error *error), (bytes, len, checksum, error))
+#define etherparse_icmpv4_checksum etherparse_icmpv4_checksum_or_null
+ETHERPARSE_ERROR_OPTIONAL(etherparse_icmpv4_checksum_store, , (uint8_t *bytes, size_t len, etherparse_error *error), (bytes, len, error))
+#define etherparse_icmpv4_checksum_store etherparse_icmpv4_checksum_store_or_null
+ETHERPARSE_ERROR_OPTIONAL(etherparse_icmpv4_checksum_test, , (const uint8_t *bytes, size_t len, etherparse_error *error), (bytes, len,
+    error))
+#define etherparse_icmpv4_checksum_test etherparse_icmpv4_checksum_test_or_null
+ETHERPARSE_ERROR_OPTIONAL(etherparse_icmpv6_packet_read, ETHERPARSE_NOT_NULL(3), (const uint8_t *bytes, size_t len,
+    etherparse_icmpv6_packet *packet, etherparse_error *error), (bytes, len, packet, error))
+#define etherparse_icmpv6_packet_read etherparse_icmpv6_packet_read_or_null
+ETHERPARSE_ERROR_OPTIONAL(etherparse_icmpv6_header_write, ETHERPARSE_NOT_NULL(1, 4), (const etherparse_icmpv6_header *header,
+    uint8_t *buffer, size_t buffer_len, size_t *written, etherparse_error *error), (header, buffer, buffer_len, written, error))
+#define etherparse_icmpv6_header_write etherparse_icmpv6_header_write_or_null
+ETHERPARSE_ERROR_OPTIONAL(etherparse_icmpv6_checksum, ETHERPARSE_NOT_NULL(3, 4, 5), (const uint8_t *bytes, size_t len,
+    const uint8_t source[16], const uint8_t destination[16], uint16_t *checksum, etherparse_error *error), (bytes, len, source, destination,
+    checksum, error))
+#define etherparse_icmpv6_checksum etherparse_icmpv6_checksum_or_null
+ETHERPARSE_ERROR_OPTIONAL(etherparse_icmpv6_checksum_store, ETHERPARSE_NOT_NULL(3, 4), (uint8_t *bytes, size_t len,
+    const uint8_t source[16], const uint8_t destination[16], etherparse_error *error), (bytes, len, source, destination, error))
+#define etherparse_icmpv6_checksum_store etherparse_icmpv6_checksum_store_or_null
+ETHERPARSE_ERROR_OPTIONAL(etherparse_icmpv6_checksum_test, ETHERPARSE_NOT_NULL(3, 4), (const uint8_t *bytes, size_t len,
+    const uint8_t source[16], const uint8_t destination[16], etherparse_error *error), (bytes, len, source, destination, error))
+#define etherparse_icmpv6_checksum_test etherparse_icmpv6_checksum_test_or_null
+ETHERPARSE_ERROR_OPTIONAL(etherparse_echo_answer, ETHERPARSE_NOT_NULL(4), (uint8_t *packet, size_t packet_len, uint8_t hop_limit,
+    size_t *reply_len, etherparse_error *error), (packet, packet_len, hop_limit, reply_len, error))
+#define etherparse_echo_answer etherparse_echo_answer_or_null
+ETHERPARSE_ERROR_OPTIONAL(etherparse_echo_answer_ipv4, ETHERPARSE_NOT_NULL(3, 5), (uint8_t *packet, size_t packet_len,
+    const uint8_t source[4], uint8_t time_to_live, size_t *reply_len, etherparse_error *error), (packet, packet_len, source, time_to_live,
+    reply_len, error))
+#define etherparse_echo_answer_ipv4 etherparse_echo_answer_ipv4_or_null
+ETHERPARSE_ERROR_OPTIONAL(etherparse_echo_answer_ipv6, ETHERPARSE_NOT_NULL(3, 5), (uint8_t *packet, size_t packet_len,
+    const uint8_t source[16], uint8_t hop_limit, size_t *reply_len, etherparse_error *error), (packet, packet_len, source, hop_limit,
+    reply_len, error))
+#define etherparse_echo_answer_ipv6 etherparse_echo_answer_ipv6_or_null
+ETHERPARSE_ERROR_OPTIONAL(etherparse_echo_is_reply, , (const uint8_t *request, size_t request_len, const uint8_t *reply, size_t reply_len,
+    etherparse_error *error), (request, request_len, reply, reply_len, error))
+#define etherparse_echo_is_reply etherparse_echo_is_reply_or_null
+ETHERPARSE_ERROR_OPTIONAL(etherparse_icmpv4_quoted_packet, ETHERPARSE_NOT_NULL(3, 4), (const uint8_t *bytes, size_t bytes_len,
+    size_t *offset, size_t *len, etherparse_error *error), (bytes, bytes_len, offset, len, error))
+#define etherparse_icmpv4_quoted_packet etherparse_icmpv4_quoted_packet_or_null
+ETHERPARSE_ERROR_OPTIONAL(etherparse_icmpv6_quoted_packet, ETHERPARSE_NOT_NULL(3, 4), (const uint8_t *bytes, size_t bytes_len,
+    size_t *offset, size_t *len, etherparse_error *error), (bytes, bytes_len, offset, len, error))
+#define etherparse_icmpv6_quoted_packet etherparse_icmpv6_quoted_packet_or_null
+ETHERPARSE_ERROR_OPTIONAL(etherparse_translate_ipv4, ETHERPARSE_NOT_NULL(3), (uint8_t *packet, size_t packet_len,
+    const etherparse_ipv4_translation *translation, etherparse_error *error), (packet, packet_len, translation, error))
+#define etherparse_translate_ipv4 etherparse_translate_ipv4_or_null
+ETHERPARSE_ERROR_OPTIONAL(etherparse_translate_ipv6, ETHERPARSE_NOT_NULL(3), (uint8_t *packet, size_t packet_len,
+    const etherparse_ipv6_translation *translation, etherparse_error *error), (packet, packet_len, translation, error))
+#define etherparse_translate_ipv6 etherparse_translate_ipv6_or_null
+ETHERPARSE_ERROR_OPTIONAL(etherparse_canonical_header, ETHERPARSE_NOT_NULL(6), (uint32_t protocol, const uint8_t *bytes, size_t len,
+    uint8_t *buffer, size_t buffer_len, size_t *written, etherparse_error *error), (protocol, bytes, len, buffer, buffer_len, written,
+    error))
+#define etherparse_canonical_header etherparse_canonical_header_or_null
+#undef ETHERPARSE_ERROR_OPTIONAL
+#undef ETHERPARSE_INLINE
+#endif
+
+#ifdef __cplusplus
 }
 #endif
 

@@ -18,10 +18,10 @@ use Rattle.etherparse_transport_c.specs.declared.error.EtherparseError.{Etherpar
 use Rattle.etherparse_transport_c.specs.declared.icmpv6.EtherparseIcmpv6Header.{EtherparseIcmpv6Header}
 use Rattle.etherparse_transport_c.specs.declared.icmpv6.EtherparseIcmpv6Packet.{EtherparseIcmpv6Packet}
 
--- a message that is nothing but its kind
-abbrev pub bare : ℕ → EtherparseIcmpv6Header
-bare kind = record {
-  kind = kind;
+-- no field is set
+abbrev pub nothing : EtherparseIcmpv6Header
+nothing = record {
+  kind = numbers.icmpv6_unknown;
   mtu = 0;
   pointer = 0;
   checksum = 0;
@@ -34,6 +34,10 @@ bare kind = record {
   code_u8 = 0;
   bytes4to7 = replicate 4 0;
 }
+
+-- a message that is nothing but its kind
+abbrev pub bare : ℕ → EtherparseIcmpv6Header
+bare kind = record nothing { kind = kind }
 
 -- the two numbers of an echo message
 abbrev pub echo_fields : ℕ → IcmpEchoHeader → EtherparseIcmpv6Header
@@ -68,6 +72,15 @@ message_fields Redirect = bare numbers.icmpv6_redirect
 -- why a packet is refused
 abbrev pub refusal : List ℕ → Option EtherparseError
 refusal bytes = option_map of_len (icmpv6.refusal bytes)
+
+-- the kind of these fields with its fields, and the fields that a header of any kind has
+abbrev pub with_common : EtherparseIcmpv6Header → EtherparseIcmpv6Header → EtherparseIcmpv6Header
+with_common common fields = record fields {
+  checksum = common.checksum;
+  type_u8 = common.type_u8;
+  code_u8 = common.code_u8;
+  bytes4to7 = common.bytes4to7;
+}
 
 -- what is read of a packet: the header, and where the payload is
 abbrev pub packet_of : List ℕ → EtherparseIcmpv6Packet

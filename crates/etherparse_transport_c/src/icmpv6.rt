@@ -83,23 +83,13 @@ const NONE: EtherparseIcmpv6Header = EtherparseIcmpv6Header {
     bytes4to7: [0; 4],
 };
 
-/// A message that is nothing but its kind.
-fn bare(kind: u32) -> EtherparseIcmpv6Header
-    ensures { result ≡ specs.bare kind }
+/// Sets the fields of an echo message.
+fn set_echo(kind: u32, echo: &IcmpEchoHeader, header: &mut EtherparseIcmpv6Header)
+    ensures { header.new ≡ record header.old { kind = kind; id = echo.now.id; sequence_number = echo.now.seq } }
 {
-    EtherparseIcmpv6Header { kind, ..NONE }
-}
-
-/// The fields of an echo message.
-fn echo(kind: u32, echo: &IcmpEchoHeader) -> EtherparseIcmpv6Header
-    ensures { result ≡ specs.echo_fields kind echo.now }
-{
-    EtherparseIcmpv6Header {
-        kind,
-        id: echo.id,
-        sequence_number: echo.seq,
-        ..NONE
-    }
+    header.kind = kind;
+    header.id = echo.id;
+    header.sequence_number = echo.seq;
 }
 
 /// The flags of a router advertisement.
@@ -119,38 +109,57 @@ fn neighbor_flags(header: &NeighborAdvertisementHeader) -> u8
         + u8::from(header.override_flag) * icmpv6_flag::NEIGHBOR_OVERRIDE
 }
 
-/// The kind of a message with its fields.
-fn message(icmp_type: &Icmpv6Type) -> EtherparseIcmpv6Header
-    ensures { result ≡ message_fields icmp_type.now }
+/// Sets the kind of a message with its fields in a header in which none of these is set.
+fn set_message(icmp_type: &Icmpv6Type, header: &mut EtherparseIcmpv6Header)
+    requires { header.old ≡ specs.with_common header.old specs.nothing }
+    ensures { header.new ≡ specs.with_common header.old (message_fields icmp_type.now) }
 {
     match icmp_type {
-        Icmpv6Type::Unknown { .. } => bare(icmpv6_kind::UNKNOWN),
-        Icmpv6Type::DestinationUnreachable(_) => bare(icmpv6_kind::DESTINATION_UNREACHABLE),
-        Icmpv6Type::PacketTooBig { mtu } => EtherparseIcmpv6Header {
-            mtu: *mtu,
-            ..bare(icmpv6_kind::PACKET_TOO_BIG)
-        },
-        Icmpv6Type::TimeExceeded(_) => bare(icmpv6_kind::TIME_EXCEEDED),
-        Icmpv6Type::ParameterProblem(header) => EtherparseIcmpv6Header {
-            pointer: header.pointer,
-            ..bare(icmpv6_kind::PARAMETER_PROBLEM)
-        },
-        Icmpv6Type::EchoRequest(header) => echo(icmpv6_kind::ECHO_REQUEST, header),
-        Icmpv6Type::EchoReply(header) => echo(icmpv6_kind::ECHO_REPLY, header),
-        Icmpv6Type::RouterSolicitation => bare(icmpv6_kind::ROUTER_SOLICITATION),
-        Icmpv6Type::RouterAdvertisement(header) => EtherparseIcmpv6Header {
-            cur_hop_limit: header.cur_hop_limit,
-            flags: router_flags(header),
-            router_lifetime: header.router_lifetime,
-            ..bare(icmpv6_kind::ROUTER_ADVERTISEMENT)
-        },
-        Icmpv6Type::NeighborSolicitation => bare(icmpv6_kind::NEIGHBOR_SOLICITATION),
-        Icmpv6Type::NeighborAdvertisement(header) => EtherparseIcmpv6Header {
-            flags: neighbor_flags(header),
-            ..bare(icmpv6_kind::NEIGHBOR_ADVERTISEMENT)
-        },
-        Icmpv6Type::Redirect => bare(icmpv6_kind::REDIRECT),
+        Icmpv6Type::Unknown { .. } => {}
+        Icmpv6Type::DestinationUnreachable(_) => header.kind = icmpv6_kind::DESTINATION_UNREACHABLE,
+        Icmpv6Type::PacketTooBig { mtu } => {
+            header.kind = icmpv6_kind::PACKET_TOO_BIG;
+            header.mtu = *mtu;
+        }
+        Icmpv6Type::TimeExceeded(_) => header.kind = icmpv6_kind::TIME_EXCEEDED,
+        Icmpv6Type::ParameterProblem(problem) => {
+            header.kind = icmpv6_kind::PARAMETER_PROBLEM;
+            header.pointer = problem.pointer;
+        }
+        Icmpv6Type::EchoRequest(echo) => set_echo(icmpv6_kind::ECHO_REQUEST, echo, header),
+        Icmpv6Type::EchoReply(echo) => set_echo(icmpv6_kind::ECHO_REPLY, echo, header),
+        Icmpv6Type::RouterSolicitation => header.kind = icmpv6_kind::ROUTER_SOLICITATION,
+        Icmpv6Type::RouterAdvertisement(advertisement) => {
+            header.kind = icmpv6_kind::ROUTER_ADVERTISEMENT;
+            header.cur_hop_limit = advertisement.cur_hop_limit;
+            header.flags = router_flags(advertisement);
+            header.router_lifetime = advertisement.router_lifetime;
+        }
+        Icmpv6Type::NeighborSolicitation => header.kind = icmpv6_kind::NEIGHBOR_SOLICITATION,
+        Icmpv6Type::NeighborAdvertisement(advertisement) => {
+            header.kind = icmpv6_kind::NEIGHBOR_ADVERTISEMENT;
+            header.flags = neighbor_flags(advertisement);
+        }
+        Icmpv6Type::Redirect => header.kind = icmpv6_kind::REDIRECT,
     }
+}
+
+/// Sets the packet of a slice.
+fn set_packet(slice: &Icmpv6Slice<'_>, read: &mut EtherparseIcmpv6Packet)
+    ensures { read.new ≡ packet_of slice.now }
+{
+    *read = EtherparseIcmpv6Packet {
+        header: EtherparseIcmpv6Header {
+            checksum: slice.checksum(),
+            type_u8: slice.type_u8(),
+            code_u8: slice.code_u8(),
+            bytes4to7: slice.bytes5to8(),
+            ..NONE
+        },
+        payload_offset: Icmpv6Header::MIN_LEN,
+        payload_len: slice.slice().len() - Icmpv6Header::MIN_LEN,
+    };
+    set_message(&slice.icmp_type(), &mut read.header);
 }
 
 /// Reads the message that consists of all these bytes (RFC 4443, section 2.1).
@@ -158,7 +167,6 @@ fn message(icmp_type: &Icmpv6Type) -> EtherparseIcmpv6Header
 /// # Errors
 ///
 /// The status is `OK`, or `LENGTH` if there are fewer than 8 bytes, or more than 4,294,967,295.
-#[tactic(auto, using(icmp_part::proofs::Icmpv6FormatLemmas::header_len_eight))]
 #[unsafe(no_mangle)]
 pub extern "C" fn etherparse_icmpv6_packet_read(
     bytes: &[u8],
@@ -171,18 +179,7 @@ pub extern "C" fn etherparse_icmpv6_packet_read(
 {
     match Icmpv6Slice::from_slice(bytes) {
         Ok(slice) => {
-            let header = EtherparseIcmpv6Header {
-                checksum: slice.checksum(),
-                type_u8: slice.type_u8(),
-                code_u8: slice.code_u8(),
-                bytes4to7: slice.bytes5to8(),
-                ..message(&slice.icmp_type())
-            };
-            *read = EtherparseIcmpv6Packet {
-                header,
-                payload_offset: 8,
-                payload_len: slice.payload().len(),
-            };
+            set_packet(&slice, read);
             status::OK
         }
         Err(refused) => refuse(error, of_len(&refused)),

@@ -40,6 +40,9 @@ pub struct EtherparseIpTransport {
     pub is_length_missing: u32,
 }
 
+/// The first byte of an IPv4 packet without options: version 4, and a header of five words of four bytes (RFC 791, section 3.1).
+const IPV4_WITHOUT_OPTIONS: u8 = 0x45;
+
 /// An IPv4 address in 16 bytes.
 #[inline(always)]
 pub(crate) fn ipv4_address(address: &[u8; 4]) -> [u8; 16]
@@ -111,6 +114,40 @@ pub(crate) fn fields(transport: &TransportInIp<'_>) -> EtherparseIpTransport
     }
 }
 
+/// Finds the transport in an IP packet of either version.
+#[inline(always)]
+fn find(bytes: &[u8], transport: &mut EtherparseIpTransport, error: &mut EtherparseError) -> u32
+    ensures status { result ≡ status_of (refusal bytes.now) }
+    ensures error { error.new ≡ unwrap_or (refusal bytes.now) error.old }
+    ensures transport { transport.new ≡ unless_refused (refusal bytes.now)
+        (found false bytes.now (headers_of false bytes.now) transport.old) transport.old }
+    ensures payload { refusal bytes.now ≡ None → HasPayload false bytes.now transport.new }
+{
+    match transport_in_ip(bytes) {
+        Ok(carried) => {
+            *transport = fields(&carried);
+            status::OK
+        }
+        Err(refused) => refuse(error, of_ip(&refused)),
+    }
+}
+
+/// The same in a function of its own.
+#[inline(never)]
+fn find_apart(
+    bytes: &[u8],
+    transport: &mut EtherparseIpTransport,
+    error: &mut EtherparseError,
+) -> u32
+    ensures status { result ≡ status_of (refusal bytes.now) }
+    ensures error { error.new ≡ unwrap_or (refusal bytes.now) error.old }
+    ensures transport { transport.new ≡ unless_refused (refusal bytes.now)
+        (found false bytes.now (headers_of false bytes.now) transport.old) transport.old }
+    ensures payload { refusal bytes.now ≡ None → HasPayload false bytes.now transport.new }
+{
+    find(bytes, transport, error)
+}
+
 /// Finds the transport in the IP packet at the front of some bytes, after its options and extension headers (RFC 791,
 /// section 3.1; RFC 8200, sections 3 and 4). The payload is a part of these bytes. The bytes after the bytes that the
 /// IP header counts are padding, and no checksum is tested.
@@ -133,13 +170,46 @@ pub extern "C" fn etherparse_transport_in_ip(
         (found false bytes.now (headers_of false bytes.now) transport.old) transport.old }
     ensures payload { refusal bytes.now ≡ None → HasPayload false bytes.now transport.new }
 {
-    match transport_in_ip(bytes) {
-        Ok(carried) => {
-            *transport = fields(&carried);
+    // perf: code for such a packet alone saves one register instead of six, and takes 6.5 ns instead of 10.7 (27 Nov 2026).
+    if !bytes.is_empty() && bytes[0] == IPV4_WITHOUT_OPTIONS {
+        find(bytes, transport, error)
+    } else {
+        find_apart(bytes, transport, error)
+    }
+}
+
+/// Finds the transport in an IP packet of either version that may be cut off or state no length.
+#[inline(always)]
+fn find_lax(bytes: &[u8], transport: &mut EtherparseIpTransport, error: &mut EtherparseError) -> u32
+    ensures status { result ≡ status_of (lax_refusal bytes.now) }
+    ensures error { error.new ≡ unwrap_or (lax_refusal bytes.now) error.old }
+    ensures transport { transport.new ≡ unless_refused (lax_refusal bytes.now)
+        (found (lacks_len bytes.now) bytes.now (headers_of (lacks_len bytes.now) bytes.now) transport.old) transport.old }
+    ensures payload { lax_refusal bytes.now ≡ None → HasPayload (lacks_len bytes.now) bytes.now transport.new }
+{
+    match transport_in_ip_lax(bytes) {
+        Ok(kept) => {
+            *transport = fields(&kept);
             status::OK
         }
         Err(refused) => refuse(error, of_ip(&refused)),
     }
+}
+
+/// The same in a function of its own.
+#[inline(never)]
+fn find_lax_apart(
+    bytes: &[u8],
+    transport: &mut EtherparseIpTransport,
+    error: &mut EtherparseError,
+) -> u32
+    ensures status { result ≡ status_of (lax_refusal bytes.now) }
+    ensures error { error.new ≡ unwrap_or (lax_refusal bytes.now) error.old }
+    ensures transport { transport.new ≡ unless_refused (lax_refusal bytes.now)
+        (found (lacks_len bytes.now) bytes.now (headers_of (lacks_len bytes.now) bytes.now) transport.old) transport.old }
+    ensures payload { lax_refusal bytes.now ≡ None → HasPayload (lacks_len bytes.now) bytes.now transport.new }
+{
+    find_lax(bytes, transport, error)
 }
 
 /// Finds the transport in an IP packet that may be cut off or state no length, otherwise as
@@ -163,11 +233,10 @@ pub extern "C" fn etherparse_transport_in_ip_lax(
         (found (lacks_len bytes.now) bytes.now (headers_of (lacks_len bytes.now) bytes.now) transport.old) transport.old }
     ensures payload { lax_refusal bytes.now ≡ None → HasPayload (lacks_len bytes.now) bytes.now transport.new }
 {
-    match transport_in_ip_lax(bytes) {
-        Ok(kept) => {
-            *transport = fields(&kept);
-            status::OK
-        }
-        Err(refused) => refuse(error, of_ip(&refused)),
+    // perf: as in `etherparse_transport_in_ip`.
+    if !bytes.is_empty() && bytes[0] == IPV4_WITHOUT_OPTIONS {
+        find_lax(bytes, transport, error)
+    } else {
+        find_lax_apart(bytes, transport, error)
     }
 }

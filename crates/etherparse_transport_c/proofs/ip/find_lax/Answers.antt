@@ -2,7 +2,7 @@ use Rattle.std.proofs.Common.{ap, subst, sym, ◌∙◌}
 use Rattle.ip_part.specs.Ip.{headers_of}
 use Rattle.etherparse_transport_c.specs.Ip.{HasPayload, found}
 use Rattle.etherparse_transport_c.proofs.IpLemmas.{has_payload}
-use Rattle.etherparse_transport_c.proofs.ip.etherparse_transport_in_ip.Goals as goal
+use Rattle.etherparse_transport_c.proofs.ip.find_lax.Goals as goal
 
 pub returns-in-Ok-clause-transport : goal.returns-in-Ok-clause-transport
 returns-in-Ok-clause-transport c =
@@ -12,5 +12,5 @@ returns-in-Ok-clause-transport c =
 pub returns-in-Ok-clause-payload : goal.returns-in-Ok-clause-payload
 returns-in-Ok-clause-payload c = λ accepted.
     subst (λ missing. HasPayload missing c.args.bytes.now c.fields.result) c.in-Ok.ensures.stated
-    (subst (HasPayload c.in-Ok.carried.is_length_missing c.args.bytes.now) (sym (c.fields.ensures c.args.bytes.now c.in-Ok.ensures.found c.args.transport.now))
-    (has_payload c.args.bytes.now c.in-Ok.carried c.args.transport.now c.in-Ok.ensures.found))
+    (subst (HasPayload c.in-Ok.kept.is_length_missing c.args.bytes.now) (sym (c.fields.ensures c.args.bytes.now c.in-Ok.ensures.found c.args.transport.now))
+    (has_payload c.args.bytes.now c.in-Ok.kept c.args.transport.now c.in-Ok.ensures.found))
