@@ -9,7 +9,7 @@ use Rattle.capture_file.specs.PcapngBodies.{interface_description, section_heade
 use Rattle.capture_file.specs.PcapngPackets.{simple_end, timed_refusal}
 use Rattle.capture_file.specs.PcapngSteps.{refused_at}
 use Rattle.capture_file.specs.declared.byte_order.ByteOrder.TheVariants.{BigEndian, LittleEndian}
-use Rattle.capture_file.specs.declared.pcapng.errors.BlockError.TheVariants.{CutOff, LastLength, Magic, TotalLength}
+use Rattle.capture_file.specs.declared.pcapng.errors.BlockError.TheVariants.{CutOff, LastLength, Magic, SectionLength, TotalLength}
 use Rattle.capture_file.specs.declared.link_type.LinkType.TheVariants.{Ethernet}
 use Rattle.capture_file.specs.declared.pcapng.errors.BodyError.TheVariants.{Interface, Version}
 use Rattle.capture_file.specs.declared.pcapng.time_resolution.TimeResolution.TheVariants.{PowerOfTen, PowerOfTwo}
@@ -25,7 +25,7 @@ section_is_little_endian : order_of BigEndian section ≡ LittleEndian
 section_is_little_endian = refl
 
 section_is_block : IsBlock BigEndian section
-section_is_block = record { has_order = refl; shortest = omega arith; words = refl; begins = refl; ends = refl }
+section_is_block = record { has_order = refl; shortest = omega arith; words = refl; has_fields = refl; begins = refl; ends = refl }
 
 section_is_read : block_refusal BigEndian (section ++ 1 ∷ []) ≡ None
 section_is_read = refl
@@ -36,12 +36,19 @@ big_endian_section = refl
 section_without_magic : block_refusal LittleEndian (10 ∷ 13 ∷ 13 ∷ 10 ∷ 28 ∷ 0 ∷ 0 ∷ 0 ∷ replicate 4 0) ≡ Some (Magic 0)
 section_without_magic = refl
 
+-- a section header block of 12 bytes: its byte-order magic is where the last total length would be
+section_of_twelve : block_refusal BigEndian (10 ∷ 13 ∷ 13 ∷ 10 ∷ 0 ∷ 0 ∷ 0 ∷ 12 ∷ 26 ∷ 43 ∷ 60 ∷ 77 ∷ []) ≡ Some (SectionLength 12)
+section_of_twelve = refl
+
+section_of_24 : block_refusal BigEndian (10 ∷ 13 ∷ 13 ∷ 10 ∷ 24 ∷ 0 ∷ 0 ∷ 0 ∷ 77 ∷ 60 ∷ 43 ∷ 26 ∷ replicate 12 0) ≡ Some (SectionLength 24)
+section_of_24 = refl
+
 -- a block of another type without a body is in the byte order of its section
 abbrev empty_block : List ℕ
 empty_block = 173 ∷ 11 ∷ 0 ∷ 0 ∷ 12 ∷ 0 ∷ 0 ∷ 0 ∷ 12 ∷ 0 ∷ 0 ∷ 0 ∷ []
 
 empty_is_block : IsBlock LittleEndian empty_block
-empty_is_block = record { has_order = refl; shortest = omega arith; words = refl; begins = refl; ends = refl }
+empty_is_block = record { has_order = refl; shortest = omega arith; words = refl; has_fields = refl; begins = refl; ends = refl }
 
 other_order : block_len BigEndian empty_block ≡ 201326592
 other_order = refl
@@ -100,13 +107,13 @@ abbrev simple : List ℕ
 simple = 3 ∷ 0 ∷ 0 ∷ 0 ∷ 20 ∷ 0 ∷ 0 ∷ 0 ∷ 4 ∷ 0 ∷ 0 ∷ 0 ∷ 5 ∷ 6 ∷ 7 ∷ 8 ∷ 20 ∷ 0 ∷ 0 ∷ 0 ∷ []
 
 interface_is_block : IsBlock LittleEndian interface
-interface_is_block = record { has_order = refl; shortest = omega arith; words = refl; begins = refl; ends = refl }
+interface_is_block = record { has_order = refl; shortest = omega arith; words = refl; has_fields = refl; begins = refl; ends = refl }
 
 enhanced_is_block : IsBlock LittleEndian enhanced
-enhanced_is_block = record { has_order = refl; shortest = omega arith; words = refl; begins = refl; ends = refl }
+enhanced_is_block = record { has_order = refl; shortest = omega arith; words = refl; has_fields = refl; begins = refl; ends = refl }
 
 simple_is_block : IsBlock LittleEndian simple
-simple_is_block = record { has_order = refl; shortest = omega arith; words = refl; begins = refl; ends = refl }
+simple_is_block = record { has_order = refl; shortest = omega arith; words = refl; has_fields = refl; begins = refl; ends = refl }
 
 -- a file with these blocks
 four_blocks : IsBlockReading BigEndian (section ++ interface ++ enhanced ++ simple) (section ∷ interface ∷ enhanced ∷ simple ∷ []) []

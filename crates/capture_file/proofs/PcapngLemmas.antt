@@ -5,7 +5,7 @@ use Rattle.std.proofs.Common.{◌≡◌, ℕ, ◌%◌, ◌≤◌, ◌==◌, fals
 use Rattle.std.proofs.lemmas.List.{append_cancel_left, take_at}
 use Rattle.capture_file.proofs.RecordLemmas.{number_at_front}
 use Rattle.capture_file.specs.Classic.{number_at}
-use Rattle.capture_file.specs.Pcapng.{IsBlock, block_header, block_len, block_refusal, byte_order_magic, is_section_header, lacks_magic, last_len, order_by_magic, order_of}
+use Rattle.capture_file.specs.Pcapng.{IsBlock, block_header, block_len, block_refusal, byte_order_magic, is_section_header, is_short_section, lacks_magic, last_len, order_by_magic, order_of}
 use Rattle.capture_file.specs.declared.byte_order.ByteOrder.{ByteOrder}
 use Rattle.capture_file.specs.declared.byte_order.ByteOrder.TheVariants.{BigEndian, LittleEndian}
 
@@ -34,6 +34,10 @@ pub block_len_front : (section : ByteOrder) (first more : List ℕ) → 12 ≤ l
     → block_len section (first ++ more) ≡ block_len section first
 block_len_front section first more within = grind (arith, nat_tests, order_of_front, number_at_front)
 
+pub is_short_section_front : (section : ByteOrder) (first more : List ℕ) → 12 ≤ length first
+    → is_short_section section (first ++ more) ≡ is_short_section section first
+is_short_section_front section first more within = grind (arith, nat_tests, is_section_header_front, block_len_front)
+
 -- the header of a block depends only on its first bytes
 pub block_header_front : (section : ByteOrder) (first more : List ℕ) → 12 ≤ length first
     → block_header section (first ++ more) ≡ block_header section first
@@ -47,7 +51,7 @@ last_len_front section first more len shortest within = grind (arith, nat_tests,
 
 -- bytes that begin with a block are accepted
 pub accepted : (section : ByteOrder) (block more : List ℕ) → IsBlock section block → block_refusal section (block ++ more) ≡ None
-accepted section block more is = grind (arith, nat_tests, block_len_front, last_len_front, length-append, lacks_magic_front)
+accepted section block more is = grind (arith, nat_tests, block_len_front, last_len_front, length-append, lacks_magic_front, is_short_section_front)
 
 -- accepted bytes are at least as long as their block, and contain it
 pub record Begins (section : ByteOrder) (bytes : List ℕ) : Type 0 where
@@ -56,10 +60,10 @@ pub record Begins (section : ByteOrder) (bytes : List ℕ) : Type 0 where
 
 -- the first bytes, up to the stated length, if the statement is true of all bytes
 first_block : (section : ByteOrder) (bytes first more : List ℕ) → first ++ more ≡ bytes → length first ≡ block_len section bytes
-    → 12 ≤ block_len section bytes → block_len section bytes % 4 ≡ 0 → lacks_magic bytes ≡ false
+    → 12 ≤ block_len section bytes → block_len section bytes % 4 ≡ 0 → lacks_magic bytes ≡ false → is_short_section section bytes ≡ false
     → last_len section bytes (block_len section bytes) ≡ block_len section bytes → IsBlock section first
-first_block section bytes first more whole has_len least words magic ends =
-    grind (arith, nat_tests, lacks_magic_front, block_len_front, last_len_front)
+first_block section bytes first more whole has_len least words magic fields ends =
+    grind (arith, nat_tests, lacks_magic_front, block_len_front, last_len_front, is_short_section_front)
 
 pub begins_with : (section : ByteOrder) (bytes : List ℕ) → block_refusal section bytes ≡ None → Begins section bytes
 begins_with section bytes none =
@@ -69,7 +73,7 @@ begins_with section bytes none =
     let has_len : length (take len bytes) ≡ len = length-take-le len bytes within in
     record {
       within = within;
-      is_block = grind (arith, nat_tests, lacks_magic_front, block_len_front, last_len_front);
+      is_block = grind (arith, nat_tests, lacks_magic_front, block_len_front, last_len_front, is_short_section_front);
     }
 
 -- two blocks at the front of the same bytes are the same block, and the same bytes follow it

@@ -1,11 +1,13 @@
 -- For reads of a block: its first 12 bytes, and then the bytes after them.
 use Rattle.std.proofs.lemmas.Bool.Decides.{nat_tests}
-use Rattle.std.proofs.Common.{◌≡◌, ℕ, zero, suc, ◌+◌, ◌≤◌, ◌<◌, List, [], ◌++◌, Option, Some, None, arith, length, take, refl, sym, ap, ◌∙◌, append_assoc, append-nil, length-append}
+use Rattle.std.specs.Prelude.{◌==◌, nat_lt, not}
+use Rattle.std.proofs.Common.{◌≡◌, ℕ, zero, suc, ◌+◌, ◌≤◌, ◌<◌, List, [], ◌∷◌, ◌++◌, Option, Some, None, arith, length, take, refl, sym, ap, ◌∙◌, append_assoc, append-nil, length-append}
 use Rattle.std.proofs.lemmas.List.{get_or-append_right, take-append-le, take_all}
 use Rattle.std.proofs.KnownBytes.{Consumes-nil, Consumes-trans}
 use Rattle.std.specs.Io.KnownBytes.{Consumes, IsAtEnd}
 use Rattle.net_base.specs.Bytes.{be_number}
-use Rattle.capture_file.proofs.PcapngLemmas.{begins_with, block_header_front, block_len_front, lacks_magic_front, last_len_front, order_of_front}
+use Rattle.net_base.specs.Refusals.{first_of, refused_if}
+use Rattle.capture_file.proofs.PcapngLemmas.{begins_with, block_header_front, block_len_front, is_short_section_front, lacks_magic_front, last_len_front, order_of_front}
 use Rattle.capture_file.proofs.RecordLemmas.{be_number_front}
 use Rattle.capture_file.specs.Classic.{le_number, number_at}
 use Rattle.capture_file.specs.Pcapng.{IsBlock, block_header, block_header_refusal, block_len, block_refusal, last_len}
@@ -29,14 +31,50 @@ block_header_refusal_front section first more within =
       lacks_magic_front first more within,
       be_number_front 4 first more 8 (omega (arith, within)),
       block_len_front section first more within,
+      is_short_section_front section first more within,
       length-append first more,
     )
+
+-- the error of a block of this length after its header, by the number of its bytes and by its last total length
+abbrev refusal_after : ℕ → ℕ → ℕ → Option BlockError
+refusal_after len its_len last = first_of (
+    refused_if (nat_lt its_len len) (CutOff len its_len)
+    ∷ refused_if (not (last == len)) (LastLength len last)
+    ∷ [])
+
+-- the error of a block whose first bytes are accepted
+refused_by : (section : ByteOrder) (first more : List ℕ) → 12 ≤ length first → block_header_refusal section first ≡ None
+    → block_refusal section (first ++ more)
+    ≡ refusal_after (block_len section first) (length (first ++ more)) (last_len section (first ++ more) (block_len section first))
+refused_by section first more within accepted =
+    let bytes = first ++ more in
+    let len = block_len section bytes in
+    ap
+    (λ refusal. first_of (
+    refusal
+    ∷ refused_if (nat_lt (length bytes) len) (CutOff len (length bytes))
+    ∷ refused_if (not (last_len section bytes len == len)) (LastLength len (last_len section bytes len))
+    ∷ []))
+    (block_header_refusal_front section first more within ∙ accepted)
+    ∙ ap (λ first_len. refusal_after first_len (length bytes) (last_len section bytes first_len)) (block_len_front section first more within)
+
+short_by : (len its_len last required other : ℕ) → refusal_after len its_len last ≡ Some (CutOff required other) → its_len < len
+short_by len its_len last required other refused = grind (arith, nat_tests)
+
+cut_off_by : (len its_len last : ℕ) → its_len < len → refusal_after len its_len last ≡ Some (CutOff len its_len)
+cut_off_by len its_len last short = grind (arith, nat_tests)
+
+accepted_by : (len its_len last : ℕ) → len ≤ its_len → last ≡ len → refusal_after len its_len last ≡ None
+accepted_by len its_len last whole same = grind (arith, nat_tests)
+
+differs_by : (len its_len last : ℕ) → len ≤ its_len → (last ≡ len → ⊥) → refusal_after len its_len last ≡ Some (LastLength len last)
+differs_by len its_len last whole differs = grind (arith, nat_tests)
 
 pub cut_off_short : (section : ByteOrder) (first more : List ℕ) (required its_len : ℕ) → 12 ≤ length first
     → block_header_refusal section first ≡ None → block_refusal section (first ++ more) ≡ Some (CutOff required its_len)
     → length (first ++ more) < block_len section first
 cut_off_short section first more required its_len within accepted refused =
-    grind (arith, nat_tests, block_header_refusal_front, block_len_front)
+    short_by (block_len section first) (length (first ++ more)) _ required its_len (sym (refused_by section first more within accepted) ∙ refused)
 
 -- ---- an error other than a block that is cut off remains the error with more bytes after the block
 
@@ -169,7 +207,13 @@ pub cut_off_after : (section : ByteOrder) (first bytes : List ℕ) (left still_l
     → Consumes left still_left bytes → len ≡ length (first ++ bytes) → len < header.total_len → IsAtEnd still_left
     → ReadsAfter section first left still_left buffer (Refused (CutOff header.total_len len))
 cut_off_after section first bytes left still_left buffer header len within accepted is consumed has_len short end =
-    grind (arith, nat_tests, block_header_refusal_front, block_len_front, length-append)
+    let total : block_len section first ≡ header.total_len = sym (ap (λ h. h.total_len) is) in
+    let refused = refused_by section first bytes within accepted
+    ∙ cut_off_by (block_len section first) (length (first ++ bytes)) _ (omega (arith, total, has_len, short))
+    ∙ ap (λ first_len. Some (CutOff first_len (length (first ++ bytes)))) total
+    ∙ ap (λ its_len. Some (CutOff header.total_len its_len)) (sym has_len) in
+    refused_after section first bytes left still_left buffer (CutOff header.total_len len) consumed
+    (omega (arith, length-append first bytes, within)) refused (λ required its_len same. end)
 
 -- the last total length of a block with these last four bytes, by its header
 last_of : (section : ByteOrder) (first middle last : List ℕ) (header : BlockHeader) (number : ℕ) → 12 ≤ length first
@@ -185,8 +229,13 @@ pub passed_over : (section : ByteOrder) (first middle last : List ℕ) (left sti
     → number ≡ number_at header.byte_order last 0 → number ≡ header.total_len → length buffer < header.total_len
     → ReadsAfter section first left still_left buffer (TooLong header)
 passed_over section first middle last left still_left buffer header number within accepted is consumed four counts ends same room =
-    too_long_after section first (middle ++ last) left still_left buffer header within is consumed (grind (arith, length-append))
-    (grind (arith, nat_tests, block_header_refusal_front, block_len_front, last_of, length-append)) room
+    let total : block_len section first ≡ header.total_len = sym (ap (λ h. h.total_len) is) in
+    let whole : length (first ++ (middle ++ last)) ≡ header.total_len =
+    omega (arith, counts, four, length-append first (middle ++ last), length-append middle last, length-append first middle) in
+    too_long_after section first (middle ++ last) left still_left buffer header within is consumed (omega (arith, whole))
+    (refused_by section first (middle ++ last) within accepted
+    ∙ accepted_by (block_len section first) (length (first ++ (middle ++ last))) _ (omega (arith, total, whole))
+    (last_of section first middle last header number within is counts ends ∙ same ∙ sym total)) room
 
 pub differs_after : (section : ByteOrder) (first middle last : List ℕ) (left still_left : Option (List ℕ)) (buffer : List ℕ) (header : BlockHeader)
     (number : ℕ) → 12 ≤ length first → block_header_refusal section first ≡ None → header ≡ block_header section first
@@ -194,6 +243,14 @@ pub differs_after : (section : ByteOrder) (first middle last : List ℕ) (left s
     → number ≡ number_at header.byte_order last 0 → (number ≡ header.total_len → ⊥)
     → ReadsAfter section first left still_left buffer (Refused (LastLength header.total_len number))
 differs_after section first middle last left still_left buffer header number within accepted is consumed four counts ends differs =
+    let total : block_len section first ≡ header.total_len = sym (ap (λ h. h.total_len) is) in
+    let whole : length (first ++ (middle ++ last)) ≡ header.total_len =
+    omega (arith, counts, four, length-append first (middle ++ last), length-append middle last, length-append first middle) in
+    let is_last = last_of section first middle last header number within is counts ends in
+    let refused = refused_by section first (middle ++ last) within accepted
+    ∙ differs_by (block_len section first) (length (first ++ (middle ++ last))) _ (omega (arith, total, whole))
+    (λ same. differs (sym is_last ∙ same ∙ total))
+    ∙ ap (λ first_len. Some (LastLength first_len (last_len section (first ++ (middle ++ last)) (block_len section first)))) total
+    ∙ ap (λ found. Some (LastLength header.total_len found)) is_last in
     refused_after section first (middle ++ last) left still_left buffer (LastLength header.total_len number) consumed
-    (grind (arith, length-append)) (grind (arith, nat_tests, block_header_refusal_front, block_len_front, last_of, length-append))
-    (λ required its_len cut. absurd (cc cut))
+    (omega (arith, length-append first (middle ++ last), within)) refused (λ required its_len cut. absurd (cc cut))

@@ -11,7 +11,7 @@ use Rattle.capture_file.specs.declared.classic.capture_header.CaptureHeader.{Cap
 use Rattle.capture_file.specs.declared.classic.capture_header_error.CaptureHeaderError.{CaptureHeaderError}
 use Rattle.capture_file.specs.declared.classic.capture_header_error.CaptureHeaderError.TheVariants.{CutOff, Magic, Modified, Pcapng, Version}
 use Rattle.capture_file.specs.declared.link_type.LinkType.{LinkType}
-use Rattle.capture_file.specs.declared.link_type.LinkType.TheVariants.{BsdLoopback, CiscoHdlc, Ethernet, FrameRelay, Ieee80211, Ipnet, LinuxCooked, LinuxCooked2, OpenBsdLoopback, Pflog, Pktap, Ppi, Ppp, PppHdlc, PppOverEthernet, Prism, Radiotap, RawIp}
+use Rattle.capture_file.specs.declared.link_type.LinkType.TheVariants.{Avs, BsdLoopback, CiscoHdlc, Ethernet, FrameRelay, Ieee80211, InfiniBand, Ipnet, LinuxCooked, LinuxCooked2, Nflog, OpenBsdLoopback, Pflog, Pktap, Ppi, Ppp, PppHdlc, PppOverEthernet, Prism, Radiotap, RawIp}
 use Rattle.capture_file.specs.declared.classic.record_header.RecordHeader.{RecordHeader}
 use Rattle.capture_file.specs.declared.classic.record_header.Resolution.{Resolution}
 use Rattle.capture_file.specs.declared.classic.record_header.Resolution.TheVariants.{Microseconds, Nanoseconds}
@@ -53,7 +53,8 @@ abbrev pub link_types : List (ℕ × LinkType)
 link_types =
     (0, BsdLoopback) ∷ (1, Ethernet) ∷ (9, Ppp) ∷ (12, RawIp) ∷ (14, RawIp) ∷ (50, PppHdlc) ∷ (51, PppOverEthernet) ∷ (101, RawIp)
     ∷ (104, CiscoHdlc) ∷ (105, Ieee80211) ∷ (107, FrameRelay) ∷ (108, OpenBsdLoopback) ∷ (113, LinuxCooked) ∷ (117, Pflog) ∷ (119, Prism)
-    ∷ (127, Radiotap) ∷ (192, Ppi) ∷ (226, Ipnet) ∷ (228, RawIp) ∷ (229, RawIp) ∷ (258, Pktap) ∷ (276, LinuxCooked2) ∷ []
+    ∷ (127, Radiotap) ∷ (163, Avs) ∷ (192, Ppi) ∷ (226, Ipnet) ∷ (228, RawIp) ∷ (229, RawIp) ∷ (239, Nflog)
+    ∷ (242, InfiniBand) ∷ (258, Pktap) ∷ (276, LinuxCooked2) ∷ []
 
 -- the link type with this number
 abbrev pub link_type_with : ℕ → Option LinkType
@@ -67,10 +68,11 @@ link_type_or_number number = ok_or (link_type_with number) number
 abbrev pub link_number : ByteOrder → List ℕ → ℕ
 link_number order bytes = number_at order bytes 20 % 65536
 
--- The header of the capture that begins with these bytes. Its resolution belongs to the magic number in its byte order. Its link type
--- belongs to the number of the link type, or it is this number, if the link type is not read.
+-- The header of the capture that begins with these bytes. Its resolution belongs to the magic number in its byte order. Its snap length is
+-- in bytes 16 to 19. Its link type belongs to the number of the link type, or it is this number, if the link type is not read.
 pub record IsHeaderOf (bytes : List ℕ) (header : CaptureHeader) : Type 0 where
   pub resolution : resolution_with (number_at header.byte_order bytes 0) ≡ Some header.resolution
+  pub snap_len : header.snap_len ≡ number_at header.byte_order bytes 16
   pub link_type : header.link_type ≡ link_type_or_number (link_number header.byte_order bytes)
 
 -- this byte order, and the resolution whose magic number is in the first four bytes, if there is one

@@ -1,6 +1,6 @@
 -- The packets of a capture in one form, whatever the form of its file (draft-ietf-opsawg-pcap, section 5; draft-ietf-opsawg-pcapng,
 -- section 4).
-use Rattle.std.specs.Prelude.{◌≡◌, ℕ, ◌+◌, ◌-◌, ◌^◌, ◌/◌, ◌%◌, ◌==◌, ◌≤◌, if◌then◌else◌, min, pos, List, length, Option, Some, None, Ok}
+use Rattle.std.specs.Prelude.{◌≡◌, ℕ, ◌+◌, ◌-◌, ◌^◌, ◌/◌, ◌%◌, ◌==◌, ◌≤◌, if◌then◌else◌, min, pos, List, length, Option, Some, None}
 use Rattle.std.specs.Option.{option_map}
 use Rattle.capture_file.specs.Classic.{link_type_or_number}
 use Rattle.capture_file.specs.PcapngBody.{simple_packet_type}

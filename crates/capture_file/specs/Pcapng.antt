@@ -8,7 +8,7 @@ use Rattle.capture_file.specs.declared.byte_order.ByteOrder.{ByteOrder}
 use Rattle.capture_file.specs.declared.byte_order.ByteOrder.TheVariants.{BigEndian, LittleEndian}
 use Rattle.capture_file.specs.declared.pcapng.block.Block.{Block}
 use Rattle.capture_file.specs.declared.pcapng.errors.BlockError.{BlockError}
-use Rattle.capture_file.specs.declared.pcapng.errors.BlockError.TheVariants.{CutOff, LastLength, Magic, TotalLength}
+use Rattle.capture_file.specs.declared.pcapng.errors.BlockError.TheVariants.{CutOff, LastLength, Magic, SectionLength, TotalLength}
 use Rattle.capture_file.specs.declared.pcapng.block.BlockHeader.{BlockHeader}
 
 -- ---- the byte order of a block
@@ -58,13 +58,18 @@ block_header section bytes = record {
   total_len = block_len section bytes;
 }
 
+-- a section header block that ends within its fields: with both total lengths they have 28 bytes (section 4.1)
+abbrev pub is_short_section : ByteOrder → List ℕ → Bool
+is_short_section section bytes = is_section_header bytes && nat_lt (block_len section bytes) 28
+
 -- the errors of a header, in this order: fewer than the 12 bytes of every block; a section header block without a byte-order magic; a total
--- length that no block has
+-- length that no block has; a total length below that of every section header block
 abbrev pub block_header_refusal : ByteOrder → List ℕ → Option BlockError
 block_header_refusal section bytes = first_of (
     refused_if (nat_lt (length bytes) 12) (CutOff 12 (length bytes))
     ∷ refused_if (lacks_magic bytes) (Magic (be_number bytes 8 4))
     ∷ refused_if (not (is_block_len (block_len section bytes))) (TotalLength (block_len section bytes))
+    ∷ refused_if (is_short_section section bytes) (SectionLength (block_len section bytes))
     ∷ [])
 
 -- the errors of a block: the errors of its header, and then fewer bytes than the block contains, or another total length at its end
@@ -90,6 +95,7 @@ pub record IsBlock (section : ByteOrder) (bytes : List ℕ) : Type 0 where
   pub has_order : lacks_magic bytes ≡ false
   pub shortest : 12 ≤ length bytes
   pub words : length bytes % 4 ≡ 0
+  pub has_fields : is_short_section section bytes ≡ false
   pub begins : block_len section bytes ≡ length bytes
   pub ends : last_len section bytes (length bytes) ≡ length bytes
 

@@ -14,8 +14,7 @@ pub enum LinkType {
     PppHdlc,
     /// A PPPoE header, and a PPP frame without Address and Control fields (LINKTYPE_PPP_ETHER, 51).
     PppOverEthernet,
-    /// An IPv4 or IPv6 packet without a link header (LINKTYPE_RAW, 101, which some systems write as 12 or 14; LINKTYPE_IPV4, 228;
-    /// LINKTYPE_IPV6, 229).
+    /// An IPv4 or IPv6 packet without a link header (LINKTYPE_RAW, 101, on some systems 12 or 14; LINKTYPE_IPV4, 228; LINKTYPE_IPV6, 229).
     RawIp,
     /// Cisco HDLC: an address, a control byte and an ether type (LINKTYPE_C_HDLC, 104).
     CiscoHdlc,
@@ -33,10 +32,16 @@ pub enum LinkType {
     Prism,
     /// A radiotap header, and an IEEE 802.11 frame (LINKTYPE_IEEE802_11_RADIOTAP, 127).
     Radiotap,
+    /// An AVS header, and an IEEE 802.11 frame (LINKTYPE_IEEE802_11_AVS, 163).
+    Avs,
     /// A header of Per-Packet Information, and a frame of the link type that it states (LINKTYPE_PPI, 192).
     Ppi,
     /// A header of 24 bytes of Solaris, and the packet (LINKTYPE_IPNET, 226).
     Ipnet,
+    /// Attributes of a packet that the packet filter of Linux logged, and the packet in the last attribute (LINKTYPE_NFLOG, 239).
+    Nflog,
+    /// IP over InfiniBand: a global routing header of 40 bytes, an ether type, and two reserved bytes (LINKTYPE_IPOIB, 242).
+    InfiniBand,
     /// A header of Apple's packet tap, and a frame of the link type that it states (LINKTYPE_PKTAP, 258).
     Pktap,
     /// A header of 20 bytes instead of the link header (LINKTYPE_LINUX_SLL2, 276).
@@ -45,7 +50,7 @@ pub enum LinkType {
 
 impl LinkType {
     /// The number of link types that are read.
-    pub const COUNT: usize = 18;
+    pub const COUNT: usize = 21;
 
     /// The link type with this number, if it is read.
     pub fn from_number(number: u16) -> Option<LinkType>
@@ -66,8 +71,11 @@ impl LinkType {
             117 => Some(LinkType::Pflog),
             119 => Some(LinkType::Prism),
             127 => Some(LinkType::Radiotap),
+            163 => Some(LinkType::Avs),
             192 => Some(LinkType::Ppi),
             226 => Some(LinkType::Ipnet),
+            239 => Some(LinkType::Nflog),
+            242 => Some(LinkType::InfiniBand),
             258 => Some(LinkType::Pktap),
             276 => Some(LinkType::LinuxCooked2),
             _ => None,

@@ -1,8 +1,7 @@
 //! The pcapng format of capture files, as written by Wireshark and dumpcap (draft-ietf-opsawg-pcapng): blocks, one after the other.
 //!
 //! `Blocks` iterates over the blocks of a file in memory, and `read_block` reads blocks from a stream. A section header block begins a
-//! section, and has its own byte order. Every other block has the byte order of its section. `BlockBody` is the content of a block: a
-//! packet, or an interface on which packets were captured. Interfaces are numbered from 0 in each section.
+//! section, whose blocks have its byte order. `BlockBody` is the content of a block. Interfaces are numbered from 0 in each section.
 //!
 //! ```
 //! for block in Blocks::new(file) {

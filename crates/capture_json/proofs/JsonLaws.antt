@@ -11,6 +11,7 @@ use Rattle.capture_packet.specs.declared.packet.Packet.{Packet}
 use Rattle.capture_packet.specs.declared.transport.Transport.{Transport}
 use Rattle.capture_packet.specs.declared.transport.Transport.TheVariants as transports
 use Rattle.capture_file.specs.declared.packet_time.PacketTime.{PacketTime}
+use Rattle.capture_summary.specs.declared.capture_info.FrameLen.{FrameLen}
 use Rattle.capture_text.proofs.LineLaws.{one_of}
 use Rattle.capture_text.specs.declared.times.Times.{Times}
 use Rattle.capture_json.proofs.OptionLaws.{one_options}
@@ -44,8 +45,8 @@ one_content (contents.NotIp protocol) members others are also = are ∙ sym also
 one_content (contents.Ip addresses protocol proto transport payload_len) members others are also =
     one_of _ _ (one_transport transport) members others are also
 
--- equal packets with the same number and time have the same line
-pub one_json_line : (times : Times) (number : ℕ) (first time : Option PacketTime) (packet : Packet)
-    → HasOneJsonLine times number first time packet
-one_json_line times number first time packet line other is also =
+-- equal packets with the same number, time and length have the same line
+pub one_json_line : (times : Times) (number : ℕ) (first time : Option PacketTime) (len : Option FrameLen) (packet : Packet)
+    → HasOneJsonLine times number first time len packet
+one_json_line times number first time len packet line other is also =
     one_of _ json_line (λ members others. one_of _ _ (one_content packet.content) members others) line other is also

@@ -26,6 +26,8 @@ use Rattle.capture_packet.specs.declared.transport.Transport.TheVariants as tran
 use Rattle.capture_packet.specs.Payloads.{payload_in}
 use Rattle.capture_packet.specs.Quotes.{Quoted, quoted_in}
 use Rattle.capture_packet.specs.Verdicts.{refusal_if_untested}
+use Rattle.capture_packet.specs.declared.hop_limit.HopLimit.{HopLimit}
+use Rattle.capture_packet.specs.declared.hop_limit.HopLimit.TheVariants as limits
 use Rattle.capture_packet.specs.declared.packet.Packet.{Packet}
 use Rattle.capture_packet.specs.declared.refusal.Refusal.{Refusal}
 use Rattle.capture_packet.specs.declared.tunnel.Tunnel.{Tunnel}
@@ -34,10 +36,12 @@ use Rattle.capture_packet.specs.declared.verdict.Verdict.TheVariants as verdicts
 use Rattle.capture_file.specs.declared.packet_time.PacketTime.{PacketTime}
 use Rattle.capture_packet.specs.Addresses.{source_text}
 use Rattle.capture_summary.specs.Kinds.{untested_kind, verdict_word}
+use Rattle.capture_summary.specs.declared.capture_info.FrameLen.{FrameLen}
 use Rattle.capture_summary.specs.declared.verdict_kind.VerdictKind.{VerdictKind}
 use Rattle.capture_summary.specs.declared.verdict_kind.VerdictKind.TheVariants as kinds
 use Rattle.capture_json.specs.JsonIcmp.{icmpv4_fields, icmpv6_fields}
 use Rattle.capture_json.specs.JsonOptions.{AreOptionMembers}
+use Rattle.capture_json.specs.JsonTimes.{instant_members}
 use Rattle.capture_json.specs.Words.{with_underscores}
 use Rattle.capture_text.specs.Flags.{NamedFlag}
 use Rattle.capture_text.specs.Icmpv4Text as icmpv4_text
@@ -48,10 +52,16 @@ use Rattle.capture_text.specs.TcpText.{tcp_flags}
 use Rattle.capture_text.specs.TimeText.{time_text}
 use Rattle.capture_text.specs.declared.times.Times.{Times}
 
--- the time as in the line of text, or `null` for a packet without a known time
-abbrev pub time_data : Times → Option PacketTime → Option PacketTime → Data
-time_data times first None = null
-time_data times first (Some time) = string (time_text times first (Some time))
+-- the time as in the line of text, and as seconds since 1970 and nanoseconds; `null` alone for a packet without a known time
+abbrev pub time_members : Times → Option PacketTime → Option PacketTime → List Member
+time_members times first None = (codes "time", null) ∷ []
+time_members times first (Some time) =
+    (codes "time", string (time_text times first (Some time))) ∷ instant_members (codes "seconds") (codes "nanoseconds") time
+
+-- the length of a frame, in bytes, and how many of them were captured, if the capture contains the length
+abbrev pub frame_members : Option FrameLen → List Member
+frame_members None = []
+frame_members (Some len) = (codes "length", whole_number len.original) ∷ (codes "captured_length", whole_number len.captured) ∷ []
 
 -- ---- addresses and ports
 
@@ -237,6 +247,12 @@ AreContentMembers (contents.Ip addresses protocol proto transport payload_len) m
     ++ (ip_protocol_members protocol.0 proto ++ (quoted_members (quoted_in transport)
     ++ (inner ++ payload_members payload_len (payload_in transport)))))
 
+-- the hop limit of a packet, or its time to live, if its IP header was captured
+abbrev pub hop_limit_members : Option HopLimit → List Member
+hop_limit_members None = []
+hop_limit_members (Some (limits.Ipv4 limit)) = (codes "time_to_live", whole_number limit) ∷ []
+hop_limit_members (Some (limits.Ipv6 limit)) = (codes "hop_limit", whole_number limit) ∷ []
+
 -- ---- the verdict
 
 -- the word for a kind of verdict, under a name
@@ -283,12 +299,14 @@ verdict_members (verdicts.Refused refusal) = refused_member refusal ∷ []
 abbrev pub type_member : List ℕ → Member
 type_member kind = (codes "type", string kind)
 
--- these members are a packet: its type, its number, its time, its tunnels, its content, and its verdict
-abbrev pub ArePacketMembers : Times → ℕ → Option PacketTime → Option PacketTime → Packet → List Member → Type 0
-ArePacketMembers times number first time packet members =
+-- these members are a packet: its type, its number, its time, the length of its frame, its tunnels, its content, its hop limit, and its
+-- verdict
+abbrev pub ArePacketMembers : Times → ℕ → Option PacketTime → Option PacketTime → Option FrameLen → Packet → List Member → Type 0
+ArePacketMembers times number first time len packet members =
     (what : List Member) × AreContentMembers packet.content what
-    × (members ≡ type_member (codes "packet") ∷ (codes "number", whole_number number) ∷ (codes "time", time_data times first time)
-    ∷ (tunnel_members packet.tunnels.items ++ (what ++ verdict_members packet.verdict)))
+    × (members ≡ type_member (codes "packet") ∷ (codes "number", whole_number number) ∷ (time_members times first time
+    ++ (frame_members len ++ (tunnel_members packet.tunnels.items
+    ++ (what ++ (hop_limit_members packet.hop_limit ++ verdict_members packet.verdict))))))
 
 -- an object in a line
 abbrev pub json_line : List Member → List ℕ
@@ -299,11 +317,11 @@ abbrev pub file_members : List ℕ → List Member
 file_members name = type_member (codes "file") ∷ (codes "file", string name) ∷ []
 
 -- this is the line of a packet
-abbrev pub IsJsonLine : Times → ℕ → Option PacketTime → Option PacketTime → Packet → List ℕ → Type 0
-IsJsonLine times number first time packet line =
-    (members : List Member) × ArePacketMembers times number first time packet members × (line ≡ json_line members)
+abbrev pub IsJsonLine : Times → ℕ → Option PacketTime → Option PacketTime → Option FrameLen → Packet → List ℕ → Type 0
+IsJsonLine times number first time len packet line =
+    (members : List Member) × ArePacketMembers times number first time len packet members × (line ≡ json_line members)
 
--- equal packets with the same number and time have the same line
-abbrev pub HasOneJsonLine : Times → ℕ → Option PacketTime → Option PacketTime → Packet → Type 0
-HasOneJsonLine times number first time packet =
-    (line other : List ℕ) → IsJsonLine times number first time packet line → IsJsonLine times number first time packet other → line ≡ other
+-- equal packets with the same number, time and length have the same line
+abbrev pub HasOneJsonLine : Times → ℕ → Option PacketTime → Option PacketTime → Option FrameLen → Packet → Type 0
+HasOneJsonLine times number first time len packet = (line other : List ℕ)
+    → IsJsonLine times number first time len packet line → IsJsonLine times number first time len packet other → line ≡ other

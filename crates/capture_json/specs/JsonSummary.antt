@@ -1,4 +1,4 @@
--- The summary as a JSON object: the totals, and the tables with the names of their rows.
+-- The summary as a JSON object: what the capture is, the totals, and the tables with the names of their rows.
 use Rattle.std.specs.Prelude.{ℕ, ◌-◌, ◌^◌, min, List, [], ◌∷◌, ◌++◌, map, codes, length, Option, Some, None}
 use Rattle.std.specs.Net.Socket.{socket_ip, socket_port}
 use Rattle.std.specs.Net.Text.{ip_text}
@@ -9,8 +9,11 @@ use Rattle.capture_summary.specs.declared.rates.Rates.{Rates}
 use Rattle.capture_text.specs.AbsoluteTime.{absolute_text}
 use Rattle.capture_summary.specs.Conversations.{both}
 use Rattle.capture_text.specs.Elapsed.{elapsed_text}
-use Rattle.capture_json.specs.JsonPacket.{json_line, type_member}
-use Rattle.capture_summary.specs.Kinds.{flow_protocol_number, flow_protocol_word, link_rows, protocol_rows, refusal_rows, verdict_rows}
+use Rattle.capture_file.specs.declared.reader.capture_reader.CaptureReader.{CaptureReader}
+use Rattle.capture_json.specs.JsonFacts.{facts_members}
+use Rattle.capture_json.specs.JsonPacket.{ip_protocol_members, json_line, type_member}
+use Rattle.capture_json.specs.JsonTimes.{duration_members, instant_members}
+use Rattle.capture_summary.specs.Kinds.{flow_proto, flow_protocol_number, link_rows, protocol_rows, refusal_rows, verdict_rows}
 use Rattle.capture_json.specs.Words.{with_underscores}
 use Rattle.capture_summary.specs.Ranking.{busiest_of}
 use Rattle.capture_summary.specs.SummaryTables.{SummaryTables}
@@ -43,11 +46,11 @@ counts_data rows = object_of (map counts_member rows)
 
 -- ---- conversations
 
--- a flow: its protocol, its source and its destination
+-- a flow: its protocol, with the members of its packets, its source and its destination
 abbrev pub flow_members : Flow → List Member
 flow_members flow =
-    (codes "protocol", whole_number (flow_protocol_number flow.protocol))
-    ∷ (codes "protocol_name", string (flow_protocol_word flow.protocol)) ∷ (codes "source", string (ip_text (socket_ip flow.source)))
+    ip_protocol_members (flow_protocol_number flow.protocol) (Some (flow_proto flow.protocol))
+    ++ (codes "source", string (ip_text (socket_ip flow.source)))
     ∷ (codes "source_port", whole_number (socket_port flow.source)) ∷ (codes "destination", string (ip_text (socket_ip flow.destination)))
     ∷ (codes "destination_port", whole_number (socket_port flow.destination)) ∷ []
 
@@ -80,12 +83,16 @@ rates_members (Some rates) =
     (codes "packets_per_second", whole_number (min rates.packets (2 ^ 64 - 1)))
     ∷ (codes "bits_per_second", whole_number (min rates.bits (2 ^ 64 - 1))) ∷ []
 
--- the times of the earliest and of the latest packet, the time between them, and the rates in this time
+-- the times of the earliest and of the latest packet, the time between them, each as a text and as numbers, and the rates in this time
 abbrev pub span_members : SummaryTables → Option TimeSpan → List Member
 span_members tables None = []
 span_members tables (Some span) =
-    (codes "first_packet", string (absolute_text span.earliest)) ∷ (codes "last_packet", string (absolute_text span.latest))
-    ∷ (codes "duration", string (elapsed_text span.earliest span.latest)) ∷ rates_members (rates_of tables.packets tables.bytes span)
+    (codes "first_packet", string (absolute_text span.earliest))
+    ∷ (instant_members (codes "first_packet_seconds") (codes "first_packet_nanoseconds") span.earliest
+    ++ (codes "last_packet", string (absolute_text span.latest))
+    ∷ (instant_members (codes "last_packet_seconds") (codes "last_packet_nanoseconds") span.latest
+    ++ (codes "duration", string (elapsed_text span.earliest span.latest))
+    ∷ (duration_members span.earliest span.latest ++ rates_members (rates_of tables.packets tables.bytes span))))
 
 -- the numbers of packets, bytes and conversations, and the times of the packets, if a time is known
 abbrev pub totals_members : SummaryTables → List Member
@@ -99,15 +106,19 @@ rows_members tables =
     (codes "link_types", rows_data (link_rows tables.links)) ∷ (codes "protocols", counts_data (protocol_rows tables.protocols))
     ∷ (codes "checksums", rows_data (verdict_rows tables.verdicts)) ∷ (codes "refusals", rows_data (refusal_rows tables.refusals)) ∷ []
 
--- the type, the totals and the tables
-abbrev pub tables_members : SummaryTables → List Member
-tables_members tables = type_member (codes "summary") ∷ (totals_members tables ++ rows_members tables)
+-- the type, what the capture is, and the totals
+abbrev pub head_members : Option CaptureReader → SummaryTables → List Member
+head_members capture tables = type_member (codes "summary") ∷ (facts_members capture ++ totals_members tables)
 
--- the type, the totals, the tables, and these conversations
-abbrev pub summary_members : List ConversationCount → SummaryTables → List Member
-summary_members busiest tables =
-    tables_members tables ++ busiest_member busiest ∷ uncounted_members tables.flows.without_ports tables.flows.without_room
+-- the same, and the tables
+abbrev pub tables_members : Option CaptureReader → SummaryTables → List Member
+tables_members capture tables = head_members capture tables ++ rows_members tables
+
+-- the same, and these conversations
+abbrev pub summary_members : Option CaptureReader → List ConversationCount → SummaryTables → List Member
+summary_members capture busiest tables =
+    tables_members capture tables ++ busiest_member busiest ∷ uncounted_members tables.flows.without_ports tables.flows.without_room
 
 -- the line of the summary, with at most this number of the busiest conversations
-abbrev pub json_summary : ℕ → SummaryTables → List ℕ
-json_summary top tables = json_line (summary_members (busiest_of top tables.flows.rows) tables)
+abbrev pub json_summary : Option CaptureReader → ℕ → SummaryTables → List ℕ
+json_summary capture top tables = json_line (summary_members capture (busiest_of top tables.flows.rows) tables)

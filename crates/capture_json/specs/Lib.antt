@@ -1,7 +1,9 @@
+pub mod JsonFacts
 pub mod JsonIcmp
 pub mod JsonOptions
 pub mod JsonPacket
 pub mod JsonSummary
+pub mod JsonTimes
 pub mod Members
 pub mod Tokens
 pub mod Words

@@ -1,6 +1,6 @@
 -- JSON objects by their members, in their order.
-use Rattle.std.specs.Prelude.{ℕ, List, [], ◌∷◌, map}
-use Rattle.serde_json.specs.Data.{Data, Members, array, member, no_members, number, object, string, unsigned}
+use Rattle.std.specs.Prelude.{ℕ, ℤ, pos, negsuc, List, [], ◌∷◌, map}
+use Rattle.serde_json.specs.Data.{Data, Members, array, member, negative, no_members, number, object, string, unsigned}
 use Rattle.serde_json.specs.View.{items_of}
 
 -- a name, and the value under it
@@ -27,3 +27,8 @@ texts_data texts = array_of (map string texts)
 -- a whole number
 abbrev pub whole_number : ℕ → Data
 whole_number value = number (unsigned value)
+
+-- a whole number that may be negative
+abbrev pub integer : ℤ → Data
+integer (pos value) = whole_number value
+integer (negsuc value) = number (negative (negsuc value))

@@ -11,6 +11,7 @@ ghost use Rattle.serde_json.specs.Written.{compact_text};
 ghost use Rattle.capture_json.specs.JsonSummary as specs;
 ghost use Rattle.capture_json.specs.JsonSummary.{conversation_data, conversation_members, count_members, uncounted_members};
 
+use crate::protocol::put_ip_protocol;
 use crate::text::{put_written, write_bytes, write_part};
 use crate::{Line, WriteError};
 use capture_summary::{ConversationCount, Count, Flow};
@@ -88,8 +89,7 @@ fn put_conversation(line: &mut Line, room: &mut Vec<u8>, row: &ConversationCount
 fn put_flow(line: &mut Line, room: &mut Vec<u8>, flow: &Flow) -> io::Result<()>
     ensures { OnOk result (tokens_in line.new ≡ with_members (specs.flow_members flow.now) (tokens_in line.old)) }
 {
-    line.put_number("protocol", u64::from(flow.protocol.number().0))?;
-    line.put_text("protocol_name", flow.protocol.name())?;
+    put_ip_protocol(line, flow.protocol.number(), Some(flow.protocol.proto()))?;
     put_socket(line, room, "source", "source_port", &flow.source)?;
     put_socket(
         line,

@@ -3,11 +3,12 @@
 ghost use Rattle.std.specs.Prelude.{ℕ, Option};
 ghost use Rattle.capture_packet.specs.declared.packet.Packet.{Packet};
 ghost use Rattle.capture_file.specs.declared.packet_time.PacketTime.{PacketTime};
+ghost use Rattle.capture_summary.specs.declared.capture_info.FrameLen.{FrameLen};
 ghost use Rattle.capture_json.specs.JsonPacket.{HasOneJsonLine};
 ghost use Rattle.capture_text.specs.declared.times.Times.{Times};
 
-/// Equal packets with the same number and time have the same line of JSON.
+/// Equal packets with the same number, time and length have the same line of JSON.
 pub fn one_json_line()
-    ensures { (times : Times) (number : ℕ) (first time : Option PacketTime) (packet : Packet)
-        → HasOneJsonLine times number first time packet }
+    ensures { (times : Times) (number : ℕ) (first time : Option PacketTime) (len : Option FrameLen) (packet : Packet)
+        → HasOneJsonLine times number first time len packet }
 {}

@@ -9,6 +9,7 @@
 #![tactic(auto)]
 
 mod addresses;
+mod facts;
 mod file_name;
 mod flows;
 mod icmp;
@@ -22,6 +23,7 @@ mod summary;
 mod tcp;
 mod tcp_options;
 mod text;
+mod times;
 mod totals;
 mod tunnels;
 mod verdict;

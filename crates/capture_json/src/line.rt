@@ -20,7 +20,7 @@ impl Line {
     ghost use Rattle.std.specs.Prelude.{◌++◌, ◌∷◌, IfOk, OnOk};
     ghost use Rattle.json.specs.Print.{print};
     ghost use Rattle.json.specs.Token as token;
-    ghost use Rattle.capture_json.specs.Members.{whole_number};
+    ghost use Rattle.capture_json.specs.Members.{integer, whole_number};
     ghost use Rattle.capture_json.specs.Tokens.{array_begun, array_ended, object_begun, object_ended, push, put, tokens_in};
     ghost use Rattle.serde_json.specs.Data.{null, string};
 
@@ -49,6 +49,19 @@ impl Line {
     {
         self.writer.key(name)?;
         self.writer.u64(value)
+    }
+
+    /// Writes a member that is a whole number, which may be negative.
+    ///
+    /// # Errors
+    ///
+    /// `AllocError` if no memory is left.
+    #[tactic(auto, unfolding(crate::specs::Tokens::put))]
+    pub fn put_integer(&mut self, name: &str, value: i64) -> Result<(), AllocError>
+        ensures { OnOk result (tokens_in self.new ≡ put name.now (integer value) (tokens_in self.old)) }
+    {
+        self.writer.key(name)?;
+        self.writer.i64(value)
     }
 
     /// Writes a member that is a text.

@@ -1,9 +1,9 @@
 //! The line of a packet.
 
-ghost use Rattle.std.specs.Prelude.{◌≡◌, OnOk, codes};
+ghost use Rattle.std.specs.Prelude.{◌≡◌, OnOk};
 ghost use Rattle.ip_part.specs.Addresses.{by_value};
-ghost use Rattle.capture_json.specs.Tokens.{PutsOne, put, tokens_in, with_members};
-ghost use Rattle.capture_json.specs.JsonPacket.{AreContentMembers, ArePacketMembers, AreReadMembers, AreTransportMembers, IsJsonLine, time_data, udp_members};
+ghost use Rattle.capture_json.specs.Tokens.{PutsOne, tokens_in, with_members};
+ghost use Rattle.capture_json.specs.JsonPacket.{AreContentMembers, ArePacketMembers, AreReadMembers, AreTransportMembers, IsJsonLine, frame_members, hop_limit_members, time_members, udp_members};
 ghost use Rattle.capture_text.specs.Written.{AppendsOne};
 
 use crate::addresses::{put_addresses, put_payload_len, put_ports};
@@ -13,11 +13,13 @@ use crate::protocol::put_ip_protocol;
 use crate::quoted::put_quoted;
 use crate::tcp::put_tcp;
 use crate::text::{put_written, write_line};
+use crate::times::put_instant;
 use crate::tunnels::put_tunnels;
 use crate::verdict::put_verdict;
 use crate::{Line, WriteError};
 use capture_file::PacketTime;
-use capture_packet::{Content, Packet, Transport};
+use capture_packet::{Content, HopLimit, Packet, Transport};
+use capture_summary::FrameLen;
 use capture_text::{Times, write_time};
 use etherparse_transport::{TransportSlice, UdpSlice};
 use std::alloc::{AllocError, Global};
@@ -27,8 +29,8 @@ use std::io::Write;
 /// The bytes that most texts in a line fit into.
 const TEXT_ROOM: usize = 64;
 
-/// Writes a packet as a JSON object of the type `packet` in a line: its number, its time, its tunnels, its addresses, its content and its
-/// verdict.
+/// Writes a packet as a JSON object of the type `packet` in a line: its number, its time, the length of its frame, its tunnels, its
+/// addresses, its content, its hop limit and its verdict.
 ///
 /// # Errors
 ///
@@ -40,15 +42,18 @@ pub fn write_packet<W: Write>(
     number: u64,
     first: Option<PacketTime>,
     time: Option<PacketTime>,
+    len: Option<FrameLen>,
     packet: &Packet,
 ) -> Result<(), WriteError>
     ensures { OnOk result (AppendsOne (W.contents output.old) (W.contents output.new)
-        (IsJsonLine times number first time packet.now)) }
+        (IsJsonLine times number first time len packet.now)) }
 {
     let mut line = Line::new(alloc)?;
     line.begin_item()?;
     let mut room = Vec::with_capacity(alloc, TEXT_ROOM)?;
-    match put_packet(&mut line, &mut room, times, number, first, time, packet) {
+    match put_packet(
+        &mut line, &mut room, times, number, first, time, len, packet,
+    ) {
         Ok(()) => write_line(output, line),
         Err(_) => Err(WriteError::NoMemory),
     }
@@ -62,19 +67,22 @@ fn put_packet(
     number: u64,
     first: Option<PacketTime>,
     time: Option<PacketTime>,
+    len: Option<FrameLen>,
     packet: &Packet,
 ) -> io::Result<()>
-    ensures { OnOk result (PutsOne (ArePacketMembers times number first time packet.now) (tokens_in line.old) (tokens_in line.new)) }
+    ensures { OnOk result (PutsOne (ArePacketMembers times number first time len packet.now) (tokens_in line.old) (tokens_in line.new)) }
 {
     line.put_text("type", "packet")?;
     line.put_number("number", number)?;
     put_time(line, room, times, first, time)?;
+    put_frame_len(line, len)?;
     put_tunnels(line, room, packet.tunnels.as_slice())?;
     put_content(line, room, &packet.content)?;
+    put_hop_limit(line, packet.hop_limit)?;
     put_verdict(line, room, &packet.verdict)
 }
 
-/// Writes the time of a packet, as in a line of text.
+/// Writes the time of a packet, as in a line of text, and as numbers.
 fn put_time(
     line: &mut Line,
     room: &mut Vec<u8>,
@@ -82,14 +90,28 @@ fn put_time(
     first: Option<PacketTime>,
     time: Option<PacketTime>,
 ) -> io::Result<()>
-    ensures { OnOk result (tokens_in line.new ≡ put (codes "time") (time_data times first time) (tokens_in line.old)) }
+    ensures { OnOk result (tokens_in line.new ≡ with_members (time_members times first time) (tokens_in line.old)) }
 {
-    if time.is_none() {
+    let Some(known) = time else {
         return Ok(line.put_null("time")?);
-    }
+    };
     room.clear();
     write_time(room, times, first, time)?;
-    put_written(line, "time", room.as_slice())
+    put_written(line, "time", room.as_slice())?;
+    Ok(put_instant(line, "seconds", "nanoseconds", known)?)
+}
+
+/// Writes the length of a frame, in bytes, and how many of them were captured, if the capture contains the length.
+fn put_frame_len(line: &mut Line, len: Option<FrameLen>) -> Result<(), AllocError>
+    ensures { OnOk result (tokens_in line.new ≡ with_members (frame_members len) (tokens_in line.old)) }
+{
+    match len {
+        Some(FrameLen { original, captured }) => {
+            line.put_number("length", original)?;
+            line.put_number("captured_length", captured)
+        }
+        None => Ok(()),
+    }
 }
 
 /// Writes the content of a packet.
@@ -113,6 +135,17 @@ fn put_content(line: &mut Line, room: &mut Vec<u8>, content: &Content) -> io::Re
             put_transport(line, room, transport)?;
             Ok(put_payload_len(line, *payload_len, transport.payload())?)
         }
+    }
+}
+
+/// Writes the hop limit of a packet, or its time to live, if its IP header was captured.
+fn put_hop_limit(line: &mut Line, hop_limit: Option<HopLimit>) -> Result<(), AllocError>
+    ensures { OnOk result (tokens_in line.new ≡ with_members (hop_limit_members hop_limit) (tokens_in line.old)) }
+{
+    match hop_limit {
+        Some(HopLimit::Ipv4(limit)) => line.put_number("time_to_live", u64::from(limit)),
+        Some(HopLimit::Ipv6(limit)) => line.put_number("hop_limit", u64::from(limit)),
+        None => Ok(()),
     }
 }
 

@@ -8,18 +8,20 @@ ghost use Rattle.capture_json.specs.Tokens.{array_begun, line_text, put, tokens_
 ghost use Rattle.capture_json.specs.JsonPacket.{json_line};
 ghost use Rattle.capture_json.specs.JsonSummary.{counts_data, counts_member, row_member, rows_data, summary_members, tables_members, uncounted_members};
 
+use crate::facts::put_facts;
 use crate::flows::{put_count, put_uncounted, write_rows};
 use crate::text::{as_text, fill_with_underscores, write_line, write_part};
 use crate::totals::put_totals;
 use crate::{Line, WriteError};
+use capture_file::reader::CaptureReader;
 use capture_summary::{ConversationCount, Count, Summary};
 use std::alloc::Global;
 use std::io;
 use std::io::Write;
 
-/// Writes the summary as a JSON object of the type `summary` in a line. It contains the numbers of packets, bytes and conversations, the times
-/// of the packets, and each table under its name. The conversations are written row by row, so that the memory does not grow with their
-/// number.
+/// Writes the summary as a JSON object of the type `summary` in a line. It contains what the capture is, if `capture` is one, the numbers
+/// of packets, bytes and conversations, the times of the packets, and each table under its name. The conversations are written row by row,
+/// so that the memory does not grow with their number.
 ///
 /// # Errors
 ///
@@ -27,30 +29,32 @@ use std::io::Write;
 pub fn write_summary<W: Write>(
     output: &mut W,
     alloc: Global,
+    capture: &Option<CaptureReader>,
     summary: &Summary,
     busiest: &[ConversationCount],
 ) -> Result<(), WriteError>
-    ensures { OnOk result (Appends (W.contents output.old) (W.contents output.new) (json_line (summary_members busiest.now summary.now))) }
+    ensures { OnOk result (Appends (W.contents output.old) (W.contents output.new) (json_line (summary_members capture.now busiest.now summary.now))) }
 {
-    write_tables(output, alloc, summary)?;
+    write_tables(output, alloc, capture, summary)?;
     write_rows(output, alloc, busiest)?;
     let flows = summary.flows();
     write_end(output, alloc, flows.without_ports(), flows.without_room())
 }
 
-/// Writes the type, the totals and the tables, and what precedes the first conversation.
+/// Writes the type, what the capture is, the totals and the tables, and what precedes the first conversation.
 fn write_tables<W: Write>(
     output: &mut W,
     alloc: Global,
+    capture: &Option<CaptureReader>,
     summary: &Summary,
 ) -> Result<(), WriteError>
     ensures { OnOk result (Appends (W.contents output.old) (W.contents output.new)
-        (print (array_begun (codes "busiest_conversations") (with_members (tables_members summary.now) (begin_object ∷ []))))) }
+        (print (array_begun (codes "busiest_conversations") (with_members (tables_members capture.now summary.now) (begin_object ∷ []))))) }
 {
     let mut line = Line::new(alloc)?;
     line.begin_item()?;
     let mut room = Vec::new(alloc);
-    match put_tables(&mut line, &mut room, summary) {
+    match put_tables(&mut line, &mut room, capture, summary) {
         Ok(()) => {
             line.begin_array("busiest_conversations")?;
             write_part(output, line)
@@ -75,11 +79,17 @@ fn write_end<W: Write>(
     write_line(output, line)
 }
 
-/// Writes the type, the totals and the tables.
-fn put_tables(line: &mut Line, room: &mut Vec<u8>, summary: &Summary) -> io::Result<()>
-    ensures { OnOk result (tokens_in line.new ≡ with_members (tables_members summary.now) (tokens_in line.old)) }
+/// Writes the type, what the capture is, the totals and the tables.
+fn put_tables(
+    line: &mut Line,
+    room: &mut Vec<u8>,
+    capture: &Option<CaptureReader>,
+    summary: &Summary,
+) -> io::Result<()>
+    ensures { OnOk result (tokens_in line.new ≡ with_members (tables_members capture.now summary.now) (tokens_in line.old)) }
 {
     line.put_text("type", "summary")?;
+    put_facts(line, room, capture)?;
     put_totals(line, room, summary)?;
     put_table(line, room, "link_types", &summary.links())?;
     put_protocols(line, room, &summary.protocols())?;

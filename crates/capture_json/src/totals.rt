@@ -6,17 +6,20 @@ ghost use Rattle.serde_json.specs.Data.{string};
 ghost use Rattle.capture_text.specs.AbsoluteTime.{absolute_text};
 ghost use Rattle.capture_text.specs.Elapsed.{elapsed_text};
 ghost use Rattle.capture_json.specs.JsonSummary.{rates_members, span_members, totals_members};
+ghost use Rattle.capture_json.specs.JsonTimes.{duration_members};
+ghost use Rattle.capture_file.specs.PacketTimes.{nanoseconds_between};
 
 use crate::Line;
 use crate::text::put_written;
-use capture_file::PacketTime;
+use crate::times::put_instant;
+use capture_file::{NANOSECONDS_PER_SECOND, PacketTime, nanoseconds_of};
 use capture_summary::{Rates, Summary, TimeSpan};
 use capture_text::{write_absolute, write_elapsed};
 use std::alloc::AllocError;
 use std::io;
 
-/// Writes the numbers of packets, bytes and conversations. If a time is known, it also writes the times of the packets. It writes the rates per
-/// second unless the earliest and the latest time are equal.
+/// Writes the numbers of packets, bytes and conversations. If a time is known, it also writes the times of the packets. It writes the
+/// rates per second unless the earliest and the latest time are equal.
 pub fn put_totals(line: &mut Line, room: &mut Vec<u8>, summary: &Summary) -> io::Result<()>
     ensures { OnOk result (tokens_in line.new ≡ with_members (totals_members summary.now) (tokens_in line.old)) }
 {
@@ -26,7 +29,7 @@ pub fn put_totals(line: &mut Line, room: &mut Vec<u8>, summary: &Summary) -> io:
     put_times(line, room, summary, summary.span())
 }
 
-/// Writes the times of the earliest and of the latest packet, the time between them, and the rates in this time.
+/// Writes the times of the earliest and of the latest packet and the time between them, as texts and as numbers, and the rates.
 fn put_times(
     line: &mut Line,
     room: &mut Vec<u8>,
@@ -39,7 +42,19 @@ fn put_times(
         return Ok(());
     };
     put_date(line, room, "first_packet", span.earliest)?;
+    put_instant(
+        line,
+        "first_packet_seconds",
+        "first_packet_nanoseconds",
+        span.earliest,
+    )?;
     put_date(line, room, "last_packet", span.latest)?;
+    put_instant(
+        line,
+        "last_packet_seconds",
+        "last_packet_nanoseconds",
+        span.latest,
+    )?;
     put_duration(line, room, span)?;
     let rates = Rates::of(summary.packets(), summary.bytes(), span);
     Ok(put_rates(line, rates)?)
@@ -58,11 +73,11 @@ fn put_rates(line: &mut Line, rates: Option<Rates>) -> Result<(), AllocError>
     }
 }
 
-/// A rate as a number of 64 bits. A greater rate becomes the greatest such number.
-fn number_of(rate: u128) -> u64
-    ensures { result ≡ min rate (2 ^ 64 - 1) }
+/// A number as a number of 64 bits. A greater number becomes the greatest such number.
+fn number_of(number: u128) -> u64
+    ensures { result ≡ min number (2 ^ 64 - 1) }
 {
-    u64::try_from(rate).unwrap_or(u64::MAX)
+    u64::try_from(number).unwrap_or(u64::MAX)
 }
 
 /// Writes the date and time of a packet under a name.
@@ -74,11 +89,31 @@ fn put_date(line: &mut Line, room: &mut Vec<u8>, name: &str, time: PacketTime) -
     put_written(line, name, room.as_slice())
 }
 
-/// Writes the time between the earliest packet and the latest.
+/// Writes the time between the earliest packet and the latest, as a text and as numbers.
 fn put_duration(line: &mut Line, room: &mut Vec<u8>, span: TimeSpan) -> io::Result<()>
-    ensures { OnOk result (tokens_in line.new ≡ put (codes "duration") (string (elapsed_text span.earliest span.latest)) (tokens_in line.old)) }
+    ensures { OnOk result (tokens_in line.new ≡ with_members (duration_members span.earliest span.latest)
+        (put (codes "duration") (string (elapsed_text span.earliest span.latest)) (tokens_in line.old))) }
 {
     room.clear();
     write_elapsed(room, span.earliest, span.latest)?;
-    put_written(line, "duration", room.as_slice())
+    put_written(line, "duration", room.as_slice())?;
+    Ok(put_duration_numbers(line, span)?)
+}
+
+/// Writes the time between the earliest packet and the latest as whole seconds, and the nanoseconds after them.
+fn put_duration_numbers(line: &mut Line, span: TimeSpan) -> Result<(), AllocError>
+    ensures { OnOk result (tokens_in line.new ≡ with_members (duration_members span.earliest span.latest) (tokens_in line.old)) }
+{
+    let nanoseconds = nanoseconds_in(span);
+    let seconds = nanoseconds / NANOSECONDS_PER_SECOND;
+    line.put_number("duration_seconds", number_of(seconds))?;
+    let rest = (nanoseconds % NANOSECONDS_PER_SECOND) as u64;
+    line.put_number("duration_nanoseconds", rest)
+}
+
+/// The nanoseconds from the earliest packet to the latest.
+fn nanoseconds_in(span: TimeSpan) -> u128
+    ensures { result ≡ nanoseconds_between span.earliest span.latest }
+{
+    nanoseconds_of(span.earliest).abs_diff(nanoseconds_of(span.latest))
 }

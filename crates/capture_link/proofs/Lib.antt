@@ -2,3 +2,4 @@ mod LinkExamples
 pub mod LinkLaws
 pub mod LinkLemmas
 pub mod MplsLemmas
+pub mod NflogLemmas

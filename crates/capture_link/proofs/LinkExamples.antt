@@ -1,10 +1,10 @@
--- Worked examples of link headers: a frame of each link type, and stacks of MPLS labels. A wrong definition fails here before any code does.
+-- Worked examples of link headers: a frame of each link type, and stacks of MPLS labels. A wrong definition fails here before any code.
 use Rattle.std.proofs.Common.{◌≡◌, ◌<◌, ◌≤◌, ℕ, zero, suc, false, List, [], ◌∷◌, ◌++◌, Option, Some, None, Ok, arith, inl, inr, length, refl, replicate}
 use Rattle.capture_file.specs.declared.byte_order.ByteOrder.TheVariants.{BigEndian, LittleEndian}
-use Rattle.capture_file.specs.declared.link_type.LinkType.TheVariants.{BsdLoopback, CiscoHdlc, Ethernet, FrameRelay, Ieee80211, LinuxCooked, LinuxCooked2, OpenBsdLoopback, Ppp, PppHdlc, Radiotap, RawIp}
+use Rattle.capture_file.specs.declared.link_type.LinkType.TheVariants.{Avs, BsdLoopback, CiscoHdlc, Ethernet, FrameRelay, Ieee80211, InfiniBand, LinuxCooked, LinuxCooked2, Nflog, OpenBsdLoopback, Ppp, PppHdlc, Radiotap, RawIp}
 use Rattle.capture_link.specs.Link.{HasEtherHeader, HasLinkHeader, NeedsLinkHeader, after_tags, ether_type_after, is_vlan_tag, tagged_len}
 use Rattle.capture_link.specs.declared.network_protocol.NetworkProtocol.{NetworkProtocol}
-use Rattle.capture_link.specs.declared.network_protocol.NetworkProtocol.TheVariants.{AddressFamily, EtherType, Ieee80211 as OtherFrame, Llc, Nlpid, PppProtocol}
+use Rattle.capture_link.specs.declared.network_protocol.NetworkProtocol.TheVariants.{AddressFamily, EtherType, Ieee80211 as OtherFrame, LinkType, Llc, Nlpid, PppProtocol}
 use Rattle.capture_link.specs.declared.link.header.EtherHeader.{EtherHeader}
 
 -- the first bytes of an IPv4 packet
@@ -68,6 +68,10 @@ linux_cooked_2 = no_tag _ _ 20 None refl (omega arith) refl
 
 cisco_hdlc : HasLinkHeader CiscoHdlc LittleEndian (0x0F ∷ 0x00 ∷ 0x08 ∷ 0x00 ∷ packet) 4 None
 cisco_hdlc = no_tag _ _ 4 None refl (omega arith) refl
+
+-- the ether type after a global routing header, and two reserved bytes that are not 0
+infiniband : HasLinkHeader InfiniBand LittleEndian (0x60 ∷ (replicate 39 0 ++ 0x86 ∷ 0xDD ∷ 0 ∷ 1 ∷ packet)) 44 None
+infiniband = no_tag _ _ 44 None refl (omega arith) refl
 
 -- a PPPoE session: 6 bytes, and the Protocol field of PPP
 session : HasLinkHeader Ethernet LittleEndian
@@ -160,3 +164,28 @@ ieee80211_without_data = (refl, refl)
 
 radiotap : HasLinkHeader Radiotap BigEndian (0 ∷ 0 ∷ 8 ∷ 0 ∷ (replicate 4 0 ++ data_frame)) 40 None
 radiotap = no_tag _ _ 40 None refl (omega arith) refl
+
+avs : HasLinkHeader Avs LittleEndian (0x80 ∷ 0x21 ∷ 0x10 ∷ 0x01 ∷ 0 ∷ 0 ∷ 0 ∷ 12 ∷ (replicate 4 0 ++ data_frame)) 44 None
+avs = no_tag _ _ 44 None refl (omega arith) refl
+
+-- the length does not count the first eight bytes
+avs_without_length : HasLinkHeader Avs LittleEndian (0x80 ∷ 0x21 ∷ 0x10 ∷ 0x01 ∷ 0 ∷ 0 ∷ 0 ∷ 7 ∷ []) 8 (Some (LinkType 163))
+avs_without_length = (refl, refl)
+
+-- ---- packets that were logged
+
+-- an attribute of four bytes, and the packet
+nflog : HasLinkHeader Nflog BigEndian (2 ∷ 0 ∷ 0 ∷ 5 ∷ 8 ∷ 0 ∷ 1 ∷ 0 ∷ 8 ∷ 0 ∷ 3 ∷ 0 ∷ 6 ∷ 0 ∷ 9 ∷ 0 ∷ packet) 16 None
+nflog = (refl, refl)
+
+-- an attribute with padding, on a machine with the other byte order
+nflog_other_order : HasLinkHeader Nflog BigEndian (10 ∷ 0 ∷ 0 ∷ 5 ∷ 0 ∷ 5 ∷ 0 ∷ 10 ∷ 0 ∷ 0 ∷ 0 ∷ 0 ∷ 0 ∷ 6 ∷ 0 ∷ 9 ∷ packet) 16 None
+nflog_other_order = (refl, refl)
+
+-- a bridged packet
+nflog_without_ip : HasLinkHeader Nflog BigEndian (7 ∷ 0 ∷ 0 ∷ 5 ∷ 6 ∷ 0 ∷ 9 ∷ 0 ∷ packet) 8 (Some (AddressFamily 7))
+nflog_without_ip = (refl, refl)
+
+-- the frame ends within the first attribute, whose end is at 12 bytes
+nflog_cut_off : NeedsLinkHeader Nflog BigEndian (2 ∷ 0 ∷ 0 ∷ 5 ∷ 8 ∷ 0 ∷ 1 ∷ 0 ∷ 8 ∷ []) 12
+nflog_cut_off = refl

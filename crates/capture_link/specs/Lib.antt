@@ -7,4 +7,5 @@ pub mod LinkHeaders
 pub mod Llc
 pub mod Metadata
 pub mod Mpls
+pub mod Nflog
 pub mod Ppp

@@ -7,13 +7,14 @@ use Rattle.capture_link.specs.FrameRelay.{frame_relay}
 use Rattle.capture_link.specs.Ieee80211.{after_radiotap, frame_at}
 use Rattle.capture_link.specs.LinkHeaders.{with_bytes}
 use Rattle.capture_link.specs.Llc.{llc_at}
-use Rattle.capture_link.specs.Metadata.{after_ppi, after_prism, after_tap, filter_header, ipnet_header}
+use Rattle.capture_link.specs.Metadata.{after_avs, after_ppi, after_prism, after_tap, filter_header, ipnet_header}
 use Rattle.capture_link.specs.Mpls.{stack_at}
+use Rattle.capture_link.specs.Nflog.{log_header}
 use Rattle.capture_link.specs.Ppp.{ppp_header, session_at}
 use Rattle.capture_file.specs.declared.byte_order.ByteOrder.{ByteOrder}
 use Rattle.capture_file.specs.declared.byte_order.ByteOrder.TheVariants.{BigEndian}
 use Rattle.capture_file.specs.declared.link_type.LinkType.{LinkType}
-use Rattle.capture_file.specs.declared.link_type.LinkType.TheVariants.{BsdLoopback, CiscoHdlc, Ethernet, FrameRelay, Ieee80211, Ipnet, LinuxCooked, LinuxCooked2, OpenBsdLoopback, Pflog, Pktap, Ppi, Ppp, PppHdlc, PppOverEthernet, Prism, Radiotap, RawIp}
+use Rattle.capture_file.specs.declared.link_type.LinkType.TheVariants.{Avs, BsdLoopback, CiscoHdlc, Ethernet, FrameRelay, Ieee80211, InfiniBand, Ipnet, LinuxCooked, LinuxCooked2, Nflog, OpenBsdLoopback, Pflog, Pktap, Ppi, Ppp, PppHdlc, PppOverEthernet, Prism, Radiotap, RawIp}
 use Rattle.capture_link.specs.declared.link.Frame.{Frame}
 use Rattle.capture_link.specs.declared.link.Frame.TheVariants.{Ip, Other}
 use Rattle.capture_link.specs.declared.link.LinkHeaderCutOff.{LinkHeaderCutOff}
@@ -37,6 +38,11 @@ linux_cooked_2 = record { len = 20; ether_type_at = 0 }
 -- LINKTYPE_C_HDLC (RFC 1547, section 4.3.1): an address, a control byte, and the ether type
 abbrev pub cisco_hdlc : EtherHeader
 cisco_hdlc = record { len = 4; ether_type_at = 2 }
+
+-- LINKTYPE_IPOIB: a global routing header of 40 bytes, and the encapsulation header of IP over InfiniBand (RFC 4391, section 6), which
+-- contains the ether type and two reserved bytes
+abbrev pub infiniband : EtherHeader
+infiniband = record { len = 44; ether_type_at = 40 }
 
 -- the ether types before a VLAN tag: 8100 and 88A8 (IEEE 802.1Q, clause 9.5), and 9100 and 9200, which older equipment writes instead of
 -- 88A8
@@ -159,8 +165,11 @@ first_header LinuxCooked order frame = cooked_header linux_cooked frame
 first_header Pflog order frame = filter_header frame
 first_header Prism order frame = after_prism frame
 first_header Radiotap order frame = after_radiotap frame
+first_header Avs order frame = after_avs frame
 first_header Ppi order frame = after_ppi frame
 first_header Ipnet order frame = ipnet_header frame
+first_header Nflog order frame = log_header frame
+first_header InfiniBand order frame = Ok (EtherType infiniband)
 first_header Pktap order frame = after_tap frame
 first_header LinuxCooked2 order frame = cooked_header linux_cooked_2 frame
 

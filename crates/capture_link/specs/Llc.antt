@@ -17,7 +17,7 @@ by_organization_code frame place organization_code =
 abbrev pub snap_at : List ℕ → ℕ → Result FirstHeader LinkHeaderCutOff
 snap_at frame place = with_bytes frame (place + 5) (Ok (by_organization_code frame place (be_number frame place 3)))
 
--- The last place at which an LLC header begins: no frame is longer.
+-- The greatest place at which an LLC header begins. No frame has more bytes.
 abbrev pub max_llc_place : ℕ
 max_llc_place = 2 ^ 63
 

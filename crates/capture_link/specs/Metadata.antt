@@ -51,16 +51,20 @@ ipnet_header frame = with_bytes frame 24 (Ok (with_family 24 (slice_index frame 
 abbrev pub is_avs : ℕ → Bool
 is_avs magic = magic == 0x80211001 || magic == 0x80211002
 
--- the frame after a header of AVS of this length, which counts at least the first eight bytes
-abbrev pub by_avs_len : List ℕ → ℕ → Result FirstHeader LinkHeaderCutOff
-by_avs_len frame len = if nat_le 8 len then frame_at frame len else Ok (unread 8 119)
+-- the frame after a header of AVS of this length, which counts at least the first eight bytes, in a frame of the link type with this number
+abbrev pub by_avs_len : List ℕ → ℕ → ℕ → Result FirstHeader LinkHeaderCutOff
+by_avs_len frame number len = if nat_le 8 len then frame_at frame len else Ok (unread 8 number)
+
+-- LINKTYPE_IEEE802_11_AVS. A header of AVS contains the number that identifies it and its length, in four bytes each, and more fields. The
+-- number also states the version. The length is at the same place in every version, so the number does not matter.
+abbrev pub after_avs : List ℕ → Result FirstHeader LinkHeaderCutOff
+after_avs frame = with_bytes frame 8 (by_avs_len frame 163 (be_number frame 4 4))
 
 -- LINKTYPE_IEEE802_11_PRISM. A Prism header has 144 bytes: a message code and a message length of four bytes each, the name of a device in
--- 16 bytes, and ten items of 12 bytes each. A header of AVS may be in its place: the number that identifies it and its length, in four
--- bytes each, and more fields.
+-- 16 bytes, and ten items of 12 bytes each. A header of AVS may be in its place, if it begins with the number of version 1 or 2.
 abbrev pub after_prism : List ℕ → Result FirstHeader LinkHeaderCutOff
 after_prism frame = with_bytes frame 8 (
-    if is_avs (be_number frame 0 4) then by_avs_len frame (be_number frame 4 4) else frame_at frame 144)
+    if is_avs (be_number frame 0 4) then by_avs_len frame 119 (be_number frame 4 4) else frame_at frame 144)
 
 -- ---- a frame of a link type that the header states
 

@@ -15,6 +15,7 @@ pub mod laws;
 mod llc;
 mod metadata;
 mod mpls;
+mod nflog;
 mod ppp;
 
 use crate::NetworkProtocol;
@@ -26,8 +27,11 @@ use crate::link::frame_relay::frame_relay;
 use crate::link::header::{EtherHeader, FirstHeader, LinkHeader, expect_len, number_at, short_at};
 use crate::link::ieee80211::{after_radiotap, frame_at};
 use crate::link::llc::llc_at;
-use crate::link::metadata::{after_ppi, after_prism, after_tap, filter_header, ipnet_header};
+use crate::link::metadata::{
+    after_avs, after_ppi, after_prism, after_tap, filter_header, ipnet_header,
+};
 use crate::link::mpls::stack_at;
+use crate::link::nflog::log_header;
 use crate::link::ppp::{ppp_header, session_at};
 use capture_file::{ByteOrder, LinkType};
 
@@ -73,6 +77,12 @@ const CISCO_HDLC: EtherHeader = EtherHeader {
     ether_type_at: 2,
 };
 
+/// LINKTYPE_IPOIB: a global routing header, and the encapsulation header with the protocol and two reserved bytes (RFC 4391, section 6).
+const INFINIBAND: EtherHeader = EtherHeader {
+    len: 44,
+    ether_type_at: 40,
+};
+
 /// The protocol of a Linux cooked frame with an LLC header (LINKTYPE_LINUX_SLL).
 const COOKED_LLC: u16 = 0x0004;
 
@@ -102,11 +112,11 @@ const TO_ALL_STATIONS: u8 = 0x8F;
 /// The call skips these headers:
 /// - Ethernet, 14 bytes
 /// - LINKTYPE_LINUX_SLL, 16 bytes, and LINKTYPE_LINUX_SLL2, 20 bytes
-/// - Cisco HDLC, 4 bytes
+/// - Cisco HDLC, 4 bytes, and IP over InfiniBand, 44 bytes
 /// - radiotap, the header of an IEEE 802.11 data frame, and the LLC and SNAP headers after it
 /// - a Prism header or a header of AVS, and the same headers after it
 /// - PPP, PPP over Ethernet, and Frame Relay
-/// - LINKTYPE_PFLOG, and LINKTYPE_IPNET, 24 bytes
+/// - LINKTYPE_PFLOG, LINKTYPE_NFLOG, and LINKTYPE_IPNET, 24 bytes
 /// - LINKTYPE_PPI and LINKTYPE_PKTAP, and the header of the Ethernet, raw IP, loopback or IEEE 802.11 frame after it
 /// - the address family of a loopback frame, 4 bytes
 ///
@@ -121,7 +131,7 @@ const TO_ALL_STATIONS: u8 = 0x8F;
 ///
 /// These numbers identify an IP packet:
 /// - the ether types 0800 and 86DD
-/// - the address families 2, 24, 28 and 30, in either byte order
+/// - the address families 2, 24, 28 and 30, in either byte order, 2 and 26 of LINKTYPE_IPNET, and 2 and 10 of LINKTYPE_NFLOG
 /// - the PPP protocols 0021 and 0057
 /// - the network layer protocol IDs CC and 8E
 ///
@@ -187,8 +197,11 @@ fn first_header(
         LinkType::Pflog => filter_header(frame),
         LinkType::Prism => after_prism(frame),
         LinkType::Radiotap => after_radiotap(frame),
+        LinkType::Avs => after_avs(frame),
         LinkType::Ppi => after_ppi(frame),
         LinkType::Ipnet => ipnet_header(frame),
+        LinkType::Nflog => log_header(frame),
+        LinkType::InfiniBand => Ok(FirstHeader::EtherType(INFINIBAND)),
         LinkType::Pktap => after_tap(frame),
         LinkType::LinuxCooked2 => cooked_header(LINUX_COOKED_2, frame),
     }

@@ -8,6 +8,7 @@ use Rattle.capture_file.specs.declared.byte_order.ByteOrder.{ByteOrder}
 use Rattle.capture_file.specs.declared.link_type.LinkType.{LinkType}
 use Rattle.capture_packet.specs.Contents.{Shows, ShowsRefused}
 use Rattle.capture_link.specs.Link.{HasLinkHeader, IsFoundAfter, NeedsLinkHeader}
+use Rattle.capture_packet.specs.HopLimits.{hop_limit_of}
 use Rattle.capture_packet.specs.Packets.{in_no_tunnel}
 use Rattle.capture_packet.specs.Tunnels.{Nested, by_value, innermost}
 use Rattle.capture_packet.specs.Verdicts.{JudgesTransport, is_cut_off, unread_verdict, untested}
@@ -44,7 +45,8 @@ IsUnread is_cut_off bytes error packet = ShowsRefused bytes packet.content × (p
 
 -- An IP packet, with accepted or rejected headers. Neither a missing end nor a missing length rejects them.
 abbrev pub IsIpPacket : Bool → List ℕ → Packet → Type 0
-IsIpPacket is_cut bytes packet = MatchOption (lax_refusal bytes) (IsCarried is_cut bytes packet)
+IsIpPacket is_cut bytes packet = (packet.hop_limit ≡ hop_limit_of bytes)
+    × MatchOption (lax_refusal bytes) (IsCarried is_cut bytes packet)
     (λ error. IsUnread (is_cut_off is_cut bytes (refusal bytes)) bytes error packet)
 
 -- an IP packet in these tunnels

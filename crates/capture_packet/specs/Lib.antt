@@ -2,6 +2,7 @@ pub mod Addresses
 pub mod Contents
 pub mod Frames
 pub mod Gre
+pub mod HopLimits
 pub mod Packets
 pub mod Payloads
 pub mod Quotes

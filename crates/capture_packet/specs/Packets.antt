@@ -1,9 +1,9 @@
 -- A packet of a capture that is in no tunnel.
-use Rattle.std.specs.Prelude.{[]}
+use Rattle.std.specs.Prelude.{[], None}
 use Rattle.capture_packet.specs.declared.content.Content.{Content}
 use Rattle.capture_packet.specs.declared.packet.Packet.{Packet}
 use Rattle.capture_packet.specs.declared.verdict.Verdict.{Verdict}
 
--- the packet with this content and this verdict
+-- the packet with this content and this verdict, and without a hop limit
 abbrev pub in_no_tunnel : Content → Verdict → Packet
-in_no_tunnel content verdict = record { tunnels = record { items = [] }; content = content; verdict = verdict }
+in_no_tunnel content verdict = record { tunnels = record { items = [] }; content = content; verdict = verdict; hop_limit = None }

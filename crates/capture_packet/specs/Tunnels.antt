@@ -16,12 +16,13 @@ use Rattle.capture_packet.specs.declared.tunnel.Tunnel.{Tunnel}
 abbrev pub fixed_len : ℕ → ℕ
 fixed_len number = if number == 4 then 20 else 40
 
--- an IP packet of this version, if the bytes begin with the fixed part of its header
+-- these bytes, if they begin with the fixed part of an IP header of this version
 abbrev pub packet_of_version : ℕ → List ℕ → Option (List ℕ)
 packet_of_version number bytes =
     if nat_le (fixed_len number) (length bytes) && version bytes == number then Some bytes else None
 
--- the packet of a protocol with this ether type: 0800 is IPv4 (RFC 2784, section 3), and 86DD is IPv6 (RFC 7676, section 3.1)
+-- these bytes, if they begin with a packet of this ether type: 0800 is IPv4 (RFC 2784, section 3), and 86DD is IPv6 (RFC 7676, section
+-- 3.1)
 abbrev pub packet_of_type : ℕ → List ℕ → Option (List ℕ)
 packet_of_type ether_type bytes =
     if ether_type == 0x0800 then packet_of_version 4 bytes
@@ -42,7 +43,7 @@ packet_in number payload =
     else if number == 47 then packet_after_gre payload
     else None
 
--- the packet in an outer packet; a fragment contains only a part of its payload
+-- the inner packet in the payload of an outer packet; a fragment contains only a part of the payload, so it has no inner packet
 abbrev pub payload_packet : Bool → ℕ → List ℕ → Option (List ℕ)
 payload_packet is_fragment number payload = if is_fragment then None else packet_in number payload
 
@@ -53,33 +54,33 @@ pub record Outer : Type 0 where
   pub addresses : Addresses
   pub protocol : ℕ
 
--- the value of a tunnel, wherever its bytes are stored
+-- the outer packet that the program describes, with the bytes of its addresses instead of references to them
 abbrev pub by_value : Tunnel → Outer
 by_value tunnel = record { addresses = addresses.by_value tunnel.addresses; protocol = tunnel.protocol.0 }
 
--- a tunnel: its outer packet, the bytes of the inner packet, and whether the end of the outer packet is missing
+-- one tunnel: its outer packet, the bytes of the inner packet, and whether the end of the outer packet is missing
 pub record Opened : Type 0 where
   pub outer : Outer
   pub bytes : List ℕ
   pub is_cut : Bool
 
--- the tunnel with this outer packet, if it contains a packet
+-- the tunnel with this outer packet, if the payload contains an inner packet
 abbrev pub opened_with : Outer → Bool → Bool → List ℕ → Option Opened
 opened_with outer is_fragment is_cut payload =
     option_map (λ bytes. record { outer = outer; bytes = bytes; is_cut = is_cut }) (payload_packet is_fragment outer.protocol payload)
 
--- The end of an IP packet is missing. Either its header counts more bytes than are present. Or it states no length, and the end of the bytes
--- is missing, because the capture or an outer packet is cut off.
+-- The end of an IP packet is missing. If its header states a length, fewer bytes are present. If its header states no length, the packet
+-- extends to the end of the bytes, and that end is missing, since the capture or an outer packet is cut off.
 abbrev pub is_end_missing : Bool → List ℕ → Bool
 is_end_missing is_cut packet = is_cut_off (lacks_len packet) packet || (is_cut && lacks_len packet)
 
--- the tunnel in an outer packet with these IP headers, unless an error rejects them
+-- the tunnel in an outer packet, according to its IP headers; an error rejects them, so there is no tunnel
 abbrev pub opened_after : Bool → List ℕ → Result Headers IpError → Option Opened
 opened_after is_cut packet (Err error) = None
 opened_after is_cut packet (Ok headers) = opened_with (record { addresses = headers.addresses; protocol = headers.protocol.0 })
     headers.is_fragment (is_end_missing is_cut packet) (drop headers.len (counted (lacks_len packet) packet))
 
--- the tunnel in an outer packet, unless this error rejects the outer packet
+-- the tunnel in an outer packet, if no error rejects the outer packet
 abbrev pub opened_unless : Option IpError → Bool → List ℕ → Option Opened
 opened_unless (Some error) is_cut packet = None
 opened_unless None is_cut packet = opened_after is_cut packet (headers_of (lacks_len packet) packet)
@@ -90,7 +91,7 @@ opened is_cut packet = opened_unless (lax_refusal packet) is_cut packet
 
 -- ---- tunnels in tunnels
 
--- an IP packet in tunnels: their outer packets, from the outermost to the innermost, and the packet in them
+-- an IP packet in tunnels: their outer packets, from the outermost to the innermost, and the bytes of the packet
 pub record Nested : Type 0 where
   pub outers : List Outer
   pub bytes : List ℕ
@@ -100,16 +101,16 @@ pub record Nested : Type 0 where
 abbrev pub alone : Bool → List ℕ → Nested
 alone is_cut packet = record { outers = []; bytes = packet; is_cut = is_cut }
 
--- a packet in one more tunnel, which contains its other tunnels
+-- the same packet with one more outer packet, which is the outermost
 abbrev pub in_tunnel : Outer → Nested → Nested
 in_tunnel outer nested = record { outers = outer ∷ nested.outers; bytes = nested.bytes; is_cut = nested.is_cut }
 
--- the packet in this tunnel, or this packet if there is no tunnel; `read` reads the bytes in the tunnel
+-- the packet that `read` finds in this tunnel, or `outside` if there is no tunnel
 abbrev pub inside : Option Opened → (Opened → Nested) → Nested → Nested
 inside None read outside = outside
 inside (Some tunnel) read outside = in_tunnel tunnel.outer (read tunnel)
 
--- The packet at the front of these bytes, in at most this number of tunnels. A packet in more tunnels is not read.
+-- The innermost packet in an IP packet, after at most this number of tunnels. A further tunnel is not opened.
 unfoldable pub nested_in : ℕ → Bool → List ℕ → Nested
 nested_in zero is_cut packet = alone is_cut packet
 nested_in (suc more) is_cut packet =
@@ -119,6 +120,6 @@ nested_in (suc more) is_cut packet =
 abbrev pub max_tunnels : ℕ
 max_tunnels = 4
 
--- the packet at the front of these bytes, in all tunnels that are read
+-- the innermost packet in an IP packet
 abbrev pub innermost : Bool → List ℕ → Nested
 innermost is_cut packet = nested_in max_tunnels is_cut packet

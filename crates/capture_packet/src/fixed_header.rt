@@ -2,8 +2,10 @@ ghost use Rattle.std.specs.Prelude.{◌≡◌, ◌≤◌, ◌+◌, length, slice
 ghost use Rattle.std.specs.Option.{option_map};
 ghost use Rattle.ip_part.specs.Addresses.{by_value};
 ghost use Rattle.capture_packet.specs.Contents as specs;
+ghost use Rattle.capture_packet.specs.HopLimits.{hop_limit_of};
 ghost use Rattle.capture_packet.specs.Tunnels.{packet_of_version};
 
+use crate::HopLimit;
 use etherparse_transport::ip::IpAddresses;
 
 /// The length of an IPv4 header without options, in bytes (RFC 791, section 3.1).
@@ -28,6 +30,20 @@ pub(crate) fn fixed_addresses(packet: &[u8]) -> Option<IpAddresses<'_>>
             source: ipv6_address(packet, 8),
             destination: Some(ipv6_address(packet, 24)),
         }),
+        _ => None,
+    }
+}
+
+/// The hop limit of an IP header, if its fixed part is complete.
+pub(crate) fn hop_limit_of(packet: &[u8]) -> Option<HopLimit>
+    ensures { result ≡ hop_limit_of packet.now }
+{
+    if packet.len() < IPV4_LEN {
+        return None;
+    }
+    match packet[0] >> 4 {
+        4 => Some(HopLimit::Ipv4(packet[8])),
+        6 if packet.len() >= IPV6_LEN => Some(HopLimit::Ipv6(packet[7])),
         _ => None,
     }
 }

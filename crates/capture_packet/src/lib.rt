@@ -1,7 +1,8 @@
 //! The content of a packet in a capture, and the verdict on its checksum. Nothing is allocated.
 //!
-//! `capture_link` finds the network packet in a frame. `read_packet` reads it down to its transport: UDP (RFC 768), TCP (RFC 9293), ICMPv4 (RFC
-//! 792) or ICMPv6 (RFC 4443), over IPv4 or IPv6. It follows up to four tunnels: IP in IP (RFC 2003; RFC 4213; RFC 2473) and GRE (RFC 2784).
+//! `capture_link` finds the network packet in a frame. `read_packet` reads its IP headers, and the header of its transport: UDP (RFC 768),
+//! TCP (RFC 9293), ICMPv4 (RFC 792) or ICMPv6 (RFC 4443). If an IP packet contains another one, `read_packet` reads the inner packet. It
+//! opens up to four such tunnels: IP in IP (RFC 2003; RFC 4213; RFC 2473) and GRE (RFC 2784).
 //!
 //! ```
 //! let packet = read_packet(link_type, captured.byte_order, frame, captured.is_cut());
@@ -17,6 +18,7 @@ mod addresses;
 mod content;
 mod fixed_header;
 mod gre;
+mod hop_limit;
 mod packet;
 mod payload;
 mod quoted_packet;
@@ -29,6 +31,7 @@ mod verdict;
 pub use addresses::{destination_of, source_of};
 pub use capture_link::NetworkProtocol;
 pub use content::Content;
+pub use hop_limit::HopLimit;
 pub use packet::Packet;
 pub use quoted_packet::QuotedPacket;
 pub use read::{MAX_PACKET_LEN, read_packet};

@@ -1,7 +1,7 @@
 ghost use Rattle.std.specs.Prelude.{◌≡◌};
 ghost use Rattle.capture_packet.specs.Packets.{in_no_tunnel};
 
-use crate::{Content, Tunnels, Verdict};
+use crate::{Content, HopLimit, Tunnels, Verdict};
 use arrayvec::ArrayVec;
 
 /// A packet of a capture, as far as it can be read. If an IP packet contains another IP packet, this is the inner packet.
@@ -13,10 +13,12 @@ pub struct Packet<'a> {
     pub content: Content<'a>,
     /// The verdict on its checksum.
     pub verdict: Verdict,
+    /// Its hop limit, if the fixed part of its IP header is present.
+    pub hop_limit: Option<HopLimit>,
 }
 
 impl<'a> Packet<'a> {
-    /// A packet in no tunnel.
+    /// A packet in no tunnel, without a hop limit.
     pub fn in_no_tunnel(content: Content<'a>, verdict: Verdict) -> Packet<'a>
         ensures { result ≡ in_no_tunnel content.entry verdict }
     {
@@ -24,6 +26,7 @@ impl<'a> Packet<'a> {
             tunnels: ArrayVec::new(),
             content,
             verdict,
+            hop_limit: None,
         }
     }
 }

@@ -3,10 +3,11 @@ ghost use Rattle.std.specs.Option.{option_map};
 ghost use Rattle.arrayvec.specs.ArrayVec.{array_vec_len};
 ghost use Rattle.ip_part.specs.Ip.{Carries, lacks_len, lax_refusal, refusal};
 ghost use Rattle.capture_packet.specs.Frames.{IsInPacket, IsInTunnels, IsRead, IsUnread, link_verdict};
+ghost use Rattle.capture_packet.specs.HopLimits as hop_limits;
 ghost use Rattle.capture_packet.specs.Tunnels.{innermost, max_tunnels, payload_packet};
 ghost use Rattle.capture_packet.specs.Verdicts as specs;
 
-use crate::fixed_header::{IPV6_LEN, fixed_addresses};
+use crate::fixed_header::{IPV6_LEN, fixed_addresses, hop_limit_of};
 use crate::payload::{counted_payload_len, payload_len};
 use crate::transport::{is_transport_cut_off, read_transport};
 use crate::tunnel::packet_in_payload;
@@ -146,6 +147,7 @@ fn carried<'a>(
     requires stated { found.now.is_length_missing ≡ lacks_len packet.now }
     ensures tunnels { result.tunnels ≡ tunnels.entry }
     ensures is { IsInPacket is_cut packet.now found.now result }
+    ensures hop_limit { result.hop_limit ≡ hop_limits.hop_limit_of packet.now }
 {
     let (transport, verdict) = read_transport(found, is_cut);
     let payload_len = payload_len(&transport, counted_payload_len(packet, found));
@@ -159,6 +161,7 @@ fn carried<'a>(
             payload_len,
         },
         verdict,
+        hop_limit: hop_limit_of(packet),
     }
 }
 
@@ -171,6 +174,7 @@ fn unread<'a>(
 ) -> Packet<'a>
     ensures tunnels { result.tunnels ≡ tunnels.entry }
     ensures is { IsUnread is_cut_off packet.now error result }
+    ensures hop_limit { result.hop_limit ≡ hop_limits.hop_limit_of packet.now }
 {
     let content = match fixed_addresses(packet) {
         Some(addresses) => Content::IpHeader(addresses),
@@ -180,6 +184,7 @@ fn unread<'a>(
         tunnels,
         content,
         verdict: unread_verdict(error, is_cut_off),
+        hop_limit: hop_limit_of(packet),
     }
 }
 

@@ -29,9 +29,14 @@ repeated rule = record rule { action = Some Append }
 abbrev pub conflicting : Rule → Rule
 conflicting rule = record rule { is_free = false }
 
+-- the option for further fields in the lines, `-v` (118)
+abbrev pub verbose_rule : Rule
+verbose_rule = record (flag_rule (codes "verbose")) { short = Some 118 }
+
 -- the options for the parts and the lines of the report
 abbrev pub line_rules : List Rule
-line_rules = conflicting (flag_rule (codes "summary")) ∷ flag_rule (codes "packets") ∷ conflicting (flag_rule (codes "wrong")) ∷ []
+line_rules =
+    conflicting (flag_rule (codes "summary")) ∷ flag_rule (codes "packets") ∷ conflicting (flag_rule (codes "wrong")) ∷ verbose_rule ∷ []
 
 -- the option for the number of conversations, which has at most 64 bits
 abbrev pub top_rule : Rule
@@ -63,6 +68,14 @@ count_rule = record (parsed_rule (codes "count") (parsers.Unsigned 1 (2 ^ 64 - 1
 abbrev pub end_rules : List Rule
 end_rules = count_rule ∷ []
 
+-- the option for a capture in the place of a report, `-w` (119)
+abbrev pub write_rule : Rule
+write_rule = conflicting (record (value_rule (codes "write")) { short = Some 119 })
+
+-- the option for the output
+abbrev pub output_rules : List Rule
+output_rules = write_rule ∷ []
+
 -- the option for writing lines, `-l` (108)
 abbrev pub line_buffered_rule : Rule
 line_buffered_rule = record (flag_rule (codes "line-buffered")) { short = Some 108 }
@@ -93,7 +106,7 @@ bare_command = let app = new_app (codes "capture_report") in record app { top = 
 
 -- the command line, where these are the names of protocols
 abbrev pub command_line : Bor (List (Bor Text)) → App
-command_line names = with_rules bare_command (line_rules ++ form_rules ++ choice_rules names ++ end_rules ++ file_rules)
+command_line names = with_rules bare_command (line_rules ++ form_rules ++ choice_rules names ++ end_rules ++ output_rules ++ file_rules)
 
 -- this is the command line
 abbrev pub IsCommandLine : App → Type 0

@@ -4,4 +4,5 @@ pub mod CommandLine
 pub mod Failures
 pub mod Inputs
 pub mod Options
+pub mod Progress
 pub mod Words

@@ -1,5 +1,7 @@
 -- The options in the matches of a command line.
 use Rattle.std.specs.Prelude.{◌≡◌, ℕ, Bool, List, ◌++◌, not, if◌then◌else◌, codes, map, None, Some}
+use Rattle.std.specs.Option.{option_map}
+use Rattle.clap.specs.Words.{first_value, found_of}
 use Rattle.clap.specs.declared.parser.matches.ArgMatches.{ArgMatches}
 use Rattle.capture_run.specs.Lines.{lines_by}
 use Rattle.capture_run.specs.declared.parts.Format.TheVariants as formats
@@ -25,6 +27,7 @@ pub record IsOptionsOf (matches : ArgMatches) (options : Options) : Type 0 where
   pub lines : (summary wrong : Bool) → HasFlag matches (codes "summary") summary → HasFlag matches (codes "wrong") wrong
       → options.parts.lines ≡ lines_by summary wrong
   pub times : (absolute : Bool) → HasFlag matches (codes "absolute") absolute → options.parts.times ≡ times_by absolute
+  pub verbose : (flag : Bool) → HasFlag matches (codes "verbose") flag → options.parts.verbose ≡ flag
   pub summary : (packets : Bool) → HasFlag matches (codes "packets") packets → options.parts.summary ≡ not packets
   pub check : (flag : Bool) → HasFlag matches (codes "check") flag → options.parts.check ≡ flag
   pub format : (flag : Bool) → HasFlag matches (codes "json") flag → options.parts.format ≡ (if flag then formats.Json else formats.Text)
@@ -32,4 +35,5 @@ pub record IsOptionsOf (matches : ArgMatches) (options : Options) : Type 0 where
   pub choice : IsChoiceOf matches options.parts.choice
   pub limit : HasNumberOr matches (codes "count") 64 Some None options.parts.limit
   pub line_buffered : (flag : Bool) → HasFlag matches (codes "line-buffered") flag → options.line_buffered ≡ flag
+  pub write : option_map (λ name. name.now) options.write ≡ first_value (found_of matches) (codes "write")
   pub files : map (λ name. name.now) options.files.items ≡ names_of matches

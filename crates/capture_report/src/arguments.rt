@@ -5,13 +5,13 @@ ghost use Rattle.clap.specs.Words.{IsPlainArg, app_of, kind_of, rule_of};
 ghost use Rattle.clap.specs.declared.error.kind.ErrorKind.TheVariants as ErrorKind;
 ghost use Rattle.capture_report.specs.Arguments.{HasFlag, HasNumberOr};
 ghost use Rattle.capture_report.specs.Options.{IsOptionsOf, IsRefusedBy, names_of};
-ghost use Rattle.capture_report.specs.CommandLine.{AreRequestedBy, IsCommandLine, bare_command, choice_rules, conflicting, count_rule, end_rules, file_rule, file_rules, flag_rule, form_rules, line_buffered_rule, line_rules, numeric_rule, protocol_names, read_rule, repeated, top_rule, value_rule, with_rules};
+ghost use Rattle.capture_report.specs.CommandLine.{AreRequestedBy, IsCommandLine, bare_command, choice_rules, conflicting, count_rule, end_rules, file_rule, file_rules, flag_rule, form_rules, line_buffered_rule, line_rules, numeric_rule, output_rules, protocol_names, read_rule, repeated, top_rule, value_rule, verbose_rule, with_rules, write_rule};
 ghost use Rattle.capture_summary.specs.Ranking.{default_top};
 ghost use Rattle.capture_text.specs.TimeText.{times_by};
 ghost use Rattle.capture_run.specs.declared.parts.Format.TheVariants as Format;
 
 use crate::chosen::{ChoiceError, choice_of};
-use capture_run::{Format, Parts, Times};
+use capture_run::{Format, Parts, STANDARD_INPUT, Times};
 use capture_summary::{BUSIEST, MAX_CHOSEN};
 use clap::error::ErrorKind;
 use clap::{Arg, ArgAction, ArgMatches, Command, Error, value_parser};
@@ -34,6 +34,9 @@ Examples:
 /// The names of the protocols that packets can be chosen by. `icmp` is ICMPv4 and ICMPv6.
 static PROTOCOLS: [&str; 5] = ["udp", "tcp", "icmp", "icmpv4", "icmpv6"];
 
+/// The error if the file to write is the capture.
+const OUTPUT_IS_CAPTURE: &str = "the FILE of '--write <FILE>' is the capture";
+
 /// The options in the arguments.
 #[derive(Drop)]
 pub struct Options<'a> {
@@ -41,6 +44,8 @@ pub struct Options<'a> {
     pub parts: Parts,
     /// Whether each line is written out as soon as it is complete.
     pub line_buffered: bool,
+    /// The name of the file to which the packets are written instead of a report, if they are. `-` is standard output.
+    pub write: Option<&'a str>,
     /// The names of the captures, in their order.
     pub files: Vec<&'a str>,
 }
@@ -52,6 +57,17 @@ pub struct Options<'a> {
 /// An unknown argument is named in the text of the error, whose exit status is 2. A request for help or for the version is also an error.
 /// Its text goes to standard output, and its exit status is 0.
 pub fn requested_options<'a>(alloc: Global, words: &'a [String]) -> Result<Options<'a>, Error>
+    ensures { IfOk result (AreRequestedBy (map (λ word. string_bytes word) words.now)) }
+{
+    let options = given_options(alloc, words)?;
+    match output_fault(&options) {
+        Some(fault) => Err(invalid_output(alloc, fault)?),
+        None => Ok(options),
+    }
+}
+
+/// The options in the arguments, whether the requested file can be written or not.
+fn given_options<'a>(alloc: Global, words: &'a [String]) -> Result<Options<'a>, Error>
     ensures { IfOk result (AreRequestedBy (map (λ word. string_bytes word) words.now)) }
 {
     let matches = command(alloc)?.try_get_matches_from(words)?;
@@ -93,12 +109,14 @@ fn options_of<'a>(alloc: Global, matches: &ArgMatches<'a>) -> Result<Options<'a>
         parts: Parts {
             choice,
             times: times_of(matches),
+            verbose: flag_of(matches, "verbose"),
             format: format_of(matches),
             top: top_of(matches),
             limit: count_of(matches),
             ..asked
         },
         line_buffered: flag_of(matches, "line-buffered"),
+        write: matches.get_str("write"),
         files,
     })
 }
@@ -180,6 +198,37 @@ fn invalid_choice(alloc: Global, error: ChoiceError<'_>) -> Result<Error, Error>
     Ok(command.error(ErrorKind::ValueValidation, message.as_str())?)
 }
 
+/// Why the packets of the captures can't be written to the requested file, if they can't: there are several captures, or the file is the
+/// capture.
+fn output_fault(options: &Options<'_>) -> Option<&'static str> {
+    let name = options.write?;
+    match options.files.as_slice() {
+        [] => None,
+        [file] if *file != name || name == STANDARD_INPUT => None,
+        [_] => Some(OUTPUT_IS_CAPTURE),
+        _ => Some("'--write <FILE>' is used with more than one capture"),
+    }
+}
+
+/// The error for a file that can't be written, with the usage.
+fn invalid_output(alloc: Global, fault: &str) -> Result<Error, Error>
+    ensures kind { IfOk result (λ error. kind_of error ≡ ErrorKind.ArgumentConflict) }
+    ensures memory { IfErr result (λ error. kind_of error ≡ ErrorKind.OutOfMemory) }
+{
+    let mut command = command(alloc)?;
+    Ok(command.error(ErrorKind::ArgumentConflict, fault)?)
+}
+
+/// The error if the file to write is the capture, with the usage. If no memory is left for its text, the error is about the memory.
+pub fn output_is_capture(alloc: Global) -> Error
+    ensures { (kind_of result ≡ ErrorKind.ArgumentConflict) ⊎ (kind_of result ≡ ErrorKind.OutOfMemory) }
+{
+    match invalid_output(alloc, OUTPUT_IS_CAPTURE) {
+        Ok(error) => error,
+        Err(error) => error,
+    }
+}
+
 /// The error if there is no capture to read, with the usage. If no memory is left for its text, the error is about the memory.
 pub fn no_capture(alloc: Global) -> Error
     ensures { (kind_of result ≡ ErrorKind.MissingRequiredArgument) ⊎ (kind_of result ≡ ErrorKind.OutOfMemory) }
@@ -210,6 +259,7 @@ fn command<'a>(alloc: Global) -> Result<Command<'a>, Error>
     let command = with_form(alloc, command)?;
     let command = with_choice(alloc, command)?;
     let command = with_end(alloc, command)?;
+    let command = with_output(alloc, command)?;
     Ok(with_files(alloc, command)?)
 }
 
@@ -234,7 +284,21 @@ fn with_lines<'a>(alloc: Global, command: Command<'a>) -> Result<Command<'a>, Al
     let wrong = flag_without(alloc, "wrong", "summary")?.help(
         "Write a line only for a packet whose checksum or form is wrong",
     );
-    command.arg(summary)?.arg(packets)?.arg(wrong)
+    command
+        .arg(summary)?
+        .arg(packets)?
+        .arg(wrong)?
+        .arg(verbose(alloc))
+}
+
+/// The option for further fields in the lines.
+fn verbose<'a>(alloc: Global) -> Arg<'a>
+    ensures rule { rule_of result ≡ verbose_rule }
+    ensures local { result.global ≡ false }
+{
+    flag(alloc, "verbose")
+        .help("Write the time to live or the hop limit of packets too, which JSON always has")
+        .short('v')
 }
 
 /// The command line with the options for the form of the report and for its exit status.
@@ -321,6 +385,33 @@ fn count<'a>(alloc: Global) -> Arg<'a>
     )
     .short('c')
     .value_parser(value_parser!(u64).range(1..))
+}
+
+/// The command line with the option for a capture in the place of a report.
+fn with_output<'a>(alloc: Global, command: Command<'a>) -> Result<Command<'a>, AllocError>
+    ensures { IfOk result (λ more. app_of more ≡ with_rules (app_of command.entry) output_rules) }
+{
+    command.arg(write(alloc)?)
+}
+
+/// The file for the packets. An option for the form of a report has no effect on them.
+fn write<'a>(alloc: Global) -> Result<Arg<'a>, AllocError>
+    ensures rule { IfOk result (λ arg. rule_of arg ≡ write_rule) }
+    ensures local { IfOk result (λ arg. arg.global ≡ false) }
+{
+    valued(
+        alloc,
+        "write",
+        "FILE",
+        "Write the packets that have a line to a capture of the same format, in place of the report; `-` is standard output",
+    )
+    .short('w')
+    .conflicts_with("summary")?
+    .conflicts_with("packets")?
+    .conflicts_with("absolute")?
+    .conflicts_with("check")?
+    .conflicts_with("json")?
+    .conflicts_with("top")
 }
 
 /// The command line with the captures, and with the option for writing lines.

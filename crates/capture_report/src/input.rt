@@ -1,12 +1,13 @@
 //! The source of captures.
 
 ghost use Rattle.std.specs.Prelude.{◌≡◌, IfOk};
-ghost use Rattle.capture_report.specs.Inputs.{IsRequestedBy, is_escaped};
+ghost use Rattle.capture_report.specs.Inputs.{IsFileLen, IsRequestedBy, is_escaped};
 
 use capture_run::STANDARD_INPUT;
 use std::fs::File;
-use std::io;
 use std::io::{ErrorKind, Read, Stdin};
+use std::os::unix::fs::MetadataExt;
+use std::{fs, io};
 
 /// The error for a name that is not UTF-8.
 const NOT_UTF8: &str = "The name is not UTF-8, and no file is opened by such a name.";
@@ -37,6 +38,30 @@ impl Input {
             return Err(io::Error::new(ErrorKind::InvalidFilename, NOT_UTF8));
         }
         Ok(Input::File(File::open(rt, name)?))
+    }
+
+    /// The length of a file in bytes. It is 0 for standard input, and if the system does not tell it.
+    pub fn len(&self) -> u64
+        ensures { IsFileLen self.now result }
+    {
+        let Input::File(file) = self else {
+            return 0;
+        };
+        match file.metadata() {
+            Ok(metadata) => metadata.len(),
+            Err(_) => 0,
+        }
+    }
+
+    /// Whether this input is the file with this name, by the numbers of the device and of the file.
+    pub fn is_named(&self, rt: &HostRuntime, name: &str) -> bool {
+        let Input::File(file) = self else {
+            return false;
+        };
+        match (file.metadata(), fs::metadata(rt, name)) {
+            (Ok(this), Ok(other)) => this.dev() == other.dev() && this.ino() == other.ino(),
+            _ => false,
+        }
     }
 }
 

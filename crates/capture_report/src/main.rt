@@ -10,22 +10,32 @@
 //! ```
 #![tactic(auto)]
 
-ghost use Rattle.std.specs.Prelude.{◌≡◌};
+ghost use Rattle.std.specs.Prelude.{◌≡◌, ◌-◌, ◌^◌, IsTrue};
 ghost use Rattle.std.specs.IoError.{error_kind};
 ghost use Rattle.capture_report.specs.Failures.{failure_number, write_failure_number};
+ghost use Rattle.capture_report.specs.Progress.{inner_of, next_of};
 
 mod arguments;
 mod chosen;
 mod input;
+mod progress;
 mod words;
 
 use arguments::Options;
-use capture_run::{ExitStatus, Open, WriteError, run};
+use capture_run::{
+    CaptureError, ExitStatus, Lines, MAX_PACKET_LEN, Open, Parts, STANDARD_INPUT, WriteError, run,
+    write_error, write_open_error,
+};
+use capture_selection::{Counts, SelectionError, write_selected};
 use input::Input;
+use progress::{Progress, is_shown};
+use std::fs::File;
 use std::hash::RandomState;
 use std::io;
 use std::io::{BufReader, BufWriter, ErrorKind, IsTerminal, LineWriter, Write};
 use std::process::ExitCode;
+use streams::new_buffer;
+use words::{OwnArguments, words_of};
 
 /// The size of the input buffer of a capture and of the buffer of standard output, in bytes.
 const BUFFER_LEN: usize = 1 << 16;
@@ -55,13 +65,16 @@ fn failure(rt: &HostRuntime, error: &io::Error) -> u8
 
 /// Reads the arguments, runs the request in them, and returns the exit status.
 fn status(rt: &HostRuntime) -> io::Result<u8> {
-    let words = words::words_of(rt)?;
+    let words = words_of(rt.alloc(), &OwnArguments { rt })?;
     let options = match arguments::requested_options(rt.alloc(), words.as_slice()) {
         Ok(options) => options,
         Err(error) => return answer(rt, error),
     };
     if options.files.is_empty() && rt.stdin().is_terminal() {
         return answer(rt, arguments::no_capture(rt.alloc()));
+    }
+    if let Some(name) = options.write {
+        return write_to(rt, &options, name);
     }
     if options.line_buffered || rt.stdout().is_terminal() {
         let mut output = LineWriter::with_capacity(rt.alloc(), BUFFER_LEN, rt.stdout())?;
@@ -80,7 +93,11 @@ fn answer(rt: &HostRuntime, error: clap::Error) -> io::Result<u8> {
 /// Reports all captures, and returns the exit status.
 fn report_to<W: Write>(rt: &HostRuntime, options: &Options<'_>, output: &mut W) -> io::Result<u8> {
     let state = RandomState::new(rt)?;
-    let files = Files { rt };
+    let lines_on_terminal = rt.stdout().is_terminal() && options.parts.lines != Lines::None;
+    let files = Files {
+        rt,
+        lines_on_terminal,
+    };
     let names = options.files.as_slice();
     let mut errors = rt.stderr();
     match run(
@@ -97,6 +114,79 @@ fn report_to<W: Write>(rt: &HostRuntime, options: &Options<'_>, output: &mut W) 
     }
 }
 
+/// Writes the packets of the capture to the file with this name, or to standard output, and returns the exit status. The capture is opened
+/// before the file is created.
+fn write_to(rt: &HostRuntime, options: &Options<'_>, name: &str) -> io::Result<u8> {
+    let capture = options.files.as_slice().first().copied();
+    let input = match Input::open(rt, capture.unwrap_or(STANDARD_INPUT)) {
+        Ok(input) => input,
+        Err(error) => return unopened(rt, capture.unwrap_or(STANDARD_INPUT), &error),
+    };
+    if name == STANDARD_INPUT {
+        let input = with_progress(rt, input, rt.stdout().is_terminal());
+        return write_packets(rt, &options.parts, capture, input, rt.stdout());
+    }
+    if input.is_named(rt, name) {
+        return answer(rt, arguments::output_is_capture(rt.alloc()));
+    }
+    match File::create(rt, name) {
+        Ok(output) => {
+            let input = with_progress(rt, input, false);
+            write_packets(rt, &options.parts, capture, input, output)
+        }
+        Err(error) => unopened(rt, name, &error),
+    }
+}
+
+/// Writes the error of a file that can't be opened or created, and returns the exit status.
+fn unopened(rt: &HostRuntime, name: &str, error: &io::Error) -> io::Result<u8> {
+    // If writing to standard error fails, the exit status still reports the failure.
+    let _ = write_open_error(&mut rt.stderr(), rt.alloc(), name, error);
+    Ok(ExitStatus::Failed.number())
+}
+
+/// Writes the packets of a capture with this name, if it has one, and then their numbers to standard error. Returns the exit status.
+fn write_packets<W: Write + Drop>(
+    rt: &HostRuntime,
+    parts: &Parts,
+    name: Option<&str>,
+    input: Progress<Input>,
+    output: W,
+) -> io::Result<u8> {
+    let mut input = BufReader::with_capacity(rt.alloc(), BUFFER_LEN, input)?;
+    let mut output = BufWriter::with_capacity(rt.alloc(), BUFFER_LEN, output)?;
+    let mut bytes = new_buffer(rt.alloc(), MAX_PACKET_LEN)?;
+    let buffer = bytes.as_mut_slice().as_mut_array().unwrap();
+    let mut counts = Counts::NONE;
+    let ended = write_selected(&mut input, &mut output, buffer, parts, &mut counts);
+    // What was written before an error is part of the output.
+    let flushed = output.flush();
+    let status = written_status(rt, name, ended)?;
+    flushed?;
+    let Counts { read, written, .. } = counts;
+    let _ = writeln!(
+        rt.stderr(),
+        "capture_report: {read} packets read, {written} written"
+    );
+    Ok(status.number())
+}
+
+/// Writes the error of a capture with this name, and returns the exit status.
+fn written_status(
+    rt: &HostRuntime,
+    name: Option<&str>,
+    ended: Result<(), SelectionError>,
+) -> io::Result<ExitStatus> {
+    match ended {
+        Ok(()) | Err(SelectionError::Capture(CaptureError::Enough)) => Ok(ExitStatus::Success),
+        Err(SelectionError::Capture(error)) => {
+            let _ = write_error(&mut rt.stderr(), rt.alloc(), name, &error);
+            Ok(error.status())
+        }
+        Err(SelectionError::Write(error)) => Err(error),
+    }
+}
+
 /// Writes the error that ends the report, and returns the exit status. Nothing is written if the reader of standard output ended first.
 fn write_failure(rt: &HostRuntime, error: &WriteError) -> u8
     ensures { result ≡ write_failure_number error.now }
@@ -108,25 +198,37 @@ fn write_failure(rt: &HostRuntime, error: &WriteError) -> u8
     ExitStatus::Failed.number()
 }
 
+/// An input that shows its progress if it is a long file. `lines_on_terminal` is whether other output is written to the terminal meanwhile.
+fn with_progress(rt: &HostRuntime, input: Input, lines_on_terminal: bool) -> Progress<Input>
+    ensures inner { inner_of result ≡ input }
+    ensures mixed { IsTrue lines_on_terminal → next_of result ≡ 2 ^ 64 - 1 }
+{
+    let len = input.len();
+    let shown = is_shown(len, rt.stderr().is_terminal(), lines_on_terminal);
+    Progress::new(input, len, shown, rt.stderr())
+}
+
 /// The files of the computer.
 #[derive(Drop)]
 struct Files<'a> {
     rt: &'a HostRuntime,
+    lines_on_terminal: bool,
 }
 
 impl<'a> Open for Files<'a> {
-    type Input = BufReader<Input>;
+    type Input = BufReader<Progress<Input>>;
 
     ghost use Rattle.std.specs.Io.Buffered.{reader_inner};
     ghost use Rattle.capture_report.specs.Inputs.{IsRequestedBy};
+    ghost use Rattle.capture_report.specs.Progress.{inner_of};
 
-    ghost opens = { λ files name input. IsRequestedBy name (reader_inner input) };
+    ghost opens = { λ files name input. IsRequestedBy name (inner_of (reader_inner input)) };
 
     ghost misses = { λ files name. Unit {0} };
 
     /// Opens a file, or standard input.
-    fn open(&self, name: &str) -> io::Result<BufReader<Input>> {
-        let input = Input::open(self.rt, name)?;
+    fn open(&self, name: &str) -> io::Result<BufReader<Progress<Input>>> {
+        let input = with_progress(self.rt, Input::open(self.rt, name)?, self.lines_on_terminal);
         Ok(BufReader::with_capacity(self.rt.alloc(), BUFFER_LEN, input)?)
     }
 }

@@ -1,12 +1,17 @@
 -- The report of a run: captures, one after the other, and then the summary of all captures.
 use Rattle.std.specs.Prelude.{◌≡◌, ◌↔◌, ℕ, ◌+◌, ◌==◌, ◌&&◌, nat_lt, Bool, true, false, IsTrue, if◌then◌else◌, List, [], ◌∷◌, ◌++◌, codes, length, MatchBool, Option, Some, None, Result, IfSome}
+use Rattle.std.specs.Io.KnownBytes.{Appends}
+use Rattle.std.specs.List.{concat}
+use Rattle.capture_file.specs.declared.reader.capture_reader.CaptureReader.{CaptureReader}
 use Rattle.capture_json.specs.JsonPacket.{file_members, json_line}
 use Rattle.capture_summary.specs.SummaryTables.{SummaryTables, empty_tables}
 use Rattle.capture_run.specs.Endings.{status_of}
+use Rattle.capture_run.specs.ErrorLines.{AreEndLines, IsOneLine, IsOpenErrorLine, WritesLines, line_name}
 use Rattle.capture_run.specs.ExitStatuses.{final_status, greater}
 use Rattle.capture_run.specs.Limits.{EndsByLimit, IsWithin, is_full}
 use Rattle.capture_run.specs.Names.{shown_name, without_mark}
 use Rattle.capture_run.specs.PacketsText.{IsCaptureText, end_text}
+use Rattle.capture_run.specs.ReadCaptures.{IsCaptureAfter}
 use Rattle.capture_run.specs.Runs.{EndsAtHeader, ReportsCapture}
 use Rattle.capture_run.specs.declared.capture_reports.CaptureReports.{CaptureReports}
 use Rattle.capture_run.specs.declared.exit_status.ExitStatus.{ExitStatus}
@@ -20,31 +25,41 @@ use Rattle.capture_run.specs.declared.capture_error.CaptureError.{CaptureError}
 
 -- ---- one capture
 
--- the state that is kept from capture to capture: the counts, the greatest exit status, and whether no beginning of a capture was accepted
+-- the state that is kept from capture to capture: the counts, the greatest exit status, whether no beginning of a capture was accepted, and
+-- the reader of the only capture whose beginning was accepted
 pub record Progress : Type 0 where
   pub summary : SummaryTables
   pub status : ExitStatus
   pub is_empty : Bool
+  pub capture : Option CaptureReader
 
 -- the state of these reports
 abbrev pub progress_of : CaptureReports → Progress
-progress_of reports = record { summary = reports.summary; status = reports.status; is_empty = reports.is_empty }
+progress_of reports = record { summary = reports.summary; status = reports.status; is_empty = reports.is_empty; capture = reports.capture }
 
 -- the state before the first capture
 abbrev pub at_start : Progress
-at_start = record { summary = empty_tables; status = Success; is_empty = true }
+at_start = record { summary = empty_tables; status = Success; is_empty = true; capture = None }
 
 -- the state after a capture that can't be opened
 abbrev pub unopened : Progress → Progress
-unopened before = record { summary = before.summary; status = greater before.status Failed; is_empty = before.is_empty }
+unopened before = record {
+  summary = before.summary;
+  status = greater before.status Failed;
+  is_empty = before.is_empty;
+  capture = before.capture;
+}
 
--- a capture was reported, and this is the text of its packets; these are its bytes, if they are known
-pub record ReportsOpened (parts : Parts) (left : Option (List ℕ)) (before after : Progress) (text : List ℕ) : Type 0 where
+-- A capture was reported. This is the text of its packets, and these are the lines of its error, after this name. These are its bytes, if
+-- they are known.
+pub record ReportsOpened (parts : Parts) (shown : Option (List ℕ)) (left : Option (List ℕ)) (before after : Progress) (text : List ℕ) (lines : List (List ℕ)) : Type 0 where
   pub ended : Result (Unit {0}) CaptureError
   pub reports : IfSome left (λ all. ReportsCapture parts.choice all ended before.summary after.summary)
   pub is_text : IsCaptureText parts left ended before.summary after.summary text
+  pub are_lines : AreEndLines shown ended lines
   pub status : after.status ≡ greater before.status (status_of ended)
   pub empty : IsTrue after.is_empty ↔ (IsTrue before.is_empty × EndsAtHeader ended)
+  pub capture : IsCaptureAfter before.is_empty before.capture left ended after.capture
   pub limit : EndsByLimit parts.limit after.summary.packets ended
   pub within : IsWithin parts.limit before.summary.packets → IsWithin parts.limit after.summary.packets
 
@@ -57,14 +72,15 @@ abbrev pub Gives : {R : Type 0} → (List ℕ → Type 0) → (List ℕ → R �
 Gives Misses Opens remaining name None = Misses name
 Gives {R} Misses Opens remaining name (Some left) = (input : R) × Opens name input × (left ≡ remaining input)
 
--- a capture of this content was reported, or it can't be opened
-abbrev pub ReportsGiven : Parts → Given → Progress → Progress → List ℕ → Type 0
-ReportsGiven parts None before after text = (after ≡ unopened before) × (text ≡ [])
-ReportsGiven parts (Some left) before after text = ReportsOpened parts left before after text
+-- a capture of this content was reported, or it can't be opened, and this is its text and these are the lines of its error
+abbrev pub ReportsGiven : Parts → Option (List ℕ) → List ℕ → Given → Progress → Progress → List ℕ → List (List ℕ) → Type 0
+ReportsGiven parts shown name None before after text lines = (after ≡ unopened before) × (text ≡ []) × IsOneLine (IsOpenErrorLine name) lines
+ReportsGiven parts shown name (Some left) before after text lines = ReportsOpened parts shown left before after text lines
 
 -- what this name gives was reported
-abbrev pub ReportsNamed : (List ℕ → Given → Type 0) → Parts → List ℕ → Progress → Progress → List ℕ → Type 0
-ReportsNamed Reads parts name before after text = (given : Given) × Reads name given × ReportsGiven parts given before after text
+abbrev pub ReportsNamed : (List ℕ → Given → Type 0) → Parts → Option (List ℕ) → List ℕ → Progress → Progress → List ℕ → List (List ℕ) → Type 0
+ReportsNamed Reads parts shown name before after text lines =
+    (given : Given) × Reads name given × ReportsGiven parts shown name given before after text lines
 
 -- ---- all captures
 
@@ -87,30 +103,62 @@ has_lines lines.None = false
 abbrev pub heading_of : Parts → ℕ → ℕ → List ℕ → List ℕ
 heading_of parts count place name = if nat_lt 1 count && has_lines parts.lines then heading_in parts.format place name else []
 
--- The capture with this name at this place was reported, and this is its text: its heading, and then the text of its packets. If as many
--- packets were counted before as are requested, the capture is left out.
-abbrev pub ReportsHeaded : (List ℕ → Given → Type 0) → Parts → (ℕ → List ℕ → List ℕ) → ℕ → List ℕ → Progress → Progress → List ℕ → Type 0
-ReportsHeaded Reads parts heading place name before after text =
-    MatchBool (is_full parts.limit before.summary.packets) ((after ≡ before) × (text ≡ []))
-    ((packets : List ℕ) × ReportsNamed Reads parts name before after packets × (text ≡ heading place name ++ packets))
+-- The capture with this name at this place was reported, of so many captures. This is its text: its heading, and then the text of its
+-- packets. These are the lines of its error. If as many packets were counted before as are requested, the capture is left out.
+abbrev pub ReportsHeaded : (List ℕ → Given → Type 0) → Parts → ℕ → ℕ → List ℕ → Progress → Progress → List ℕ → List (List ℕ) → Type 0
+ReportsHeaded Reads parts count place name before after text lines =
+    MatchBool (is_full parts.limit before.summary.packets) ((after ≡ before) × (text ≡ []) × (lines ≡ []))
+    ((packets : List ℕ) × ReportsNamed Reads parts (line_name count name) name before after packets lines
+    × (text ≡ heading_of parts count place name ++ packets))
 
--- the captures with these names were reported one after the other, the first of them at this place, and this is their text
-abbrev pub ReportsEach : (List ℕ → Given → Type 0) → Parts → (ℕ → List ℕ → List ℕ) → ℕ → List (List ℕ) → Progress → Progress → List ℕ → Type 0
-ReportsEach Reads parts heading place [] before after text = (after ≡ before) × (text ≡ [])
-ReportsEach Reads parts heading place (name ∷ names) before after text =
-    (between : Progress) × (first : List ℕ) × (others : List ℕ) × ReportsHeaded Reads parts heading place name before between first
-    × ReportsEach Reads parts heading (place + 1) names between after others × (text ≡ first ++ others)
+-- the captures with these names, of so many, were reported one after the other, the first of them at this place; this is their text, and
+-- these are the lines of their errors
+abbrev pub ReportsEach : (List ℕ → Given → Type 0) → Parts → ℕ → ℕ → List (List ℕ) → Progress → Progress → List ℕ → List (List ℕ) → Type 0
+ReportsEach Reads parts count place [] before after text lines = (after ≡ before) × (text ≡ []) × (lines ≡ [])
+ReportsEach Reads parts count place (name ∷ names) before after text lines =
+    (between : Progress) × (first : List ℕ) × (others : List ℕ) × (first_lines : List (List ℕ)) × (other_lines : List (List ℕ))
+    × ReportsHeaded Reads parts count place name before between first first_lines
+    × ReportsEach Reads parts count (place + 1) names between after others other_lines
+    × (text ≡ first ++ others) × (lines ≡ first_lines ++ other_lines)
 
 -- the captures that are read: standard input, if there is no name
 abbrev pub captures_of : List (List ℕ) → List (List ℕ)
 captures_of [] = codes "-" ∷ []
 captures_of (name ∷ names) = name ∷ names
 
--- The report of a run with this exit status. It is the text of each capture, and then the summary, if the beginning of a capture was
--- accepted.
-pub record IsRun (Reads : List ℕ → Given → Type 0) (parts : Parts) (names : List (List ℕ)) (status : ExitStatus) (text : List ℕ) : Type 0 where
+-- The report of a run with this exit status, and the lines of its errors, in the order of the captures. The report is the text of each
+-- capture, and then the summary, if the beginning of a capture was accepted.
+pub record IsRun (Reads : List ℕ → Given → Type 0) (parts : Parts) (names : List (List ℕ)) (status : ExitStatus) (text : List ℕ) (lines : List (List ℕ)) : Type 0 where
   pub after : Progress
   pub captures : List ℕ
-  pub reports : ReportsEach Reads parts (heading_of parts (length names)) 0 (captures_of names) at_start after captures
-  pub whole : text ≡ captures ++ (if after.is_empty then [] else end_text parts after.summary)
+  pub reports : ReportsEach Reads parts (length names) 0 (captures_of names) at_start after captures lines
+  pub whole : text ≡ captures ++ (if after.is_empty then [] else end_text parts after.capture after.summary)
   pub is_final : status ≡ final_status parts.check after.status after.summary
+
+-- ---- what is written of a report
+
+-- a report was written to one writer, and at least a beginning of each line of its errors to another writer
+pub record WritesReport (before after errors_before errors_after : Option (List ℕ)) (AreWhole : Type 0) (IsReport : List ℕ → List (List ℕ) → Type 0) : Type 0 where
+  pub text : List ℕ
+  pub lines : List (List ℕ)
+  pub is_report : IsReport text lines
+  pub appends : Appends before after text
+  pub tells : WritesLines errors_before errors_after AreWhole lines
+
+-- a report was written to one writer, and the whole of each line of its errors to another writer
+abbrev pub WritesRun : Option (List ℕ) → Option (List ℕ) → Option (List ℕ) → Option (List ℕ) → (List ℕ → List (List ℕ) → Type 0) → Type 0
+WritesRun before after errors_before errors_after IsReport =
+    (text : List ℕ) × (lines : List (List ℕ)) × IsReport text lines × Appends before after text
+    × Appends errors_before errors_after (concat lines)
+
+-- The first of these captures were reported. At least a beginning of each line of their errors was written, and nothing else to the same
+-- writer.
+pub record TellsFirst (Reads : List ℕ → Given → Type 0) (parts : Parts) (count : ℕ) (names : List (List ℕ)) (before : Progress) (errors_before errors_after : Option (List ℕ)) : Type 0 where
+  pub first : List (List ℕ)
+  pub others : List (List ℕ)
+  pub are_first : names ≡ first ++ others
+  pub after : Progress
+  pub text : List ℕ
+  pub lines : List (List ℕ)
+  pub reports : ReportsEach Reads parts count 0 first before after text lines
+  pub tells : WritesLines errors_before errors_after ⊥ lines

@@ -1,10 +1,13 @@
 -- The lines of errors.
-use Rattle.std.specs.Prelude.{◌≡◌, List, [], ◌∷◌, ℕ, ◌++◌, codes, if◌then◌else◌, Option, Some, None, MatchOption}
-use Rattle.std.specs.List.{list_any}
+use Rattle.std.specs.Prelude.{◌≡◌, List, [], ◌∷◌, ℕ, ◌++◌, ◌==◌, codes, if◌then◌else◌, Option, Some, None, MatchOption, Result, Ok, Err}
+use Rattle.std.specs.Io.KnownBytes.{Appends}
+use Rattle.std.specs.List.{concat, list_any}
 use Rattle.std.specs.Str.{bytes_eq}
 use Rattle.capture_run.specs.Compressions.{compression_name, compression_of}
+use Rattle.capture_run.specs.Names.{shown_name}
 use Rattle.capture_run.specs.declared.compression.Compression.{Compression}
 use Rattle.capture_run.specs.declared.capture_error.CaptureError.{CaptureError}
+use Rattle.capture_run.specs.declared.capture_error.CaptureError.TheVariants.{Enough}
 
 -- the text for a compressed capture: the command that reads it
 abbrev pub compressed_text : Compression → List ℕ
@@ -37,3 +40,43 @@ hint_of name = if list_any (λ word. bytes_eq word name) filter_words then codes
 -- the text of the error of a capture that can't be opened: the cause, and then the hint for its name
 abbrev pub EndsInHint : List ℕ → List ℕ → Type 0
 EndsInHint name text = (cause : List ℕ) × (text ≡ cause ++ hint_of name)
+
+-- ---- the lines of a run
+
+-- these lines are one line, for which this statement holds
+abbrev pub IsOneLine : (List ℕ → Type 0) → List (List ℕ) → Type 0
+IsOneLine IsLine lines = (line : List ℕ) × IsLine line × (lines ≡ line ∷ [])
+
+-- the line of a capture that can't be opened
+abbrev pub IsOpenErrorLine : List ℕ → List ℕ → Type 0
+IsOpenErrorLine name line = IsLineOf (Some (shown_name name)) (EndsInHint name) line
+
+-- The lines of the end of a report of a capture, after this name. There is none if the capture was read to its end, or to the last packet
+-- that is requested. Otherwise there is the line of its error.
+abbrev pub AreEndLines : Option (List ℕ) → Result (Unit {0}) CaptureError → List (List ℕ) → Type 0
+AreEndLines name (Ok done) lines = lines ≡ []
+AreEndLines name (Err Enough) lines = lines ≡ []
+AreEndLines name (Err error) lines = IsOneLine (IsLineOf name (IsErrorText error)) lines
+
+-- the name in the line of an error within a capture, if so many captures are named; standard input that is not named has no name
+abbrev pub line_name : ℕ → List ℕ → Option (List ℕ)
+line_name count name = if count == 0 then None else Some (shown_name name)
+
+-- ---- what is written of the lines
+
+-- the whole of each line was written, or a beginning of it
+abbrev pub AreBegun : List (List ℕ) → List ℕ → Type 0
+AreBegun [] written = written ≡ []
+AreBegun (line ∷ lines) written =
+    (begun : List ℕ) × (rest : List ℕ) × (others : List ℕ) × (line ≡ begun ++ rest) × AreBegun lines others × (written ≡ begun ++ others)
+
+-- Of each line at least a beginning was written, in the order of the lines. If this statement holds, the whole of each line was written.
+pub record WritesLines (before after : Option (List ℕ)) (AreWhole : Type 0) (lines : List (List ℕ)) : Type 0 where
+  pub written : List ℕ
+  pub appends : Appends before after written
+  pub begun : AreBegun lines written
+  pub whole : AreWhole → written ≡ concat lines
+
+-- the same of lines for which a statement holds
+abbrev pub WritesSome : Option (List ℕ) → Option (List ℕ) → Type 0 → (List (List ℕ) → Type 0) → Type 0
+WritesSome before after AreWhole AreLines = (lines : List (List ℕ)) × AreLines lines × WritesLines before after AreWhole lines

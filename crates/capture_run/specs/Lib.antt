@@ -7,6 +7,7 @@ pub mod Limits
 pub mod Lines
 pub mod Names
 pub mod PacketsText
+pub mod ReadCaptures
 pub mod Report
 pub mod ReportText
 pub mod Runs

@@ -6,6 +6,7 @@ use Rattle.capture_file.specs.CapturePackets.{BeginsInput, BeginsWithPackets, Ha
 use Rattle.capture_file.specs.declared.reader.capture_reader.CaptureReader.{CaptureReader}
 use Rattle.capture_file.specs.declared.reader.next_packet.NextPacket.{NextPacket}
 use Rattle.capture_file.specs.declared.packet_time.PacketTime.{PacketTime}
+use Rattle.capture_facts.specs.FactsText.{facts_text}
 use Rattle.capture_packet.specs.Frames.{max_packet_len}
 use Rattle.capture_json.specs.JsonSummary.{json_summary}
 use Rattle.capture_run.specs.Report.{CountsEach, IsAnsweredBy, IsPacketOf, IsReadToEnd, ReportsOne, info_of, packet_time}
@@ -75,11 +76,11 @@ empty_line lines.All = codes "\n"
 empty_line lines.Wrong = codes "\n"
 empty_line lines.None = []
 
--- the summary in a format: the tables, after an empty line if lines are requested too, or a JSON object
-abbrev pub summary_in : Format → Lines → ℕ → SummaryTables → List ℕ
-summary_in formats.Text lines top tables = empty_line lines ++ summary_text top tables
-summary_in formats.Json lines top tables = json_summary top tables
+-- the summary in a format: what the capture is, and the tables, after an empty line if lines are requested too; or a JSON object
+abbrev pub summary_in : Format → Lines → ℕ → Option CaptureReader → SummaryTables → List ℕ
+summary_in formats.Text lines top capture tables = empty_line lines ++ (facts_text capture ++ summary_text top tables)
+summary_in formats.Json lines top capture tables = json_summary capture top tables
 
 -- the end of a report: the summary in the requested format, if a summary is requested
-abbrev pub end_text : Parts → SummaryTables → List ℕ
-end_text parts tables = if parts.summary then summary_in parts.format parts.lines parts.top tables else []
+abbrev pub end_text : Parts → Option CaptureReader → SummaryTables → List ℕ
+end_text parts capture tables = if parts.summary then summary_in parts.format parts.lines parts.top capture tables else []

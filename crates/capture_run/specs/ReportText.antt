@@ -1,5 +1,5 @@
 -- The text of a packet in a report.
-use Rattle.std.specs.Prelude.{◌≡◌, ◌⊎◌, ℕ, List, [], MatchBool, Option}
+use Rattle.std.specs.Prelude.{◌≡◌, ◌⊎◌, ℕ, List, [], Bool, MatchBool, Option}
 use Rattle.capture_packet.specs.declared.packet.Packet.{Packet}
 use Rattle.capture_summary.specs.Choice.{IsChosen}
 use Rattle.capture_summary.specs.declared.capture_info.CaptureInfo.{CaptureInfo}
@@ -12,15 +12,15 @@ use Rattle.capture_run.specs.declared.parts.Format.TheVariants as formats
 use Rattle.capture_run.specs.declared.parts.Parts.{Parts}
 use Rattle.capture_text.specs.declared.times.Times.{Times}
 
--- the line of a packet in a format
-abbrev pub IsLineIn : Format → Times → ℕ → Option PacketTime → CaptureInfo → Packet → List ℕ → Type 0
-IsLineIn formats.Text times number first info packet line = IsLine times number first info.time info.len packet line
-IsLineIn formats.Json times number first info packet line = IsJsonLine times number first info.time packet line
+-- the line of a packet in a format; JSON has all details whether the line is verbose or not
+abbrev pub IsLineIn : Format → Times → Bool → ℕ → Option PacketTime → CaptureInfo → Packet → List ℕ → Type 0
+IsLineIn formats.Text times verbose number first info packet line = IsLine times verbose number first info.time info.len packet line
+IsLineIn formats.Json times verbose number first info packet line = IsJsonLine times number first info.time info.len packet line
 
 -- the text of a chosen packet: its line in the requested format, if it has a line
 abbrev pub IsTextOfChosen : Parts → ℕ → Option PacketTime → CaptureInfo → Packet → List ℕ → Type 0
 IsTextOfChosen parts number first info packet text =
-    MatchBool (has_line parts.lines packet.verdict) (IsLineIn parts.format parts.times number first info packet text) (text ≡ [])
+    MatchBool (has_line parts.lines packet.verdict) (IsLineIn parts.format parts.times parts.verbose number first info packet text) (text ≡ [])
 
 -- the text of a packet; it is empty if the packet is not chosen
 abbrev pub IsTextOf : Parts → ℕ → Option PacketTime → CaptureInfo → Packet → List ℕ → Type 0

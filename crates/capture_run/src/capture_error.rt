@@ -1,10 +1,9 @@
-ghost use Rattle.std.specs.Prelude.{◌≡◌, IfOk, OnOk, Some, string_bytes};
+ghost use Rattle.std.specs.Prelude.{◌≡◌, IfOk, IsOk, string_bytes};
 ghost use Rattle.std.specs.Option.{option_map};
 ghost use Rattle.capture_run.specs.Compressions.{compression_of};
 ghost use Rattle.capture_run.specs.Endings.{exit_status};
-ghost use Rattle.capture_run.specs.ErrorLines.{EndsInHint, IsErrorText, IsLineOf, hint_of};
+ghost use Rattle.capture_run.specs.ErrorLines.{AreEndLines, IsErrorText, IsLineOf, IsOneLine, IsOpenErrorLine, WritesSome, hint_of};
 ghost use Rattle.capture_run.specs.Names.{shown_name};
-ghost use Rattle.capture_text.specs.Written.{AppendsOne};
 
 use crate::ExitStatus;
 use crate::compression::Compression;
@@ -14,6 +13,7 @@ use capture_file::reader::{OpenError, PacketError, PlacedPacketError};
 use std::alloc::{AllocError, Global};
 use std::io;
 use std::io::Write;
+use streams::write_whole;
 use thiserror::Error;
 
 /// Why the report of a capture ends before the capture does.
@@ -94,20 +94,51 @@ impl CaptureError {
     }
 }
 
+/// Writes the line of the error with which the report of a capture ended. Nothing is written if the capture was read to its end, or to the
+/// last packet that is requested.
+pub(crate) fn write_end<E: Write>(
+    errors: &mut E,
+    alloc: Global,
+    name: Option<&str>,
+    ended: &Result<(), CaptureError>,
+) -> io::Result<()>
+    ensures { WritesSome (E.contents errors.old) (E.contents errors.new) (IsOk result)
+        (AreEndLines (option_map (λ text. shown_name text.now) name.entry) ended.now) }
+{
+    match ended {
+        Ok(()) | Err(CaptureError::Enough) => Ok(()),
+        Err(error) => write_error(errors, alloc, name, error),
+    }
+}
+
 /// Writes the line of an error: the names of the program and of the capture, if it has one, and the text of the error.
-pub(crate) fn write_error<E: Write>(
+///
+/// # Errors
+///
+/// The error of the first write that fails, and `OutOfMemory` if no memory is left. Then at most a beginning of the line was written.
+pub fn write_error<E: Write>(
     errors: &mut E,
     alloc: Global,
     name: Option<&str>,
     error: &CaptureError,
 ) -> io::Result<()>
-    ensures { OnOk result (AppendsOne (E.contents errors.old) (E.contents errors.new)
-        (IsLineOf (option_map (λ text. shown_name text.now) name.entry) (IsErrorText error.now))) }
+    ensures { WritesSome (E.contents errors.old) (E.contents errors.new) (IsOk result)
+        (IsOneLine (IsLineOf (option_map (λ text. shown_name text.now) name.entry) (IsErrorText error.now))) }
+{
+    match error_line(alloc, name, error) {
+        Ok(line) => write_whole(errors, line.as_bytes()),
+        Err(no_memory) => Err(io::Error::from(no_memory)),
+    }
+}
+
+/// The line of an error: the names of the program and of the capture, if it has one, and the text of the error.
+fn error_line(alloc: Global, name: Option<&str>, error: &CaptureError) -> Result<String, AllocError>
+    ensures { IfOk result (λ line. IsLineOf (option_map (λ text. shown_name text.now) name.entry) (IsErrorText error.now) (string_bytes line)) }
 {
     let text = text_of(alloc, error)?;
     match name {
-        Some(name) => writeln!(errors, "capture_report: {}: {text}", ShownName(name)),
-        None => writeln!(errors, "capture_report: {text}"),
+        Some(name) => format!(in alloc; "capture_report: {}: {text}\n", ShownName(name)),
+        None => format!(in alloc; "capture_report: {text}\n"),
     }
 }
 
@@ -151,17 +182,32 @@ const FILTER_HINT: &str = "; filters are --host, --port and --protocol";
 
 /// Writes the line of a capture that can't be opened: the names of the program and of the capture, and the text of the error. If the name
 /// is a word of a filter, the options that select packets follow.
-pub(crate) fn write_open_error<E: Write>(
+///
+/// # Errors
+///
+/// The error of the first write that fails, and `OutOfMemory` if no memory is left. Then at most a beginning of the line was written.
+pub fn write_open_error<E: Write>(
     errors: &mut E,
     alloc: Global,
     name: &str,
     error: &io::Error,
 ) -> io::Result<()>
-    ensures { OnOk result (AppendsOne (E.contents errors.old) (E.contents errors.new) (IsLineOf (Some (shown_name name.now)) (EndsInHint name.now))) }
+    ensures { WritesSome (E.contents errors.old) (E.contents errors.new) (IsOk result) (IsOneLine (IsOpenErrorLine name.now)) }
+{
+    match open_error_line(alloc, name, error) {
+        Ok(line) => write_whole(errors, line.as_bytes()),
+        Err(no_memory) => Err(io::Error::from(no_memory)),
+    }
+}
+
+/// The line of a capture that can't be opened: the names of the program and of the capture, and the text of the error. If the name is a
+/// word of a filter, the options that select packets follow.
+fn open_error_line(alloc: Global, name: &str, error: &io::Error) -> Result<String, AllocError>
+    ensures { IfOk result (λ line. IsOpenErrorLine name.now (string_bytes line)) }
 {
     let text = format!(in alloc; "{error}")?;
     let hint = hint_of(name);
-    writeln!(errors, "capture_report: {}: {text}{hint}", ShownName(name))
+    format!(in alloc; "capture_report: {}: {text}{hint}\n", ShownName(name))
 }
 
 /// The text for the name of a capture that is a word of a filter. It is empty for every other name.

@@ -1,13 +1,17 @@
-ghost use Rattle.std.specs.Prelude.{◌≡◌, ◌↔◌, ◌++◌, IfOk, IfSome, IsTrue, OnOk, [], if◌then◌else◌, true};
+ghost use Rattle.std.specs.Prelude.{◌≡◌, ◌↔◌, ◌++◌, Err, IfOk, IfSome, IsNone, IsOk, IsTrue, None, OnOk, [], if◌then◌else◌, true};
 ghost use Rattle.std.specs.Io.KnownBytes.{Appends};
+ghost use Rattle.capture_run.specs.Captures.{progress_of};
 ghost use Rattle.capture_run.specs.Endings.{status_of};
 ghost use Rattle.capture_run.specs.PacketsText.{IsCaptureText, empty_line, end_text, summary_in};
 ghost use Rattle.capture_summary.specs.Ranking.{busiest_of};
 ghost use Rattle.capture_run.specs.ExitStatuses.{final_status, greater};
-ghost use Rattle.capture_run.specs.Limits.{EndsByLimit, IsWithin, is_full};
+ghost use Rattle.capture_run.specs.Limits.{EndsByLimit, IsWithin, is_full, StopsCapture};
+ghost use Rattle.capture_run.specs.ReadCaptures.{IsCaptureAfter, only_capture};
 ghost use Rattle.capture_run.specs.Runs.{EndsAtHeader, ReportsCapture};
+ghost use Rattle.capture_run.specs.declared.capture_error.CaptureError.TheVariants as CaptureError;
 ghost use Rattle.capture_run.specs.declared.exit_status.ExitStatus.TheVariants as ExitStatus;
 ghost use Rattle.capture_summary.specs.SummaryTables.{empty_tables};
+ghost use Rattle.capture_facts.specs.FactsText.{facts_text};
 ghost use Rattle.capture_text.specs.SummaryText.{tables_text};
 ghost use Rattle.capture_text.specs.Written.{AppendsOne};
 ghost use Rattle.capture_run.specs.declared.parts.Lines.TheVariants as Lines;
@@ -15,10 +19,13 @@ ghost use Rattle.capture_run.specs.declared.parts.Lines.TheVariants as Lines;
 use crate::packet_report::is_full;
 use crate::packets::report_packets;
 use crate::{CaptureError, ExitStatus, Format, Lines, Parts, WriteError};
+use capture_facts::write_facts;
+use capture_file::reader::CaptureReader;
 use capture_summary::{ConversationCount, Summary};
 use capture_text::write_summary;
 use std::alloc::Global;
 use std::hash::RandomState;
+use std::io;
 use std::io::{Read, Write};
 
 /// The reports of captures, one after the other: the state that is kept from capture to capture.
@@ -30,6 +37,10 @@ pub(crate) struct CaptureReports {
     status: ExitStatus,
     /// Whether no header of a capture was accepted so far.
     is_empty: bool,
+    /// The reader of the capture whose header was accepted, after its packets. None of several captures.
+    capture: Option<CaptureReader>,
+    /// The error of the last line of an error that could not be written.
+    unwritten: Option<io::Error>,
 }
 
 impl CaptureReports {
@@ -40,12 +51,16 @@ impl CaptureReports {
         ensures summary { result.summary ≡ empty_tables }
         ensures status { result.status ≡ ExitStatus.Success }
         ensures empty { result.is_empty ≡ true }
+        ensures capture { result.capture ≡ None }
+        ensures unwritten { result.unwritten ≡ None }
     {
         CaptureReports {
             parts,
             summary: Summary::new(alloc, state),
             status: ExitStatus::Success,
             is_empty: true,
+            capture: None,
+            unwritten: None,
         }
     }
 
@@ -68,11 +83,15 @@ impl CaptureReports {
             ReportsCapture self.parts.choice all given.1 self.summary given.0.summary)) }
         ensures status { IfOk result (λ given. given.0.status ≡ greater self.status (status_of given.1)) }
         ensures parts { IfOk result (λ given. given.0.parts ≡ self.parts) }
+        ensures unwritten { IfOk result (λ given. given.0.unwritten ≡ self.unwritten) }
         ensures text { IfOk result (λ given. AppendsOne (W.contents output.old) (W.contents output.new)
             (IsCaptureText self.parts (R.remaining input.old) given.1 self.summary given.0.summary)) }
         ensures empty { IfOk result (λ given. IsTrue given.0.is_empty ↔ (IsTrue self.is_empty × EndsAtHeader given.1)) }
+        ensures capture { IfOk result (λ given. IsCaptureAfter self.is_empty self.capture (R.remaining input.old) given.1 given.0.capture) }
         ensures limit { IfOk result (λ given. EndsByLimit self.parts.limit given.0.summary.packets given.1) }
         ensures within { IsWithin self.parts.limit self.summary.packets → IfOk result (λ given. IsWithin self.parts.limit given.0.summary.packets) }
+        ensures stops { IfOk result (λ given. given.1 ≡ Err CaptureError.Enough → StopsCapture self.parts.limit self.parts.choice
+            (R.remaining input.old) (R.remaining input.new) self.summary given.0.summary) }
         ensures silent { self.parts.lines ≡ Lines.None → output.new ≡ output.old }
     {
         let CaptureReports {
@@ -80,14 +99,19 @@ impl CaptureReports {
             summary,
             status,
             is_empty,
+            capture,
+            unwritten,
         } = self;
-        let (summary, ended) = report_packets(alloc, summary, parts, input, output)?;
+        let mut reader = None;
+        let (summary, ended) = report_packets(alloc, summary, parts, &mut reader, input, output)?;
         let status = greater(status, status_of(&ended));
         let reports = CaptureReports {
             parts,
             summary,
             status,
             is_empty: is_empty && ends_at_header(&ended),
+            capture: only_capture(is_empty, capture, reader),
+            unwritten,
         };
         Ok((reports, ended))
     }
@@ -116,6 +140,28 @@ impl CaptureReports {
         }
     }
 
+    /// Records whether the line of an error was written. If it was not, the error is kept until the end of the run.
+    pub fn after_line(self, written: io::Result<()>) -> CaptureReports
+        ensures progress { progress_of result ≡ progress_of self }
+        ensures parts { result.parts ≡ self.parts }
+        ensures unwritten { IsNone result.unwritten ↔ (IsNone self.unwritten × IsOk written) }
+    {
+        match written {
+            Ok(()) => self,
+            Err(error) => CaptureReports {
+                unwritten: Some(error),
+                ..self
+            },
+        }
+    }
+
+    /// The error of a line of an error that could not be written, if there is one.
+    pub fn into_unwritten(self) -> Option<io::Error>
+        ensures { result ≡ self.unwritten }
+    {
+        self.unwritten
+    }
+
     /// Writes the summary of all captures if it is requested and the header of a capture was accepted. Returns the exit status, which is
     /// the greatest status of the reports. With a requested check it is `Fault` if the checksum of a packet is wrong or a packet is
     /// rejected, even if a capture can't be read to its end.
@@ -126,7 +172,7 @@ impl CaptureReports {
     pub fn finish<W: Write>(&self, alloc: Global, output: &mut W) -> Result<ExitStatus, WriteError>
         ensures status { IfOk result (λ status. status ≡ final_status self.now.parts.check self.now.status self.now.summary) }
         ensures text { OnOk result (Appends (W.contents output.old) (W.contents output.new)
-            (if self.now.is_empty then [] else end_text self.now.parts self.now.summary)) }
+            (if self.now.is_empty then [] else end_text self.now.parts self.now.capture self.now.summary)) }
     {
         self.write_end(alloc, output)?;
         match output.flush() {
@@ -138,7 +184,7 @@ impl CaptureReports {
     /// Writes the summary if it is requested and the header of a capture was accepted.
     fn write_end<W: Write>(&self, alloc: Global, output: &mut W) -> Result<(), WriteError>
         ensures { OnOk result (Appends (W.contents output.old) (W.contents output.new)
-            (if self.now.is_empty then [] else end_text self.now.parts self.now.summary)) }
+            (if self.now.is_empty then [] else end_text self.now.parts self.now.capture self.now.summary)) }
     {
         if self.is_empty || !self.parts.summary {
             return Ok(());
@@ -148,6 +194,7 @@ impl CaptureReports {
             output,
             alloc,
             &self.parts,
+            &self.capture,
             &self.summary,
             busiest.as_slice(),
         )
@@ -169,32 +216,48 @@ fn write_summary_in<W: Write>(
     output: &mut W,
     alloc: Global,
     parts: &Parts,
+    capture: &Option<CaptureReader>,
     summary: &Summary,
     busiest: &[ConversationCount],
 ) -> Result<(), WriteError>
     ensures { busiest.now ≡ busiest_of parts.now.top summary.now.flows.rows → OnOk result (Appends (W.contents output.old) (W.contents output.new)
-        (summary_in parts.now.format parts.now.lines parts.now.top summary.now)) }
+        (summary_in parts.now.format parts.now.lines parts.now.top capture.now summary.now)) }
 {
     match parts.format {
-        Format::Text => write_text_summary(output, parts.lines, summary, busiest),
-        Format::Json => capture_json::write_summary(output, alloc, summary, busiest),
+        Format::Text => write_text_summary(output, parts.lines, capture, summary, busiest),
+        Format::Json => capture_json::write_summary(output, alloc, capture, summary, busiest),
     }
 }
 
-/// Writes the tables, after an empty line if lines of packets are requested.
+/// Writes what the capture is, and the tables, after an empty line if lines of packets are requested.
 fn write_text_summary<W: Write>(
     output: &mut W,
     lines: Lines,
+    capture: &Option<CaptureReader>,
     summary: &Summary,
     busiest: &[ConversationCount],
 ) -> Result<(), WriteError>
-    ensures { OnOk result (Appends (W.contents output.old) (W.contents output.new) (empty_line lines ++ tables_text busiest.now summary.now)) }
+    ensures { OnOk result (Appends (W.contents output.old) (W.contents output.new)
+        (empty_line lines ++ (facts_text capture.now ++ tables_text busiest.now summary.now))) }
 {
     write_empty_line(output, lines)?;
-    match write_summary(output, summary, busiest) {
+    match write_facts_and_tables(output, capture, summary, busiest) {
         Ok(()) => Ok(()),
         Err(error) => Err(WriteError::Write(error)),
     }
+}
+
+/// Writes what the capture is, and the tables.
+fn write_facts_and_tables<W: Write>(
+    output: &mut W,
+    capture: &Option<CaptureReader>,
+    summary: &Summary,
+    busiest: &[ConversationCount],
+) -> io::Result<()>
+    ensures { OnOk result (Appends (W.contents output.old) (W.contents output.new) (facts_text capture.now ++ tables_text busiest.now summary.now)) }
+{
+    write_facts(output, capture)?;
+    write_summary(output, summary, busiest)
 }
 
 /// Writes the empty line before the summary, if lines of packets are requested.
@@ -218,6 +281,21 @@ fn greater(status: ExitStatus, other: ExitStatus) -> ExitStatus
         other
     } else {
         status
+    }
+}
+
+/// The reader of the only capture whose header was accepted, after one more capture. `reader` is its reader, if its header was accepted.
+fn only_capture(
+    is_empty: bool,
+    capture: Option<CaptureReader>,
+    reader: Option<CaptureReader>,
+) -> Option<CaptureReader>
+    ensures { result ≡ only_capture is_empty capture reader }
+{
+    match reader {
+        Some(reader) if is_empty => Some(reader),
+        Some(_) => None,
+        None => capture,
     }
 }
 

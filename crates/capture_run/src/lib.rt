@@ -16,7 +16,7 @@ mod parts;
 mod report;
 mod shown_name;
 
-pub use capture_error::CaptureError;
+pub use capture_error::{CaptureError, write_error, write_open_error};
 pub use capture_json::WriteError;
 pub use capture_packet::MAX_PACKET_LEN;
 pub use capture_summary::Choice;
@@ -24,6 +24,7 @@ pub use capture_text::Times;
 pub use compression::Compression;
 pub use exit_status::ExitStatus;
 pub use open::Open;
+pub use packet_report::{packet_in_frame, packet_without_room};
 pub use parts::{Format, Lines, Parts};
 pub use report::{STANDARD_INPUT, run};
 pub use shown_name::ESCAPED;

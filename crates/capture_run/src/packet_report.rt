@@ -8,7 +8,7 @@ ghost use Rattle.capture_run.specs.ReportText.{IsLineIn, IsTextOf, IsTextOfChose
 ghost use Rattle.capture_text.specs.Written.{AppendsOne};
 ghost use Rattle.capture_run.specs.declared.parts.Lines.TheVariants as Lines;
 
-use crate::{Format, Parts, Times, WriteError};
+use crate::{Format, Parts, WriteError};
 use capture_file::PacketTime;
 use capture_file::reader::{CapturedPacket, TooLongPacket};
 use capture_json::write_packet;
@@ -105,12 +105,7 @@ impl PacketReport {
         ensures parts { self.new.parts ≡ self.old.parts }
         ensures first { self.new.first ≡ option_or self.old.first captured.now.time }
     {
-        let packet = Packet::in_no_tunnel(
-            Content::Unread,
-            Verdict::TooLong {
-                required_len: captured.required_len,
-            },
-        );
+        let packet = packet_without_room(captured.required_len);
         self.add_packet(output, number, &too_long_info(captured), &packet)
     }
 
@@ -194,8 +189,16 @@ fn too_long_info(captured: &TooLongPacket) -> CaptureInfo
     }
 }
 
-/// Reads a frame according to the link type of its packet.
-fn packet_in_frame<'a>(captured: &CapturedPacket, frame: &'a [u8]) -> Packet<'a>
+/// A packet that is not read, since the buffer has no room for its `required_len` bytes.
+pub fn packet_without_room<'a>(required_len: u32) -> Packet<'a>
+    ensures { IsTooLong required_len result }
+{
+    Packet::in_no_tunnel(Content::Unread, Verdict::TooLong { required_len })
+}
+
+/// The packet in a frame, which is read according to the link type of its capture or interface. A frame of a link type that is not read
+/// contains no IP packet.
+pub fn packet_in_frame<'a>(captured: &CapturedPacket, frame: &'a [u8]) -> Packet<'a>
     ensures { IsReadAs captured.now.link_type captured.now frame.now result }
 {
     match captured.link_type {
@@ -238,27 +241,39 @@ fn write_line<W: Write>(
     packet: &Packet<'_>,
 ) -> Result<(), WriteError>
     ensures { OnOk result (AppendsOne (W.contents output.old) (W.contents output.new)
-        (IsLineIn parts.now.format parts.now.times number first info.now packet.now)) }
+        (IsLineIn parts.now.format parts.now.times parts.now.verbose number first info.now packet.now)) }
 {
     match parts.format {
-        Format::Text => write_text_line(output, parts.times, number, first, info, packet),
-        Format::Json => write_packet(output, alloc, parts.times, number, first, info.time, packet),
+        Format::Text => write_text_line(output, parts, number, first, info, packet),
+        Format::Json => write_packet(
+            output,
+            alloc,
+            parts.times,
+            number,
+            first,
+            info.time,
+            info.len,
+            packet,
+        ),
     }
 }
 
 /// Writes the line of a packet as text.
 fn write_text_line<W: Write>(
     output: &mut W,
-    times: Times,
+    parts: &Parts,
     number: u64,
     first: Option<PacketTime>,
     info: &CaptureInfo,
     packet: &Packet<'_>,
 ) -> Result<(), WriteError>
     ensures { OnOk result (AppendsOne (W.contents output.old) (W.contents output.new)
-        (IsLine times number first info.now.time info.now.len packet.now)) }
+        (IsLine parts.now.times parts.now.verbose number first info.now.time info.now.len packet.now)) }
 {
-    match write_packet_line(output, times, number, first, info.time, info.len, packet) {
+    let (times, verbose) = (parts.times, parts.verbose);
+    match write_packet_line(
+        output, times, verbose, number, first, info.time, info.len, packet,
+    ) {
         Ok(()) => Ok(()),
         Err(error) => Err(WriteError::Write(error)),
     }

@@ -5,8 +5,9 @@ ghost use Rattle.capture_file.specs.CapturePackets.{ArePacketsBeforeCut, BeginsI
 ghost use Rattle.capture_file.specs.declared.reader.next_packet.NextPacket.{NextPacket};
 ghost use Rattle.capture_run.specs.Endings.{HasTooManyPackets};
 ghost use Rattle.capture_packet.specs.Frames.{max_packet_len};
-ghost use Rattle.capture_run.specs.Limits.{EndsByLimit, EndsWithoutLimit, IsWithin};
+ghost use Rattle.capture_run.specs.Limits.{EndsByLimit, EndsWithoutLimit, IsWithin, StopsAtLimit, StopsCapture};
 ghost use Rattle.capture_run.specs.PacketsText.{IsCaptureText, WritesPacket, WritesPackets};
+ghost use Rattle.capture_run.specs.ReadCaptures.{IsLeft, IsReaderOf, LeavesReader};
 ghost use Rattle.capture_run.specs.Report.{CountsCapture, CountsEach, IsPlaced, IsReadToEnd, PlacesEnd, PlacesError, ReadsWholePackets, ReportsNext};
 ghost use Rattle.capture_run.specs.Runs.{EndsAtHeader, IsUnread, ReportsCapture};
 ghost use Rattle.capture_text.specs.Written.{AppendsOne};
@@ -23,21 +24,27 @@ use streams::new_buffer;
 
 /// Reads a capture, counts each of its packets that is chosen in the summary, and writes its line if it has one. The error beside the
 /// summary says why the capture is not read, or where its packets can't be read further. If a number of packets is requested, the report
-/// ends as soon as it is reached.
+/// ends as soon as it is reached, and nothing after the last of these packets is read. `capture` becomes the reader after the packets, if
+/// the header of the capture is accepted.
 pub(crate) fn report_packets<R: Read, W: Write>(
     alloc: Global,
     summary: Summary,
     parts: Parts,
+    capture: &mut Option<CaptureReader>,
     input: &mut R,
     output: &mut W,
 ) -> Result<(Summary, Result<(), CaptureError>), WriteError>
+    ensures capture { IfOk result (λ given. IsReaderOf (R.remaining input.old) given.1 capture.new) }
     ensures reports { IfOk result (λ given. IfSome (R.remaining input.old) (λ all. ReportsCapture parts.choice all given.1 summary given.0)) }
     ensures text { IfOk result (λ given. AppendsOne (W.contents output.old) (W.contents output.new)
         (IsCaptureText parts (R.remaining input.old) given.1 summary given.0)) }
     ensures limit { IfOk result (λ given. EndsByLimit parts.limit given.0.packets given.1) }
     ensures within { IsWithin parts.limit summary.packets → IfOk result (λ given. IsWithin parts.limit given.0.packets) }
+    ensures stops { IfOk result (λ given. given.1 ≡ Err CaptureError.Enough
+        → StopsCapture parts.limit parts.choice (R.remaining input.old) (R.remaining input.new) summary given.0) }
     ensures silent { parts.lines ≡ Lines.None → output.new ≡ output.old }
 {
+    *capture = None;
     let mut buffer = new_buffer(alloc, MAX_PACKET_LEN)?;
     let mut reader = match read_header(input, buffer.as_mut_slice()) {
         Ok(reader) => reader,
@@ -51,6 +58,7 @@ pub(crate) fn report_packets<R: Read, W: Write>(
         &mut reader,
         &mut packets,
     )?;
+    *capture = Some(reader);
     Ok((packets.into_summary(), ended))
 }
 
@@ -91,11 +99,14 @@ fn report_each<R: Read, W: Write>(
         → (before_cut : List FilePacket) × ArePacketsBeforeCut max_packet_len reader.old whole cut all before_cut
         × CountsEach packets.old.parts.choice packets.old.summary before_cut packets.new.summary) }
     ensures places { IfOk result (PlacesEnd reader.old (R.remaining input.old) packets.old.summary.packets reader.new) }
+    ensures leaves { IfOk result (λ ended. LeavesReader reader.old (R.remaining input.old) reader.new) }
     ensures too_many { IfOk result (λ ended. ended ≡ Err CaptureError.TooManyPackets
         → IfSome (R.remaining input.old) (HasTooManyPackets packets.old.summary.packets reader.old)) }
     ensures limit { IfOk result (EndsByLimit packets.old.parts.limit packets.new.summary.packets) }
     ensures within { IsWithin packets.old.parts.limit packets.old.summary.packets
         → IfOk result (λ ended. IsWithin packets.old.parts.limit packets.new.summary.packets) }
+    ensures stops { IfOk result (λ ended. ended ≡ Err CaptureError.Enough → StopsAtLimit packets.old.parts.limit packets.old.parts.choice
+        reader.old (R.remaining input.old) (R.remaining input.new) packets.old.summary packets.new.summary) }
     ensures after_packets { IfErr result (λ error.
         ReadsWholePackets reader.old (R.remaining input.old) (R.remaining input.new) reader.new) }
     ensures silent { packets.old.parts.lines ≡ Lines.None → output.new ≡ output.old }
@@ -132,6 +143,7 @@ fn report_next<R: Read, W: Write>(
     ensures places { IfOk result (λ ended. IfSome ended (λ done. (packets : ℕ) → PlacesError packets number (offset_of reader.new) done)) }
     ensures seeks { IfOk result (λ ended. IfSome ended (λ done. IsPlaced done
         → Seeks max_packet_len reader.old (R.remaining input.old) reader.new)) }
+    ensures leaves { IfOk result (λ ended. IfSome ended (λ done. IsLeft reader.old (R.remaining input.old) reader.new)) }
     ensures unlimited { IfOk result (λ ended. IfSome ended EndsWithoutLimit) }
     ensures after_packet { IfErr result (λ error. (packet : FilePacket)
         × ReadsOne max_packet_len reader.old (R.remaining input.old) (R.remaining input.new) reader.new packet) }

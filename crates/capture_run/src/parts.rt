@@ -1,6 +1,6 @@
 //! The options of a report.
 
-ghost use Rattle.std.specs.Prelude.{◌≡◌, None, not};
+ghost use Rattle.std.specs.Prelude.{◌≡◌, None, false, not};
 ghost use Rattle.capture_summary.specs.Choice.{every_packet};
 ghost use Rattle.capture_run.specs.Lines.{has_line, lines_by};
 ghost use Rattle.capture_summary.specs.Ranking.{default_top};
@@ -20,6 +20,8 @@ pub struct Parts {
     pub lines: Lines,
     /// How a line shows the time of its packet.
     pub times: Times,
+    /// Whether a line of text also shows the hop limit or the time to live of its packet. A line of JSON always does.
+    pub verbose: bool,
     /// Whether the summary is written.
     pub summary: bool,
     /// The format of lines and summary.
@@ -33,8 +35,8 @@ pub struct Parts {
 }
 
 impl Parts {
-    /// The options that these flags request: all packets without a limit, as text, with times since the first packet, and with the ten
-    /// busiest conversations.
+    /// The options that these flags request: all packets without a limit, as text without details, with times since the first packet, and
+    /// with the ten busiest conversations.
     pub fn from_flags(
         summary_alone: bool,
         packets_alone: bool,
@@ -44,6 +46,7 @@ impl Parts {
         ensures choice { result.choice ≡ every_packet }
         ensures lines { result.lines ≡ lines_by summary_alone wrong_alone }
         ensures times { result.times ≡ SinceFirst }
+        ensures verbose { result.verbose ≡ false }
         ensures summary { result.summary ≡ not packets_alone }
         ensures format { result.format ≡ Format.Text }
         ensures top { result.top ≡ default_top }
@@ -59,6 +62,7 @@ impl Parts {
             choice: Choice::ALL,
             lines,
             times: Times::SinceFirst,
+            verbose: false,
             summary: !packets_alone,
             format: Format::Text,
             top: BUSIEST,

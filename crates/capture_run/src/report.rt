@@ -1,15 +1,17 @@
 //! The report of a run: captures, one after the other, and then the summary of all captures.
 
-ghost use Rattle.std.specs.Prelude.{◌≡◌, IfOk, OnOk, codes, length, map};
+ghost use Rattle.std.specs.Prelude.{◌≡◌, IfErr, IfOk, IsNone, OnErr, OnOk, length, map};
 ghost use Rattle.std.specs.Io.KnownBytes.{Appends};
+ghost use Rattle.std.specs.Option.{option_map};
 ghost use Rattle.capture_run.specs.Captures as specs;
-ghost use Rattle.capture_run.specs.Captures.{Gives, IsRun, ReportsEach, ReportsHeaded, ReportsNamed, heading_in, heading_of, progress_of, text_heading};
-ghost use Rattle.capture_text.specs.Written.{AppendsOne};
+ghost use Rattle.capture_run.specs.Captures.{Gives, IsRun, ReportsEach, ReportsHeaded, ReportsNamed, TellsFirst, WritesReport, WritesRun, at_start, heading_in, heading_of, progress_of, text_heading};
+ghost use Rattle.capture_run.specs.ErrorLines.{line_name};
+ghost use Rattle.capture_run.specs.Names.{shown_name};
 
-use crate::capture_error::{write_error, write_open_error};
+use crate::capture_error::{write_end, write_open_error};
 use crate::capture_reports::CaptureReports;
 use crate::shown_name::{ShownName, without_mark};
-use crate::{CaptureError, ExitStatus, Format, Lines, Open, Parts, WriteError};
+use crate::{ExitStatus, Format, Lines, Open, Parts, WriteError};
 use capture_json::write_file_name;
 use std::alloc::Global;
 use std::hash::RandomState;
@@ -25,13 +27,14 @@ pub const STANDARD_INPUT: &str = "-";
 ///
 /// If a number of packets is requested, the run ends with the last of them, and reads no further capture.
 ///
-/// An error within a capture, or of a capture that can't be opened, is written as text to `errors`. The next capture follows. The exit
-/// status is the greatest status of all captures. With a requested check it is `Fault` if the checksum of a packet is wrong or a packet is
-/// rejected, even if a capture can't be opened or can't be read to its end.
+/// For a capture that can't be opened or can't be read to its end, a line with its name and the error is written to `errors`. The next
+/// capture follows. The exit status is the greatest status of all captures. With a requested check it is `Fault` if the checksum of a
+/// packet is wrong or a packet is rejected, even if a capture can't be opened or can't be read to its end.
 ///
 /// # Errors
 ///
-/// `Write` if writing fails, and `NoMemory` if no memory is left. Nothing more can be reported then.
+/// `Write` if writing to `output` fails, and `NoMemory` if no memory is left. Nothing more can be reported then. If writing to `errors`
+/// fails, all captures and the summary are reported first, and then `Write` is returned.
 pub fn run<O: Open, W: Write, E: Write>(
     alloc: Global,
     state: RandomState,
@@ -41,12 +44,18 @@ pub fn run<O: Open, W: Write, E: Write>(
     output: &mut W,
     errors: &mut E,
 ) -> Result<ExitStatus, WriteError>
-    ensures { IfOk result (λ status. AppendsOne (W.contents output.old) (W.contents output.new)
+    ensures report { IfOk result (λ status. WritesRun (W.contents output.old) (W.contents output.new) (E.contents errors.old) (E.contents errors.new)
         (IsRun (Gives (O.misses opener.now) (O.opens opener.now) O.Input.remaining) parts (map (λ name. name.now) names.now) status)) }
+    ensures errors { IfErr result (λ error. TellsFirst (Gives (O.misses opener.now) (O.opens opener.now) O.Input.remaining) parts (length names.now)
+        (specs.captures_of (map (λ name. name.now) names.now)) at_start (E.contents errors.old) (E.contents errors.new)) }
 {
     let reports = CaptureReports::new(alloc, state, parts);
     let reports = report_captures(alloc, names, opener, reports, output, errors)?;
-    reports.finish(alloc, output)
+    let status = reports.finish(alloc, output)?;
+    match reports.into_unwritten() {
+        Some(error) => Err(WriteError::Write(error)),
+        None => Ok(status),
+    }
 }
 
 /// Reports the captures with these names, or standard input if there is no name.
@@ -58,13 +67,16 @@ fn report_captures<O: Open, W: Write, E: Write>(
     output: &mut W,
     errors: &mut E,
 ) -> Result<CaptureReports, WriteError>
-    ensures text { IfOk result (λ after. AppendsOne (W.contents output.old) (W.contents output.new)
-        (ReportsEach (Gives (O.misses opener.now) (O.opens opener.now) O.Input.remaining) reports.parts (heading_of reports.parts (length names.now)) 0
+    ensures report { IfOk result (λ after. WritesReport (W.contents output.old) (W.contents output.new) (E.contents errors.old) (E.contents errors.new)
+        (IsNone after.unwritten) (ReportsEach (Gives (O.misses opener.now) (O.opens opener.now) O.Input.remaining) reports.parts (length names.now) 0
         (specs.captures_of (map (λ name. name.now) names.now)) (progress_of reports) (progress_of after))) }
+    ensures told { IfOk result (λ after. IsNone after.unwritten → IsNone reports.unwritten) }
+    ensures errors { IfErr result (λ error. TellsFirst (Gives (O.misses opener.now) (O.opens opener.now) O.Input.remaining) reports.parts (length names.now)
+        (specs.captures_of (map (λ name. name.now) names.now)) (progress_of reports) (E.contents errors.old) (E.contents errors.new)) }
     ensures parts { IfOk result (λ after. after.parts ≡ reports.parts) }
 {
     if names.is_empty() {
-        report_unnamed(alloc, opener, reports, output, errors)
+        report_headed(alloc, 0, 0, STANDARD_INPUT, opener, reports, output, errors)
     } else {
         report_each(alloc, names, opener, reports, output, errors)
     }
@@ -79,9 +91,12 @@ fn report_each<O: Open, W: Write, E: Write>(
     output: &mut W,
     errors: &mut E,
 ) -> Result<CaptureReports, WriteError>
-    ensures text { IfOk result (λ after. AppendsOne (W.contents output.old) (W.contents output.new)
-        (ReportsEach (Gives (O.misses opener.now) (O.opens opener.now) O.Input.remaining) reports.parts (heading_of reports.parts (length names.now)) 0
+    ensures report { IfOk result (λ after. WritesReport (W.contents output.old) (W.contents output.new) (E.contents errors.old) (E.contents errors.new)
+        (IsNone after.unwritten) (ReportsEach (Gives (O.misses opener.now) (O.opens opener.now) O.Input.remaining) reports.parts (length names.now) 0
         (map (λ name. name.now) names.now) (progress_of reports) (progress_of after))) }
+    ensures told { IfOk result (λ after. IsNone after.unwritten → IsNone reports.unwritten) }
+    ensures errors { IfErr result (λ error. TellsFirst (Gives (O.misses opener.now) (O.opens opener.now) O.Input.remaining) reports.parts (length names.now)
+        (map (λ name. name.now) names.now) (progress_of reports) (E.contents errors.old) (E.contents errors.new)) }
     ensures parts { IfOk result (λ after. after.parts ≡ reports.parts) }
 {
     let mut reports = reports;
@@ -100,7 +115,8 @@ fn report_each<O: Open, W: Write, E: Write>(
     Ok(reports)
 }
 
-/// Reports the capture with this name, after its heading. The capture is left out if as many packets were counted as are requested.
+/// Reports the capture with this name, after its heading. `count` is the number of named captures. The capture is left out if as many
+/// packets were counted as are requested.
 fn report_headed<O: Open, W: Write, E: Write>(
     alloc: Global,
     count: usize,
@@ -111,9 +127,11 @@ fn report_headed<O: Open, W: Write, E: Write>(
     output: &mut W,
     errors: &mut E,
 ) -> Result<CaptureReports, WriteError>
-    ensures text { IfOk result (λ after. AppendsOne (W.contents output.old) (W.contents output.new)
-        (ReportsHeaded (Gives (O.misses opener.now) (O.opens opener.now) O.Input.remaining) reports.parts (heading_of reports.parts count) place
+    ensures report { IfOk result (λ after. WritesReport (W.contents output.old) (W.contents output.new) (E.contents errors.old) (E.contents errors.new)
+        (IsNone after.unwritten) (ReportsHeaded (Gives (O.misses opener.now) (O.opens opener.now) O.Input.remaining) reports.parts count place
         name.now (progress_of reports) (progress_of after))) }
+    ensures told { IfOk result (λ after. IsNone after.unwritten → IsNone reports.unwritten) }
+    ensures errors { OnErr result (errors.new ≡ errors.old) }
     ensures parts { IfOk result (λ after. after.parts ≡ reports.parts) }
 {
     if reports.is_full() {
@@ -121,26 +139,18 @@ fn report_headed<O: Open, W: Write, E: Write>(
     }
     let parts = *reports.parts();
     write_heading_if_any(output, alloc, &parts, count, place, name)?;
-    report_capture(alloc, name, Some(name), opener, reports, output, errors)
+    let shown = line_name(count, name);
+    report_capture(alloc, name, shown, opener, reports, output, errors)
 }
 
-/// Reports standard input, without a heading. It is left out if no packet is requested.
-fn report_unnamed<O: Open, W: Write, E: Write>(
-    alloc: Global,
-    opener: &O,
-    reports: CaptureReports,
-    output: &mut W,
-    errors: &mut E,
-) -> Result<CaptureReports, WriteError>
-    ensures text { IfOk result (λ after. AppendsOne (W.contents output.old) (W.contents output.new)
-        (ReportsHeaded (Gives (O.misses opener.now) (O.opens opener.now) O.Input.remaining) reports.parts (heading_of reports.parts 0) 0
-        (codes "-") (progress_of reports) (progress_of after))) }
-    ensures parts { IfOk result (λ after. after.parts ≡ reports.parts) }
+/// The name of a capture in the line of an error within it. Standard input has no name there if no capture is named.
+fn line_name<'a>(count: usize, name: &'a str) -> Option<&'a str>
+    ensures { option_map (λ text. shown_name text.now) result ≡ line_name count name.now }
 {
-    if reports.is_full() {
-        return Ok(reports);
+    if count == 0 {
+        return None;
     }
-    report_capture(alloc, STANDARD_INPUT, None, opener, reports, output, errors)
+    Some(name)
 }
 
 /// Reports the capture with this name. An error within the capture is written after `shown`.
@@ -153,26 +163,23 @@ fn report_capture<O: Open, W: Write, E: Write>(
     output: &mut W,
     errors: &mut E,
 ) -> Result<CaptureReports, WriteError>
-    ensures text { IfOk result (λ after. AppendsOne (W.contents output.old) (W.contents output.new)
-        (ReportsNamed (Gives (O.misses opener.now) (O.opens opener.now) O.Input.remaining) reports.parts name.now (progress_of reports) (progress_of after))) }
+    ensures report { IfOk result (λ after. WritesReport (W.contents output.old) (W.contents output.new) (E.contents errors.old) (E.contents errors.new)
+        (IsNone after.unwritten) (ReportsNamed (Gives (O.misses opener.now) (O.opens opener.now) O.Input.remaining) reports.parts
+        (option_map (λ text. shown_name text.now) shown.entry) name.now (progress_of reports) (progress_of after))) }
+    ensures told { IfOk result (λ after. IsNone after.unwritten → IsNone reports.unwritten) }
+    ensures errors { OnErr result (errors.new ≡ errors.old) }
     ensures parts { IfOk result (λ after. after.parts ≡ reports.parts) }
 {
     let mut input = match opener.open(name) {
         Ok(input) => input,
         Err(error) => {
-            // If writing to standard error fails, the exit status still reports the failure.
-            let _ = write_open_error(errors, alloc, name, &error);
-            return Ok(reports.add_unopened());
+            let written = write_open_error(errors, alloc, name, &error);
+            return Ok(reports.add_unopened().after_line(written));
         }
     };
     let (reports, ended) = reports.add(alloc, &mut input, output)?;
-    match &ended {
-        Ok(()) | Err(CaptureError::Enough) => {}
-        Err(error) => {
-            let _ = write_error(errors, alloc, shown, error);
-        }
-    }
-    Ok(reports)
+    let written = write_end(errors, alloc, shown, &ended);
+    Ok(reports.after_line(written))
 }
 
 /// Writes the line before the packets of a capture. The line is left out if `count`, the number of captures, is at most 1, or if no packet

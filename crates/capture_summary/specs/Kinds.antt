@@ -223,8 +223,9 @@ link_kinds =
     (Known link_types.BsdLoopback) ∷ (Known link_types.Ethernet) ∷ (Known link_types.Ppp) ∷ (Known link_types.PppHdlc)
     ∷ (Known link_types.PppOverEthernet) ∷ (Known link_types.RawIp) ∷ (Known link_types.CiscoHdlc) ∷ (Known link_types.Ieee80211)
     ∷ (Known link_types.FrameRelay) ∷ (Known link_types.OpenBsdLoopback) ∷ (Known link_types.LinuxCooked) ∷ (Known link_types.Pflog)
-    ∷ (Known link_types.Prism) ∷ (Known link_types.Radiotap) ∷ (Known link_types.Ppi) ∷ (Known link_types.Ipnet)
-    ∷ (Known link_types.Pktap) ∷ (Known link_types.LinuxCooked2) ∷ OtherLink ∷ UnknownLink ∷ []
+    ∷ (Known link_types.Prism) ∷ (Known link_types.Radiotap) ∷ (Known link_types.Avs) ∷ (Known link_types.Ppi) ∷ (Known link_types.Ipnet)
+    ∷ (Known link_types.Nflog) ∷ (Known link_types.InfiniBand) ∷ (Known link_types.Pktap) ∷ (Known link_types.LinuxCooked2)
+    ∷ OtherLink ∷ UnknownLink ∷ []
 
 -- the place of a row
 abbrev pub link_place : LinkKind → ℕ
@@ -242,12 +243,15 @@ link_place (Known link_types.LinuxCooked) = 10
 link_place (Known link_types.Pflog) = 11
 link_place (Known link_types.Prism) = 12
 link_place (Known link_types.Radiotap) = 13
-link_place (Known link_types.Ppi) = 14
-link_place (Known link_types.Ipnet) = 15
-link_place (Known link_types.Pktap) = 16
-link_place (Known link_types.LinuxCooked2) = 17
-link_place OtherLink = 18
-link_place UnknownLink = 19
+link_place (Known link_types.Avs) = 14
+link_place (Known link_types.Ppi) = 15
+link_place (Known link_types.Ipnet) = 16
+link_place (Known link_types.Nflog) = 17
+link_place (Known link_types.InfiniBand) = 18
+link_place (Known link_types.Pktap) = 19
+link_place (Known link_types.LinuxCooked2) = 20
+link_place OtherLink = 21
+link_place UnknownLink = 22
 
 -- the word of a row
 abbrev pub link_word : LinkKind → List ℕ
@@ -265,8 +269,11 @@ link_word (Known link_types.LinuxCooked) = codes "Linux cooked"
 link_word (Known link_types.Pflog) = codes "PFLOG"
 link_word (Known link_types.Prism) = codes "Prism"
 link_word (Known link_types.Radiotap) = codes "radiotap"
+link_word (Known link_types.Avs) = codes "AVS"
 link_word (Known link_types.Ppi) = codes "PPI"
 link_word (Known link_types.Ipnet) = codes "Solaris ipnet"
+link_word (Known link_types.Nflog) = codes "NFLOG"
+link_word (Known link_types.InfiniBand) = codes "IP over InfiniBand"
 link_word (Known link_types.Pktap) = codes "PKTAP"
 link_word (Known link_types.LinuxCooked2) = codes "Linux cooked version 2"
 link_word OtherLink = codes "another link type"
@@ -282,6 +289,11 @@ link_rows counts = map (λ kind. (link_word kind, slice_index counts (link_place
 abbrev pub flow_protocol_word : FlowProtocol → List ℕ
 flow_protocol_word flow_protocols.Udp = codes "UDP"
 flow_protocol_word flow_protocols.Tcp = codes "TCP"
+
+-- the protocol of a flow as one of the four
+abbrev pub flow_proto : FlowProtocol → Proto
+flow_proto flow_protocols.Udp = protos.Udp
+flow_proto flow_protocols.Tcp = protos.Tcp
 
 -- the number of the protocol of a flow
 abbrev pub flow_protocol_number : FlowProtocol → ℕ

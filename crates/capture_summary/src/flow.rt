@@ -1,9 +1,9 @@
 ghost use Rattle.std.specs.Prelude.{◌≡◌, ◌↔◌, IsTrue};
 ghost use Rattle.std.specs.contracts.net.socket_addr.SocketAddrPartialEq.TheImpl as address_eq;
-ghost use Rattle.capture_summary.specs.Kinds.{flow_protocol_number, flow_protocol_word};
+ghost use Rattle.capture_summary.specs.Kinds.{flow_proto, flow_protocol_number, flow_protocol_word};
 ghost use Rattle.capture_summary.specs.Conversations.{canonical, is_same_flow, reversed};
 
-use etherparse_transport::{IpNumber, ip_number};
+use etherparse_transport::{IpNumber, Proto, ip_number};
 use std::net::SocketAddr;
 
 /// The protocol of a flow.
@@ -23,6 +23,16 @@ impl FlowProtocol {
         match self {
             FlowProtocol::Udp => "UDP",
             FlowProtocol::Tcp => "TCP",
+        }
+    }
+
+    /// The protocol as one of the four.
+    pub fn proto(self) -> Proto
+        ensures { result ≡ flow_proto self }
+    {
+        match self {
+            FlowProtocol::Udp => Proto::Udp,
+            FlowProtocol::Tcp => Proto::Tcp,
         }
     }
 

@@ -39,8 +39,11 @@ impl LinkKind {
             LinkKind::Known(LinkType::Pflog) => "PFLOG",
             LinkKind::Known(LinkType::Prism) => "Prism",
             LinkKind::Known(LinkType::Radiotap) => "radiotap",
+            LinkKind::Known(LinkType::Avs) => "AVS",
             LinkKind::Known(LinkType::Ppi) => "PPI",
             LinkKind::Known(LinkType::Ipnet) => "Solaris ipnet",
+            LinkKind::Known(LinkType::Nflog) => "NFLOG",
+            LinkKind::Known(LinkType::InfiniBand) => "IP over InfiniBand",
             LinkKind::Known(LinkType::Pktap) => "PKTAP",
             LinkKind::Known(LinkType::LinuxCooked2) => "Linux cooked version 2",
             LinkKind::Other => "another link type",
@@ -63,7 +66,7 @@ impl LinkKind {
     #[inline(always)]
     pub fn place(self) -> usize
         ensures place { result ≡ link_place self }
-        ensures below { result < 20 }
+        ensures below { result < 23 }
         ensures one_kind { (other : LinkKind) → link_place other ≡ result → other ≡ self }
     {
         match self {
@@ -92,8 +95,11 @@ impl LinkKind {
             LinkKind::Known(LinkType::Pflog).row(counts),
             LinkKind::Known(LinkType::Prism).row(counts),
             LinkKind::Known(LinkType::Radiotap).row(counts),
+            LinkKind::Known(LinkType::Avs).row(counts),
             LinkKind::Known(LinkType::Ppi).row(counts),
             LinkKind::Known(LinkType::Ipnet).row(counts),
+            LinkKind::Known(LinkType::Nflog).row(counts),
+            LinkKind::Known(LinkType::InfiniBand).row(counts),
             LinkKind::Known(LinkType::Pktap).row(counts),
             LinkKind::Known(LinkType::LinuxCooked2).row(counts),
             LinkKind::Other.row(counts),

@@ -1,6 +1,6 @@
 -- A packet has exactly one line.
 use Rattle.std.specs.Prelude.{ℕ, ◌<◌, List, ◌∷◌, [], Option, None, Some, Ok, Err, MatchOption, codes, length}
-use Rattle.std.proofs.Common.{◌≡◌, ◌∙◌, ap, arith, inl, inr, refl, subst, sym}
+use Rattle.std.proofs.Common.{◌≡◌, Bool, ◌∙◌, ap, arith, inl, inr, refl, subst, sym}
 use Rattle.std.proofs.lemmas.List.{append_cancel_left}
 use Rattle.tcp_part.proofs.TcpOptionsReadingLemmas.{one_reading}
 use Rattle.tcp_part.proofs.TcpRawOptionsLemmas.{one_raw_reading}
@@ -133,6 +133,6 @@ one_content_text (contents.Ip addresses protocol proto transport payload_len) te
     one_of _ _ (one_transport_text (by_value addresses) protocol.0 proto transport) text other is also
 
 -- equal packets with the same number, time and length have the same line
-pub one_line : (times : Times) (number : ℕ) (first time : Option PacketTime) (len : Option FrameLen) (packet : Packet)
-    → HasOneLine times number first time len packet
-one_line times number first time len packet line other is also = one_of _ _ (one_content_text packet.content) line other is also
+pub one_line : (times : Times) (verbose : Bool) (number : ℕ) (first time : Option PacketTime) (len : Option FrameLen) (packet : Packet)
+    → HasOneLine times verbose number first time len packet
+one_line times verbose number first time len packet line other is also = one_of _ _ (one_content_text packet.content) line other is also

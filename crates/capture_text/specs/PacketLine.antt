@@ -1,5 +1,5 @@
 -- The line of a packet.
-use Rattle.std.specs.Prelude.{◌≡◌, ℕ, ◌==◌, if◌then◌else◌, List, [], ◌++◌, length, codes, decimal, Option, Some, None}
+use Rattle.std.specs.Prelude.{◌≡◌, ℕ, ◌==◌, Bool, if◌then◌else◌, List, [], ◌++◌, length, codes, decimal, Option, Some, None}
 use Rattle.std.specs.List.{flat_map}
 use Rattle.icmp_part.specs.Icmpv4Format as icmpv4
 use Rattle.icmp_part.specs.Icmpv6Format as icmpv6
@@ -13,6 +13,8 @@ use Rattle.capture_packet.specs.declared.content.Content.{Content}
 use Rattle.capture_packet.specs.declared.content.Content.TheVariants as contents
 use Rattle.capture_link.specs.declared.network_protocol.NetworkProtocol.{NetworkProtocol}
 use Rattle.capture_link.specs.declared.network_protocol.NetworkProtocol.TheVariants.{AddressFamily, EtherType, FrameRelay, Ieee80211, LinkType, Llc, Nlpid, PppProtocol, Radiotap, Snap}
+use Rattle.capture_packet.specs.declared.hop_limit.HopLimit.{HopLimit}
+use Rattle.capture_packet.specs.declared.hop_limit.HopLimit.TheVariants as limits
 use Rattle.capture_packet.specs.declared.packet.Packet.{Packet}
 use Rattle.capture_packet.specs.declared.transport.Transport.{Transport}
 use Rattle.capture_packet.specs.declared.transport.Transport.TheVariants as transports
@@ -134,6 +136,16 @@ IsContentText (contents.Ip addresses protocol proto transport payload_len) text 
     (what : List ℕ) × IsTransportText (by_value addresses) protocol.0 proto transport what
     × (text ≡ what ++ payload_text payload_len (payload_in transport))
 
+-- the hop limit of a packet, or its time to live, if its IP header was captured
+abbrev pub hop_limit_text : Option HopLimit → List ℕ
+hop_limit_text None = []
+hop_limit_text (Some (limits.Ipv4 limit)) = codes ", time to live " ++ decimal limit
+hop_limit_text (Some (limits.Ipv6 limit)) = codes ", hop limit " ++ decimal limit
+
+-- what a verbose line has after the content of a packet
+abbrev pub details_text : Bool → Packet → List ℕ
+details_text verbose packet = if verbose then hop_limit_text packet.hop_limit else []
+
 -- the verdict after the content of a packet, with a semicolon before it; nothing if the protocol is not read
 abbrev pub verdict_part : Verdict → List ℕ
 verdict_part verdict = if is_other_protocol verdict then [] else codes "; " ++ verdict_text verdict
@@ -149,14 +161,16 @@ end_text (contents.Ip addresses protocol proto transport payload_len) verdict = 
 abbrev pub tunnel_text : Tunnel → List ℕ
 tunnel_text tunnel = unread_text (by_value tunnel.addresses) tunnel.protocol.0 None None ++ codes " | "
 
--- this is the line of a packet: its number, its time, the length of its frame, its tunnels, its content, and its verdict
-abbrev pub IsLine : Times → ℕ → Option PacketTime → Option PacketTime → Option FrameLen → Packet → List ℕ → Type 0
-IsLine times number first time len packet line =
+-- this is the line of a packet: its number, its time, the length of its frame, its tunnels, its content, its details if the line is
+-- verbose, and its verdict
+abbrev pub IsLine : Times → Bool → ℕ → Option PacketTime → Option PacketTime → Option FrameLen → Packet → List ℕ → Type 0
+IsLine times verbose number first time len packet line =
     (what : List ℕ) × IsContentText packet.content what
     × (line ≡ decimal number ++ (codes " " ++ (time_text times first time ++ (frame_text len
-    ++ (flat_map tunnel_text packet.tunnels.items ++ (what ++ (end_text packet.content packet.verdict ++ codes "\n")))))))
+    ++ (flat_map tunnel_text packet.tunnels.items
+    ++ (what ++ (details_text verbose packet ++ (end_text packet.content packet.verdict ++ codes "\n"))))))))
 
 -- equal packets with the same number, time and length have the same line
-abbrev pub HasOneLine : Times → ℕ → Option PacketTime → Option PacketTime → Option FrameLen → Packet → Type 0
-HasOneLine times number first time len packet = (line other : List ℕ)
-    → IsLine times number first time len packet line → IsLine times number first time len packet other → line ≡ other
+abbrev pub HasOneLine : Times → Bool → ℕ → Option PacketTime → Option PacketTime → Option FrameLen → Packet → Type 0
+HasOneLine times verbose number first time len packet = (line other : List ℕ)
+    → IsLine times verbose number first time len packet line → IsLine times verbose number first time len packet other → line ≡ other

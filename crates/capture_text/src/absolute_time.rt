@@ -40,8 +40,8 @@ pub fn write_absolute<W: Write>(output: &mut W, time: PacketTime) -> io::Result<
     }
 }
 
-/// The nanoseconds from the beginning of 1970 to a time.
-fn nanoseconds_since_1970(time: PacketTime) -> i128
+/// The nanoseconds from the beginning of 1970 to a time, negative before it.
+pub fn nanoseconds_since_1970(time: PacketTime) -> i128
     ensures value { result ≡ nanoseconds_since_1970 time }
     ensures bound { IsBetween (neg_ℤ (pos (2 ^ 96))) (pos (2 ^ 96)) result }
 {

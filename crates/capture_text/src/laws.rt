@@ -1,6 +1,6 @@
 //! Laws of the texts. Each law is the contract of a function, so that it is checked together with the calls.
 
-ghost use Rattle.std.specs.Prelude.{ℕ, Option};
+ghost use Rattle.std.specs.Prelude.{ℕ, Bool, Option};
 ghost use Rattle.capture_packet.specs.declared.packet.Packet.{Packet};
 ghost use Rattle.capture_file.specs.declared.packet_time.PacketTime.{PacketTime};
 ghost use Rattle.capture_summary.specs.declared.capture_info.FrameLen.{FrameLen};
@@ -9,6 +9,6 @@ ghost use Rattle.capture_text.specs.declared.times.Times.{Times};
 
 /// Equal packets with the same number, time and length have the same line.
 pub fn one_line()
-    ensures { (times : Times) (number : ℕ) (first time : Option PacketTime) (len : Option FrameLen) (packet : Packet)
-        → HasOneLine times number first time len packet }
+    ensures { (times : Times) (verbose : Bool) (number : ℕ) (first time : Option PacketTime) (len : Option FrameLen) (packet : Packet)
+        → HasOneLine times verbose number first time len packet }
 {}

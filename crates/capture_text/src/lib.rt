@@ -22,7 +22,7 @@ mod times;
 mod totals;
 mod verdict;
 
-pub use absolute_time::write_absolute;
+pub use absolute_time::{nanoseconds_since_1970, write_absolute};
 pub use packet_line::write_packet_line;
 pub use tables::{write_conversations, write_summary};
 pub use tcp::named_flags;

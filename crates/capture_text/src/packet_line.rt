@@ -6,7 +6,7 @@ ghost use Rattle.std.specs.List.{flat_map};
 ghost use Rattle.std.specs.Option.{option_map};
 ghost use Rattle.ip_part.specs.Addresses.{by_value};
 ghost use Rattle.capture_packet.specs.Quotes.{by_value as quoted_by_value};
-ghost use Rattle.capture_text.specs.PacketLine.{IsContentText, IsLine, IsTcpText, IsTransportText, captured_text, end_text, frame_text, icmpv4_line, icmpv6_line, known_endpoints, name_or_number, network_number, network_text, payload_text, quoted_text, tunnel_text, udp_text, unread_text, verdict_part};
+ghost use Rattle.capture_text.specs.PacketLine.{IsContentText, IsLine, IsTcpText, IsTransportText, captured_text, details_text, end_text, frame_text, icmpv4_line, icmpv6_line, known_endpoints, name_or_number, network_number, network_text, payload_text, quoted_text, tunnel_text, udp_text, unread_text, verdict_part};
 ghost use Rattle.capture_text.specs.Written.{AppendsOne};
 
 use crate::addresses::{write_addresses, write_endpoints};
@@ -15,7 +15,9 @@ use crate::times::Times;
 use crate::verdict::{is_other_protocol, write_verdict};
 use crate::{icmpv4, icmpv6, tcp};
 use capture_file::PacketTime;
-use capture_packet::{Content, NetworkProtocol, Packet, QuotedPacket, Transport, Tunnel, Verdict};
+use capture_packet::{
+    Content, HopLimit, NetworkProtocol, Packet, QuotedPacket, Transport, Tunnel, Verdict,
+};
 use capture_summary::{FrameLen, ip_protocol_name, network_protocol_name};
 use etherparse_transport::ip::IpAddresses;
 use etherparse_transport::{
@@ -25,7 +27,7 @@ use std::io;
 use std::io::Write;
 
 /// Writes the line of a packet: its number, its time, the length of its frame, its tunnels, its addresses, its content, and its verdict. A
-/// bar follows each tunnel.
+/// bar follows each tunnel. A verbose line also has the hop limit or the time to live of the packet, if its IP header was captured.
 ///
 /// ```text
 /// 1 00:00:00.000000 length 74: 192.0.2.1:49152 > 192.0.2.2:53 UDP length 40, payload 32; checksum right
@@ -37,6 +39,7 @@ use std::io::Write;
 pub fn write_packet_line<W: Write>(
     output: &mut W,
     times: Times,
+    verbose: bool,
     number: u64,
     first: Option<PacketTime>,
     time: Option<PacketTime>,
@@ -44,13 +47,14 @@ pub fn write_packet_line<W: Write>(
     packet: &Packet,
 ) -> io::Result<()>
     ensures { OnOk result (AppendsOne (W.contents output.old) (W.contents output.new)
-        (IsLine times number first time len packet.now)) }
+        (IsLine times verbose number first time len packet.now)) }
 {
     write!(output, "{number} ")?;
     write_time(output, times, first, time)?;
     write_frame_len(output, len)?;
     write_tunnels(output, packet.tunnels.as_slice())?;
     write_content(output, &packet.content)?;
+    write_details(output, verbose, packet)?;
     write_end(output, &packet.content, &packet.verdict)?;
     writeln!(output)
 }
@@ -96,6 +100,17 @@ fn write_content<W: Write>(output: &mut W, content: &Content) -> io::Result<()>
             write_transport(output, *addresses, *protocol, *proto, transport)?;
             write_payload_len(output, *payload_len, transport.payload())
         }
+    }
+}
+
+/// Writes the hop limit or the time to live of a packet, if its IP header was captured and the line is verbose.
+fn write_details<W: Write>(output: &mut W, verbose: bool, packet: &Packet) -> io::Result<()>
+    ensures { OnOk result (Appends (W.contents output.old) (W.contents output.new) (details_text verbose packet.now)) }
+{
+    match packet.hop_limit {
+        Some(HopLimit::Ipv4(limit)) if verbose => write!(output, ", time to live {limit}"),
+        Some(HopLimit::Ipv6(limit)) if verbose => write!(output, ", hop limit {limit}"),
+        _ => Ok(()),
     }
 }
 
@@ -200,12 +215,8 @@ fn write_udp<W: Write>(
 ) -> io::Result<()>
     ensures { OnOk result (Appends (W.contents output.old) (W.contents output.new) (udp_text (by_value addresses.entry) datagram.now)) }
 {
-    write_endpoints(
-        output,
-        addresses,
-        datagram.source_port(),
-        datagram.destination_port(),
-    )?;
+    let (source, destination) = (datagram.source_port(), datagram.destination_port());
+    write_endpoints(output, addresses, source, destination)?;
     write!(output, " UDP length {}", datagram.length())
 }
 
@@ -217,12 +228,8 @@ fn write_tcp<W: Write>(
 ) -> io::Result<()>
     ensures { OnOk result (AppendsOne (W.contents output.old) (W.contents output.new) (IsTcpText (by_value addresses.entry) segment.now)) }
 {
-    write_endpoints(
-        output,
-        addresses,
-        segment.source_port(),
-        segment.destination_port(),
-    )?;
+    let (source, destination) = (segment.source_port(), segment.destination_port());
+    write_endpoints(output, addresses, source, destination)?;
     write!(output, " TCP ")?;
     tcp::write_header(output, segment)
 }

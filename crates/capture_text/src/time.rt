@@ -93,14 +93,9 @@ pub fn write_duration<W: Write>(
 ) -> io::Result<()>
     ensures { OnOk result (Appends (W.contents output.old) (W.contents output.new) (duration_text resolution elapsed)) }
 {
-    let Elapsed {
-        hours,
-        minutes,
-        seconds,
-        nanoseconds,
-    } = elapsed;
-    write!(output, "{hours:02}:{minutes:02}:{seconds:02}.")?;
-    write_fraction(output, resolution, nanoseconds)
+    let (minutes, seconds) = (elapsed.minutes, elapsed.seconds);
+    write!(output, "{:02}:{minutes:02}:{seconds:02}.", elapsed.hours)?;
+    write_fraction(output, resolution, elapsed.nanoseconds)
 }
 
 /// Writes the fraction of a second: six digits of microseconds, or nine digits of nanoseconds if the resolution is finer.

@@ -34,7 +34,7 @@ const FORMS: [([u8; 4], ByteOrder, Resolution); 4] = [
 ];
 
 /// The numbers of the link types.
-const LINK_TYPES: [(u16, LinkType); 22] = [
+const LINK_TYPES: [(u16, LinkType); 25] = [
     (0, LinkType::BsdLoopback),
     (1, LinkType::Ethernet),
     (9, LinkType::Ppp),
@@ -51,30 +51,37 @@ const LINK_TYPES: [(u16, LinkType); 22] = [
     (117, LinkType::Pflog),
     (119, LinkType::Prism),
     (127, LinkType::Radiotap),
+    (163, LinkType::Avs),
     (192, LinkType::Ppi),
     (226, LinkType::Ipnet),
     (228, LinkType::RawIp),
     (229, LinkType::RawIp),
+    (239, LinkType::Nflog),
+    (242, LinkType::InfiniBand),
     (258, LinkType::Pktap),
     (276, LinkType::LinuxCooked2),
 ];
 
-/// A header of version 2.4 with these first bytes and this link type. The high bits of its number say that there is a frame check sequence
-/// of 4 bytes.
+/// The snap length of the headers, which has another value in the other byte order.
+const SNAP_LEN: u32 = 65_535;
+
+/// A header of version 2.4 with these first bytes, this snap length and this link type. The high bits of its number say that there is a
+/// frame check sequence of 4 bytes.
+#[rattlefmt::skip]
 fn header_bytes(first: [u8; 4], order: ByteOrder, link_type: u16) -> [u8; 24] {
-    let mut bytes = [0u8; 24];
-    bytes[..4].copy_from_slice(&first);
     let number = 0x2400_0000 + u32::from(link_type);
-    let last = match order {
-        ByteOrder::BigEndian => number.to_be_bytes(),
-        ByteOrder::LittleEndian => number.to_le_bytes(),
+    let (version, snap_len, last) = match order {
+        ByteOrder::BigEndian => ([0, 2, 0, 4], SNAP_LEN.to_be_bytes(), number.to_be_bytes()),
+        ByteOrder::LittleEndian => ([2, 0, 4, 0], SNAP_LEN.to_le_bytes(), number.to_le_bytes()),
     };
-    bytes[20..].copy_from_slice(&last);
-    bytes[4..8].copy_from_slice(match order {
-        ByteOrder::BigEndian => &[0, 2, 0, 4],
-        ByteOrder::LittleEndian => &[2, 0, 4, 0],
-    });
-    bytes
+    [
+        first[0], first[1], first[2], first[3],
+        version[0], version[1], version[2], version[3],
+        0, 0, 0, 0,
+        0, 0, 0, 0,
+        snap_len[0], snap_len[1], snap_len[2], snap_len[3],
+        last[0], last[1], last[2], last[3],
+    ]
 }
 
 fn expect_refusal(rt: &impl Abort, mut input: &[u8], error: CaptureHeaderError) -> io::Result<()> {
@@ -97,6 +104,7 @@ fn headers_are_read(rt: HostRuntime) -> io::Result<()> {
             let header = CaptureHeader {
                 byte_order,
                 resolution,
+                snap_len: SNAP_LEN,
                 link_type: Ok(link_type),
             };
             expect_equal(&rt, &read_capture_header(&mut input)?, &Ok(header));
@@ -106,6 +114,7 @@ fn headers_are_read(rt: HostRuntime) -> io::Result<()> {
         let header = CaptureHeader {
             byte_order,
             resolution,
+            snap_len: SNAP_LEN,
             link_type: Err(2),
         };
         expect_equal(
@@ -154,6 +163,7 @@ fn versions_are_read(rt: HostRuntime) -> io::Result<()> {
             None => Ok(CaptureHeader {
                 byte_order,
                 resolution: Resolution::Microseconds,
+                snap_len: SNAP_LEN,
                 link_type: Ok(LinkType::Ethernet),
             }),
         };

@@ -56,13 +56,15 @@ static WIRELESS: [(&[u8], &[u8]); 9] = [
 
 /// The link types of such frames, and what comes before them.
 #[rattlefmt::skip]
-static BEFORE_WIRELESS: [(LinkType, &[u8]); 7] = [
+static BEFORE_WIRELESS: [(LinkType, &[u8]); 9] = [
     (LinkType::Ieee80211, &[]),
     (LinkType::Radiotap, &[0, 0, 8, 0, 0, 0, 0, 0]),
     (LinkType::Radiotap, &[0, 7, 9, 0, 2, 0, 0, 0, 0x10]),
     (LinkType::Prism, &[0; 144]),
     (LinkType::Prism, &[0x80, 0x21, 0x10, 1, 0, 0, 0, 12, 0, 0, 0, 0]),
     (LinkType::Prism, &[0x80, 0x21, 0x10, 2, 0, 0, 0, 8]),
+    (LinkType::Avs, &[0x80, 0x21, 0x10, 1, 0, 0, 0, 12, 0, 0, 0, 0]),
+    (LinkType::Avs, &[0x80, 0x21, 0x10, 3, 0, 0, 0, 8]),
     (LinkType::Ppi, &[0, 0, 8, 0, 105, 0, 0, 0]),
 ];
 

@@ -1,7 +1,9 @@
 use crate::expect::{expect_equal, expect_ok};
 use capture_file::{ByteOrder, LinkType};
 use capture_link::LinkHeaderCutOff;
-use capture_packet::{Content, NetworkProtocol, Packet, Refusal, Transport, Verdict, read_packet};
+use capture_packet::{
+    Content, HopLimit, NetworkProtocol, Packet, Refusal, Transport, Verdict, read_packet,
+};
 use etherparse_transport::err::tcp::{HeaderError, HeaderSliceError};
 use etherparse_transport::err::{Layer, LenError};
 use etherparse_transport::ip::{IpAddresses, IpError};
@@ -160,7 +162,7 @@ fn packet_of(rt: &(impl Abort + AllocGlobal), header: Header, payload: &[u8]) ->
             append(
                 rt,
                 &mut packet,
-                &[0x60, 0, 0, 0, 0, payload_len, next_header, 64],
+                &[0x60, 0, 0, 0, 0, payload_len, next_header, 63],
             );
             append(rt, &mut packet, &IPV6_SOURCE);
             append(rt, &mut packet, &IPV6_DESTINATION);
@@ -227,14 +229,17 @@ pub(crate) fn over_ipv6(protocol: IpNumber, transport: TransportSlice<'_>) -> Co
 /// The packet of `IPV4_UDP` and `UDP_OVER_IPV4`.
 pub(crate) fn udp_packet(rt: &impl Abort) -> Packet<'static> {
     let udp = expect_ok(rt, UdpSlice::from_slice(&UDP_OVER_IPV4));
-    Packet::in_no_tunnel(over_ipv4(ip_number::UDP, TransportSlice::Udp(udp)), RIGHT)
+    let content = over_ipv4(ip_number::UDP, TransportSlice::Udp(udp));
+    let mut packet = Packet::in_no_tunnel(content, RIGHT);
+    packet.hop_limit = Some(HopLimit::Ipv4(64));
+    packet
 }
 
 /// The link type, the byte order, and the link header in front of an IPv4 packet.
 type LinkRow = (LinkType, ByteOrder, &'static [u8]);
 
 #[rattlefmt::skip]
-static LINK_HEADERS: [LinkRow; 32] = [
+static LINK_HEADERS: [LinkRow; 36] = [
     (LinkType::Ethernet, BIG, &[2, 0, 0, 0, 0, 2, 2, 0, 0, 0, 0, 1, 8, 0]),
     (LinkType::Ethernet, BIG, &[2, 0, 0, 0, 0, 2, 2, 0, 0, 0, 0, 1, 0x81, 0, 0, 1, 8, 0]),
     (
@@ -280,6 +285,16 @@ static LINK_HEADERS: [LinkRow; 32] = [
         ],
     ),
     (LinkType::Ipnet, BIG, &[1, 2, 0, 1, 0, 0, 0, 40, 0, 0, 0, 0, 0, 0, 0, 0, 0, 0, 0, 0, 0, 0, 0, 0]),
+    (
+        LinkType::InfiniBand, BIG,
+        &[
+            0x60, 0, 0, 0, 0, 40, 27, 64, 0, 0, 0, 0, 0, 0, 0, 0, 0, 0, 0, 0, 0, 0, 0, 0, 0, 0, 0, 0, 0, 0,
+            0, 0, 0, 0, 0, 0, 0, 0, 0, 0, 8, 0, 0, 1,
+        ],
+    ),
+    (LinkType::Nflog, BIG, &[2, 0, 0, 5, 8, 0, 1, 0, 8, 0, 3, 0, 7, 0, 10, 0, 65, 66, 0, 0, 36, 0, 9, 0]),
+    (LinkType::Nflog, LITTLE, &[2, 0, 0, 5, 0, 8, 0, 1, 8, 0, 3, 0, 0, 12, 0x80, 20, 0, 8, 0, 9, 0, 1, 0, 0, 0, 36, 0, 9]),
+    (LinkType::Nflog, LITTLE, &[10, 0, 0, 5, 36, 0, 9, 0]),
     (LinkType::Ppi, BIG, &[0, 0, 8, 0, 1, 0, 0, 0, 2, 0, 0, 0, 0, 2, 2, 0, 0, 0, 0, 1, 8, 0]),
     (LinkType::Ppi, BIG, &[0, 7, 12, 0, 101, 0, 0, 0, 2, 0, 0, 0]),
     (LinkType::Pktap, BIG, &[12, 0, 0, 0, 1, 0, 0, 0, 1, 0, 0, 0, 2, 0, 0, 0, 0, 2, 2, 0, 0, 0, 0, 1, 0x81, 0, 0, 1, 8, 0]),
@@ -316,7 +331,7 @@ type NetworkRow = (
 );
 
 #[rattlefmt::skip]
-static NETWORKS: [NetworkRow; 50] = [
+static NETWORKS: [NetworkRow; 65] = [
     (LinkType::Ethernet, BIG, &[7, 0, 0, 3, 0, 0, 0, 0, 0, 0, 0, 0, 8, 6], Ok(NetworkProtocol::EtherType(0x0806))),
     (
         LinkType::Ethernet, LITTLE, &[7, 0, 0, 3, 0, 0, 0, 0, 0, 0, 0, 0, 0x81, 0, 0, 1, 8, 6, 0x81, 0],
@@ -383,6 +398,28 @@ static NETWORKS: [NetworkRow; 50] = [
     (LinkType::Prism, BIG, &[0, 0, 0, 0x44, 0, 0, 0, 0x90], Err(146)),
     (LinkType::Prism, BIG, &[0x80, 0x21, 0x10, 1, 0, 0, 0, 64], Err(66)),
     (LinkType::Prism, BIG, &[0x80, 0x21, 0x10, 2, 0, 0, 0, 7], Ok(NetworkProtocol::LinkType(119))),
+    (LinkType::Avs, BIG, &[0x80, 0x21, 0x10, 1, 0, 0, 0], Err(8)),
+    (LinkType::Avs, BIG, &[0x80, 0x21, 0x10, 1, 0, 0, 1, 0], Err(258)),
+    (LinkType::Avs, BIG, &[0x80, 0x21, 0x10, 1, 0, 0, 0, 7], Ok(NetworkProtocol::LinkType(163))),
+    (LinkType::InfiniBand, BIG, &[0x60, 0, 0], Err(44)),
+    (
+        LinkType::InfiniBand, BIG,
+        &[
+            0x60, 0, 0, 0, 0, 40, 27, 64, 0, 0, 0, 0, 0, 0, 0, 0, 0, 0, 0, 0, 0, 0, 0, 0, 0, 0, 0, 0, 0, 0,
+            0, 0, 0, 0, 0, 0, 0, 0, 0, 0, 8, 6, 0, 0,
+        ],
+        Ok(NetworkProtocol::EtherType(0x0806)),
+    ),
+    (LinkType::Nflog, BIG, &[2, 0, 0, 5, 8, 0, 1], Err(8)),
+    (LinkType::Nflog, BIG, &[2, 1, 0, 5, 8, 0, 9, 0], Ok(NetworkProtocol::LinkType(239))),
+    (LinkType::Nflog, BIG, &[2, 0, 0, 5, 8, 0, 0, 0], Ok(NetworkProtocol::LinkType(239))),
+    (LinkType::Nflog, BIG, &[2, 0, 0, 5, 8, 0, 1, 1], Ok(NetworkProtocol::LinkType(239))),
+    (LinkType::Nflog, BIG, &[2, 0, 0, 5, 3, 0, 9, 0], Ok(NetworkProtocol::LinkType(239))),
+    (LinkType::Nflog, BIG, &[7, 0, 0, 5, 4, 0, 9, 0], Ok(NetworkProtocol::AddressFamily(7))),
+    (LinkType::Nflog, BIG, &[2, 0, 0, 5, 9, 0, 1, 0, 8, 0, 3, 0, 0], Err(16)),
+    (LinkType::Nflog, BIG, &[2, 0, 0, 5, 8, 0, 1, 0, 8, 0, 3, 0], Ok(NetworkProtocol::LinkType(239))),
+    (LinkType::Nflog, BIG, &[2, 0, 0, 5, 8, 0, 1, 0, 8, 0, 3, 0, 8], Err(16)),
+    (LinkType::Nflog, BIG, &[2, 0, 0, 5, 0xFF, 0xFF, 0, 1], Err(0x1_0004)),
     (LinkType::Ppi, BIG, &[0, 0, 8, 0, 1, 0, 0], Err(8)),
     (LinkType::Ppi, BIG, &[1, 0, 8, 0, 1, 0, 0, 0], Ok(NetworkProtocol::LinkType(192))),
     (LinkType::Ppi, BIG, &[0, 0, 7, 0, 1, 0, 0, 0], Ok(NetworkProtocol::LinkType(192))),
@@ -481,10 +518,21 @@ fn content<'a>(rt: &impl Abort, header: Header, bytes: &'a [u8]) -> Content<'a> 
     }
 }
 
+/// The hop limit of a packet with these headers.
+fn hop_limit_of(header: Header) -> Option<HopLimit> {
+    match header {
+        Header::Ipv4(..) => Some(HopLimit::Ipv4(64)),
+        Header::Ipv6(..) => Some(HopLimit::Ipv6(63)),
+        Header::Bytes(_) => None,
+    }
+}
+
 /// Stops the test unless the transport of a row is read, and its checksum has the verdict of the row.
 fn expect_checksum(rt: &(impl Abort + AllocGlobal), row: &ChecksumRow) {
     let (header, transport, verdict) = *row;
-    let expected = Packet::in_no_tunnel(content(rt, header, transport), Verdict::Checksum(verdict));
+    let content = content(rt, header, transport);
+    let mut expected = Packet::in_no_tunnel(content, Verdict::Checksum(verdict));
+    expected.hop_limit = hop_limit_of(header);
     let frame = packet_of(rt, header, transport);
     let packet = read_packet(LinkType::RawIp, BIG, &frame, false);
     expect_equal(rt, &(row, &packet), &(row, &expected));
@@ -494,6 +542,30 @@ fn expect_checksum(rt: &(impl Abort + AllocGlobal), row: &ChecksumRow) {
 fn checksums_are_tested(rt: HostRuntime) {
     for row in &CHECKSUMS {
         expect_checksum(&rt, row);
+    }
+}
+
+/// The first byte of a packet and its number of bytes, and its hop limit. Each further byte is the number of its place.
+#[rattlefmt::skip]
+static HOP_LIMITS: [(u8, u8, Option<HopLimit>); 8] = [
+    (0x45, 20, Some(HopLimit::Ipv4(8))), (0x45, 19, None), (0x44, 20, Some(HopLimit::Ipv4(8))), (0x44, 19, None),
+    (0x60, 40, Some(HopLimit::Ipv6(7))), (0x60, 39, None), (0x50, 40, None), (0x45, 1, None),
+];
+
+#[test]
+fn hop_limits_of_complete_headers(rt: HostRuntime) {
+    for (first, len, hop_limit) in &HOP_LIMITS {
+        let mut bytes = Vec::new(rt.alloc());
+        append(&rt, &mut bytes, &[*first]);
+        for byte in 1..*len {
+            append(&rt, &mut bytes, &[byte]);
+        }
+        let packet = read_packet(LinkType::RawIp, BIG, &bytes, false);
+        expect_equal(
+            &rt,
+            &(first, len, packet.hop_limit),
+            &(first, len, *hop_limit),
+        );
     }
 }
 

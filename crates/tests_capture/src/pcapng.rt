@@ -58,7 +58,7 @@ fn blocks_are_read(rt: HostRuntime) {
 }
 
 /// Bytes that are refused as a block in a little-endian section, the error, and its text.
-const REFUSED: [(&[u8], BlockError, &str); 8] = [
+const REFUSED: [(&[u8], BlockError, &str); 10] = [
     (
         b"",
         BlockError::CutOff {
@@ -89,6 +89,16 @@ const REFUSED: [(&[u8], BlockError, &str); 8] = [
         b"\x01\0\0\0\x0E\0\0\0\0\0\x0E\0\0\0",
         BlockError::TotalLength { total_len: 14 },
         "The total length of the block, in its bytes 4 to 7, is 14, which is below 12 or no multiple of 4.",
+    ),
+    (
+        b"\x0A\x0D\x0D\x0A\x0C\0\0\0\x4D\x3C\x2B\x1A",
+        BlockError::SectionLength { total_len: 12 },
+        "The section header block has 12 bytes, and needs at least 28.",
+    ),
+    (
+        b"\x0A\x0D\x0D\x0A\0\0\0\x18\x1A\x2B\x3C\x4D\0\x01\0\0\xFF\xFF\xFF\xFF\0\0\0\x18",
+        BlockError::SectionLength { total_len: 24 },
+        "The section header block has 24 bytes, and needs at least 28.",
     ),
     (
         b"\x01\0\0\0\x10\0\0\0\0\0\0\0\x10\0\0",

@@ -133,18 +133,15 @@ fn captures_are_refused(rt: HostRuntime) -> io::Result<()> {
             block(BlockError::TotalLength { total_len: 8 }),
         ),
         (
-            b"\x0A\x0D\x0D\x0A\x10\0\0\0\x4D\x3C\x2B\x1A\x11\0\0\0",
+            b"\x0A\x0D\x0D\x0A\x1C\0\0\0\x4D\x3C\x2B\x1A\x01\0\0\0\xFF\xFF\xFF\xFF\xFF\xFF\xFF\xFF\x1D\0\0\0",
             block(BlockError::LastLength {
-                total_len: 16,
-                last_len: 17,
+                total_len: 28,
+                last_len: 29,
             }),
         ),
         (
             b"\x0A\x0D\x0D\x0A\x10\0\0\0\x4D\x3C\x2B\x1A\x10\0\0\0",
-            Err(OpenError::Pcapng(PacketError::Body(BodyError::CutOff {
-                required_len: 16,
-                len: 4,
-            }))),
+            block(BlockError::SectionLength { total_len: 16 }),
         ),
     ] {
         expect_equal(&rt, &read_packets(&rt, input)?, &(0, expected));

@@ -4,7 +4,7 @@ use crate::packet::{
     append, over_ipv4, over_ipv6,
 };
 use capture_file::{ByteOrder, LinkType};
-use capture_packet::{Content, Packet, Refusal, Tunnel, Verdict, read_packet};
+use capture_packet::{Content, HopLimit, Packet, Refusal, Tunnel, Verdict, read_packet};
 use etherparse_transport::ip::{IpAddresses, IpError};
 use etherparse_transport::{IpNumber, TransportSlice, UdpSlice, Untested, ip_number};
 use std::alloc::Global;
@@ -45,7 +45,7 @@ fn header_of(rt: &(impl Abort + AllocGlobal), outer: Outer, payload_len: u8) -> 
     match outer {
         Outer::Ipv4(protocol) => {
             let total_len = payload_len.saturating_add(20);
-            append(rt, &mut header, &[0x45, 0, 0, total_len, 0, 1, 0x40, 0, 64]);
+            append(rt, &mut header, &[0x45, 0, 0, total_len, 0, 1, 0x40, 0, 9]);
             append(
                 rt,
                 &mut header,
@@ -56,7 +56,7 @@ fn header_of(rt: &(impl Abort + AllocGlobal), outer: Outer, payload_len: u8) -> 
             append(
                 rt,
                 &mut header,
-                &[0x60, 0, 0, 0, 0, payload_len, next_header, 64],
+                &[0x60, 0, 0, 0, 0, payload_len, next_header, 7],
             );
             append(rt, &mut header, &IPV6_SOURCE);
             append(rt, &mut header, &IPV6_DESTINATION);
@@ -132,8 +132,14 @@ static TUNNELS: [(&[Outer], bool); 13] = [
 /// Stops the test unless the datagram after the headers of a row is read, and these headers are its tunnels.
 fn expect_tunnels(rt: &(impl Abort + AllocGlobal), outers: &[Outer], is_ipv6: bool) {
     let (inner, content) = datagram(rt, is_ipv6);
+    let hop_limit = if is_ipv6 {
+        HopLimit::Ipv6(64)
+    } else {
+        HopLimit::Ipv4(64)
+    };
     let frame = packet_in(rt, outers, inner.as_slice());
     let mut expected = Packet::in_no_tunnel(content, RIGHT);
+    expected.hop_limit = Some(hop_limit);
     for outer in outers {
         if let Some(tunnel) = tunnel_of(*outer) {
             expect_ok(rt, expected.tunnels.try_push(tunnel).map_err(|_| ()));

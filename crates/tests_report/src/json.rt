@@ -4,7 +4,9 @@ use crate::text::flow_of_ipv4;
 use capture_file::pcapng::TimeResolution;
 use capture_file::{LinkType, PacketTime};
 use capture_json::{write_packet, write_summary};
-use capture_packet::{Content, NetworkProtocol, Packet, Refusal, Transport, Tunnel, Verdict};
+use capture_packet::{
+    Content, HopLimit, NetworkProtocol, Packet, Refusal, Transport, Tunnel, Verdict,
+};
 use capture_run::Times;
 use capture_summary::{CaptureInfo, FrameLen, Protocol, RefusalKind, Summary, VerdictKind};
 use etherparse_transport::ip::{IpAddresses, IpError};
@@ -82,12 +84,76 @@ fn expect_object_of(
         1,
         None,
         None,
+        None,
         packet,
     )
     .ok()
     .ok_or("no line")?;
     let wanted = format!(in rt.alloc(); "{wanted}\n")?;
     expect_text(rt, line, &wanted)
+}
+
+/// The seconds of a time, its fraction in microseconds and its offset, and its members. Seconds are rounded down, and are at most 2^63 - 1.
+#[rattlefmt::skip]
+static TIMES: [(u64, u64, i64, &str); 9] = [
+    (5, 7, 0, r#""seconds":5,"nanoseconds":7000"#),
+    (0, 0, 0, r#""seconds":0,"nanoseconds":0"#),
+    (5, 999_999, -5, r#""seconds":0,"nanoseconds":999999000"#),
+    (5, 999_999, -6, r#""seconds":-1,"nanoseconds":999999000"#),
+    (5, 0, -7, r#""seconds":-2,"nanoseconds":0"#),
+    (1, 2_000_001, 0, r#""seconds":3,"nanoseconds":1000"#),
+    (0, 1, i64::MIN, r#""seconds":-9223372036854775808,"nanoseconds":1000"#),
+    (0, 1, i64::MAX, r#""seconds":9223372036854775807,"nanoseconds":1000"#),
+    (u64::MAX, 1, 0, r#""seconds":9223372036854775807,"nanoseconds":1000"#),
+];
+
+#[test]
+fn times_of_packets_as_numbers(rt: HostRuntime) -> Result<(), Fail> {
+    let verdict = Verdict::untested(Untested::CutOff);
+    let packet = Packet::in_no_tunnel(Content::Unread, verdict);
+    for (seconds, fraction, offset, members) in &TIMES {
+        let time = Some(PacketTime {
+            seconds: *seconds,
+            fraction: *fraction,
+            resolution: TimeResolution::PowerOfTen(6),
+            offset: *offset,
+        });
+        let mut line = Vec::new(rt.alloc());
+        let written = write_packet(
+            &mut line,
+            rt.alloc(),
+            Times::SinceFirst,
+            1,
+            time,
+            time,
+            None,
+            &packet,
+        );
+        expect_ok(&rt, written);
+        let wanted = format!(in rt.alloc();
+            "{{\"type\":\"packet\",\"number\":1,\"time\":\"00:00:00.000000\",{members},\"checksum\":\"not_looked_at\",\"reason\":\"cut_off\"}}\n"
+        )?;
+        expect_text(&rt, line, &wanted)?;
+    }
+    Ok(())
+}
+
+/// Hop limits, and the object of a packet with each.
+#[rattlefmt::skip]
+const HOP_LIMITS: [(HopLimit, &str); 2] = [
+    (HopLimit::Ipv4(255), r#"{"type":"packet","number":1,"time":null,"source":"192.0.2.1","destination":"192.0.2.2","time_to_live":255,"checksum":"not_looked_at","reason":"cut_off"}"#),
+    (HopLimit::Ipv6(0), r#"{"type":"packet","number":1,"time":null,"source":"192.0.2.1","destination":"192.0.2.2","hop_limit":0,"checksum":"not_looked_at","reason":"cut_off"}"#),
+];
+
+#[test]
+fn hop_limits(rt: HostRuntime) -> Result<(), Fail> {
+    for (hop_limit, wanted) in &HOP_LIMITS {
+        let verdict = Verdict::untested(Untested::CutOff);
+        let mut packet = Packet::in_no_tunnel(Content::IpHeader(OVER_IPV4), verdict);
+        packet.hop_limit = Some(*hop_limit);
+        expect_object_of(&rt, &packet, wanted)?;
+    }
+    Ok(())
 }
 
 /// The object of a packet in two tunnels.
@@ -346,7 +412,7 @@ fn objects_of_quoted_packets(rt: HostRuntime) -> Result<(), Fail> {
 
 /// The object of a summary of three packets of raw IP. The names of rows have underscores between their words.
 const OF_THREE_PACKETS: &str =
-    r#"{"type":"summary","packets":3,"bytes":98,"conversations":1,"first_packet":"2023-11-14T22:13:20.000000Z","last_packet":"2023-11-14T22:13:25.000000Z","duration":"00:00:05.000000","packets_per_second":0,"bits_per_second":156,"link_types":{"BSD_loopback":0,"Ethernet":0,"PPP":0,"PPP_or_Cisco_HDLC":0,"PPP_over_Ethernet":0,"raw_IP":3,"Cisco_HDLC":0,"IEEE_802.11":0,"Frame_Relay":0,"OpenBSD_loopback":0,"Linux_cooked":0,"PFLOG":0,"Prism":0,"radiotap":0,"PPI":0,"Solaris_ipnet":0,"PKTAP":0,"Linux_cooked_version_2":0,"another_link_type":0,"unknown":0},"protocols":{"UDP":{"packets":2,"bytes":68},"TCP":{"packets":0,"bytes":0},"ICMPv4":{"packets":0,"bytes":0},"ICMPv6":{"packets":0,"bytes":0},"other_over_IP":{"packets":1,"bytes":30},"not_IP":{"packets":0,"bytes":0},"unknown":{"packets":0,"bytes":0}},"checksums":{"right":0,"wrong":0,"not_filled_in":1,"none":0,"fragment":0,"cut_off":1,"no_length_stated":0,"final_destination_unknown":0,"another_protocol":0,"too_long":0,"refused":1},"refusals":{"link_header_cut_off":0,"IP_header_cut_off":0,"IP_version":0,"IP_header_length":0,"IP_total_length":0,"IP_packet_cut_off":0,"IP_extension_header":0,"UDP_length":1,"TCP_length":0,"TCP_data_offset":0,"ICMPv4_length":0,"ICMPv6_length":0},"busiest_conversations":[{"protocol":17,"protocol_name":"UDP","source":"192.0.2.1","source_port":49152,"destination":"192.0.2.2","destination_port":53,"packets":1,"bytes":40,"forward":{"packets":1,"bytes":40},"reverse":{"packets":0,"bytes":0}}],"packets_without_ports":{"packets":2,"bytes":58},"packets_of_other_flows":{"packets":0,"bytes":0}}
+    r#"{"type":"summary","packets":3,"bytes":98,"conversations":1,"first_packet":"2023-11-14T22:13:20.000000Z","first_packet_seconds":1700000000,"first_packet_nanoseconds":0,"last_packet":"2023-11-14T22:13:25.000000Z","last_packet_seconds":1700000005,"last_packet_nanoseconds":0,"duration":"00:00:05.000000","duration_seconds":5,"duration_nanoseconds":0,"packets_per_second":0,"bits_per_second":156,"link_types":{"BSD_loopback":0,"Ethernet":0,"PPP":0,"PPP_or_Cisco_HDLC":0,"PPP_over_Ethernet":0,"raw_IP":3,"Cisco_HDLC":0,"IEEE_802.11":0,"Frame_Relay":0,"OpenBSD_loopback":0,"Linux_cooked":0,"PFLOG":0,"Prism":0,"radiotap":0,"AVS":0,"PPI":0,"Solaris_ipnet":0,"NFLOG":0,"IP_over_InfiniBand":0,"PKTAP":0,"Linux_cooked_version_2":0,"another_link_type":0,"unknown":0},"protocols":{"UDP":{"packets":2,"bytes":68},"TCP":{"packets":0,"bytes":0},"ICMPv4":{"packets":0,"bytes":0},"ICMPv6":{"packets":0,"bytes":0},"other_over_IP":{"packets":1,"bytes":30},"not_IP":{"packets":0,"bytes":0},"unknown":{"packets":0,"bytes":0}},"checksums":{"right":0,"wrong":0,"not_filled_in":1,"none":0,"fragment":0,"cut_off":1,"no_length_stated":0,"final_destination_unknown":0,"another_protocol":0,"too_long":0,"refused":1},"refusals":{"link_header_cut_off":0,"IP_header_cut_off":0,"IP_version":0,"IP_header_length":0,"IP_total_length":0,"IP_packet_cut_off":0,"IP_extension_header":0,"UDP_length":1,"TCP_length":0,"TCP_data_offset":0,"ICMPv4_length":0,"ICMPv6_length":0},"busiest_conversations":[{"protocol":17,"protocol_name":"UDP","source":"192.0.2.1","source_port":49152,"destination":"192.0.2.2","destination_port":53,"packets":1,"bytes":40,"forward":{"packets":1,"bytes":40},"reverse":{"packets":0,"bytes":0}}],"packets_without_ports":{"packets":2,"bytes":58},"packets_of_other_flows":{"packets":0,"bytes":0}}
 "#;
 
 /// What a capture of raw IP says of a packet of this many bytes that came at this second.
@@ -392,7 +458,7 @@ fn the_object_of_a_summary(rt: HostRuntime) -> Result<(), Fail> {
     )?;
     let busiest = summary.flows().busiest(rt.alloc(), 10)?;
     let mut text = Vec::new(rt.alloc());
-    let written = write_summary(&mut text, rt.alloc(), &summary, &busiest);
+    let written = write_summary(&mut text, rt.alloc(), &None, &summary, &busiest);
     expect_ok(&rt, written);
     expect_text(&rt, text, OF_THREE_PACKETS)
 }

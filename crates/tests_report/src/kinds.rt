@@ -182,7 +182,7 @@ fn protocols_of_packets(rt: HostRuntime) {
 type LinkRow = (Option<Result<LinkType, u16>>, LinkKind, &'static str);
 
 #[rattlefmt::skip]
-static LINKS: [LinkRow; 20] = [
+static LINKS: [LinkRow; 23] = [
     (Some(Ok(LinkType::BsdLoopback)), LinkKind::Known(LinkType::BsdLoopback), "BSD loopback"),
     (Some(Ok(LinkType::Ethernet)), LinkKind::Known(LinkType::Ethernet), "Ethernet"),
     (Some(Ok(LinkType::Ppp)), LinkKind::Known(LinkType::Ppp), "PPP"),
@@ -197,8 +197,11 @@ static LINKS: [LinkRow; 20] = [
     (Some(Ok(LinkType::Pflog)), LinkKind::Known(LinkType::Pflog), "PFLOG"),
     (Some(Ok(LinkType::Prism)), LinkKind::Known(LinkType::Prism), "Prism"),
     (Some(Ok(LinkType::Radiotap)), LinkKind::Known(LinkType::Radiotap), "radiotap"),
+    (Some(Ok(LinkType::Avs)), LinkKind::Known(LinkType::Avs), "AVS"),
     (Some(Ok(LinkType::Ppi)), LinkKind::Known(LinkType::Ppi), "PPI"),
     (Some(Ok(LinkType::Ipnet)), LinkKind::Known(LinkType::Ipnet), "Solaris ipnet"),
+    (Some(Ok(LinkType::Nflog)), LinkKind::Known(LinkType::Nflog), "NFLOG"),
+    (Some(Ok(LinkType::InfiniBand)), LinkKind::Known(LinkType::InfiniBand), "IP over InfiniBand"),
     (Some(Ok(LinkType::Pktap)), LinkKind::Known(LinkType::Pktap), "PKTAP"),
     (Some(Ok(LinkType::LinuxCooked2)), LinkKind::Known(LinkType::LinuxCooked2), "Linux cooked version 2"),
     (Some(Err(147)), LinkKind::Other, "another link type"),

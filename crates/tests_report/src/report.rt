@@ -1,4 +1,5 @@
 mod named;
+mod selection;
 
 use crate::expect::{expect_equal, expect_text};
 use capture_run::{Choice, ExitStatus, Format, Lines, Open, Parts, STANDARD_INPUT, Times, run};
@@ -16,6 +17,7 @@ const ALL: Parts = Parts {
     choice: Choice::ALL,
     lines: Lines::All,
     times: Times::SinceFirst,
+    verbose: false,
     summary: true,
     format: Format::Text,
     top: BUSIEST,
@@ -241,10 +243,12 @@ fn every_link_and_order_is_read(rt: HostRuntime) -> Result<(), Fail> {
 
 /// Inputs that are no captures, and the error of each.
 #[rattlefmt::skip]
-const NO_CAPTURES: [(&[u8], &str); 10] = [
+const NO_CAPTURES: [(&[u8], &str); 11] = [
     (&[], "capture_report: The header of a capture has 24 bytes, and the input contains 0.\n"),
     (b"\x0A\x0D\x0D\x0A and so on",
      "capture_report: The byte-order magic of the section, its bytes 8 to 11, is 0x20736f20.\n"),
+    (b"\x0A\x0D\x0D\x0A\x10\0\0\0\x4D\x3C\x2B\x1A\x10\0\0\0",
+     "capture_report: The section header block has 16 bytes, and needs at least 28.\n"),
     (b"PK\x03\x04, and then twenty bytes",
      "capture_report: The input is no capture: its first four bytes are 0x504b0304.\n"),
     (b"\x1F\x8B\x08\0, and then twenty bytes",
@@ -330,6 +334,30 @@ fn pcapng_files_are_reported(rt: HostRuntime) -> Result<(), Fail> {
     for (parts, status, output, errors) in &PCAPNG_FILES {
         let bytes = joined(rt.alloc(), parts)?;
         expect_run(&rt, &bytes, *status, output, errors)?;
+    }
+    Ok(())
+}
+
+/// The summary of a pcapng file of two interfaces and one of its packets, in each format.
+#[rattlefmt::skip]
+const OF_TWO_INTERFACES: [(Format, &str); 2] = [
+    (Format::Text,
+     "file type pcapng, byte order little-endian, interfaces 2\ninterface 0, snap length 0, time resolution 10^-6 s\ninterface 1, snap length 0, time resolution 10^-9 s\npackets 1, "),
+    (Format::Json,
+     r#"{"type":"summary","file_type":"pcapng","byte_order":"little-endian","interfaces":[{"snap_length":0,"time_resolution":"10^-6 s"},{"snap_length":0,"time_resolution":"10^-9 s"}],"packets":1,"#),
+];
+
+#[test]
+fn interfaces_are_in_the_summary(rt: HostRuntime) -> Result<(), Fail> {
+    let parts = [SECTION, RAW_IP, OTHER_LINK, ENHANCED, &UDP, ENHANCED_END];
+    let bytes = joined(rt.alloc(), &parts)?;
+    for (format, wanted) in &OF_TWO_INTERFACES {
+        let parts = Parts {
+            lines: Lines::None,
+            format: *format,
+            ..ALL
+        };
+        expect_first_text(&rt, run_alone(&rt, parts, &bytes)?, 0, [*wanted, "", ""])?;
     }
     Ok(())
 }
@@ -568,10 +596,10 @@ const TO_TEN: &str =
 /// The port that is chosen, the status, and the lines of packets and the totals.
 #[rattlefmt::skip]
 const OF_PORTS: [(u16, u8, [&str; 3]); 4] = [
-    (7, 4, [LINE, TO_TEN, "\npackets 2, bytes 58, bytes a packet 29\n"]),
-    (9, 0, [LINE, "", "\npackets 1, bytes 29, bytes a packet 29\n"]),
-    (10, 4, ["", TO_TEN, "\npackets 1, bytes 29, bytes a packet 29\n"]),
-    (11, 0, ["", "", "\npackets 0, bytes 0\n"]),
+    (7, 4, [LINE, TO_TEN, "\nfile type classic, byte order big-endian, snap length 0, time resolution 10^-6 s\npackets 2, bytes 58, bytes a packet 29\n"]),
+    (9, 0, [LINE, "", "\nfile type classic, byte order big-endian, snap length 0, time resolution 10^-6 s\npackets 1, bytes 29, bytes a packet 29\n"]),
+    (10, 4, ["", TO_TEN, "\nfile type classic, byte order big-endian, snap length 0, time resolution 10^-6 s\npackets 1, bytes 29, bytes a packet 29\n"]),
+    (11, 0, ["", "", "\nfile type classic, byte order big-endian, snap length 0, time resolution 10^-6 s\npackets 0, bytes 0\n"]),
 ];
 
 #[test]
@@ -597,12 +625,12 @@ fn packets_that_are_not_chosen_are_left_out(rt: HostRuntime) -> Result<(), Fail>
 /// capture is complete after 69 bytes, and the second after 114.
 #[rattlefmt::skip]
 const LIMITS: [(u64, usize, u8, [&str; 3]); 6] = [
-    (1, 114, 0, [LINE, "", "\npackets 1, bytes 29, bytes a packet 29\n"]),
-    (2, 114, 0, [LINE, TO_TEN, "\npackets 2, bytes 58, bytes a packet 29\n"]),
-    (3, 114, 0, [LINE, TO_TEN, "\npackets 2, bytes 58, bytes a packet 29\n"]),
+    (1, 114, 0, [LINE, "", "\nfile type classic, byte order big-endian, snap length 0, time resolution 10^-6 s\npackets 1, bytes 29, bytes a packet 29\n"]),
+    (2, 114, 0, [LINE, TO_TEN, "\nfile type classic, byte order big-endian, snap length 0, time resolution 10^-6 s\npackets 2, bytes 58, bytes a packet 29\n"]),
+    (3, 114, 0, [LINE, TO_TEN, "\nfile type classic, byte order big-endian, snap length 0, time resolution 10^-6 s\npackets 2, bytes 58, bytes a packet 29\n"]),
     // What follows the last packet is not read.
-    (1, 113, 0, [LINE, "", "\npackets 1, bytes 29, bytes a packet 29\n"]),
-    (2, 113, 1, [LINE, "", "\npackets 1, bytes 29, bytes a packet 29\n"]),
+    (1, 113, 0, [LINE, "", "\nfile type classic, byte order big-endian, snap length 0, time resolution 10^-6 s\npackets 1, bytes 29, bytes a packet 29\n"]),
+    (2, 113, 1, [LINE, "", "\nfile type classic, byte order big-endian, snap length 0, time resolution 10^-6 s\npackets 1, bytes 29, bytes a packet 29\n"]),
     (0, 114, 0, ["", "", ""]),
 ];
 
@@ -638,7 +666,11 @@ fn packets_that_are_not_chosen_do_not_count(rt: HostRuntime) -> Result<(), Fail>
         &rt,
         ran,
         0,
-        [TO_TEN, "", "\npackets 1, bytes 29, bytes a packet 29\n"],
+        [
+            TO_TEN,
+            "",
+            "\nfile type classic, byte order big-endian, snap length 0, time resolution 10^-6 s\npackets 1, bytes 29, bytes a packet 29\n",
+        ],
     )
 }
 
@@ -658,7 +690,7 @@ fn long_capture(alloc: Global) -> Result<Vec<u8>, AllocError> {
 #[rattlefmt::skip]
 static LONG_LINES: [(Format, &str); 2] = [
     (Format::Text, "1 00:00:00.000000 length 528384: checksum not looked at: 528384 bytes, more than 524288\n"),
-    (Format::Json, "{\"type\":\"packet\",\"number\":1,\"time\":\"00:00:00.000000\",\"checksum\":\"not_looked_at\",\"reason\":\"too_long\",\"required_length\":528384}\n"),
+    (Format::Json, "{\"type\":\"packet\",\"number\":1,\"time\":\"00:00:00.000000\",\"seconds\":5,\"nanoseconds\":7000,\"length\":528384,\"captured_length\":528384,\"checksum\":\"not_looked_at\",\"reason\":\"too_long\",\"required_length\":528384}\n"),
 ];
 
 #[test]
@@ -677,11 +709,11 @@ fn a_packet_that_is_too_long_is_not_read(rt: HostRuntime) -> Result<(), Fail> {
 
 /// The object of the packet.
 const OBJECT: &str =
-    r#"{"type":"packet","number":1,"time":"00:00:00.000000","source":"192.0.2.1","destination":"192.0.2.2","protocol":17,"protocol_name":"UDP","source_port":7,"destination_port":9,"udp":{"length":9},"payload_length":1,"checksum":"right"}"#;
+    r#"{"type":"packet","number":1,"time":"00:00:00.000000","seconds":5,"nanoseconds":7000,"length":29,"captured_length":29,"source":"192.0.2.1","destination":"192.0.2.2","protocol":17,"protocol_name":"UDP","source_port":7,"destination_port":9,"udp":{"length":9},"payload_length":1,"time_to_live":64,"checksum":"right"}"#;
 
 /// The first members of the object of the summary.
 const TOTALS: &str =
-    r#"{"type":"summary","packets":1,"bytes":29,"conversations":1,"first_packet":"1970-01-01T00:00:05.000007Z","last_packet":"1970-01-01T00:00:05.000007Z","duration":"00:00:00.000000","link_types":{"BSD_loopback":0,"#;
+    r#"{"type":"summary","file_type":"classic","byte_order":"big-endian","snap_length":0,"time_resolution":"10^-6 s","packets":1,"bytes":29,"conversations":1,"first_packet":"1970-01-01T00:00:05.000007Z","first_packet_seconds":5,"first_packet_nanoseconds":7000,"last_packet":"1970-01-01T00:00:05.000007Z","last_packet_seconds":5,"last_packet_nanoseconds":7000,"duration":"00:00:00.000000","duration_seconds":0,"duration_nanoseconds":0,"link_types":{"BSD_loopback":0,"#;
 
 /// Which lines there are, whether there is a summary, and what the report begins with.
 #[rattlefmt::skip]

@@ -243,7 +243,7 @@ static VERDICT_ROWS: [(&str, u64); 11] = [
 ];
 
 #[rattlefmt::skip]
-static LINK_ROWS: [(&str, u64); 20] = [
+static LINK_ROWS: [(&str, u64); 23] = [
     ("BSD loopback", 0),
     ("Ethernet", 24),
     ("PPP", 0),
@@ -258,8 +258,11 @@ static LINK_ROWS: [(&str, u64); 20] = [
     ("PFLOG", 0),
     ("Prism", 0),
     ("radiotap", 0),
+    ("AVS", 0),
     ("PPI", 0),
     ("Solaris ipnet", 0),
+    ("NFLOG", 0),
+    ("IP over InfiniBand", 0),
     ("PKTAP", 0),
     ("Linux cooked version 2", 0),
     ("another link type", 0),

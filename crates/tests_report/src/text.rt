@@ -1,4 +1,5 @@
 mod conversations;
+mod facts;
 mod icmp;
 mod packet_lines;
 mod protocol_names;
@@ -75,7 +76,8 @@ fn expect_line_of_length(
 ) -> Result<(), Fail> {
     let time = Some(FIRST);
     let mut line = Vec::new(rt.alloc());
-    write_packet_line(&mut line, Times::SinceFirst, 1, time, time, len, packet)?;
+    let times = Times::SinceFirst;
+    write_packet_line(&mut line, times, false, 1, time, time, len, packet)?;
     let wanted = format!(in rt.alloc(); "1 00:00:00.000000 {wanted}\n")?;
     expect_text(rt, line, &wanted)
 }

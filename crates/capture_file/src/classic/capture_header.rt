@@ -13,6 +13,8 @@ pub struct CaptureHeader {
     pub byte_order: ByteOrder,
     /// The unit of the fractions in the times of the records.
     pub resolution: Resolution,
+    /// The maximum number of captured bytes of a packet (`SnapLen`). Records with more bytes are read too.
+    pub snap_len: u32,
     /// The link type of each record, or the number of a link type that is not read.
     pub link_type: Result<LinkType, u16>,
 }
@@ -29,7 +31,7 @@ impl CaptureHeader {
     /// The length of the header, in bytes.
     pub const LEN: usize = 24;
 
-    /// Reads a header: the magic number in bytes 0 to 3, the version in bytes 4 to 7, the link type in the low 16 bits of bytes 20 to 23.
+    /// Reads a header: magic number (bytes 0 to 3), version (4 to 7), snap length (16 to 19), and link type (the low 16 bits of 20 to 23).
     ///
     /// # Errors
     ///
@@ -68,6 +70,7 @@ impl CaptureHeader {
         Ok(CaptureHeader {
             byte_order,
             resolution,
+            snap_len: byte_order.number_in(bytes, 16),
             link_type: LinkType::from_number(number).ok_or(number),
         })
     }

@@ -60,14 +60,16 @@ pub const SECTION_HEADER: u32 = 0x0A0D_0D0A;
 /// The length of the shortest block, in bytes: its type and its two total lengths (section 3.1).
 pub const MIN_BLOCK_LEN: usize = 12;
 
+/// The length of a section header block without options, in bytes (section 4.1).
+const MIN_SECTION_HEADER_LEN: u32 = 28;
+
 /// The byte-order magic of a section header block (section 4.1).
 const BYTE_ORDER_MAGIC: u32 = 0x1A2B_3C4D;
 
 /// The first 12 bytes of a block (section 3.1).
 #[derive(Clone, Copy, Debug, PartialEq, Eq)]
 pub struct BlockHeader {
-    /// The byte order of the numbers in the block, which is the order of its section. A section header block begins a section, and states
-    /// its byte order with the byte-order magic.
+    /// The byte order of the numbers in the block. It is the order of its section, which the section's header states with its magic.
     pub byte_order: ByteOrder,
     /// The type of the block, in bytes 0 to 3.
     pub block_type: u32,
@@ -80,10 +82,8 @@ impl BlockHeader {
     ///
     /// # Errors
     ///
-    /// In this order:
-    /// - `CutOff` if there are fewer than 12 bytes
-    /// - `Magic` if a section header block has no byte-order magic
-    /// - `TotalLength` if bytes 4 to 7 are not the length of a block
+    /// In this order: `CutOff` if there are fewer than 12 bytes, `Magic` if a section header block has no byte-order magic,
+    /// `TotalLength` if bytes 4 to 7 are not the length of a block, and `SectionLength` if they are below that of a section header block.
     pub fn from_slice(section: ByteOrder, bytes: &[u8]) -> Result<BlockHeader, BlockError>
         ensures refused { RefusesExactly result (specs.block_header_refusal section bytes.now) }
         ensures read { IfOk result (λ header. header ≡ specs.block_header section bytes.now) }
@@ -98,6 +98,9 @@ impl BlockHeader {
         let total_len = byte_order.number_in(bytes, 4);
         if total_len < 12 || total_len % 4 != 0 {
             return Err(BlockError::TotalLength { total_len });
+        }
+        if total_len < MIN_SECTION_HEADER_LEN && is_section_header(bytes) {
+            return Err(BlockError::SectionLength { total_len });
         }
         Ok(BlockHeader {
             byte_order,
@@ -146,13 +149,6 @@ pub struct PlacedBlockError {
 /// The blocks of a pcapng file in memory, one after the other, up to the end of the file or the first rejected block.
 ///
 /// After `None` or an error no bytes are left, and `next` returns `None`.
-///
-/// ```
-/// for block in Blocks::new(file) {
-///     let Block { header, body } = block?;
-///     ..
-/// }
-/// ```
 #[derive(Clone, Drop)]
 pub struct Blocks<'a> {
     section: ByteOrder,

@@ -11,13 +11,10 @@ use crate::pcapng::{Block, BodyError, InterfaceDescription, SECTION_HEADER};
 
 /// The type of an interface description block (draft-ietf-opsawg-pcapng, section 4.2).
 pub(crate) const INTERFACE_DESCRIPTION: u32 = 1;
-
 /// The type of an obsolete packet block (appendix A).
 pub(crate) const OBSOLETE_PACKET: u32 = 2;
-
 /// The type of a simple packet block (section 4.4).
 pub(crate) const SIMPLE_PACKET: u32 = 3;
-
 /// The type of an enhanced packet block (section 4.3).
 pub(crate) const ENHANCED_PACKET: u32 = 6;
 
@@ -122,10 +119,8 @@ impl<'a> PacketBlock<'a> {
     ///
     /// # Errors
     ///
-    /// In this order:
-    /// - `CutOff` if there are fewer than 20 bytes
-    /// - `Interface` if the interface does not exist
-    /// - `CutOff` if there are fewer captured bytes than the block counts
+    /// In this order: `CutOff` if there are fewer than 20 bytes, `Interface` if the interface does not exist, and `CutOff` if there are
+    /// fewer captured bytes than the block counts.
     pub fn from_enhanced(
         order: ByteOrder,
         interfaces: &[InterfaceDescription],
@@ -164,10 +159,8 @@ impl<'a> PacketBlock<'a> {
     ///
     /// # Errors
     ///
-    /// In this order:
-    /// - `CutOff` if there are fewer than 4 bytes
-    /// - `Interface` if there is no interface
-    /// - `CutOff` if there are fewer captured bytes than the original length or the snap length, whichever is smaller
+    /// In this order: `CutOff` if there are fewer than 4 bytes, `Interface` if there is no interface, and `CutOff` if there are fewer
+    /// captured bytes than the original length or the snap length, whichever is smaller.
     pub fn from_simple(
         order: ByteOrder,
         interfaces: &[InterfaceDescription],

@@ -27,6 +27,12 @@ pub enum BlockError {
         /// The total length.
         total_len: u32,
     },
+    /// The total length of a section header block is below 28, the length of its fields (section 4.1).
+    #[error("The section header block has {total_len} bytes, and needs at least 28.")]
+    SectionLength {
+        /// The total length.
+        total_len: u32,
+    },
     /// The total length in the last four bytes differs from the total length in bytes 4 to 7 (section 3.1).
     #[error("The total length of the block is {total_len} in its bytes 4 to 7, and {last_len} in its last four bytes.")]
     LastLength {

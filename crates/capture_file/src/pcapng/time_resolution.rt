@@ -2,8 +2,7 @@ ghost use Rattle.std.specs.Prelude.{◌≡◌, ◌^◌, ◌<◌, None};
 ghost use Rattle.std.specs.Option.{SomeIff};
 ghost use Rattle.capture_file.specs.PcapngBodies.{resolution_by, time_resolution, units_per_second};
 
-/// The unit of the timestamps of an interface: a second divided by a power of ten or of two (the option `if_tsresol` of
-/// draft-ietf-opsawg-pcapng, section 4.2).
+/// The unit of the timestamps of an interface: a second divided by a power of ten or of two (the option `if_tsresol`).
 #[derive(Clone, Copy, Debug, PartialEq, Eq)]
 pub enum TimeResolution {
     /// A second divided by ten to this power: 6 for microseconds, 9 for nanoseconds.

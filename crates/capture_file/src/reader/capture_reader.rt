@@ -21,9 +21,7 @@ pub enum CaptureReader {
 }
 
 impl CaptureReader {
-    /// Reads the header of a classic capture, or the first block of a pcapng file, a section header block, which is read into the buffer.
-    ///
-    /// The inner result says whether the input is a capture that is read.
+    /// Reads the header of a classic capture, or the first block of a pcapng file into the buffer. The inner error rejects the input.
     ///
     /// # Errors
     ///

@@ -24,8 +24,7 @@ pub enum NextPacket {
 /// What is known of a packet that the buffer has no room for.
 #[derive(Clone, Copy, Debug, PartialEq, Eq)]
 pub struct TooLongPacket {
-    /// What its bytes begin with, or the number of a link type that is not read. None of a packet of a pcapng file, which says it in the
-    /// block that was not kept.
+    /// What its bytes begin with, or the number of a link type that is not read. None of a packet of a pcapng file.
     pub link_type: Option<Result<LinkType, u16>>,
     /// When it was captured. None of a packet of a pcapng file.
     pub time: Option<PacketTime>,

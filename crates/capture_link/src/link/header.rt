@@ -36,7 +36,8 @@ pub(super) enum FirstHeader {
 }
 
 impl FirstHeader {
-    /// A header that is not read, of which these bytes were read, in a frame of the link type with this number.
+    /// The result for a header with an unknown version or a wrong length: what follows the header cannot be found. The next protocol is
+    /// then the number of the link type. `len` counts the bytes that were examined.
     pub fn unread(len: usize, number: u16) -> FirstHeader
         ensures { result ≡ unread len number }
     {

@@ -10,10 +10,12 @@ use crate::link::ieee80211::frame_at;
 use crate::link::{LinkHeaderCutOff, ethernet_at, family_at, is_ip_family};
 use capture_file::{ByteOrder, LinkType};
 
-/// The numbers of the link types LINKTYPE_PFLOG, LINKTYPE_IEEE802_11_PRISM, LINKTYPE_PPI and LINKTYPE_PKTAP.
+/// The numbers of the link types LINKTYPE_PFLOG, LINKTYPE_IEEE802_11_PRISM, LINKTYPE_IEEE802_11_AVS, LINKTYPE_PPI and LINKTYPE_PKTAP.
 const PFLOG: u16 = 117;
 
 const PRISM: u16 = 119;
+
+const AVS: u16 = 163;
 
 const PPI: u16 = 192;
 
@@ -62,10 +64,17 @@ pub(super) fn filter_header(frame: &[u8]) -> Result<FirstHeader, LinkHeaderCutOf
     if frame[0] < LEAST_FILTER_LEN {
         return Ok(FirstHeader::unread(FILTER_FIELDS_LEN, PFLOG));
     }
-    let len = (usize::from(frame[0]) + 3) / 4 * 4;
+    let len = padded(u16::from(frame[0]));
     expect_len(frame, len)?;
     let family = u32::from(frame[1]);
     Ok(with_family(len, family, is_ip_family(family)))
+}
+
+/// A length with the padding up to a multiple of four.
+pub(super) fn padded(len: u16) -> usize
+    ensures { result ≡ specs.padded len }
+{
+    (usize::from(len) + 3) / 4 * 4
 }
 
 /// The first header of a LINKTYPE_IPNET frame.
@@ -79,7 +88,7 @@ pub(super) fn ipnet_header(frame: &[u8]) -> Result<FirstHeader, LinkHeaderCutOff
 }
 
 /// A whole header of this length with an address family, which is a family of IP or not.
-fn with_family(len: usize, family: u32, is_ip: bool) -> FirstHeader
+pub(super) fn with_family(len: usize, family: u32, is_ip: bool) -> FirstHeader
     ensures { result ≡ specs.with_family len family is_ip }
 {
     let next = if is_ip {
@@ -98,7 +107,7 @@ pub(super) fn after_prism(frame: &[u8]) -> Result<FirstHeader, LinkHeaderCutOff>
 {
     expect_len(frame, AVS_FIELDS_LEN)?;
     if is_avs(number_at(ByteOrder::BigEndian, frame, 0)) {
-        after_avs(frame, number_at(ByteOrder::BigEndian, frame, 4))
+        by_avs_len(frame, PRISM, number_at(ByteOrder::BigEndian, frame, 4))
     } else {
         frame_at(frame, PRISM_LEN)
     }
@@ -111,10 +120,20 @@ fn is_avs(magic: u32) -> bool
     matches!(magic, AVS_1 | AVS_2)
 }
 
-/// The first header of an IEEE 802.11 frame after a header of AVS of this length.
-fn after_avs(frame: &[u8], len: u32) -> Result<FirstHeader, LinkHeaderCutOff>
+/// The first header of an IEEE 802.11 frame after a header of AVS. Each version of this header states its length at the same place.
+pub(super) fn after_avs(frame: &[u8]) -> Result<FirstHeader, LinkHeaderCutOff>
+    ensures is { result ≡ specs.after_avs frame.now }
+    ensures fits { IfOk result (Fits frame.now) }
+    ensures len { IfErr result (λ error. error.len ≡ length frame.now) }
+{
+    expect_len(frame, AVS_FIELDS_LEN)?;
+    by_avs_len(frame, AVS, number_at(ByteOrder::BigEndian, frame, 4))
+}
+
+/// The first header of an IEEE 802.11 frame after a header of AVS of this length, in a frame of the link type with this number.
+fn by_avs_len(frame: &[u8], number: u16, len: u32) -> Result<FirstHeader, LinkHeaderCutOff>
     requires { 8 ≤ length frame.now }
-    ensures is { result ≡ specs.by_avs_len frame.now len }
+    ensures is { result ≡ specs.by_avs_len frame.now number len }
     ensures fits { IfOk result (Fits frame.now) }
     ensures len { IfErr result (λ error. error.len ≡ length frame.now) }
 {
@@ -122,7 +141,7 @@ fn after_avs(frame: &[u8], len: u32) -> Result<FirstHeader, LinkHeaderCutOff>
     if len >= AVS_FIELDS_LEN {
         frame_at(frame, len)
     } else {
-        Ok(FirstHeader::unread(AVS_FIELDS_LEN, PRISM))
+        Ok(FirstHeader::unread(AVS_FIELDS_LEN, number))
     }
 }
 

@@ -2,9 +2,14 @@ use super::{
     OVER_IPV4, OVER_IPV6, expect_line, expect_line_of, expect_line_of_length, expect_transport,
     expect_verdict,
 };
+use crate::expect::expect_text;
 use capture_link::LinkHeaderCutOff;
-use capture_packet::{Content, NetworkProtocol, Packet, Refusal, Transport, Tunnel, Verdict};
+use capture_packet::{
+    Content, HopLimit, NetworkProtocol, Packet, Refusal, Transport, Tunnel, Verdict,
+};
+use capture_run::Times;
 use capture_summary::FrameLen;
+use capture_text::write_packet_line;
 use etherparse_transport::err::tcp::{HeaderError, HeaderSliceError};
 use etherparse_transport::err::{Layer, LenError, LenSource};
 use etherparse_transport::ip::{IpAddresses, IpError};
@@ -198,6 +203,30 @@ fn lengths_of_frames(rt: HostRuntime) -> Result<(), Fail> {
     );
     for (len, wanted) in &LENGTHS {
         expect_line_of_length(&rt, *len, &packet, wanted)?;
+    }
+    Ok(())
+}
+
+/// Hop limits, whether the line is verbose, and what is written.
+#[rattlefmt::skip]
+const HOP_LIMITS: [(Option<HopLimit>, bool, &str); 5] = [
+    (Some(HopLimit::Ipv4(64)), true, "1 - length unknown: 192.0.2.1 > 192.0.2.2, time to live 64; checksum not looked at: cut off\n"),
+    (Some(HopLimit::Ipv6(255)), true, "1 - length unknown: 192.0.2.1 > 192.0.2.2, hop limit 255; checksum not looked at: cut off\n"),
+    (None, true, "1 - length unknown: 192.0.2.1 > 192.0.2.2; checksum not looked at: cut off\n"),
+    (Some(HopLimit::Ipv4(64)), false, "1 - length unknown: 192.0.2.1 > 192.0.2.2; checksum not looked at: cut off\n"),
+    (Some(HopLimit::Ipv6(255)), false, "1 - length unknown: 192.0.2.1 > 192.0.2.2; checksum not looked at: cut off\n"),
+];
+
+#[test]
+fn hop_limits(rt: HostRuntime) -> Result<(), Fail> {
+    for (hop_limit, verbose, wanted) in &HOP_LIMITS {
+        let verdict = Verdict::untested(Untested::CutOff);
+        let mut packet = Packet::in_no_tunnel(Content::IpHeader(OVER_IPV4), verdict);
+        packet.hop_limit = *hop_limit;
+        let mut line = Vec::new(rt.alloc());
+        let times = Times::SinceFirst;
+        write_packet_line(&mut line, times, *verbose, 1, None, None, None, &packet)?;
+        expect_text(&rt, line, wanted)?;
     }
     Ok(())
 }

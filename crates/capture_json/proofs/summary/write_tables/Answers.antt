@@ -11,7 +11,7 @@ use Rattle.capture_json.proofs.summary.write_tables.Goals as goal
 pub returns-in_ok-begin_array-in-Ok : goal.returns-in_ok-begin_array-in-Ok
 returns-in_ok-begin_array-in-Ok g c =
     let begun = c.in_ok-begin_item.ensures ∙ ap (λ tokens. tokens ++ begin_object ∷ []) c.in_ok-line.ensures in
-    let members = tables_members c.args.summary.now in
+    let members = tables_members c.args.capture.now c.args.summary.now in
     written_1 _ _ _ _ _ c.write_part.ensures
     (ap print (c.in_ok-begin_array-in-Ok.ensures
     ∙ ap (array_begun (codes "busiest_conversations")) (c.in-Ok.ensures ∙ ap (with_members members) begun)))

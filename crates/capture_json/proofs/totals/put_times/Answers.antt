@@ -10,6 +10,8 @@ returns c =
       c.packets.ensures.packets,
       c.bytes.ensures,
       c.in_ok-put_duration.ensures,
+      c.in_ok-put_instant-2.ensures,
       c.in_ok-put_date-2.ensures,
+      c.in_ok-put_instant.ensures,
       c.in_ok-put_date.ensures,
     ))

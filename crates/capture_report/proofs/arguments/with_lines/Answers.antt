@@ -10,4 +10,5 @@ returns c =
     let other = c.in_ok-flag_without-2.ensures in
     let first = adds_rule _ _ _ _ _ _ c.in_ok-arg.ensures c.help-summary.ensures one.local one.rule refl in
     let second = adds_rule _ _ _ _ _ _ c.in_ok-arg-2.ensures c.help-packets.ensures c.flag.ensures.local c.flag.ensures.rule first in
-    IfOk-weaker _ _ _ (λ more adds. adds_rule _ _ _ _ _ _ adds c.help-wrong.ensures other.local other.rule second) c.arg-3.ensures
+    let third = adds_rule _ _ _ _ _ _ c.in_ok-arg-3.ensures c.help-wrong.ensures other.local other.rule second in
+    IfOk-weaker _ _ _ (λ more adds. adds_rule _ _ _ _ _ _ adds refl c.verbose.ensures.local c.verbose.ensures.rule third) c.arg-4.ensures

@@ -1,9 +1,10 @@
-use Rattle.std.proofs.Common.{[], ◌∷◌, ◌++◌, ◌+◌, arith, ap, is_some, length, length-append, refl, sym, ◌∙◌}
+use Rattle.std.proofs.Common.{[], ◌∷◌, ◌++◌, ◌+◌, arith, ap, inl, is_some, length, length-append, refl, sym, ◌∙◌, inr}
 use Rattle.std.proofs.KnownBytes.{Appends-nil}
 use Rattle.capture_file.proofs.CapturePacketsLemmas.{begins_with_packets, has_packets, packets-push}
 use Rattle.capture_run.proofs.EndingLemmas.{too_many_packets}
 use Rattle.capture_run.proofs.LimitLemmas.{not_by_limit, within_step}
 use Rattle.capture_run.proofs.PacketsTextLemmas.{ends_after, first-push, written-push}
+use Rattle.capture_run.proofs.ReadLemmas.{seeks_itself}
 use Rattle.capture_run.proofs.ReportLemmas.{at_error, counts-cut, counts-push, counts_at_most, counts_capture}
 use Rattle.capture_packet.specs.Frames.{max_packet_len}
 use Rattle.capture_run.proofs.packets.report_each.Goals as goal
@@ -11,7 +12,7 @@ use Rattle.capture_run.proofs.packets.report_each.Goals as goal
 -- at the end all packets are read, and these are counted
 pub returns-in-Some-clause-counted : goal.returns-in-Some-clause-counted
 returns-in-Some-clause-counted g c =
-    let (packets, read, counted, number, most, len, parts, silent, within, time, wrote) = c.loop-number.invariant in
+    let (packets, read, counted, number, most, len, parts, silent, within, time, last, wrote) = c.loop-number.invariant in
     let reader = c.args.reader.now in
     let first = g.R.Read.remaining c.args.input.now in
     let next = rw c.in-Some.is at c.in_ok-ended.ensures.next in
@@ -36,7 +37,7 @@ returns-in-Some-clause-too_many g c =
 -- after the last number the limit of counted packets is reached
 pub returns-clause-too_many : goal.returns-clause-too_many
 returns-clause-too_many g c =
-    let (packets, read, counted, number, most, len, parts, silent, within, time, wrote) = c.loop-number.invariant in
+    let (packets, read, counted, number, most, len, parts, silent, within, time, last, wrote) = c.loop-number.invariant in
     let reader = c.args.reader.now in
     let before = c.args.packets.now.summary in
     let left = g.R.Read.remaining c.args.input.now in
@@ -46,12 +47,12 @@ returns-clause-too_many g c =
 
 -- before the first packet nothing is read, counted or written
 pub loop-number-init : goal.loop-number-init
-loop-number-init g c = ([], (refl, refl), refl, refl, omega arith, refl, refl, (λ none. refl), (λ within. within), refl, ([], refl, Appends-nil _))
+loop-number-init g c = ([], (refl, refl), refl, refl, omega arith, refl, refl, (λ none. refl), (λ within. within), refl, inl refl, ([], refl, Appends-nil _))
 
 -- one more packet
 pub loop-number-preserved : goal.loop-number-preserved
 loop-number-preserved g c =
-    let (packets, read, counted, number, most, len, parts, silent, within, time, wrote) = c.loop-number.invariant in
+    let (packets, read, counted, number, most, len, parts, silent, within, time, last, wrote) = c.loop-number.invariant in
     let initial = c.args.packets.now in
     let left = g.R.Read.remaining c.loop-number.input in
     let still_left = g.R.Read.remaining c.report_next.new.input in
@@ -60,7 +61,7 @@ loop-number-preserved g c =
     let now = c.loop-number.number in
     let contents = g.W.Write.contents c.loop-number.output in
     let new_contents = g.W.Write.contents c.report_next.new.output in
-    let (line, one, last) = rw (parts, time) at c.in_ok-ended.ensures.text (ap is_some c.in_default.is) in
+    let (line, one, appended) = rw (parts, time) at c.in_ok-ended.ensures.text (ap is_some c.in_default.is) in
     let next = one.reports in
     let more = counts-push initial.parts.choice initial.summary before after packets next.packet counted next.counted in (
       packets ++ next.packet ∷ [],
@@ -74,13 +75,14 @@ loop-number-preserved g c =
       λ _. within_step initial.parts.limit initial.parts.choice next.packet before after (rw parts at (sym c.is_full.ensures ∙ c.if-is_full.false))
           next.counted,
       one.is_first ∙ sym (first-push initial.first packets next.packet),
-      written-push initial.parts now initial.first packets next.packet line _ contents new_contents wrote (omega (arith, number)) one.is_text last,
+      inr (packets, next.packet, before, refl, counted, rw parts at (sym c.is_full.ensures ∙ c.if-is_full.false)),
+      written-push initial.parts now initial.first packets next.packet line _ contents new_contents wrote (omega (arith, number)) one.is_text appended,
     )
 
 -- the written text is the text of the counted packets
 pub returns-in-Some-clause-text : goal.returns-in-Some-clause-text
 returns-in-Some-clause-text g c =
-    let (packets, read, counted, number, most, len, parts, silent, within, time, wrote) = c.loop-number.invariant in
+    let (packets, read, counted, number, most, len, parts, silent, within, time, last, wrote) = c.loop-number.invariant in
     let reader = c.args.reader.now in
     let first = g.R.Read.remaining c.args.input.now in
     let left = g.R.Read.remaining c.loop-number.input in
@@ -103,7 +105,7 @@ returns-in-Some-clause-text g c =
 
 pub returns-clause-text : goal.returns-clause-text
 returns-clause-text g c =
-    let (packets, read, counted, number, most, len, parts, silent, within, time, wrote) = c.loop-number.invariant in
+    let (packets, read, counted, number, most, len, parts, silent, within, time, last, wrote) = c.loop-number.invariant in
     let reader = c.args.reader.now in (
       wrote.0,
       record {
@@ -119,7 +121,7 @@ returns-clause-text g c =
 -- when the limit is reached, nothing after the packets read is counted or written
 pub returns-then-is_full-clause-text : goal.returns-then-is_full-clause-text
 returns-then-is_full-clause-text g c =
-    let (packets, read, counted, number, most, len, parts, silent, within, time, wrote) = c.loop-number.invariant in
+    let (packets, read, counted, number, most, len, parts, silent, within, time, last, wrote) = c.loop-number.invariant in
     let reader = c.args.reader.now in (
       wrote.0,
       record {
@@ -134,7 +136,7 @@ returns-then-is_full-clause-text g c =
 
 pub returns-then-is_full-clause-places : goal.returns-then-is_full-clause-places
 returns-then-is_full-clause-places g c =
-    let (packets, read, counted, number, most, len, parts, silent, within, time, wrote) = c.loop-number.invariant in
+    let (packets, read, counted, number, most, len, parts, silent, within, time, last, wrote) = c.loop-number.invariant in
     record {
       packets = packets;
       still_left = g.R.Read.remaining c.loop-number.input;
@@ -146,27 +148,33 @@ returns-then-is_full-clause-places g c =
 
 pub returns-then-is_full-clause-limit : goal.returns-then-is_full-clause-limit
 returns-then-is_full-clause-limit g c =
-    let (packets, read, counted, number, most, len, parts, silent, within, time, wrote) = c.loop-number.invariant in
+    let (packets, read, counted, number, most, len, parts, silent, within, time, last, wrote) = c.loop-number.invariant in
     rw parts at (sym c.is_full.ensures ∙ c.if-is_full.true)
+
+-- nothing was read after the packets
+pub returns-then-is_full-clause-stops : goal.returns-then-is_full-clause-stops
+returns-then-is_full-clause-stops g c =
+    let (packets, read, counted, number, most, len, parts, silent, within, time, last, wrote) = c.loop-number.invariant in
+    λ enough. record { packets = packets; still_reader = c.loop-number.reader; reads = read; counted = counted; last = last }
 
 -- a next packet that can't be read does not reach the limit
 pub returns-in-Some-clause-limit : goal.returns-in-Some-clause-limit
 returns-in-Some-clause-limit g c =
-    let (packets, read, counted, number, most, len, parts, silent, within, time, wrote) = c.loop-number.invariant in
+    let (packets, read, counted, number, most, len, parts, silent, within, time, last, wrote) = c.loop-number.invariant in
     let next = rw c.in-Some.is at c.in_ok-ended.ensures.next in
     not_by_limit c.args.packets.now.parts.limit _ _ (rw next.0 (rw parts at (sym c.is_full.ensures ∙ c.if-is_full.false)))
     (rw c.in-Some.is at c.in_ok-ended.ensures.unlimited)
 
 pub returns-in-Some-clause-within : goal.returns-in-Some-clause-within
 returns-in-Some-clause-within g c =
-    let (packets, read, counted, number, most, len, parts, silent, within, time, wrote) = c.loop-number.invariant in
+    let (packets, read, counted, number, most, len, parts, silent, within, time, last, wrote) = c.loop-number.invariant in
     let next = rw c.in-Some.is at c.in_ok-ended.ensures.next in
     λ before. rw next.0 (within before)
 
 -- if nothing more can be written or counted, a packet was read after the others
 pub returns-in_err-ended-clause-after_packets : goal.returns-in_err-ended-clause-after_packets
 returns-in_err-ended-clause-after_packets g c =
-    let (packets, read, counted, number, most, len, parts, silent, within, time, wrote) = c.loop-number.invariant in
+    let (packets, read, counted, number, most, len, parts, silent, within, time, last, wrote) = c.loop-number.invariant in
     let (packet, one) = c.in_err-ended.ensures.after_packet in
     at_error c.from_residual.result (
       packets ++ packet ∷ [],
@@ -177,7 +185,7 @@ returns-in_err-ended-clause-after_packets g c =
 -- an error names the packet after the packets read
 pub returns-in-Some-clause-places : goal.returns-in-Some-clause-places
 returns-in-Some-clause-places g c =
-    let (packets, read, counted, number, most, len, parts, silent, within, time, wrote) = c.loop-number.invariant in
+    let (packets, read, counted, number, most, len, parts, silent, within, time, last, wrote) = c.loop-number.invariant in
     record {
       packets = packets;
       still_left = g.R.Read.remaining c.loop-number.input;
@@ -189,7 +197,7 @@ returns-in-Some-clause-places g c =
 
 pub returns-clause-places : goal.returns-clause-places
 returns-clause-places g c =
-    let (packets, read, counted, number, most, len, parts, silent, within, time, wrote) = c.loop-number.invariant in
+    let (packets, read, counted, number, most, len, parts, silent, within, time, last, wrote) = c.loop-number.invariant in
     record {
       packets = packets;
       still_left = g.R.Read.remaining c.loop-number.input;
@@ -197,4 +205,38 @@ returns-clause-places g c =
       reads = read;
       places = omega (arith, number, c.packets-room.ensures.packets, ap (λ tables. tables.packets) c.summary.ensures, c.loop-number-test.false);
       seeks = λ placed. absurd placed;
+    }
+
+-- the reader that is left after the packets read
+pub returns-in-Some-clause-leaves : goal.returns-in-Some-clause-leaves
+returns-in-Some-clause-leaves g c =
+    let (packets, read, counted, number, most, len, parts, silent, within, time, last, wrote) = c.loop-number.invariant in
+    record {
+      packets = packets;
+      reader = c.loop-number.reader;
+      still_left = g.R.Read.remaining c.loop-number.input;
+      reads = read;
+      is_left = rw c.in-Some.is at c.in_ok-ended.ensures.leaves;
+    }
+
+pub returns-clause-leaves : goal.returns-clause-leaves
+returns-clause-leaves g c =
+    let (packets, read, counted, number, most, len, parts, silent, within, time, last, wrote) = c.loop-number.invariant in
+    record {
+      packets = packets;
+      reader = c.loop-number.reader;
+      still_left = g.R.Read.remaining c.loop-number.input;
+      reads = read;
+      is_left = inl (seeks_itself c.loop-number.reader (g.R.Read.remaining c.loop-number.input));
+    }
+
+pub returns-then-is_full-clause-leaves : goal.returns-then-is_full-clause-leaves
+returns-then-is_full-clause-leaves g c =
+    let (packets, read, counted, number, most, len, parts, silent, within, time, last, wrote) = c.loop-number.invariant in
+    record {
+      packets = packets;
+      reader = c.loop-number.reader;
+      still_left = g.R.Read.remaining c.loop-number.input;
+      reads = read;
+      is_left = inl (seeks_itself c.loop-number.reader (g.R.Read.remaining c.loop-number.input));
     }

@@ -1,11 +1,12 @@
-use Rattle.std.proofs.Common.{arith, refl, subst}
+use Rattle.std.proofs.Common.{arith, inr, refl, subst}
 use Rattle.std.specs.Prelude.{◌≡◌, ◌+◌, ℕ, List, Option, Some, length, slice_range}
 use Rattle.capture_file.specs.CapturePackets.{FilePacket, ReadsOne, kept, packet_in, too_long}
 use Rattle.capture_file.specs.PcapngSteps.{ReadsPacket}
 use Rattle.capture_file.specs.declared.reader.capture_reader.CaptureReader.{CaptureReader}
 use Rattle.capture_file.specs.declared.reader.captured_packet.CapturedPacket.{CapturedPacket}
 use Rattle.capture_file.specs.declared.reader.next_packet.NextPacket.{NextPacket}
-use Rattle.capture_file.specs.declared.reader.next_packet.NextPacket.TheVariants.{TooLong, Whole}
+use Rattle.capture_file.specs.declared.reader.next_packet.NextPacket.TheVariants.{Refused, TooLong, Whole}
+use Rattle.capture_run.proofs.ReadLemmas.{has_ended}
 use Rattle.capture_run.proofs.ReportLemmas.{at_error}
 use Rattle.capture_packet.specs.Frames.{max_packet_len}
 use Rattle.capture_run.proofs.packets.report_next.Goals as goal
@@ -84,3 +85,10 @@ returns-in_err-add_too_long-in-Ok-TooLong-clause-after_packet g c =
       too_long packet,
       reads_one _ _ _ _ c.next_packet.new.buffer _ (TooLong packet) _ (omega arith) c.in-Ok-TooLong.field-0-is c.in-Ok-TooLong.ensures.reads refl,
     )
+
+-- ---- a block that can't be read
+
+pub returns-in-Ok-Refused-clause-leaves : goal.returns-in-Ok-Refused-clause-leaves
+returns-in-Ok-Refused-clause-leaves g c =
+    inr (has_ended _ _ _ _ c.next_packet.new.buffer _ (Refused c.in-Ok-Refused.error) (omega arith) c.in-Ok-Refused.field-0-is
+    c.in-Ok-Refused.ensures.reads refl)

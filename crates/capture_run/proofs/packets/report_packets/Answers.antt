@@ -48,3 +48,18 @@ returns-clause-text g c =
       })),
       appends,
     )
+
+-- the reader that is left, if the beginning is accepted
+pub returns-clause-capture : goal.returns-clause-capture
+returns-clause-capture g c = (
+  not_at_header c.in_ok-ended.ended _ _ (offset_of c.report_each.new.reader) c.in_ok-ended.ensures.places.places,
+  record {
+    reader = c.in-Ok.reader;
+    still_left = g.R.Read.remaining c.read_header.new.input;
+    begins = c.in-Ok.ensures.begins;
+    leaves = c.in_ok-ended.ensures.leaves;
+  },
+)
+
+pub returns-in-Err-clause-capture : goal.returns-in-Err-clause-capture
+returns-in-Err-clause-capture g c = c.in-Err.ensures.ends

@@ -1,30 +1,45 @@
-use Rattle.std.proofs.Common.{[], None, Some, ap, refl}
+use Rattle.std.proofs.Common.{◌∙◌, [], None, Some, ap, refl}
 use Rattle.std.proofs.KnownBytes.{Appends-nil}
 use Rattle.capture_run.specs.Captures.{progress_of}
+use Rattle.capture_run.proofs.LineLemmas.{writes-weaker}
 use Rattle.capture_run.proofs.report.report_capture.Goals as goal
 
--- nothing is written for a capture that can't be opened
-pub returns-in-Err-clause-text : goal.returns-in-Err-clause-text
-returns-in-Err-clause-text g c = ([], (None, c.in-Err.ensures.missing, (ap progress_of c.add_unopened.ensures, refl)), Appends-nil _)
+-- of a capture that can't be opened only the line of the error is written
+pub returns-in-Err-clause-report : goal.returns-in-Err-clause-report
+returns-in-Err-clause-report g c =
+    let (lines, one, tells) = c.write_open_error-written.ensures in
+    record {
+      text = [];
+      lines = lines;
+      is_report = (None, c.in-Err.ensures.missing, (c.after_line.ensures.progress ∙ ap progress_of c.add_unopened.ensures, refl, one));
+      appends = Appends-nil _;
+      tells = writes-weaker _ _ _ _ lines (λ none. (c.after_line.ensures.unwritten.0 none).1) tells;
+    }
 
 -- the capture is read from what its name opens
-pub returns-clause-text : goal.returns-clause-text
-returns-clause-text g c =
+pub returns-clause-report : goal.returns-clause-report
+returns-clause-report g c =
     let added = c.in_ok-reports in
-    let (text, is_text, wrote) = added.ensures.text in (
-      text,
-      (
+    let (text, is_text, wrote) = added.ensures.text in
+    let (lines, are_lines, tells) = c.write_end-written.ensures in
+    record {
+      text = text;
+      lines = lines;
+      is_report = (
         Some (g.O.Input.Read.remaining c.in-Ok.input),
         (c.in-Ok.input, c.in-Ok.ensures.opened, refl),
-        record {
+        rw c.after_line-2.ensures.progress (record {
           ended = added.ended;
           reports = added.ensures.reports;
           is_text = is_text;
+          are_lines = are_lines;
           status = added.ensures.status;
           empty = added.ensures.empty;
+          capture = added.ensures.capture;
           limit = added.ensures.limit;
           within = added.ensures.within;
-        },
-      ),
-      wrote,
-    )
+        }),
+      );
+      appends = wrote;
+      tells = writes-weaker _ _ _ _ lines (λ none. (c.after_line-2.ensures.unwritten.0 none).1) tells;
+    }

@@ -1,14 +1,22 @@
 use Rattle.std.proofs.Common.{◌∙◌, sym}
-use Rattle.capture_run.proofs.RunLemmas.{all_named, unnamed}
+use Rattle.capture_run.proofs.RunLemmas.{all_named, unnamed, untold}
 use Rattle.capture_run.proofs.report.report_captures.Goals as goal
 
 -- standard input
-pub returns-then-is_empty-clause-text : goal.returns-then-is_empty-clause-text
-returns-then-is_empty-clause-text g c =
-    unnamed _ c.args.reports.parts c.args.names.now (λ name. name.now) _ _ _ c.report_unnamed.result
-    (sym c.is_empty.ensures ∙ c.if-is_empty.true) c.report_unnamed.ensures.text
+pub returns-then-is_empty-clause-report : goal.returns-then-is_empty-clause-report
+returns-then-is_empty-clause-report g c =
+    unnamed _ c.args.reports.parts c.args.names.now (λ name. name.now) _ _ _ _ _ c.report_headed.result
+    (sym c.is_empty.ensures ∙ c.if-is_empty.true) c.report_headed.ensures.report
+
+pub returns-then-is_empty-clause-errors : goal.returns-then-is_empty-clause-errors
+returns-then-is_empty-clause-errors g c =
+    untold _ _ _ _ _ g.E.Write.contents c.args.errors.now c.report_headed.new.errors c.report_headed.result c.report_headed.ensures.errors
 
 -- captures by their names
-pub returns-else-is_empty-clause-text : goal.returns-else-is_empty-clause-text
-returns-else-is_empty-clause-text g c =
-    rw (all_named c.args.names.now (λ name. name.now) (sym c.is_empty.ensures ∙ c.if-is_empty.false)) at c.report_each.ensures.text
+pub returns-else-is_empty-clause-report : goal.returns-else-is_empty-clause-report
+returns-else-is_empty-clause-report g c =
+    rw (all_named c.args.names.now (λ name. name.now) (sym c.is_empty.ensures ∙ c.if-is_empty.false)) at c.report_each.ensures.report
+
+pub returns-else-is_empty-clause-errors : goal.returns-else-is_empty-clause-errors
+returns-else-is_empty-clause-errors g c =
+    rw (all_named c.args.names.now (λ name. name.now) (sym c.is_empty.ensures ∙ c.if-is_empty.false)) at c.report_each.ensures.errors

@@ -1,12 +1,38 @@
-use Rattle.std.proofs.Common.{◌∙◌, rules}
-use Rattle.capture_run.proofs.RunLemmas.{one-more}
+use Rattle.std.proofs.Common.{◌∙◌, [], ap, refl, rules}
+use Rattle.std.proofs.KnownBytes.{Appends-nil}
+use Rattle.capture_run.proofs.LineLemmas.{writes-nothing}
+use Rattle.capture_run.proofs.ReportLemmas.{at_error}
+use Rattle.capture_run.proofs.RunLemmas.{one-more, tells_first}
 use Rattle.capture_run.proofs.report.report_each.Goals as goal
+
+-- before the first capture
+pub loop-place-init : goal.loop-place-init
+loop-place-init g c = (
+  refl,
+  λ none. none,
+  record {
+    text = [];
+    lines = [];
+    is_report = (refl, refl, refl);
+    appends = Appends-nil (g.W.Write.contents c.args.output.now);
+    tells = writes-nothing (g.E.Write.contents c.args.errors.now) _;
+  },
+)
 
 -- one more capture
 pub loop-place-preserved : goal.loop-place-preserved
 loop-place-preserved g c =
-    let (parts, written) = c.loop-place.invariant in (
+    let (parts, told, written) = c.loop-place.invariant in (
       c.in_ok-reports.ensures.parts ∙ parts,
-      one-more _ c.args.reports.parts c.loop-place.reports.parts _ c.args.names.now (λ name. name.now) c.loop-place.place _ _ _ _ _ _ _
-          (search rules) parts written c.in_ok-reports.ensures.text,
+      λ none. told (c.in_ok-reports.ensures.told none),
+      one-more _ c.args.reports.parts c.loop-place.reports.parts _ c.args.names.now (λ name. name.now) c.loop-place.place _ _ _ _ _ _ _ _ _ _ _ _
+          (search rules) parts c.in_ok-reports.ensures.told written c.in_ok-reports.ensures.report,
     )
+
+-- the captures before the one that can't be reported
+pub returns-in_err-reports-clause-errors : goal.returns-in_err-reports-clause-errors
+returns-in_err-reports-clause-errors g c =
+    let (parts, told, written) = c.loop-place.invariant in
+    at_error c.from_residual.result
+    (rw (ap g.E.Write.contents c.in_err-reports.ensures.errors) (
+    tells_first _ c.args.reports.parts _ c.args.names.now (λ name. name.now) c.loop-place.place _ _ _ _ _ _ _ written))

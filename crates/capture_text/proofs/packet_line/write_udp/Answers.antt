@@ -5,4 +5,4 @@ use Rattle.capture_text.proofs.packet_line.write_udp.Goals as goal
 pub returns : goal.returns
 returns g c =
     written_2 _ _ _ _ _ _ _ c.in_ok-write_endpoints.ensures c.write.ensures.bytes
-    (simp (append_assoc, c.source_port.ensures, c.destination_port.ensures, c.length.ensures))
+    (simp (append_assoc, c.source_port-source.ensures, c.destination_port-destination.ensures, c.length.ensures))

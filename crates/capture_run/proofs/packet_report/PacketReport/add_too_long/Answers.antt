@@ -8,8 +8,8 @@ returns-clause-text g c =
     (λ one. (
       one.0,
       record {
-        packet = c.in_no_tunnel-packet.result;
-        is_packet = c.in_no_tunnel-packet.ensures;
+        packet = c.packet_without_room-packet.result;
+        is_packet = c.packet_without_room-packet.ensures;
         is_text = rw c.too_long_info.ensures at one.1;
       },
       one.2,

@@ -1,0 +1,59 @@
+-- What a capture is, as text (draft-ietf-opsawg-pcap, section 4; draft-ietf-opsawg-pcapng, sections 4.1 and 4.2).
+use Rattle.std.specs.Prelude.{ℕ, ◌+◌, List, [], ◌∷◌, ◌++◌, length, codes, decimal, Option, Some, None}
+use Rattle.capture_file.specs.Packets.{power_of_ten}
+use Rattle.capture_file.specs.declared.byte_order.ByteOrder.{ByteOrder}
+use Rattle.capture_file.specs.declared.byte_order.ByteOrder.TheVariants.{BigEndian, LittleEndian}
+use Rattle.capture_file.specs.declared.classic.capture_header.CaptureHeader.{CaptureHeader}
+use Rattle.capture_file.specs.declared.pcapng.interface_description.InterfaceDescription.{InterfaceDescription}
+use Rattle.capture_file.specs.declared.pcapng.time_resolution.TimeResolution.{TimeResolution}
+use Rattle.capture_file.specs.declared.pcapng.time_resolution.TimeResolution.TheVariants.{PowerOfTen, PowerOfTwo}
+use Rattle.capture_file.specs.declared.reader.capture_reader.CaptureReader.{CaptureReader}
+use Rattle.capture_file.specs.declared.reader.capture_reader.CaptureReader.TheVariants.{Classic, Pcapng}
+use Rattle.capture_file.specs.declared.reader.pcapng_reader.Section.{Section}
+
+-- the word for a byte order
+abbrev pub byte_order_word : ByteOrder → List ℕ
+byte_order_word BigEndian = codes "big-endian"
+byte_order_word LittleEndian = codes "little-endian"
+
+-- a unit of times in seconds, as a power of ten or of two
+abbrev pub resolution_text : TimeResolution → List ℕ
+resolution_text (PowerOfTen exponent) = codes "10^-" ++ (decimal exponent ++ codes " s")
+resolution_text (PowerOfTwo exponent) = codes "2^-" ++ (decimal exponent ++ codes " s")
+
+-- the maximum number of captured bytes of a packet, and the unit of the times
+abbrev pub limits_text : ℕ → TimeResolution → List ℕ
+limits_text snap_len resolution =
+    codes ", snap length " ++ (decimal snap_len ++ (codes ", time resolution " ++ resolution_text resolution))
+
+-- a classic capture, by its header
+abbrev pub classic_text : CaptureHeader → List ℕ
+classic_text header =
+    codes "file type classic, byte order " ++ (byte_order_word header.byte_order
+    ++ (limits_text header.snap_len (power_of_ten header.resolution) ++ codes "\n"))
+
+-- an interface with this number
+abbrev pub interface_text : ℕ → InterfaceDescription → List ℕ
+interface_text number interface =
+    codes "interface " ++ (decimal number ++ (limits_text interface.snap_len interface.time_resolution ++ codes "\n"))
+
+-- interfaces, one after the other, the first with this number
+abbrev pub interfaces_text : ℕ → List InterfaceDescription → List ℕ
+interfaces_text number [] = []
+interfaces_text number (interface ∷ interfaces) = interface_text number interface ++ interfaces_text (number + 1) interfaces
+
+-- a pcapng file: the word for its byte order, and its interfaces in their order
+abbrev pub pcapng_text : List ℕ → List InterfaceDescription → List ℕ
+pcapng_text order interfaces =
+    codes "file type pcapng, byte order " ++ (order ++ (codes ", interfaces " ++ (decimal (length interfaces)
+    ++ (codes "\n" ++ interfaces_text 0 interfaces))))
+
+-- a section of a pcapng file
+abbrev pub section_text : Section → List ℕ
+section_text section = pcapng_text (byte_order_word section.byte_order) section.interfaces.items
+
+-- a capture, if there is one
+abbrev pub facts_text : Option CaptureReader → List ℕ
+facts_text None = []
+facts_text (Some (Classic reader)) = classic_text reader.header
+facts_text (Some (Pcapng reader)) = section_text reader.section

@@ -1,0 +1,33 @@
+-- What a capture is, as members of the summary.
+use Rattle.std.specs.Prelude.{ℕ, List, [], ◌∷◌, ◌++◌, map, codes, Option, Some, None}
+use Rattle.capture_facts.specs.FactsText.{byte_order_word, resolution_text}
+use Rattle.capture_file.specs.Packets.{power_of_ten}
+use Rattle.capture_file.specs.declared.byte_order.ByteOrder.{ByteOrder}
+use Rattle.capture_file.specs.declared.pcapng.interface_description.InterfaceDescription.{InterfaceDescription}
+use Rattle.capture_file.specs.declared.pcapng.time_resolution.TimeResolution.{TimeResolution}
+use Rattle.capture_file.specs.declared.reader.capture_reader.CaptureReader.{CaptureReader}
+use Rattle.capture_file.specs.declared.reader.capture_reader.CaptureReader.TheVariants.{Classic, Pcapng}
+use Rattle.capture_json.specs.Members.{Member, array_of, object_of, whole_number}
+use Rattle.serde_json.specs.Data.{Data, string}
+
+-- the type of a file, and its byte order
+abbrev pub form_members : List ℕ → ByteOrder → List Member
+form_members type order = (codes "file_type", string type) ∷ (codes "byte_order", string (byte_order_word order)) ∷ []
+
+-- the maximum number of captured bytes of a packet, and the unit of the times
+abbrev pub limits_members : ℕ → TimeResolution → List Member
+limits_members snap_len resolution =
+    (codes "snap_length", whole_number snap_len) ∷ (codes "time_resolution", string (resolution_text resolution)) ∷ []
+
+-- an interface, as an object
+abbrev pub interface_data : InterfaceDescription → Data
+interface_data interface = object_of (limits_members interface.snap_len interface.time_resolution)
+
+-- a capture, if there is one
+abbrev pub facts_members : Option CaptureReader → List Member
+facts_members None = []
+facts_members (Some (Classic reader)) =
+    form_members (codes "classic") reader.header.byte_order ++ limits_members reader.header.snap_len (power_of_ten reader.header.resolution)
+facts_members (Some (Pcapng reader)) =
+    form_members (codes "pcapng") reader.section.byte_order
+    ++ (codes "interfaces", array_of (map interface_data reader.section.interfaces.items)) ∷ []

@@ -1,0 +1,33 @@
+-- The times of packets, and durations, as numbers: whole seconds, and the nanoseconds after them.
+use Rattle.std.specs.Prelude.{ℕ, ◌-◌, ◌/◌, ◌%◌, ◌^◌, if◌then◌else◌, ℤ, pos, int_lt, min, neg_ℤ, unsigned_abs, List, [], ◌∷◌, codes}
+use Rattle.std.specs.Int.{int_div_euclid, int_rem_euclid}
+use Rattle.capture_file.specs.PacketTimes.{nanoseconds_between, nanoseconds_per_second}
+use Rattle.capture_file.specs.declared.packet_time.PacketTime.{PacketTime}
+use Rattle.capture_json.specs.Members.{Member, integer, whole_number}
+use Rattle.capture_text.specs.AbsoluteTime.{nanoseconds_since_1970}
+
+-- the whole seconds from the beginning of 1970, UTC, to a time, rounded down, so that they are negative before 1970
+abbrev pub seconds_since_1970 : PacketTime → ℤ
+seconds_since_1970 time = int_div_euclid (nanoseconds_since_1970 time) (pos nanoseconds_per_second)
+
+-- the nanoseconds after these seconds, which are never negative
+abbrev pub nanoseconds_of_second : PacketTime → ℕ
+nanoseconds_of_second time = unsigned_abs (int_rem_euclid (nanoseconds_since_1970 time) (pos nanoseconds_per_second))
+
+-- the signed number of 64 bits that is nearest to a number: only numbers below -2^63, and of 2^63 or more, are changed
+abbrev pub nearest_long : ℤ → ℤ
+nearest_long number =
+    if int_lt number (neg_ℤ (pos (2 ^ 63))) then neg_ℤ (pos (2 ^ 63))
+    else if int_lt (pos (2 ^ 63 - 1)) number then pos (2 ^ 63 - 1)
+    else number
+
+-- a time as two numbers with these names; no time is before -2^63 seconds, and later times than 2^63 - 1 seconds have this number
+abbrev pub instant_members : List ℕ → List ℕ → PacketTime → List Member
+instant_members seconds nanoseconds time =
+    (seconds, integer (nearest_long (seconds_since_1970 time))) ∷ (nanoseconds, whole_number (nanoseconds_of_second time)) ∷ []
+
+-- the time between two packets as two numbers; the seconds are at most 2^64 - 1
+abbrev pub duration_members : PacketTime → PacketTime → List Member
+duration_members first last =
+    (codes "duration_seconds", whole_number (min (nanoseconds_between first last / nanoseconds_per_second) (2 ^ 64 - 1)))
+    ∷ (codes "duration_nanoseconds", whole_number (nanoseconds_between first last % nanoseconds_per_second)) ∷ []

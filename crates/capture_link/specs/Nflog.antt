@@ -1,0 +1,67 @@
+-- Packets that the packet filter of Linux logged (LINKTYPE_NFLOG, in the registry of link types of tcpdump.org).
+use Rattle.std.specs.Prelude.{ℕ, zero, suc, ◌+◌, ◌≤◌, ◌==◌, ◌||◌, Bool, nat_lt, if◌then◌else◌, List, length, slice_index, Option, Some, None, Result, Ok, Err}
+use Rattle.capture_file.specs.Classic.{short_at}
+use Rattle.capture_link.specs.LinkHeaders.{Fits, unread, with_bytes}
+use Rattle.capture_link.specs.Metadata.{padded, with_family}
+use Rattle.capture_file.specs.declared.byte_order.ByteOrder.{ByteOrder}
+use Rattle.capture_file.specs.declared.byte_order.ByteOrder.TheVariants.{BigEndian, LittleEndian}
+use Rattle.capture_link.specs.declared.link.LinkHeaderCutOff.{LinkHeaderCutOff}
+use Rattle.capture_link.specs.declared.link.header.FirstHeader.{FirstHeader}
+use Rattle.capture_link.specs.declared.link.nflog.Attribute.{Attribute}
+use Rattle.capture_link.specs.declared.link.nflog.Attribute.TheVariants.{Last, Other}
+
+-- the address families of IP on Linux: 2 is IPv4, and 10 is IPv6
+abbrev pub is_linux_ip : ℕ → Bool
+is_linux_ip family = family == 2 || family == 10
+
+-- The byte order of the attributes, which is the order of the machine that logged the packet. The type of the first attribute, in bytes 6
+-- and 7, is above 0 and below 256. So its most significant byte is 0, and its other byte is not.
+abbrev pub attribute_order : List ℕ → Option ByteOrder
+attribute_order frame =
+    if slice_index frame 6 == 0 then (if slice_index frame 7 == 0 then None else Some BigEndian)
+    else (if slice_index frame 7 == 0 then Some LittleEndian else None)
+
+-- the header up to the packet, which begins after the first four bytes of the attribute at this place; byte 0 is the address family
+abbrev pub payload_at : List ℕ → ℕ → FirstHeader
+payload_at frame place = with_family (place + 4) (slice_index frame 0) (is_linux_ip (slice_index frame 0))
+
+-- The attribute at this place. It contains its length and its type, in two bytes each, and a value. The length counts these four bytes, but
+-- not the padding up to a multiple of four. The packet is the value of type 9. A header with a shorter length is not read.
+abbrev pub attribute_at : ByteOrder → List ℕ → ℕ → Result Attribute LinkHeaderCutOff
+attribute_at order frame place = with_bytes frame (place + 4) (
+    if nat_lt (short_at order frame place) 4 then Ok (Last (unread (place + 4) 239))
+    else if short_at order frame (place + 2) == 9 then Ok (Last (payload_at frame place))
+    else with_bytes frame (place + padded (short_at order frame place)) (Ok (Other (place + padded (short_at order frame place)))))
+
+-- the header, if this is its next attribute, and this header follows from the place after another attribute
+abbrev pub after_attribute : (ℕ → Result FirstHeader LinkHeaderCutOff) → Result Attribute LinkHeaderCutOff
+    → Result FirstHeader LinkHeaderCutOff
+after_attribute next (Ok (Last header)) = Ok header
+after_attribute next (Ok (Other end)) = next end
+after_attribute next (Err error) = Err error
+
+-- the header with attributes from this place on, if it has at most this number of attributes; a frame without a packet is not read
+abbrev pub attributes_within : ℕ → ByteOrder → List ℕ → ℕ → Result FirstHeader LinkHeaderCutOff
+attributes_within zero order frame place = Ok (unread place 239)
+attributes_within (suc more) order frame place =
+    if nat_lt place (length frame) then after_attribute (λ next. attributes_within more order frame next) (attribute_at order frame place)
+    else Ok (unread place 239)
+
+-- the header with all its attributes; a frame contains fewer attributes than bytes
+abbrev pub attributes : ByteOrder → List ℕ → Result FirstHeader LinkHeaderCutOff
+attributes order frame = attributes_within (length frame) order frame 4
+
+-- the header with attributes in this byte order, if the order is known
+abbrev pub by_order : List ℕ → Option ByteOrder → Result FirstHeader LinkHeaderCutOff
+by_order frame None = Ok (unread 8 239)
+by_order frame (Some order) = attributes order frame
+
+-- A header begins with an address family, version 0, and the number of the group of logged packets, in two bytes. Attributes follow. A
+-- header of another version is not read.
+abbrev pub log_header : List ℕ → Result FirstHeader LinkHeaderCutOff
+log_header frame = with_bytes frame 8 (if slice_index frame 1 == 0 then by_order frame (attribute_order frame) else Ok (unread 8 239))
+
+-- the frame contains the attribute at this place, and its header, if the header ends in it
+abbrev pub IsWithin : List ℕ → ℕ → Attribute → Type 0
+IsWithin frame place (Last header) = Fits frame header
+IsWithin frame place (Other end) = (place + 4 ≤ end) × (end ≤ length frame)

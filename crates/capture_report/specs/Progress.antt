@@ -1,0 +1,35 @@
+-- The progress line of a capture.
+use Rattle.std.specs.Prelude.{ℕ, ◌+◌, ◌*◌, ◌/◌, ◌&&◌, not, nat_le, nat_lt, Bool, if◌then◌else◌}
+use Rattle.capture_report.specs.declared.progress.Progress.{Progress}
+
+-- the reader of the capture
+abbrev pub inner_of : {R : Type 0} → Progress R → R
+inner_of progress = progress.inner
+
+-- the length of the capture
+abbrev pub len_of : {R : Type 0} → Progress R → ℕ
+len_of progress = progress.len
+
+-- the number of bytes that were read
+abbrev pub read_of : {R : Type 0} → Progress R → ℕ
+read_of progress = progress.read
+
+-- the number of bytes after which the line is written next
+abbrev pub next_of : {R : Type 0} → Progress R → ℕ
+next_of progress = progress.next
+
+-- whether the line is to be erased
+abbrev pub is_written : {R : Type 0} → Progress R → Bool
+is_written progress = progress.is_written
+
+-- The line is shown for a file above 100 MB, if standard error is a terminal and no other output is written to the terminal meanwhile.
+abbrev pub is_shown : ℕ → Bool → Bool → Bool
+is_shown len stderr_is_terminal lines_on_terminal = nat_lt 100000000 len && (stderr_is_terminal && not lines_on_terminal)
+
+-- the whole percent of a length that was read, at most 100
+abbrev pub percent_of : ℕ → ℕ → ℕ
+percent_of read len = if nat_le len read then 100 else read * 100 / len
+
+-- the number of bytes of each percent, rounded up to the next whole number
+abbrev pub step_of : ℕ → ℕ
+step_of len = len / 100 + 1

@@ -1,0 +1,150 @@
+//! The progress line of a long capture, on standard error.
+
+ghost use Rattle.std.specs.Prelude.{◌≡◌, ◌≢◌, ◌<◌, ◌≤◌, ◌+◌, ◌-◌, ◌^◌, IfOk, if◌then◌else◌, min, false, true};
+ghost use Rattle.capture_report.specs.Progress.{inner_of, is_shown, is_written, len_of, next_of, percent_of, read_of, step_of};
+
+use std::io;
+use std::io::{Read, Stderr, Write};
+
+/// A progress line is shown for a file with more bytes than this.
+const LONG: u64 = 100_000_000;
+
+/// As many spaces as the longest progress line has characters, and a return to the start of the line.
+const ERASED: &str = "                     \r";
+
+/// A reader of a capture that shows on standard error how many percent of the capture it has read. The line is no part of the report: it is
+/// erased at the end of the capture, and a failed write of it is ignored.
+///
+/// The line ends with a return, and is shorter than any error line. An error line that follows is written over it.
+pub struct Progress<R> {
+    inner: R,
+    errors: Stderr,
+    /// The length of the capture in bytes.
+    len: u64,
+    /// The number of bytes that were read, or `u64::MAX` if that is less.
+    read: u64,
+    /// The line is written next after this number of bytes. It is `u64::MAX` if no line is shown.
+    next: u64,
+    /// Whether the line is to be erased.
+    is_written: bool,
+}
+
+/// Whether a progress line is shown for a file with this length in bytes. `lines_on_terminal` is whether other output is written to the
+/// terminal while the file is read: the two would be mixed.
+pub fn is_shown(len: u64, stderr_is_terminal: bool, lines_on_terminal: bool) -> bool
+    ensures { result ≡ is_shown len stderr_is_terminal lines_on_terminal }
+{
+    len > LONG && stderr_is_terminal && !lines_on_terminal
+}
+
+/// The whole percent of a length that was read. It is 100 if the file has become longer since it was opened.
+fn percent(read: u64, len: u64) -> u8
+    ensures { result ≡ percent_of read len }
+{
+    if read >= len {
+        return 100;
+    }
+    (u128::from(read) * 100 / u128::from(len)) as u8
+}
+
+/// The number of bytes of each percent, rounded up to the next whole number.
+fn step(len: u64) -> u64
+    ensures { result ≡ step_of len }
+{
+    len / 100 + 1
+}
+
+impl<R> Progress<R> {
+    /// Wraps the reader of a capture that has `len` bytes. If `shown`, the line is written to `errors` each time another percent of them
+    /// was read.
+    pub fn new(inner: R, len: u64, shown: bool, errors: Stderr) -> Progress<R>
+        ensures inner { inner_of result ≡ inner }
+        ensures read { read_of result ≡ 0 }
+        ensures next { next_of result ≡ (if shown then step_of len else 2 ^ 64 - 1) }
+    {
+        Progress {
+            inner,
+            errors,
+            len,
+            read: 0,
+            next: if shown { step(len) } else { u64::MAX },
+            is_written: false,
+        }
+    }
+
+    /// Counts the bytes of a read. The line is written if another percent was read. It is erased at the end, where no byte is read.
+    fn count(&mut self, bytes: usize)
+        ensures inner { inner_of self.new ≡ inner_of self.old }
+        ensures read { read_of self.new ≡ min (2 ^ 64 - 1) (read_of self.old + bytes) }
+        ensures due { bytes ≢ 0 → next_of self.old ≤ read_of self.new → is_written self.new ≡ true }
+        ensures early { read_of self.new < next_of self.old → is_written self.old ≡ false → is_written self.new ≡ false }
+        ensures end { bytes ≡ 0 → is_written self.new ≡ false }
+    {
+        self.read = self.read.saturating_add(bytes as u64);
+        if bytes == 0 {
+            self.erase();
+        } else if self.read >= self.next {
+            self.write();
+        }
+    }
+
+    /// Writes the line, and finds out when it is written next.
+    fn write(&mut self)
+        ensures inner { inner_of self.new ≡ inner_of self.old }
+        ensures read { read_of self.new ≡ read_of self.old }
+        ensures next { next_of self.new ≡ min (2 ^ 64 - 1) (next_of self.old + step_of (len_of self.old)) }
+        ensures written { is_written self.new ≡ true }
+    {
+        let percent = percent(self.read, self.len);
+        let _ = write!(self.errors, "capture_report: {percent} %\r");
+        self.next = self.next.saturating_add(step(self.len));
+        self.is_written = true;
+    }
+
+    /// Erases the line if there is one.
+    fn erase(&mut self)
+        ensures inner { inner_of self.new ≡ inner_of self.old }
+        ensures read { read_of self.new ≡ read_of self.old }
+        ensures erased { is_written self.new ≡ false }
+    {
+        if self.is_written {
+            let _ = self.errors.write_all(ERASED.as_bytes());
+            self.is_written = false;
+        }
+    }
+}
+
+impl<R: Read> Read for Progress<R> {
+    ghost use Rattle.std.specs.Io.{ReadsAtMost};
+    ghost use Rattle.std.specs.Io.KnownBytes.{ReadConsumes};
+
+    ghost remaining = { λ progress. R.remaining (inner_of progress) };
+
+    fn read(&mut self, buffer: &mut [u8]) -> io::Result<usize>
+        ensures bound { ReadsAtMost result buffer.new }
+        ensures bytes { ReadConsumes (R.remaining (inner_of self.old)) (R.remaining (inner_of self.new)) result buffer.new }
+        ensures counted { IfOk result (λ bytes. read_of self.new ≡ min (2 ^ 64 - 1) (read_of self.old + bytes)) }
+    {
+        let result = self.inner.read(buffer);
+        match &result {
+            Ok(bytes) => self.count(*bytes),
+            Err(_) => self.erase(),
+        }
+        result
+    }
+}
+
+impl<R: Drop> Drop for Progress<R> {
+    /// Erases the line of a capture that was not read to its end.
+    fn drop(mut self) {
+        self.erase();
+        let Progress {
+            inner: _,
+            errors: _,
+            len: _,
+            read: _,
+            next: _,
+            is_written: _,
+        } = self;
+    }
+}

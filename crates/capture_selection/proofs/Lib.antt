@@ -1,0 +1,4 @@
+mod BlockLemmas
+pub mod CaptureLemmas
+pub mod PassingLemmas
+pub mod RecordLemmas

@@ -1,0 +1,315 @@
+-- What was read and written, part after part.
+use Rattle.std.proofs.Common.{◌≡◌, ◌≤◌, ◌+◌, ◌++◌, ◌∙◌, ◌⊎◌, ℕ, List, Option, Result, IfErr, IfOk, Some, None, Ok, Err, [], ◌∷◌, Bool, true, false, if◌then◌else◌, ap, arith, fold, inl, inr, length, refl, subst, sym, take, length-append, length-take-le, append-nil}
+use Rattle.std.proofs.KnownBytes.{Appends-nil, Appends-trans, Consumes-nil, Consumes-trans}
+use Rattle.std.proofs.lemmas.Bool.Decides.{nat_tests}
+use Rattle.std.proofs.lemmas.Grind.{flat_map-append, fold-append}
+use Rattle.std.specs.Io.KnownBytes.{Appends, Consumes, IsAtEnd}
+use Rattle.std.specs.Option.{option_to_list}
+use Rattle.streams.specs.Streams.{Skips}
+use Rattle.capture_selection.specs.Outcomes.{counted}
+use Rattle.capture_selection.specs.Passing.{AreParts, Copies, CopiesUpTo, EndsBy, Format, IsEndBy, IsFront, IsReadError, IsWriteError, Part, Passes, PassesLong, PassesRest, PassesTo, outcomes_of, read_of, written_by, written_of}
+use Rattle.capture_selection.specs.declared.counts.Counts.{Counts}
+use Rattle.capture_selection.specs.declared.outcome.Outcome.{Outcome}
+use Rattle.capture_selection.specs.declared.outcome.Outcome.TheVariants.{Excluded, Unlisted, Written}
+use Rattle.capture_run.specs.Limits.{IsWithin, is_full}
+use Rattle.capture_selection.specs.declared.selection_error.SelectionError.{SelectionError}
+use Rattle.capture_selection.specs.declared.selection_error.SelectionError.TheVariants.{Capture, Write}
+use Rattle.capture_run.specs.declared.capture_error.CaptureError.TheVariants.{Enough, Header, Read, ReadHeader, RecordCutOff, Refused, TooManyPackets}
+
+-- ---- parts
+
+pub passes_nothing : (format : Format) (state : format.State) (left held : Option (List ℕ)) (counts : Counts)
+    → Passes format state state left left held held counts counts
+passes_nothing format state left held counts = record {
+  parts = [];
+  each = refl;
+  consumed = Consumes-nil left;
+  appended = Appends-nil held;
+  counted = refl;
+}
+
+-- nothing was read into a buffer
+pub passes_no_bytes : (format : Format) (state : format.State) (left still_left held : Option (List ℕ)) (counts : Counts) (buffer : List ℕ) (len : ℕ)
+    → Consumes left still_left (take len buffer) → len ≡ 0 → Passes format state state left still_left held held counts counts
+passes_no_bytes format state left still_left held counts buffer len consumed none = record {
+  parts = [];
+  each = refl;
+  consumed = subst (λ n. Consumes left still_left (take n buffer)) none consumed;
+  appended = Appends-nil held;
+  counted = refl;
+}
+
+-- a part alone
+pub passes_part : (format : Format) (before after : format.State) (left still_left held now_held : Option (List ℕ)) (counts now_counts : Counts)
+    (part : Part)
+    → format.IsPart before part after → Consumes left still_left part.bytes → Appends held now_held (written_by part.bytes part.outcome)
+    → now_counts ≡ fold counted counts (option_to_list part.outcome) → Passes format before after left still_left held now_held counts now_counts
+passes_part format before after left still_left held now_held counts now_counts part is consumed appended counts_are = record {
+  parts = part ∷ [];
+  each = (after, is, refl);
+  consumed = subst (Consumes left still_left) (sym (append-nil part.bytes)) consumed;
+  appended = subst (Appends held now_held) (sym (append-nil (written_by part.bytes part.outcome))) appended;
+  counted = counts_are ∙ ap (fold counted counts) (sym (append-nil (option_to_list part.outcome)));
+}
+
+are_parts_append : (format : Format) (before between after : format.State) (parts others : List Part)
+    → AreParts format before parts between → AreParts format between others after → AreParts format before (parts ++ others) after
+are_parts_append format before between after [] others first second =
+    subst (λ state. AreParts format state others after) first second
+are_parts_append format before between after (part ∷ parts) others first second =
+    (first.0, first.1, are_parts_append format first.0 between after parts others first.2 second)
+
+-- parts, and then others
+pub passes_on : (format : Format) (before between after : format.State) (left middle still_left held now_held then_held : Option (List ℕ))
+    (counts now_counts then_counts : Counts)
+    → Passes format before between left middle held now_held counts now_counts
+    → Passes format between after middle still_left now_held then_held now_counts then_counts
+    → Passes format before after left still_left held then_held counts then_counts
+passes_on format before between after left middle still_left held now_held then_held counts now_counts then_counts first second = record {
+  parts = first.parts ++ second.parts;
+  each = are_parts_append format before between after first.parts second.parts first.each second.each;
+  consumed = subst (Consumes left still_left) (sym (flat_map-append (λ part. part.bytes) first.parts second.parts))
+      (Consumes-trans left middle still_left (read_of first.parts) (read_of second.parts) first.consumed second.consumed);
+  appended = subst (Appends held then_held) (sym (flat_map-append (λ part. written_by part.bytes part.outcome) first.parts second.parts))
+      (Appends-trans held now_held then_held (written_of first.parts) (written_of second.parts) first.appended second.appended);
+  counted = second.counted
+      ∙ ap (λ before. fold counted before (outcomes_of second.parts)) first.counted
+      ∙ sym (fold-append counted counts (outcomes_of first.parts) (outcomes_of second.parts))
+      ∙ ap (fold counted counts) (sym (flat_map-append (λ part. option_to_list part.outcome) first.parts second.parts));
+}
+
+-- ---- results
+
+-- parts, and then others up to a result
+pub passes_to_on : {A : Type 0} → (format : Format) (result : Result A SelectionError) (before between after : format.State)
+    (left middle still_left held now_held then_held : Option (List ℕ)) (counts now_counts then_counts : Counts)
+    → Passes format before between left middle held now_held counts now_counts
+    → PassesTo format result between after middle still_left now_held then_held now_counts then_counts
+    → PassesTo format result before after left still_left held then_held counts then_counts
+passes_to_on format (Ok given) before between after left middle still_left held now_held then_held counts now_counts then_counts first second =
+    passes_on _ _ _ _ _ _ _ _ _ _ _ _ _ first second
+passes_to_on format (Err error) before between after left middle still_left held now_held then_held counts now_counts then_counts first (inl failed) =
+    inl failed
+passes_to_on format (Err error) before between after left middle still_left held now_held then_held counts now_counts then_counts first (inr ends) =
+    inr (record {
+      after = ends.after;
+      middle = ends.middle;
+      then_left = ends.then_left;
+      then_held = ends.then_held;
+      rest = ends.rest;
+      front = ends.front;
+      passes = passes_on _ _ _ _ _ _ _ _ _ _ _ _ _ first ends.passes;
+      consumed = ends.consumed;
+      appended = ends.appended;
+      is_front = ends.is_front;
+      ends = ends.ends;
+    })
+
+-- a read that fails is an end without a further statement
+pub ends_by_read : (format : Format) (error : SelectionError) (state : format.State) (rest : List ℕ) (then_left still_left : Option (List ℕ)) (counts : Counts)
+    → IsReadError error → IsEndBy format error state rest then_left still_left counts
+ends_by_read format (Capture (Read number offset error)) state rest then_left still_left counts is = tt
+ends_by_read format (Capture (Header error)) state rest then_left still_left counts is = absurd is
+ends_by_read format (Capture (ReadHeader error)) state rest then_left still_left counts is = absurd is
+ends_by_read format (Capture (RecordCutOff number offset required len)) state rest then_left still_left counts is = absurd is
+ends_by_read format (Capture (Refused error)) state rest then_left still_left counts is = absurd is
+ends_by_read format (Capture TooManyPackets) state rest then_left still_left counts is = absurd is
+ends_by_read format (Capture Enough) state rest then_left still_left counts is = absurd is
+ends_by_read format (Write error) state rest then_left still_left counts is = absurd is
+
+-- an end after the first bytes of a part, of which these were written
+pub ends_in_part : (format : Format) (error : SelectionError) (state : format.State) (left then_left still_left held now_held : Option (List ℕ))
+    (counts : Counts) (rest front : List ℕ)
+    → Consumes left then_left rest → Appends held now_held front → ((front ≡ []) ⊎ (format.IsLong state rest × IsFront front rest))
+    → IsEndBy format error state rest then_left still_left counts → EndsBy format error state left still_left held now_held counts counts
+ends_in_part format error state left then_left still_left held now_held counts rest front consumed appended is_front ends = record {
+  after = state;
+  middle = left;
+  then_left = then_left;
+  then_held = held;
+  rest = rest;
+  front = front;
+  passes = passes_nothing format state left held counts;
+  consumed = consumed;
+  appended = appended;
+  is_front = is_front;
+  ends = ends;
+}
+
+-- the same of bytes that were not written
+pub ends_unwritten : (format : Format) (error : SelectionError) (state : format.State) (left then_left still_left held : Option (List ℕ))
+    (counts : Counts) (rest : List ℕ)
+    → Consumes left then_left rest → IsEndBy format error state rest then_left still_left counts
+    → EndsBy format error state left still_left held held counts counts
+ends_unwritten format error state left then_left still_left held counts rest consumed ends =
+    ends_in_part format error state left then_left still_left held held counts rest [] consumed (Appends-nil held) (inl refl) ends
+
+-- the result is this error, up to which parts were passed
+pub passes_to_end : {A : Type 0} → (format : Format) (result : Result A SelectionError) (error : SelectionError) (before after : format.State)
+    (left still_left held now_held : Option (List ℕ)) (counts now_counts : Counts)
+    → EndsBy format error before left still_left held now_held counts now_counts → result ≡ Err error
+    → PassesTo format result before after left still_left held now_held counts now_counts
+passes_to_end format result error before after left still_left held now_held counts now_counts ends fails =
+    subst (λ given. PassesTo format given before after left still_left held now_held counts now_counts) (sym fails) (inr ends)
+
+-- writing failed
+pub passes_to_write_error : {A : Type 0} → (format : Format) (result : Result A SelectionError) (error : SelectionError) (before after : format.State)
+    (left still_left held now_held : Option (List ℕ)) (counts now_counts : Counts)
+    → IsWriteError error → result ≡ Err error → PassesTo format result before after left still_left held now_held counts now_counts
+passes_to_write_error format result error before after left still_left held now_held counts now_counts failed fails =
+    subst (λ given. PassesTo format given before after left still_left held now_held counts now_counts) (sym fails) (inl failed)
+
+-- reading failed, after these bytes of a part
+pub passes_to_read_error : {A : Type 0} → (format : Format) (result : Result A SelectionError) (error : SelectionError) (before after : format.State)
+    (left then_left still_left held : Option (List ℕ)) (counts : Counts) (rest : List ℕ)
+    → IsReadError error → Consumes left then_left rest → result ≡ Err error
+    → PassesTo format result before after left still_left held held counts counts
+passes_to_read_error format result error before after left then_left still_left held counts rest is consumed fails =
+    passes_to_end format result error before after left still_left held held counts counts
+    (ends_unwritten format error before left then_left still_left held counts rest consumed
+    (ends_by_read format error before rest then_left still_left counts is)) fails
+
+-- the capture ends within the part that begins with these bytes
+pub ends_cut : (format : Format) (error : SelectionError) (number offset required len : ℕ) (state : format.State) (left still_left held now_held : Option (List ℕ))
+    (counts : Counts) (rest front : List ℕ)
+    → error ≡ Capture (RecordCutOff number offset required len) → Consumes left still_left rest → Appends held now_held front
+    → ((front ≡ []) ⊎ (format.IsLong state rest × IsFront front rest)) → format.IsCut state rest required len → IsAtEnd still_left
+    → IsWriteError error ⊎ EndsBy format error state left still_left held now_held counts counts
+ends_cut format error number offset required len state left still_left held now_held counts rest front is consumed appended is_front is_cut at_end =
+    subst (λ given. IsWriteError given ⊎ EndsBy format given state left still_left held now_held counts counts) (sym is)
+    (inr (ends_in_part format (Capture (RecordCutOff number offset required len)) state left still_left still_left held now_held counts rest front consumed
+    appended is_front (is_cut, at_end, refl)))
+
+-- parts were passed, and then others up to an error
+pub passes_on_to_error : {A : Type 0} → (format : Format) (result : Result A SelectionError) (error : SelectionError) (before between after : format.State)
+    (left middle still_left held now_held then_held : Option (List ℕ)) (counts now_counts then_counts : Counts)
+    → Passes format before between left middle held now_held counts now_counts
+    → (IsWriteError error ⊎ EndsBy format error between middle still_left now_held then_held now_counts then_counts) → result ≡ Err error
+    → PassesTo format result before after left still_left held then_held counts then_counts
+passes_on_to_error {A} format result error before between after left middle still_left held now_held then_held counts now_counts then_counts first ends fails =
+    subst (λ given. PassesTo format given before after left still_left held then_held counts then_counts) (sym fails)
+    (passes_to_on {A = A} format (Err error) before between after left middle still_left held now_held then_held counts now_counts then_counts first ends)
+
+-- ---- copies
+
+pub copies_nothing : (left held : Option (List ℕ)) → Copies left left held held 0
+copies_nothing left held = record { bytes = []; has_len = refl; consumed = Consumes-nil left; appended = Appends-nil held }
+
+-- a copy, and then bytes from the front of a buffer
+pub copies_more : (left middle still_left held now_held then_held : Option (List ℕ)) (len count : ℕ) (buffer : List ℕ)
+    → Copies left middle held now_held len → Consumes middle still_left (take count buffer) → Appends now_held then_held (take count buffer)
+    → count ≤ length buffer → Copies left still_left held then_held (len + count)
+copies_more left middle still_left held now_held then_held len count buffer copies consumed appended within = record {
+  bytes = copies.bytes ++ take count buffer;
+  has_len = omega (arith, length-append copies.bytes (take count buffer), copies.has_len, length-take-le count buffer within);
+  consumed = Consumes-trans left middle still_left copies.bytes (take count buffer) copies.consumed consumed;
+  appended = Appends-trans held now_held then_held copies.bytes (take count buffer) copies.appended appended;
+}
+
+-- a copy, and then a read at the end of input
+pub copies_end : (left middle still_left held now_held : Option (List ℕ)) (len count : ℕ) (buffer : List ℕ)
+    → Copies left middle held now_held len → Consumes middle still_left (take count buffer) → count ≡ 0 → Copies left still_left held now_held len
+copies_end left middle still_left held now_held len count buffer copies consumed none = record {
+  bytes = copies.bytes;
+  has_len = copies.has_len;
+  consumed = subst (Consumes left still_left) (append-nil copies.bytes)
+      (Consumes-trans left middle still_left copies.bytes [] copies.consumed (subst (λ n. Consumes middle still_left (take n buffer)) none consumed));
+  appended = copies.appended;
+}
+
+-- a copy up to an error
+pub copies_to_error : (result : Result ℕ SelectionError) (error : SelectionError) (left middle still_left held now_held : Option (List ℕ)) (len : ℕ)
+    → IsReadError error → Copies left middle held now_held len → result ≡ Err error → CopiesUpTo result left still_left held now_held
+copies_to_error result error left middle still_left held now_held len is copies fails =
+    subst (λ given. CopiesUpTo given left still_left held now_held) (sym fails) (inr (is, len, middle, copies))
+
+pub copies_to_write_error : (result : Result ℕ SelectionError) (error : SelectionError) (left still_left held now_held : Option (List ℕ))
+    → IsWriteError error → result ≡ Err error → CopiesUpTo result left still_left held now_held
+copies_to_write_error result error left still_left held now_held failed fails =
+    subst (λ given. CopiesUpTo given left still_left held now_held) (sym fails) (inl failed)
+
+-- ---- parts for which the buffer has no room
+
+-- bytes were read, and nothing is written for them
+pub passes_skipped : (outcome : Option Outcome) (result : Result ℕ SelectionError) (first : List ℕ) (left still_left held : Option (List ℕ)) (count : ℕ)
+    → ((bytes : List ℕ) → written_by bytes outcome ≡ []) → IfOk result (λ len. Skips left still_left count len) → IfErr result IsReadError
+    → PassesLong outcome result first left still_left held held
+passes_skipped outcome (Ok len) first left still_left held count none skips failed = record {
+  bytes = skips.bytes;
+  has_len = skips.has_len;
+  consumed = skips.consumed;
+  appended = subst (Appends held held) (sym (none (first ++ skips.bytes))) (Appends-nil held);
+}
+passes_skipped outcome (Err error) first left still_left held count none skips failed = inr (
+  failed,
+  0,
+  left,
+  record {
+    bytes = [];
+    has_len = refl;
+    consumed = Consumes-nil left;
+    appended = subst (Appends held held) (sym (none (first ++ []))) (Appends-nil held);
+  },
+)
+
+rest_copied : (outcome : Option Outcome) (first : List ℕ) (left still_left held then_held now_held : Option (List ℕ)) (len : ℕ)
+    → ((bytes : List ℕ) → written_by bytes outcome ≡ bytes) → Appends held then_held first → Copies left still_left then_held now_held len
+    → PassesRest outcome first left still_left held now_held len
+rest_copied outcome first left still_left held then_held now_held len all appended copies = record {
+  bytes = copies.bytes;
+  has_len = copies.has_len;
+  consumed = copies.consumed;
+  appended = subst (Appends held now_held) (sym (all (first ++ copies.bytes)))
+      (Appends-trans held then_held now_held first copies.bytes appended copies.appended);
+}
+
+-- the first bytes were written, and then the bytes after them were copied
+pub passes_copied : (outcome : Option Outcome) (result : Result ℕ SelectionError) (first : List ℕ) (left still_left held then_held now_held : Option (List ℕ))
+    → ((bytes : List ℕ) → written_by bytes outcome ≡ bytes) → Appends held then_held first → CopiesUpTo result left still_left then_held now_held
+    → PassesLong outcome result first left still_left held now_held
+passes_copied outcome (Ok len) first left still_left held then_held now_held all appended copies =
+    rest_copied outcome first left still_left held then_held now_held len all appended copies
+passes_copied outcome (Err error) first left still_left held then_held now_held all appended (inl failed) = inl failed
+passes_copied outcome (Err error) first left still_left held then_held now_held all appended (inr (is, len, then_left, copies)) =
+    inr (is, len, then_left, rest_copied outcome first left then_left held then_held now_held len all appended copies)
+
+-- writing the first bytes failed
+pub passes_long_to_write_error : (outcome : Option Outcome) (result : Result ℕ SelectionError) (error : SelectionError) (first : List ℕ)
+    (left still_left held now_held : Option (List ℕ))
+    → IsWriteError error → result ≡ Err error → PassesLong outcome result first left still_left held now_held
+passes_long_to_write_error outcome result error first left still_left held now_held failed fails =
+    subst (λ given. PassesLong outcome given first left still_left held now_held) (sym fails) (inl failed)
+
+-- what is written for bytes is nothing, or the bytes
+pub front_of : (outcome : Option Outcome) (bytes : List ℕ) (Long : Type 0) → Long
+    → (written_by bytes outcome ≡ []) ⊎ (Long × IsFront (written_by bytes outcome) bytes)
+front_of None bytes Long is = inr (is, ([], sym (append-nil bytes)))
+front_of (Some Written) bytes Long is = inr (is, ([], sym (append-nil bytes)))
+front_of (Some Unlisted) bytes Long is = inl refl
+front_of (Some Excluded) bytes Long is = inl refl
+
+-- a part for which the buffer has no room, up to an error
+pub passes_long_to_error : {A : Type 0} → (format : Format) (result : Result A SelectionError) (error : SelectionError) (state : format.State)
+    (left middle still_left held now_held : Option (List ℕ)) (counts : Counts) (outcome : Option Outcome) (first : List ℕ)
+    → ((bytes : List ℕ) → format.IsLong state (first ++ bytes)) → Consumes left middle first
+    → PassesLong outcome (Err error) first middle still_left held now_held → result ≡ Err error
+    → PassesTo format result state state left still_left held now_held counts counts
+passes_long_to_error format result error state left middle still_left held now_held counts outcome first long consumed (inl failed) fails =
+    passes_to_write_error format result error state state left still_left held now_held counts counts failed fails
+passes_long_to_error format result error state left middle still_left held now_held counts outcome first long consumed (inr (is, len, then_left, rest)) fails =
+    let bytes = first ++ rest.bytes in
+    passes_to_end format result error state state left still_left held now_held counts counts
+    (ends_in_part format error state left then_left still_left held now_held counts bytes (written_by bytes outcome)
+    (Consumes-trans left middle then_left first rest.bytes consumed rest.consumed) rest.appended
+    (front_of outcome bytes (format.IsLong state bytes) (long rest.bytes))
+    (ends_by_read format error state bytes then_left still_left counts is)) fails
+
+-- nothing is written if the test fails
+pub nothing_if : (is_written : Bool) (written bytes : List ℕ) → written ≡ (if is_written then bytes else []) → is_written ≡ false → written ≡ []
+nothing_if true written bytes is unwritten = absurd (cc unwritten)
+nothing_if false written bytes is unwritten = is
+
+-- one packet more is within a limit that was not reached
+pub within_one : (limit : Option ℕ) (chosen now_chosen : ℕ) → is_full limit chosen ≡ false → now_chosen ≤ chosen + 1 → IsWithin limit now_chosen
+within_one None chosen now_chosen below one = tt
+within_one (Some limit) chosen now_chosen below one = grind (arith, nat_tests)

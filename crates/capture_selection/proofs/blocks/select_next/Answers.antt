@@ -1,0 +1,8 @@
+use Rattle.std.proofs.Common.{[], rules}
+use Rattle.std.proofs.KnownBytes.{Consumes-nil}
+use Rattle.capture_selection.proofs.PassingLemmas.{passes_to_read_error}
+use Rattle.capture_selection.proofs.blocks.select_next.Goals as goal
+
+pub returns-in_err-len-clause-passes : goal.returns-in_err-len-clause-passes
+returns-in_err-len-clause-passes g c =
+    passes_to_read_error _ _ _ _ _ _ _ _ _ _ [] c.in_err-len.ensures.failed (Consumes-nil _) (search rules)

@@ -1,0 +1,36 @@
+use Rattle.std.proofs.Common.{◌≡◌, Ok, arith, length-take-le, rules, subst, take}
+use Rattle.std.proofs.lemmas.List.{take_all}
+use Rattle.std.specs.Io.KnownBytes.{Consumes}
+use Rattle.capture_file.proofs.ReaderLemmas.{fills_whole}
+use Rattle.capture_file.specs.Opening.{SaysHeader}
+use Rattle.capture_selection.proofs.CaptureLemmas.{all_consumed, refuses_capture, selects_capture, selects_to_write_error}
+use Rattle.capture_selection.proofs.capture.select_capture.Goals as goal
+
+pub returns-in-Err-header_in-clause-selects : goal.returns-in-Err-header_in-clause-selects
+returns-in-Err-header_in-clause-selects g c =
+    λ left consumed.
+    let fills = fills_whole 24 c.args.begin.now _ _ c.fill_after.new.buffer c.in-Ok.len (omega (arith, c.requires.begin.0)) c.in-Ok.ensures in
+    refuses_capture _ c.in-Err-header_in.error left _ _ _ _ c.args.begin.now c.fill_after.new.buffer c.in-Ok.len (omega (arith, c.fill_after.auto.buffer)) consumed
+    fills c.in-Err-header_in.ensures.refused
+
+pub returns-in_err-write-clause-selects : goal.returns-in_err-write-clause-selects
+returns-in_err-write-clause-selects g c = λ left consumed. selects_to_write_error _ _ _ _ _ _ _ _ _ c.in_err-write.ensures.failed (search rules)
+
+pub returns-clause-selects : goal.returns-clause-selects
+returns-clause-selects g c =
+    λ left consumed.
+    let first = c.fill_after.new.buffer in
+    let len = c.in-Ok.len in
+    let fills = fills_whole 24 c.args.begin.now _ _ first len (omega (arith, c.requires.begin.0)) c.in-Ok.ensures in
+    let says : SaysHeader (take len first) (Ok c.in-Ok-header_in.header) = c.in-Ok-header_in.ensures.accepted in
+    let whole : take len first ≡ first = take_all len first (omega (arith, says.0, c.fill_after.auto.buffer, fills.within, length-take-le len first fills.within)) in
+    selects_capture _ _ left _ _ _ _ _ (record {
+      header = c.in-Ok-header_in.header;
+      bytes = first;
+      says = subst (λ bytes. SaysHeader bytes (Ok c.in-Ok-header_in.header)) whole says;
+      middle = _;
+      then_held = _;
+      consumed = subst (Consumes left (g.R.Read.remaining c.fill_after.new.input)) whole (all_consumed left _ _ c.args.begin.now first len consumed fills);
+      appended = c.in_ok-write.ensures.appends;
+      passes = c.select_records.ensures.passes;
+    })

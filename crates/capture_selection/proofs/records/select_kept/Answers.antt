@@ -1,0 +1,53 @@
+use Rattle.std.proofs.Common.{◌++◌, Some, ap, arith, inl, length-take, length-take-le, refl, rules, subst, take, []}
+use Rattle.std.proofs.KnownBytes.{Appends-nil, Consumes-trans}
+use Rattle.capture_file.proofs.ReaderLemmas.{full}
+use Rattle.capture_file.specs.CapturePackets.{kept}
+use Rattle.capture_file.specs.Packets.{packet_of_record}
+use Rattle.capture_packet.specs.Frames.{max_packet_len}
+use Rattle.capture_run.specs.Report.{IsPacketOf}
+use Rattle.capture_selection.proofs.PassingLemmas.{ends_cut, passes_part, passes_to_read_error}
+use Rattle.capture_selection.proofs.RecordLemmas.{cut_captured, record_packet_kept, record_part}
+use Rattle.capture_selection.proofs.records.select_kept.Goals as goal
+
+pub returns-in_err-len-clause-passes : goal.returns-in_err-len-clause-passes
+returns-in_err-len-clause-passes g c =
+    λ left consumed. passes_to_read_error _ _ _ _ _ _ _ _ _ _ _ c.in_err-len.ensures.failed consumed (search rules)
+
+pub returns-then-len-frame-clause-passes : goal.returns-then-len-frame-clause-passes
+returns-then-len-frame-clause-passes g c =
+    λ left consumed.
+    let first = c.args.first.now in
+    let frame = c.read_into.new.buffer in
+    let len = c.in_ok-len.len in
+    let captured_len = ap (λ header. header.captured_len) c.requires.header in
+    let room = length-take c.args.header.now.captured_len c.args.buffer.now in
+    let taken = length-take-le len frame c.in_ok-len.ensures.len in
+    ends_cut _ _ _ _ _ _ _ left _ _ _ _ (first ++ take len frame) [] c.cut_off.ensures
+    (Consumes-trans _ _ _ first (take len frame) consumed c.in_ok-len.ensures.consumed) (Appends-nil _) (inl refl)
+    (cut_captured c.args.capture.now first (take len frame) _ _ (search rules)
+    (omega (arith, taken, captured_len, room, c.read_into.auto.buffer, c.requires.room, c.if-len-frame.true))
+    (omega (arith, captured_len, room, c.read_into.auto.buffer, c.requires.room))
+    (omega (arith, taken)))
+    (c.in_ok-len.ensures.end (omega (arith, c.if-len-frame.true)))
+
+pub returns-clause-passes : goal.returns-clause-passes
+returns-clause-passes g c =
+    λ left consumed.
+    let capture = c.args.capture.now in
+    let first = c.args.first.now in
+    let frame = c.read_into.new.buffer in
+    let packet = c.packet_in_frame-packet.result in
+    let outcome = c.outcome_of-outcome.result in
+    let captured_len = ap (λ header. header.captured_len) c.requires.header in
+    let room = length-take c.args.header.now.captured_len c.args.buffer.now in
+    let is_packet = subst (λ header. IsPacketOf (kept (packet_of_record capture header) frame) packet) c.requires.header
+    (subst (λ captured. IsPacketOf (kept captured frame) packet) c.from_record.ensures c.packet_in_frame-packet.ensures) in
+    passes_part _ _ _ left _ _ _ _ _ (record { bytes = first ++ frame; outcome = Some outcome }) (
+      refl,
+      record_part c.args.parts.now capture first frame _ packet outcome (search rules)
+          (omega (arith, captured_len, room, c.read_into.auto.buffer, c.requires.room))
+          (record_packet_kept max_packet_len capture first frame (search rules) (omega (arith, captured_len, c.requires.room)))
+          is_packet c.outcome_of-outcome.ensures,
+    )
+    (Consumes-trans _ _ _ first frame consumed (full _ _ frame c.in_ok-len.len (omega (arith, c.if-len-frame.false)) c.in_ok-len.ensures.consumed))
+    c.in_ok-write_part.ensures.appends c.add.ensures.counted

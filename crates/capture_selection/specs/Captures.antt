@@ -1,0 +1,66 @@
+-- The selection of a whole capture.
+use Rattle.std.specs.Prelude.{◌≡◌, ◌⊎◌, ℕ, true, List, take, ⊤, Option, Some, IfSome, Result, Ok, Err}
+use Rattle.std.specs.Io.KnownBytes.{Appends, Consumes}
+use Rattle.capture_file.specs.Classic.{header_refusal}
+use Rattle.capture_file.specs.Opening.{SaysHeader}
+use Rattle.capture_file.specs.Reading.{RefusesHeader}
+use Rattle.capture_file.specs.declared.classic.capture_header.CaptureHeader.{CaptureHeader}
+use Rattle.capture_file.specs.declared.reader.open_error.OpenError.TheVariants.{Classic, Pcapng}
+use Rattle.capture_run.specs.declared.capture_error.CaptureError.{CaptureError}
+use Rattle.capture_run.specs.declared.capture_error.CaptureError.TheVariants.{Enough, Header, ReadHeader}
+use Rattle.capture_run.specs.Limits.{is_full}
+use Rattle.capture_run.specs.declared.parts.Parts.{Parts}
+use Rattle.capture_file.specs.Pcapng.{is_section_header}
+use Rattle.capture_file.specs.declared.reader.pcapng_reader.PcapngReader.{PcapngReader}
+use Rattle.capture_selection.specs.Blocks.{IsFileStart, blocks_of}
+use Rattle.capture_selection.specs.Passing.{PassesTo}
+use Rattle.capture_selection.specs.Records.{records_of}
+use Rattle.capture_selection.specs.declared.counts.Counts.{Counts}
+use Rattle.capture_selection.specs.declared.selection_error.SelectionError.{SelectionError}
+use Rattle.capture_selection.specs.declared.selection_error.SelectionError.TheVariants.{Capture, Write}
+
+-- The selection of a classic capture. Its header of 24 bytes was written as it was read, and then its records were passed.
+pub record SelectsRecords (options : Parts) (result : Result (Unit {0}) SelectionError) (left still_left held now_held : Option (List ℕ))
+    (counts now_counts : Counts) : Type 0 where
+  pub header : CaptureHeader
+  pub bytes : List ℕ
+  pub says : SaysHeader bytes (Ok header)
+  pub middle : Option (List ℕ)
+  pub then_held : Option (List ℕ)
+  pub consumed : Consumes left middle bytes
+  pub appended : Appends held then_held bytes
+  pub passes : PassesTo (records_of options) result header header middle still_left then_held now_held counts now_counts
+
+-- nothing was written, and no packet was counted
+abbrev pub SelectsNothing : Option (List ℕ) → Option (List ℕ) → Counts → Counts → Type 0
+SelectsNothing held now_held counts now_counts = (now_held ≡ held) × (now_counts ≡ counts)
+
+-- The selection of a pcapng file, whose first bytes are the type of a section header block: its blocks were passed. If the requested number
+-- of packets was reached before the file, nothing was written.
+abbrev pub SelectsBlocks : Parts → Result (Unit {0}) SelectionError → Option (List ℕ) → Option (List ℕ) → Option (List ℕ) → Option (List ℕ)
+    → Counts → Counts → Type 0
+SelectsBlocks options result left still_left held now_held counts now_counts =
+    IfSome left (λ all. is_section_header (take 12 all) ≡ true)
+    × (((before : PcapngReader) × (after : PcapngReader) × IsFileStart before
+    × PassesTo (blocks_of options) result before after left still_left held now_held counts now_counts)
+    ⊎ ((is_full options.limit counts.chosen ≡ true) × SelectsNothing held now_held counts now_counts × (result ≡ Err (Capture Enough))))
+
+-- this error rejects the first bytes of a capture; if reading failed, it states nothing
+abbrev pub RefusesBytes : List ℕ → CaptureError → Type 0
+RefusesBytes bytes (Header (Classic error)) = header_refusal bytes ≡ Some error
+RefusesBytes bytes (ReadHeader error) = Unit {0}
+RefusesBytes bytes other = ⊥
+
+-- The selection of a capture. If the header of a classic capture is rejected or can't be read, nothing was written. After a write that
+-- failed nothing is known.
+abbrev pub SelectsCapture : Parts → Result (Unit {0}) SelectionError → Option (List ℕ) → Option (List ℕ) → Option (List ℕ) → Option (List ℕ)
+    → Counts → Counts → Type 0
+SelectsCapture options (Err (Capture (Header (Classic error)))) left still_left held now_held counts now_counts =
+    RefusesHeader left still_left error × SelectsNothing held now_held counts now_counts
+SelectsCapture options (Err (Capture (Header (Pcapng error)))) left still_left held now_held counts now_counts = ⊥
+SelectsCapture options (Err (Capture (ReadHeader error))) left still_left held now_held counts now_counts =
+    SelectsNothing held now_held counts now_counts
+SelectsCapture options (Err (Write error)) left still_left held now_held counts now_counts = ⊤
+SelectsCapture options result left still_left held now_held counts now_counts =
+    SelectsRecords options result left still_left held now_held counts now_counts
+    ⊎ SelectsBlocks options result left still_left held now_held counts now_counts

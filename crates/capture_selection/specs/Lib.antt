@@ -1,0 +1,5 @@
+pub mod Blocks
+pub mod Captures
+pub mod Outcomes
+pub mod Passing
+pub mod Records

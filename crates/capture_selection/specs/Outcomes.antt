@@ -1,0 +1,34 @@
+-- What is done with the packets of a capture, and how many there are.
+use Rattle.std.specs.Prelude.{◌≡◌, ◌+◌, ◌-◌, ◌^◌, ℕ, true, false, min, Option, Some}
+use Rattle.capture_packet.specs.declared.packet.Packet.{Packet}
+use Rattle.capture_summary.specs.Choice.{IsChosen}
+use Rattle.capture_run.specs.Lines.{has_line}
+use Rattle.capture_run.specs.declared.parts.Parts.{Parts}
+use Rattle.capture_selection.specs.declared.counts.Counts.{Counts}
+use Rattle.capture_selection.specs.declared.outcome.Outcome.{Outcome}
+use Rattle.capture_selection.specs.declared.outcome.Outcome.TheVariants.{Excluded, Unlisted, Written}
+
+-- The outcome of a packet. It is written if it is chosen and has a line in the report with these options.
+abbrev pub IsOutcomeOf : Parts → Packet → Outcome → Type 0
+IsOutcomeOf options packet Excluded = IsChosen options.choice packet → ⊥
+IsOutcomeOf options packet Unlisted = IsChosen options.choice packet × (has_line options.lines packet.verdict ≡ false)
+IsOutcomeOf options packet Written = IsChosen options.choice packet × (has_line options.lines packet.verdict ≡ true)
+
+-- this is the outcome of one of these packets
+pub record HasOutcome (options : Parts) (IsPacket : Packet → Type 0) (outcome : Option Outcome) : Type 0 where
+  pub packet : Packet
+  pub is_packet : IsPacket packet
+  pub given : Outcome
+  pub is_outcome : IsOutcomeOf options packet given
+  pub has : outcome ≡ Some given
+
+-- a number with a packet more; 2^64 - 1 stays
+abbrev pub one_more : ℕ → ℕ
+one_more count = min (count + 1) (2 ^ 64 - 1)
+
+-- the numbers with a packet of this outcome: every packet is read, and a written packet is chosen
+abbrev pub counted : Counts → Outcome → Counts
+counted counts Excluded = record counts { read = one_more counts.read }
+counted counts Unlisted = record counts { read = one_more counts.read; chosen = one_more counts.chosen }
+counted counts Written =
+    record { read = one_more counts.read; chosen = one_more counts.chosen; written = one_more counts.written }

@@ -1,0 +1,155 @@
+-- What is written for the bytes that are read, part after part: a part is a record of a classic capture, or a block of a pcapng file.
+use Rattle.std.specs.Prelude.{◌≡◌, ◌++◌, ◌⊎◌, ℕ, true, List, [], ◌∷◌, flat_map, fold, length, ⊤, Option, Some, None, Result, Ok, Err}
+use Rattle.std.specs.Io.KnownBytes.{Appends, Consumes, IsAtEnd}
+use Rattle.std.specs.Option.{option_to_list}
+use Rattle.capture_run.specs.declared.capture_error.CaptureError.TheVariants.{Enough, Header, Read, ReadHeader, RecordCutOff, Refused, TooManyPackets}
+use Rattle.capture_run.specs.Limits.{is_full}
+use Rattle.capture_file.specs.declared.reader.packet_error.PlacedPacketError.{PlacedPacketError}
+use Rattle.capture_selection.specs.Outcomes.{counted}
+use Rattle.capture_selection.specs.declared.counts.Counts.{Counts}
+use Rattle.capture_selection.specs.declared.outcome.Outcome.{Outcome}
+use Rattle.capture_selection.specs.declared.outcome.Outcome.TheVariants.{Excluded, Unlisted, Written}
+use Rattle.capture_selection.specs.declared.selection_error.SelectionError.{SelectionError}
+use Rattle.capture_selection.specs.declared.selection_error.SelectionError.TheVariants.{Capture, Write}
+
+-- ---- parts
+
+-- the bytes of a part, and the outcome of the packet in it, if it contains a packet
+pub record Part : Type 0 where
+  pub bytes : List ℕ
+  pub outcome : Option Outcome
+
+-- what is written for these bytes: the same bytes, or nothing if they contain a packet that is left out
+abbrev pub written_by : List ℕ → Option Outcome → List ℕ
+written_by bytes None = bytes
+written_by bytes (Some Written) = bytes
+written_by bytes (Some Unlisted) = []
+written_by bytes (Some Excluded) = []
+
+-- all bytes that were read, all that were written, and all outcomes
+abbrev pub read_of : List Part → List ℕ
+read_of parts = flat_map (λ part. part.bytes) parts
+
+abbrev pub written_of : List Part → List ℕ
+written_of parts = flat_map (λ part. written_by part.bytes part.outcome) parts
+
+abbrev pub outcomes_of : List Part → List Outcome
+outcomes_of parts = flat_map (λ part. option_to_list part.outcome) parts
+
+-- A format of captures. A part leads from one state to the next: in a pcapng file a block can begin a section or describe an interface.
+pub record Format : Type 1 where
+  -- what the parts before determine about the next part
+  pub State : Type 0
+  -- the part is a record or block, and its outcome is right
+  pub IsPart : State → Part → State → Type 0
+  -- these first bytes belong to a packet for which the buffer has no room
+  pub IsLong : State → List ℕ → Type 0
+  -- the capture ends with these bytes, within a part: the length of the part as far as it is known, and the length of the bytes
+  pub IsCut : State → List ℕ → ℕ → ℕ → Type 0
+  -- the part that begins with these bytes is rejected
+  pub IsRefused : State → List ℕ → PlacedPacketError → Type 0
+  -- the requested number of packets
+  pub limit : Option ℕ
+
+-- parts, one after the other
+abbrev pub AreParts : (format : Format) → format.State → List Part → format.State → Type 0
+AreParts format before [] after = after ≡ before
+AreParts format before (part ∷ parts) after = (between : format.State) × format.IsPart before part between × AreParts format between parts after
+
+-- Exactly the packets that are not left out were written, and each outcome was counted. The reader has lost exactly the bytes of the parts,
+-- in their order, and the writer has grown by exactly what is written for them.
+pub record Passes (format : Format) (before after : format.State) (left still_left held now_held : Option (List ℕ)) (counts now_counts : Counts)
+    : Type 0 where
+  pub parts : List Part
+  pub each : AreParts format before parts after
+  pub consumed : Consumes left still_left (read_of parts)
+  pub appended : Appends held now_held (written_of parts)
+  pub counted : now_counts ≡ fold counted counts (outcomes_of parts)
+
+-- ---- errors
+
+-- reading failed
+abbrev pub IsReadError : SelectionError → Type 0
+IsReadError (Capture (Read number offset error)) = ⊤
+IsReadError (Capture (Header error)) = ⊥
+IsReadError (Capture (ReadHeader error)) = ⊥
+IsReadError (Capture (RecordCutOff number offset required len)) = ⊥
+IsReadError (Capture (Refused error)) = ⊥
+IsReadError (Capture TooManyPackets) = ⊥
+IsReadError (Capture Enough) = ⊥
+IsReadError (Write error) = ⊥
+
+-- writing failed
+abbrev pub IsWriteError : SelectionError → Type 0
+IsWriteError (Write error) = ⊤
+IsWriteError (Capture error) = ⊥
+
+-- An error after parts and the first bytes of another part, which are `rest`. `then_left` is what an input has left after them, and
+-- `still_left` what it has left at the end. They differ only if reading failed.
+abbrev pub IsEndBy : (format : Format) → SelectionError → format.State → List ℕ → Option (List ℕ) → Option (List ℕ) → Counts → Type 0
+IsEndBy format (Capture (RecordCutOff number offset required len)) state rest then_left still_left counts =
+    format.IsCut state rest required len × IsAtEnd still_left × (then_left ≡ still_left)
+IsEndBy format (Capture (Refused error)) state rest then_left still_left counts = format.IsRefused state rest error × (then_left ≡ still_left)
+IsEndBy format (Capture (Read number offset error)) state rest then_left still_left counts = ⊤
+IsEndBy format (Capture Enough) state rest then_left still_left counts =
+    (rest ≡ []) × (then_left ≡ still_left) × (is_full format.limit counts.chosen ≡ true)
+IsEndBy format (Capture TooManyPackets) state rest then_left still_left counts = (rest ≡ []) × (then_left ≡ still_left)
+IsEndBy format (Capture (Header error)) state rest then_left still_left counts = ⊥
+IsEndBy format (Capture (ReadHeader error)) state rest then_left still_left counts = ⊥
+IsEndBy format (Write error) state rest then_left still_left counts = ⊥
+
+-- these bytes are the first bytes of the others
+abbrev pub IsFront : List ℕ → List ℕ → Type 0
+IsFront front bytes = (more : List ℕ) × (bytes ≡ front ++ more)
+
+-- Parts were passed up to an error, and then the first bytes of another part were read. Nothing was written for this part, unless the
+-- buffer has no room for its packet: then first bytes of it may have been written.
+pub record EndsBy (format : Format) (error : SelectionError) (before : format.State) (left still_left held now_held : Option (List ℕ))
+    (counts now_counts : Counts) : Type 0 where
+  pub after : format.State
+  pub middle : Option (List ℕ)
+  pub then_left : Option (List ℕ)
+  pub then_held : Option (List ℕ)
+  pub rest : List ℕ
+  pub front : List ℕ
+  pub passes : Passes format before after left middle held then_held counts now_counts
+  pub consumed : Consumes middle then_left rest
+  pub appended : Appends then_held now_held front
+  pub is_front : (front ≡ []) ⊎ (format.IsLong after rest × IsFront front rest)
+  pub ends : IsEndBy format error after rest then_left still_left now_counts
+
+-- what was passed up to a result; after a write that failed nothing is known
+abbrev pub PassesTo : {A : Type 0} → (format : Format) → Result A SelectionError → format.State → format.State → Option (List ℕ) → Option (List ℕ)
+    → Option (List ℕ) → Option (List ℕ) → Counts → Counts → Type 0
+PassesTo format (Ok given) before after left still_left held now_held counts now_counts =
+    Passes format before after left still_left held now_held counts now_counts
+PassesTo format (Err error) before after left still_left held now_held counts now_counts =
+    IsWriteError error ⊎ EndsBy format error before left still_left held now_held counts now_counts
+
+-- ---- bytes that are copied by pieces
+
+-- bytes were read, and the same bytes were written
+pub record Copies (left still_left held now_held : Option (List ℕ)) (len : ℕ) : Type 0 where
+  pub bytes : List ℕ
+  pub has_len : length bytes ≡ len
+  pub consumed : Consumes left still_left bytes
+  pub appended : Appends held now_held bytes
+
+-- as many bytes were copied as were counted, or some up to an error
+abbrev pub CopiesUpTo : Result ℕ SelectionError → Option (List ℕ) → Option (List ℕ) → Option (List ℕ) → Option (List ℕ) → Type 0
+CopiesUpTo (Ok len) left still_left held now_held = Copies left still_left held now_held len
+CopiesUpTo (Err error) left still_left held now_held =
+    IsWriteError error ⊎ (IsReadError error × (len : ℕ) × (then_left : Option (List ℕ)) × Copies left then_left held now_held len)
+
+-- these bytes were written before, and the bytes that are read after them belong to a packet with this outcome
+pub record PassesRest (outcome : Option Outcome) (first : List ℕ) (left still_left held now_held : Option (List ℕ)) (len : ℕ) : Type 0 where
+  pub bytes : List ℕ
+  pub has_len : length bytes ≡ len
+  pub consumed : Consumes left still_left bytes
+  pub appended : Appends held now_held (written_by (first ++ bytes) outcome)
+
+-- the same up to the end of the packet or of the input, or up to an error
+abbrev pub PassesLong : Option Outcome → Result ℕ SelectionError → List ℕ → Option (List ℕ) → Option (List ℕ) → Option (List ℕ) → Option (List ℕ) → Type 0
+PassesLong outcome (Ok len) first left still_left held now_held = PassesRest outcome first left still_left held now_held len
+PassesLong outcome (Err error) first left still_left held now_held =
+    IsWriteError error ⊎ (IsReadError error × (len : ℕ) × (then_left : Option (List ℕ)) × PassesRest outcome first left then_left held now_held len)

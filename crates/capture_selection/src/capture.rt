@@ -1,0 +1,119 @@
+//! The selection of a capture.
+
+ghost use Rattle.std.specs.Prelude.{◌≡◌, ◌≤◌, ℕ, IfErr, IfOk, List, OnOk, Ok, Option, length, true};
+ghost use Rattle.std.specs.Io.KnownBytes.{Consumes, IsAtEnd};
+ghost use Rattle.capture_file.specs.Opening.{SaysHeader};
+ghost use Rattle.capture_file.specs.Pcapng.{is_section_header};
+ghost use Rattle.capture_file.specs.PcapngReading.{AreFirst};
+ghost use Rattle.capture_run.specs.Limits.{IsWithin};
+ghost use Rattle.capture_selection.specs.Captures.{RefusesBytes, SelectsCapture};
+
+use crate::blocks::select_blocks;
+use crate::records::select_records;
+use crate::transfer::{Buffer, write};
+use crate::{Counts, SelectionError};
+use capture_file::ByteOrder;
+use capture_file::classic::{CaptureHeader, read_capture_header};
+use capture_file::pcapng::{MIN_BLOCK_LEN, SECTION_HEADER};
+use capture_file::reader::{OpenError, PcapngReader, Section};
+use capture_run::{CaptureError, Parts};
+use std::io::{Read, Write};
+use streams::{fill, fill_after};
+
+/// Reads a capture, and writes it without the packets that have no line in the report with these options. The packets are added to
+/// `counts`.
+///
+/// The header of a classic capture and each written record are written as they were read. So is each block of a pcapng file, unless its
+/// packet has no line. The buffer has room for the captured bytes of a packet, or for a block.
+///
+/// If a number of packets is requested, the capture is read up to the last of them.
+///
+/// # Errors
+///
+/// `Capture` states why the capture is rejected, or where it can't be read further, and `Enough` if the requested number of packets is
+/// reached. What was written before is a whole capture, unless the buffer has no room for the last record or block. If the header of a
+/// classic capture is rejected, nothing is written. `Write` is the error of the first write that fails.
+pub fn write_selected<R: Read, W: Write>(
+    input: &mut R,
+    output: &mut W,
+    buffer: &mut Buffer,
+    parts: &Parts,
+    counts: &mut Counts,
+) -> Result<(), SelectionError>
+    ensures selects { SelectsCapture parts.now result (R.remaining input.old) (R.remaining input.new) (W.contents output.old) (W.contents output.new)
+        counts.old counts.new }
+    ensures ends { OnOk result (IsAtEnd (R.remaining input.new)) }
+    ensures within { IsWithin parts.now.limit counts.old.chosen → IsWithin parts.now.limit counts.new.chosen }
+{
+    let mut begin = [0u8; MIN_BLOCK_LEN];
+    let len = match fill(input, &mut begin) {
+        Ok(len) => len,
+        Err(error) => return Err(SelectionError::Capture(CaptureError::ReadHeader(error))),
+    };
+    let begin = &begin[..len];
+    if !is_pcapng(begin) {
+        return select_capture(input, output, buffer, begin, parts, counts);
+    }
+    if counts.is_full(parts.limit) {
+        return Err(SelectionError::Capture(CaptureError::Enough));
+    }
+    // The section header block states its byte order.
+    let mut file = PcapngReader {
+        section: Section::new(ByteOrder::BigEndian),
+        offset: 0,
+    };
+    select_blocks(input, output, buffer, begin, &mut file, parts, counts)
+}
+
+/// Whether these bytes begin a pcapng file.
+fn is_pcapng(bytes: &[u8]) -> bool
+    ensures is { result ≡ is_section_header bytes.now }
+    ensures some { result ≡ true → 1 ≤ length bytes.now }
+{
+    match bytes {
+        [a, b, c, d, ..] => ByteOrder::BigEndian.number([*a, *b, *c, *d]) == SECTION_HEADER,
+        _ => false,
+    }
+}
+
+/// Selects the records of a classic capture that begins with these bytes.
+fn select_capture<R: Read, W: Write>(
+    input: &mut R,
+    output: &mut W,
+    buffer: &mut Buffer,
+    begin: &[u8],
+    parts: &Parts,
+    counts: &mut Counts,
+) -> Result<(), SelectionError>
+    requires begin { AreFirst begin.now (R.remaining input.old) }
+    ensures selects { (left : Option (List ℕ)) → Consumes left (R.remaining input.old) begin.now → SelectsCapture parts.now result left
+        (R.remaining input.new) (W.contents output.old) (W.contents output.new) counts.old counts.new }
+    ensures ends { OnOk result (IsAtEnd (R.remaining input.new)) }
+    ensures within { IsWithin parts.now.limit counts.old.chosen → IsWithin parts.now.limit counts.new.chosen }
+{
+    let mut first = [0u8; CaptureHeader::LEN];
+    let len = match fill_after(input, begin, &mut first) {
+        Ok(len) => len,
+        Err(error) => return Err(SelectionError::Capture(CaptureError::ReadHeader(error))),
+    };
+    let header = match header_in(&first[..len]) {
+        Ok(header) => header,
+        Err(error) => return Err(SelectionError::Capture(error)),
+    };
+    write(output, &first)?;
+    select_records(input, output, buffer, &header, parts, counts)
+}
+
+/// The header of a classic capture in its first 24 bytes. There are fewer bytes at the end of the input.
+fn header_in(bytes: &[u8]) -> Result<CaptureHeader, CaptureError>
+    requires { length bytes.now ≤ 24 }
+    ensures accepted { IfOk result (λ header. SaysHeader bytes.now (Ok header)) }
+    ensures refused { IfErr result (RefusesBytes bytes.now) }
+{
+    let mut rest = bytes;
+    match read_capture_header(&mut rest) {
+        Ok(Ok(header)) => Ok(header),
+        Ok(Err(error)) => Err(CaptureError::Header(OpenError::Classic(error))),
+        Err(error) => Err(CaptureError::ReadHeader(error)),
+    }
+}

@@ -1,0 +1,58 @@
+ghost use Rattle.std.specs.Prelude.{◌≡◌, ◌≤◌, ◌+◌, fold};
+ghost use Rattle.std.specs.Option.{option_to_list};
+ghost use Rattle.capture_run.specs.Limits.{is_full};
+ghost use Rattle.capture_selection.specs.Outcomes.{counted};
+
+use crate::Outcome;
+
+/// The numbers of packets of a capture. A number of 2^64 - 1 stays.
+#[derive(Clone, Copy, Debug, PartialEq, Eq)]
+pub struct Counts {
+    /// The packets that were read.
+    pub read: u64,
+    /// The packets that are chosen, with or without a line in the report. A requested number of packets limits them.
+    pub chosen: u64,
+    /// The packets that were written.
+    pub written: u64,
+}
+
+impl Counts {
+    /// No packet.
+    pub const NONE: Counts = Counts {
+        read: 0,
+        chosen: 0,
+        written: 0,
+    };
+
+    /// Counts a packet with this outcome.
+    pub fn add(&mut self, outcome: Outcome)
+        ensures counted { self.new ≡ counted self.old outcome }
+        ensures one { self.new.chosen ≤ self.old.chosen + 1 }
+    {
+        self.read = self.read.saturating_add(1);
+        if outcome != Outcome::Excluded {
+            self.chosen = self.chosen.saturating_add(1);
+        }
+        if outcome == Outcome::Written {
+            self.written = self.written.saturating_add(1);
+        }
+    }
+    /// Counts the packet with this outcome, if there is one.
+    pub(crate) fn add_if(&mut self, outcome: Option<Outcome>)
+        ensures counted { self.new ≡ fold counted self.old (option_to_list outcome) }
+        ensures one { self.new.chosen ≤ self.old.chosen + 1 }
+    {
+        if let Some(outcome) = outcome {
+            self.add(outcome);
+        }
+    }
+    /// Whether as many packets are chosen as this limit, if there is one.
+    pub fn is_full(&self, limit: Option<u64>) -> bool
+        ensures { result ≡ is_full limit self.now.chosen }
+    {
+        match limit {
+            Some(limit) => self.chosen >= limit,
+            None => false,
+        }
+    }
+}

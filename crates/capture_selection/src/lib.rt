@@ -1,0 +1,26 @@
+//! The packets of a capture that a report lists, as a capture.
+//!
+//! `write_selected` reads a capture, and writes the packets that have a line in the report with the same options. The record or block of
+//! each such packet is written as it was read, and so is the rest of the capture: the header of a classic capture, and the other blocks of
+//! a pcapng file.
+//!
+//! ```
+//! let parts = Parts { lines: Lines::Wrong, ..Parts::from_flags(false, true, true, false) };
+//! let mut counts = Counts::NONE;
+//! let ended = write_selected(&mut input, &mut output, buffer, &parts, &mut counts);
+//! ```
+#![tactic(auto)]
+
+mod blocks;
+mod capture;
+mod counts;
+mod outcome;
+mod place;
+mod records;
+mod selection_error;
+mod transfer;
+
+pub use capture::write_selected;
+pub use counts::Counts;
+pub use outcome::{Outcome, outcome_of};
+pub use selection_error::SelectionError;

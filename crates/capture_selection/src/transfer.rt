@@ -1,0 +1,148 @@
+//! Reading and writing, with the errors of a selection.
+
+ghost use Rattle.std.specs.Prelude.{◌≡◌, ◌<◌, ◌≤◌, ◌++◌, ℕ, IfErr, IfOk, List, OnOk, [], if◌then◌else◌, length, take};
+ghost use Rattle.std.specs.Io.KnownBytes.{Appends, Consumes, IsAtEnd};
+ghost use Rattle.streams.specs.Streams.{FillsAfter, Skips};
+ghost use Rattle.capture_selection.specs.Passing.{CopiesUpTo, IsReadError, IsWriteError, PassesLong, written_by};
+
+use crate::place::Place;
+use crate::{Outcome, SelectionError};
+use capture_packet::MAX_PACKET_LEN;
+use std::io::{Read, Write};
+use streams::{fill, fill_after, skip};
+
+/// Room for the captured bytes of a packet, or for a block of a pcapng file.
+pub(crate) type Buffer = [u8; MAX_PACKET_LEN];
+
+/// Reads into a buffer until it is full or the input ends, and returns the number of bytes read.
+pub(crate) fn read_into<R: Read>(
+    input: &mut R,
+    buffer: &mut [u8],
+    place: Place,
+) -> Result<usize, SelectionError>
+    ensures len { IfOk result (λ len. len ≤ length buffer.new) }
+    ensures consumed { IfOk result (λ len. Consumes (R.remaining input.old) (R.remaining input.new) (take len buffer.new)) }
+    ensures end { IfOk result (λ len. len < length buffer.new → IsAtEnd (R.remaining input.new)) }
+    ensures failed { IfErr result IsReadError }
+{
+    match fill(input, buffer) {
+        Ok(len) => Ok(len),
+        Err(error) => Err(place.read_error(error)),
+    }
+}
+
+/// Copies the first bytes to the front of a buffer, and reads into the buffer after them. Returns the number of bytes present.
+pub(crate) fn read_after<R: Read>(
+    input: &mut R,
+    first: &[u8],
+    buffer: &mut [u8],
+    place: Place,
+) -> Result<usize, SelectionError>
+    requires { length first.now ≤ length buffer.old }
+    ensures fills { IfOk result (FillsAfter first.now (R.remaining input.old) (R.remaining input.new) buffer.new) }
+    ensures within { IfOk result (λ len. len ≤ length buffer.new) }
+    ensures failed { IfErr result IsReadError }
+{
+    match fill_after(input, first, buffer) {
+        Ok(len) => Ok(len),
+        Err(error) => Err(place.read_error(error)),
+    }
+}
+
+/// Writes these bytes.
+pub(crate) fn write<W: Write>(output: &mut W, bytes: &[u8]) -> Result<(), SelectionError>
+    ensures appends { OnOk result (Appends (W.contents output.old) (W.contents output.new) bytes.now) }
+    ensures failed { IfErr result IsWriteError }
+{
+    match output.write_all(bytes) {
+        Ok(()) => Ok(()),
+        Err(error) => Err(SelectionError::Write(error)),
+    }
+}
+
+/// Skips `count` bytes, or all bytes up to the end of input if there are fewer, and returns the number of bytes skipped.
+fn pass_over<R: Read>(input: &mut R, count: usize, place: Place) -> Result<usize, SelectionError>
+    ensures skips { IfOk result (λ len. Skips (R.remaining input.old) (R.remaining input.new) count len) }
+    ensures failed { IfErr result IsReadError }
+{
+    match skip(input, count) {
+        Ok(len) => Ok(len),
+        Err(error) => Err(place.read_error(error)),
+    }
+}
+
+/// Copies `count` bytes, or all bytes up to the end of input if there are fewer, and returns the number of bytes copied.
+fn copy<R: Read, W: Write>(
+    input: &mut R,
+    output: &mut W,
+    buffer: &mut Buffer,
+    count: usize,
+    place: Place,
+) -> Result<usize, SelectionError>
+    ensures copies { CopiesUpTo result (R.remaining input.old) (R.remaining input.new) (W.contents output.old) (W.contents output.new) }
+    ensures within { IfOk result (λ len. len ≤ count) }
+    ensures end { IfOk result (λ len. len < count → IsAtEnd (R.remaining input.new)) }
+{
+    let mut copied = 0;
+    while copied < count {
+        let room = buffer.len().min(count - copied);
+        let part = &mut buffer[..room];
+        let len = read_into(input, part, place)?;
+        if len == 0 {
+            return Ok(copied);
+        }
+        write(output, &part[..len])?;
+        copied += len;
+    }
+    Ok(copied)
+}
+
+/// Writes a part, which consists of these bytes one after the other, unless its packet is left out.
+pub(crate) fn write_part<W: Write>(
+    output: &mut W,
+    first: &[u8],
+    rest: &[u8],
+    outcome: Option<Outcome>,
+) -> Result<(), SelectionError>
+    ensures appends { OnOk result (Appends (W.contents output.old) (W.contents output.new) (written_by (first.now ++ rest.now) outcome)) }
+    ensures failed { IfErr result IsWriteError }
+{
+    if !is_written(outcome) {
+        return Ok(());
+    }
+    write(output, first)?;
+    write(output, rest)
+}
+
+/// Whether a part with this outcome is written.
+fn is_written(outcome: Option<Outcome>) -> bool
+    ensures { (bytes : List ℕ) → written_by bytes outcome ≡ (if result then bytes else []) }
+{
+    match outcome {
+        None | Some(Outcome::Written) => true,
+        Some(Outcome::Unlisted | Outcome::Excluded) => false,
+    }
+}
+
+/// Reads the bytes of a part after its first bytes, which were read before, and copies the part unless its packet is left out. Returns the
+/// number of bytes read, which are at most `count`.
+pub(crate) fn pass_long<R: Read, W: Write>(
+    input: &mut R,
+    output: &mut W,
+    buffer: &mut Buffer,
+    first: &[u8],
+    count: usize,
+    outcome: Option<Outcome>,
+    place: Place,
+) -> Result<usize, SelectionError>
+    ensures within { IfOk result (λ len. len ≤ count) }
+    ensures end { IfOk result (λ len. len < count → IsAtEnd (R.remaining input.new)) }
+    ensures passes { PassesLong outcome result first.now (R.remaining input.old) (R.remaining input.new)
+        (W.contents output.old) (W.contents output.new) }
+{
+    if !is_written(outcome) {
+        return pass_over(input, count, place);
+    }
+    write(output, first)?;
+    copy(input, output, buffer, count, place)
+}
