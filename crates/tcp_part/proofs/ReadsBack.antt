@@ -1,5 +1,5 @@
 -- A written header is read back unchanged, with any bytes after it.
-use Rattle.std.proofs.Common.{◌≡◌, ℕ, ◌+◌, ◌-◌, ◌*◌, ◌/◌, ◌%◌, ◌^◌, ◌<◌, ◌≤◌, Bool, true, false, List, ◌++◌, length, drop, take, bit_and, refl, sym, ap, ◌∙◌, length-append, arith}
+use Rattle.std.proofs.Common.{◌≡◌, ℕ, ◌+◌, ◌-◌, ◌*◌, ◌/◌, ◌%◌, ◌^◌, ◌<◌, ◌≤◌, Bool, true, false, List, ◌++◌, length, drop, take, bit_and, refl, sym, ap, ◌∙◌, length-append, length-drop, arith}
 use Rattle.std.proofs.Math.Seq.{drop-append_seam, take-append_seam}
 use Rattle.std.proofs.lemmas.Bool.Decides.{nat_tests}
 use Rattle.std.proofs.lemmas.List.{drop-drop}
@@ -118,3 +118,41 @@ reads_back header payload fits =
       fields = same_fields header (header_of bytes) a b c d ns fin syn rst psh ack urg ece cwr e f g options;
       after_header = after;
     }
+
+-- a header that is read back has fields in the ranges of their types
+pub fits_read : (header : TcpHeader) (payload : List ℕ) → DecodesAs (wire header ++ payload) header payload → length header.options ≤ 40 → FitsHeader header
+fits_read header payload decodes at_most =
+    let ns_fits = from_bool-lt header.ns in
+    let bytes = wire header ++ payload in
+    let len : length bytes ≡ 20 + length header.options + length payload = omega (arith, length-append header.options payload) in
+    let rest : length payload ≡ length bytes - data_offset bytes * 4 =
+    ap length decodes.after_header ∙ length-drop (data_offset bytes * 4) bytes in
+    record {
+      source_port = omega (arith, ap (λ header. header.source_port) decodes.fields);
+      destination_port = omega (arith, ap (λ header. header.destination_port) decodes.fields);
+      sequence_number = omega (arith, ap (λ header. header.sequence_number) decodes.fields);
+      acknowledgment_number = omega (arith, ap (λ header. header.acknowledgment_number) decodes.fields);
+      window_size = omega (arith, ap (λ header. header.window_size) decodes.fields);
+      checksum = omega (arith, ap (λ header. header.checksum) decodes.fields);
+      urgent_pointer = omega (arith, ap (λ header. header.urgent_pointer) decodes.fields);
+      at_most = at_most;
+      whole_words = omega (arith, len, rest);
+    }
+
+-- the header with another checksum is also read back
+pub reads_back_with : (header : TcpHeader) (checksum : ℕ) (payload : List ℕ) → DecodesAs (wire header ++ payload) header payload
+    → length header.options ≤ 40 → checksum < 65536
+    → DecodesAs (wire (record header { checksum = checksum }) ++ payload) (record header { checksum = checksum }) payload
+reads_back_with header checksum payload decodes at_most fits_checksum =
+    let fits = fits_read header payload decodes at_most in
+    reads_back (record header { checksum = checksum }) payload (record {
+      source_port = fits.source_port;
+      destination_port = fits.destination_port;
+      sequence_number = fits.sequence_number;
+      acknowledgment_number = fits.acknowledgment_number;
+      window_size = fits.window_size;
+      checksum = fits_checksum;
+      urgent_pointer = fits.urgent_pointer;
+      at_most = fits.at_most;
+      whole_words = fits.whole_words;
+    })

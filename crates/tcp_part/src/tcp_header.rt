@@ -288,6 +288,7 @@ impl TcpHeader {
         ensures refused { RefusesExactly result (no_room Layer.TcpHeader (wire self.now) (length slice.old)) }
         ensures len { IfOk result (λ len. len ≡ length (wire self.now)) }
         ensures written { IfOk result (λ _. slice.new ≡ wire self.now ++ drop (length (wire self.now)) slice.old) }
+        ensures reads_back { IfOk result (λ _. (payload : List ℕ) → DecodesAs (wire self.now ++ payload) self.now payload) }
         ensures unchanged { IfErr result (λ _. slice.new ≡ slice.old) }
     {
         let options = self.options();
@@ -390,6 +391,7 @@ impl TcpHeader {
     /// # Errors
     ///
     /// `ValueTooBigError` of `TcpPayloadLengthIpv4` if the payload is longer than 65,535 bytes minus the header.
+    #[inline(always)]
     pub fn calc_checksum_ipv4_raw(
         &self,
         source: [u8; 4],
@@ -438,6 +440,7 @@ impl TcpHeader {
     /// # Errors
     ///
     /// `ValueTooBigError` of `TcpPayloadLengthIpv6` if the payload is longer than 4,294,967,295 bytes minus the header.
+    #[inline(always)]
     pub fn calc_checksum_ipv6_raw(
         &self,
         source: [u8; 16],

@@ -33,8 +33,15 @@ pub(crate) fn ipv4_header(
 ) -> ArrayVec<u8, IPV4_LEN>
     ensures { result.items ≡ specs.ipv4_header start time_to_live protocol.0 source destination }
 {
-    let unsummed = ipv4_fields(start, time_to_live, protocol, source, destination, 0);
-    let checksum = Sum16BitWords::new().add_slice(&unsummed).ones_complement();
+    // perf: the sum of the fields. Bytes that were just written one by one are slow to load eight at a time (27 Nov 2026).
+    let [a, b, c, d, e, f, g, h] = start;
+    let checksum = Sum16BitWords::new()
+        .add_4bytes([a, b, c, d])
+        .add_4bytes([e, f, g, h])
+        .add_2bytes([time_to_live, protocol.0])
+        .add_4bytes(source)
+        .add_4bytes(destination)
+        .ones_complement();
     ipv4_fields(start, time_to_live, protocol, source, destination, checksum)
 }
 

@@ -18,7 +18,7 @@ const DESTINATION_PORT_AT: usize = 2;
 const UDP_CHECKSUM_AT: usize = 6;
 
 /// The place of the checksum in TCP (RFC 9293, section 3.1).
-const TCP_CHECKSUM_AT: usize = 16;
+pub(crate) const TCP_CHECKSUM_AT: usize = 16;
 
 /// The place of the checksum in ICMP (RFC 792; RFC 4443, section 2.1).
 const ICMP_CHECKSUM_AT: usize = 2;
@@ -257,7 +257,7 @@ fn replace_number(
 }
 
 /// Writes a number to the two bytes at this place.
-fn store_number(message: &mut [u8], place: usize, value: u16)
+pub(crate) fn store_number(message: &mut [u8], place: usize, value: u16)
     requires there { place + 2 ≤ length message.old }
     ensures { message.new ≡ with_checksum place message.old value }
 {

@@ -3,6 +3,7 @@ ghost use Rattle.std.specs.Option.{option_map};
 ghost use Rattle.icmp_part.specs.Icmpv4Format as icmpv4;
 ghost use Rattle.ip_part.specs.Ip as ip;
 ghost use Rattle.ip_part.specs.Addresses as addresses;
+ghost use Rattle.net_base.specs.PseudoHeader.{max_len_over_ipv4};
 ghost use Rattle.net_base.specs.Refusals.{RefusesExactly};
 ghost use Rattle.tcp_part.specs.TcpFormat as tcp;
 ghost use Rattle.word_sum.specs.Checksum.{Verifies};
@@ -12,10 +13,12 @@ ghost use Rattle.etherparse_transport.specs.declared.err.packet.build_slice_writ
 ghost use Rattle.etherparse_transport.specs.declared.transport_header.TransportHeader.TheVariants as headers;
 ghost use Rattle.etherparse_transport.specs.Packets as specs;
 ghost use Rattle.etherparse_transport.specs.Packets.{IsReadAs, ipv4_message_refusal, ipv4_packet, ipv4_write_refusal, ipv6_message_refusal, ipv6_packet, ipv6_write_refusal, max_message_len_ipv6, number_of, payload_above};
+ghost use Rattle.etherparse_transport.specs.Verdicts.{max_length_field};
 
 use crate::err::Layer;
 use crate::err::packet::BuildSliceWriteError;
 use crate::ip::ip_header::{IPV4_LEN, IPV6_LEN, ipv4_header, ipv6_header};
+use crate::ip::translated_message::{TCP_CHECKSUM_AT, store_number};
 use crate::{IpNumber, Ipv4Header, Ipv6Header, TcpHeader, TransportHeader, UdpHeader, ip_number};
 use net_base::wrong_length;
 
@@ -43,6 +46,9 @@ const TIMESTAMP_LEN: usize = 20;
 /// - `PayloadLen` if the packet is longer than 65,535 bytes.
 /// - `TimestampLen` if an ICMPv4 timestamp message or reply, of code 0, is not 20 bytes long.
 /// - `Space` if the slice is shorter than the packet.
+// perf: compiled into the caller, where the protocol is known and the addresses are in registers. As a call, a packet of TCP over IPv6 with
+// 64 bytes took 50 instead of 28 ns, and UDP 37 instead of 21 (27 Nov 2026).
+#[inline(always)]
 pub fn write_packet_ipv4(
     slice: &mut [u8],
     source: [u8; 4],
@@ -95,6 +101,7 @@ pub fn write_packet_ipv4(
 /// - `Icmpv4InIpv6` if the header is an ICMPv4 header.
 /// - `PayloadLen` if transport header and payload are longer than 65,535 bytes.
 /// - `Space` if the slice is shorter than the packet.
+#[inline(always)]
 pub fn write_packet_ipv6(
     slice: &mut [u8],
     source: [u8; 16],
@@ -299,7 +306,7 @@ fn write_message_ipv4(
     payload: &[u8],
 )
     requires accepted { ipv4_message_refusal header.now payload.now ≡ None }
-    requires counted { length (wire header.now) + length payload.now ≤ 65535 }
+    requires counted { length (wire header.now) + length payload.now ≤ max_len_over_ipv4 }
     requires room { length (wire header.now) + length payload.now ≤ length message.old }
     ensures written { message.new ≡ (wire (specs.sent_over_ipv4 source destination header.now payload.now) ++ payload.now)
         ++ drop (length (wire header.now) + length payload.now) message.old }
@@ -347,7 +354,7 @@ fn write_udp_ipv4(
     header: &UdpHeader,
     payload: &[u8],
 )
-    requires counted { 8 + length payload.now ≤ 65535 }
+    requires counted { 8 + length payload.now ≤ max_len_over_ipv4 }
     requires room { 8 + length payload.now ≤ length message.old }
     ensures written { message.new ≡ (wire (specs.sent_over_ipv4 source destination (headers.Udp header.now) payload.now) ++ payload.now)
         ++ drop (8 + length payload.now) message.old }
@@ -370,7 +377,7 @@ fn write_tcp_ipv4(
     header: &TcpHeader,
     payload: &[u8],
 )
-    requires counted { length (tcp.wire header.now) + length payload.now ≤ 65535 }
+    requires counted { length (tcp.wire header.now) + length payload.now ≤ max_len_over_ipv4 }
     requires room { length (tcp.wire header.now) + length payload.now ≤ length message.old }
     ensures written { message.new ≡ (wire (specs.sent_over_ipv4 source destination (headers.Tcp header.now) payload.now) ++ payload.now)
         ++ drop (length (tcp.wire header.now) + length payload.now) message.old }
@@ -380,10 +387,7 @@ fn write_tcp_ipv4(
     let checksum = header
         .calc_checksum_ipv4_raw(source, destination, payload)
         .unwrap();
-    let sent = with_tcp_checksum(header, checksum);
-    let (front, rest) = message.split_at_mut(sent.header_len());
-    sent.write_to_slice(front).unwrap();
-    rest[..payload.len()].copy_from_slice(payload);
+    write_tcp(message, header, checksum, payload);
 }
 
 /// Writes an ICMP header over IPv4, with its checksum, and the payload after it.
@@ -415,7 +419,7 @@ fn write_message_ipv6(
     payload: &[u8],
 )
     requires accepted { ipv6_message_refusal header.now payload.now ≡ None }
-    requires counted { length (wire header.now) + length payload.now ≤ 65535 }
+    requires counted { length (wire header.now) + length payload.now ≤ max_message_len_ipv6 }
     requires room { length (wire header.now) + length payload.now ≤ length message.old }
     ensures written { message.new ≡ (wire (specs.sent_over_ipv6 source destination header.now payload.now) ++ payload.now)
         ++ drop (length (wire header.now) + length payload.now) message.old }
@@ -463,7 +467,7 @@ fn write_udp_ipv6(
     header: &UdpHeader,
     payload: &[u8],
 )
-    requires counted { 8 + length payload.now ≤ 65535 }
+    requires counted { 8 + length payload.now ≤ max_message_len_ipv6 }
     requires room { 8 + length payload.now ≤ length message.old }
     ensures written { message.new ≡ (wire (specs.sent_over_ipv6 source destination (headers.Udp header.now) payload.now) ++ payload.now)
         ++ drop (8 + length payload.now) message.old }
@@ -486,7 +490,7 @@ fn write_tcp_ipv6(
     header: &TcpHeader,
     payload: &[u8],
 )
-    requires counted { length (tcp.wire header.now) + length payload.now ≤ 65535 }
+    requires counted { length (tcp.wire header.now) + length payload.now ≤ max_message_len_ipv6 }
     requires room { length (tcp.wire header.now) + length payload.now ≤ length message.old }
     ensures written { message.new ≡ (wire (specs.sent_over_ipv6 source destination (headers.Tcp header.now) payload.now) ++ payload.now)
         ++ drop (length (tcp.wire header.now) + length payload.now) message.old }
@@ -496,10 +500,7 @@ fn write_tcp_ipv6(
     let checksum = header
         .calc_checksum_ipv6_raw(source, destination, payload)
         .unwrap();
-    let sent = with_tcp_checksum(header, checksum);
-    let (front, rest) = message.split_at_mut(sent.header_len());
-    sent.write_to_slice(front).unwrap();
-    rest[..payload.len()].copy_from_slice(payload);
+    write_tcp(message, header, checksum, payload);
 }
 
 /// Writes an ICMP header over IPv6, with its checksum, and the payload after it.
@@ -524,7 +525,7 @@ fn write_icmp_ipv6(
 /// A UDP header without a checksum, whose length field counts a payload of this length.
 #[inline(always)]
 fn with_udp_length(header: &UdpHeader, payload_len: usize) -> UdpHeader
-    requires { 8 + payload_len ≤ 65535 }
+    requires { 8 + payload_len ≤ max_length_field }
     ensures { result ≡ record header.now { length = 8 + payload_len; checksum = 0 } }
 {
     UdpHeader {
@@ -535,15 +536,21 @@ fn with_udp_length(header: &UdpHeader, payload_len: usize) -> UdpHeader
     }
 }
 
-/// A TCP header with this checksum.
+/// Writes a TCP header with this checksum, and the payload after it.
+// perf: the stored checksum is replaced in the written bytes. A copy of the header with the new checksum also copies 40 bytes of options:
+// a packet of 64 bytes then took 56 instead of 35 ns (27 Nov 2026).
 #[inline(always)]
-fn with_tcp_checksum(header: &TcpHeader, checksum: u16) -> TcpHeader
-    ensures value { result ≡ record header.now { checksum = checksum } }
-    ensures reads_back { (payload : List ℕ) → tcp.DecodesAs (tcp.wire result ++ payload) result payload }
+fn write_tcp(message: &mut [u8], header: &TcpHeader, checksum: u16, payload: &[u8])
+    requires room { length (tcp.wire header.now) + length payload.now ≤ length message.old }
+    ensures written { message.new ≡ (tcp.wire (record header.now { checksum = checksum }) ++ payload.now)
+        ++ drop (length (tcp.wire header.now) + length payload.now) message.old }
+    ensures reads_back { tcp.DecodesAs (tcp.wire (record header.now { checksum = checksum }) ++ payload.now)
+        (record header.now { checksum = checksum }) payload.now }
 {
-    let mut sent = header.clone().unwrap();
-    sent.checksum = checksum;
-    sent
+    let (front, rest) = message.split_at_mut(header.header_len());
+    header.write_to_slice(front).unwrap();
+    store_number(front, TCP_CHECKSUM_AT, checksum);
+    rest[..payload.len()].copy_from_slice(payload);
 }
 
 /// Writes a header and its payload to the front of the slice, one after the other.

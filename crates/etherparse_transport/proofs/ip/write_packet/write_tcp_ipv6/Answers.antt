@@ -10,4 +10,4 @@ returns-clause-reads_back c =
     let Sent : ℕ → Type 0 = λ checksum. IsRead (record c.args.header.now { checksum = checksum }) in
     let summed : c.unwrap-checksum.result ≡ checksum_of (tcp.checksummed_ipv6 c.args.source c.args.destination (tcp.wire c.args.header.now) c.args.payload.now) =
     search rules in
-    subst Sent summed (subst IsRead c.with_tcp_checksum-sent.ensures.value (c.with_tcp_checksum-sent.ensures.reads_back c.args.payload.now))
+    subst Sent summed c.write_tcp.ensures.reads_back
