@@ -98,7 +98,7 @@ fn goes_back(request: IpAddresses<'_>, reply: IpAddresses<'_>) -> bool
                 source: responder,
                 destination: receiver,
             },
-        ) => receiver == source && may_answer_ipv4(*destination, *responder),
+        ) => receiver == source && may_answer_ipv4(destination, responder),
         (
             IpAddresses::Ipv6 {
                 source,
@@ -108,28 +108,29 @@ fn goes_back(request: IpAddresses<'_>, reply: IpAddresses<'_>) -> bool
                 source: responder,
                 destination: Some(receiver),
             },
-        ) => receiver == source && may_answer_ipv6(*destination, *responder),
+        ) => receiver == source && may_answer_ipv6(destination, responder),
         _ => false,
     }
 }
 
 /// Whether a reply to a request to this destination may come from this source.
-fn may_answer_ipv4(destination: [u8; 4], responder: [u8; 4]) -> bool
-    ensures { IsTrue result ↔ MayAnswerIpv4 destination responder }
+fn may_answer_ipv4(destination: &[u8; 4], responder: &[u8; 4]) -> bool
+    ensures { IsTrue result ↔ MayAnswerIpv4 destination.now responder.now }
 {
-    if is_group_ipv4(destination) {
-        is_host_ipv4(responder)
+    if is_group_ipv4(*destination) {
+        is_host_ipv4(*responder)
     } else {
         responder == destination
     }
 }
 
 /// Whether a reply to a request to this destination may come from this source.
-fn may_answer_ipv6(destination: [u8; 16], responder: [u8; 16]) -> bool
-    ensures { IsTrue result ↔ MayAnswerIpv6 destination responder }
+// perf: references to 16 bytes are compared at once, but arrays byte by byte (27 Nov 2026).
+fn may_answer_ipv6(destination: &[u8; 16], responder: &[u8; 16]) -> bool
+    ensures { IsTrue result ↔ MayAnswerIpv6 destination.now responder.now }
 {
-    if is_group_ipv6(destination) {
-        is_host_ipv6(responder)
+    if is_group_ipv6(*destination) {
+        is_host_ipv6(*responder)
     } else {
         responder == destination
     }
