@@ -28,8 +28,8 @@ use Rattle.etherparse_transport.specs.declared.transport_header.TransportHeader.
 
 -- ---- addresses
 
--- an address of several hosts: the limited broadcast address, 255.255.255.255 (RFC 919, section 7), or a multicast address, whose first four
--- bits are 1110 (RFC 1112, section 4)
+-- an address of several hosts: the limited broadcast address, 255.255.255.255 (RFC 919, section 7), or a multicast address, whose first
+-- four bits are 1110 (RFC 1112, section 4)
 abbrev pub is_group_ipv4 : List ℕ → Bool
 is_group_ipv4 address = from_be_bytes w32 address == 0xFFFFFFFF || slice_index address 0 / 16 == 14
 
@@ -61,8 +61,8 @@ echo_header_len = 8
 
 -- ---- the request
 
--- What is wrong with the transport of a packet: it is a fragment, it has another protocol, or it doesn't begin directly after an IP header of
--- this length. Then options or extension headers come first, and a reply would have options of its own (RFC 1122, section 3.2.2.6).
+-- What is wrong with the transport of a packet: it is a fragment, it has another protocol, or it doesn't begin directly after an IP header
+-- of this length. Then options or extension headers come first, and a reply would have options of its own (RFC 1122, section 3.2.2.6).
 abbrev pub transport_refusal : ℕ → ℕ → Bool → ℕ → ℕ → Option AnswerEchoError
 transport_refusal number header_len is_fragment protocol offset = first_of (
     refused_if is_fragment Fragment

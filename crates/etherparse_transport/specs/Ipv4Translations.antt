@@ -181,8 +181,8 @@ ipv4_pseudo_header_of protos.Tcp addresses len = ipv4_pseudo_header addresses.so
 ipv4_pseudo_header_of protos.Icmpv4 addresses len = []
 ipv4_pseudo_header_of protos.Icmpv6 addresses len = ipv4_pseudo_header addresses.source addresses.destination icmpv6_number len
 
--- A receiver accepts this message between the new addresses exactly if it accepts the old message between the old addresses. This holds for a
--- message whose checksum is updated, and not for a later fragment.
+-- A receiver accepts this message between the new addresses exactly if it accepts the old message between the old addresses. This holds for
+-- a message whose checksum is updated, and not for a later fragment.
 abbrev pub IsIpv4Accepted : Ipv4Translation → List ℕ → List ℕ → Type 0
 IsIpv4Accepted new packet translated = (proto : Proto) → ipv4_proto packet ≡ Some proto
     → (ipv4_is_later_fragment packet ≡ false) → IsUpdated proto (message_in_ipv4 packet)

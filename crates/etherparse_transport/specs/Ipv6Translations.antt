@@ -176,8 +176,8 @@ ipv6_pseudo_header_of protos.Tcp addresses len = ipv6_pseudo_header addresses.so
 ipv6_pseudo_header_of protos.Icmpv4 addresses len = []
 ipv6_pseudo_header_of protos.Icmpv6 addresses len = ipv6_pseudo_header addresses.source addresses.destination icmpv6_number len
 
--- A receiver accepts this message between the new addresses exactly if it accepts the old message between the old addresses. This holds for a
--- message whose checksum is updated, and not for a later fragment.
+-- A receiver accepts this message between the new addresses exactly if it accepts the old message between the old addresses. This holds for
+-- a message whose checksum is updated, and not for a later fragment.
 abbrev pub IsIpv6Accepted : Ipv6Translation → List ℕ → List ℕ → Type 0
 IsIpv6Accepted new packet translated = (proto : Proto) → ipv6_proto packet ≡ Some proto
     → (ipv6_is_later_fragment packet ≡ false) → IsUpdated proto (message_in_ipv6 packet)

@@ -49,8 +49,8 @@ ipv4_header start time_to_live protocol source destination =
 abbrev pub ipv6_header : List ℕ → ℕ → ℕ → List ℕ → List ℕ → List ℕ
 ipv6_header start next_header hop_limit source destination = start ++ ((next_header ∷ hop_limit ∷ []) ++ (source ++ destination))
 
--- The start of a built IPv4 header, of version 4 and five words. Type of service and identification are 0. The flag "don't fragment" is set,
--- and the fragment offset is 0.
+-- The start of a built IPv4 header, of version 4 and five words. Type of service and identification are 0. The flag "don't fragment" is
+-- set, and the fragment offset is 0.
 abbrev pub ipv4_start : ℕ → List ℕ
 ipv4_start total_len = (0x45 ∷ 0 ∷ to_be_bytes w16 total_len) ++ (0 ∷ 0 ∷ 0x40 ∷ 0 ∷ [])
 

@@ -86,8 +86,8 @@ Answers (Ipv6 responder None) request reply = ⊥
 
 -- ---- the reply
 
--- The second packet is the reply to the first. It goes back, its message is the reply to the request, and the checksum of its IPv4 header is
--- right, since a host discards it otherwise (RFC 1122, section 3.2.1.2). The checksums of the request are not tested.
+-- The second packet is the reply to the first. It goes back, its message is the reply to the request, and the checksum of its IPv4 header
+-- is right, since a host discards it otherwise (RFC 1122, section 3.2.1.2). The checksums of the request are not tested.
 pub record IsReplyTo (request reply : List ℕ) : Type 0 where
   pub request_addresses : Addresses
   pub reply_addresses : Addresses

@@ -121,8 +121,8 @@ with_updated_checksum removed added message =
 
 -- ---- the message of a packet
 
--- The message of any of the four protocols. Of another ICMP message, which a quoted packet may contain, only the checksum is updated. ICMPv4
--- has no pseudo header.
+-- The message of any of the four protocols. Of another ICMP message, which a quoted packet may contain, only the checksum is updated.
+-- ICMPv4 has no pseudo header.
 abbrev pub translated_message : Proto → ℕ → ℕ → Option ℕ → Option ℕ → List ℕ → List ℕ
 translated_message protos.Udp old new source destination message = translated_udp old new source destination message
 translated_message protos.Tcp old new source destination message = translated_tcp old new source destination message
@@ -152,8 +152,8 @@ translated_in is_later_fragment (Some proto) old new source destination message 
 
 -- ---- an ICMP error
 
--- an ICMP error with this translated packet instead of this quoted packet, after its header of eight bytes; the old and the new addresses in
--- the pseudo header have these sums
+-- an ICMP error with this translated packet instead of this quoted packet, after its header of eight bytes; the old and the new addresses
+-- in the pseudo header have these sums
 abbrev pub with_quote : ℕ → ℕ → List ℕ → List ℕ → List ℕ → List ℕ
 with_quote old new quoted translated message =
     with_updated_checksum (folded (old + total quoted)) (folded (new + total translated)) (with_bytes 8 translated message)
@@ -219,7 +219,8 @@ pub record IsReadWith (packet translated : List ℕ) (between : Addresses) (mess
 
 -- ---- a receiver's check
 
--- the sums of the pseudo headers of the old and the new addresses, which the replaced addresses turn into each other; ICMPv4 has no pseudo header
+-- the sums of the pseudo headers of the old and the new addresses, which the replaced addresses turn into each other; ICMPv4 has no pseudo
+-- header
 abbrev pub HaveSums : Proto → ℕ → ℕ → ℕ → ℕ → Type 0
 HaveSums protos.Udp removed added before after = TurnsIntoBy removed added before after × (before ≢ 0) × (after ≢ 0)
 HaveSums protos.Tcp removed added before after = TurnsIntoBy removed added before after × (before ≢ 0) × (after ≢ 0)

@@ -1,5 +1,6 @@
--- The way back of a translation, which puts back what the translation replaces, and the packets that it restores. An update keeps a checksum
--- only modulo 65535 (RFC 1624), so that it yields one of the two zeros, 0 and 65535. The other zero is lost, even if nothing is replaced.
+-- The way back of a translation, which puts back what the translation replaces, and the packets that it restores. An update keeps a
+-- checksum only modulo 65535 (RFC 1624), so that it yields one of the two zeros, 0 and 65535. The other zero is lost, even if nothing is
+-- replaced.
 use Rattle.std.specs.Prelude.{◌≡◌, ◌≢◌, ⊤, true, false, ℕ, ◌<◌, ◌==◌, Bool, if◌then◌else◌, List, length, slice_index, IfSome, Option, Some, None}
 use Rattle.std.specs.Option.{option_map}
 use Rattle.ip_part.specs.declared.proto.Proto.{Proto}
@@ -84,8 +85,8 @@ abbrev pub IsIpv4FlowRestored : List ℕ → Type 0
 IsIpv4FlowRestored packet = (number header_checksum_place packet ≢ all_ones)
     × IsChecksumRestoredIn (ipv4_is_later_fragment packet) (ipv4_proto packet) (message_in_ipv4 packet)
 
--- The checksums of an ICMP error and the quoted packet are restored. A replaced source of the error is the destination of the quoted packet,
--- and a replaced destination is its source. Otherwise two addresses become one, for example if a router sent the error.
+-- The checksums of an ICMP error and the quoted packet are restored. A replaced source of the error is the destination of the quoted
+-- packet, and a replaced destination is its source. Otherwise two addresses become one, for example if a router sent the error.
 pub record IsIpv4ErrorRestored (new : Ipv4Translation) (packet quoted : List ℕ) : Type 0 where
   pub header : number header_checksum_place packet ≢ all_ones
   pub message : number icmp_checksum_place (message_in_ipv4 packet) ≢ all_ones

@@ -1,4 +1,5 @@
-//! The flags of a TCP header: those of byte 13 at their bits there, and NS above them. They are part of the interface to C, and none is ever given another meaning.
+//! The flags of a TCP header: those of byte 13 at their bits there, and NS above them. They are part of the interface to C, and none is
+//! ever given another meaning.
 
 /// No more data from the sender (RFC 9293, section 3.1).
 pub const FIN: u16 = 0x001;

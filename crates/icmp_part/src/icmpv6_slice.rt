@@ -144,11 +144,11 @@ impl<'a> Icmpv6Slice<'a> {
     }
 
     /// The message, and a number that nothing reads. It is never an error, which would be the length of a slice without a header.
-    // perf: a single match, whose arms return the message that they build (23 Nov 2026). As the value of an arm, or from a call for one arm,
-    // the message is copied by loads that are wider than the stores before them, and takes four times as long. The bytes of `Unknown` overlap
-    // the numbers of the other kinds, so by itself that message is stored in two parts and loaded as one. The number places a message at a
-    // multiple of eight bytes, where an error has its own number, so that the first eight bytes of a message are one number in a register.
-    // This halves the time of an unknown message (26 Nov 2026).
+    // perf: a single match, whose arms return the message that they build (23 Nov 2026). As the value of an arm, or from a call for one
+    // arm, the message is copied by loads that are wider than the stores before them, and takes four times as long. The bytes of `Unknown`
+    // overlap the numbers of the other kinds, so by itself that message is stored in two parts and loaded as one. The number places a
+    // message at a multiple of eight bytes, where an error has its own number, so that the first eight bytes of a message are one number in
+    // a register. This halves the time of an unknown message (26 Nov 2026).
     #[inline(always)]
     #[tactic(auto, using(std::proofs::lemmas::Option::slice_get_past, crate::proofs::ListedLemmas::listed_mapped, crate::proofs::Icmpv6FormatLemmas::icmp_type_of_listed))]
     fn message(&self) -> Result<(Icmpv6Type, usize), usize>

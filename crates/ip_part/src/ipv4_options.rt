@@ -35,8 +35,9 @@ pub(crate) fn final_destination(header: &[u8]) -> &[u8; 4]
     }
 }
 
-/// Whether the options of an IPv4 header contain a loose or strict source route, option 131 or 137 (RFC 791, section 3.1). A route of any form
-/// counts, with or without an address left. Options are read up to the end of their list, or to a length that is below 2 or beyond the bytes.
+/// Whether the options of an IPv4 header contain a loose or strict source route, option 131 or 137 (RFC 791, section 3.1). A route of any
+/// form counts, with or without an address left. Options are read up to the end of their list, or to a length that is below 2 or beyond the
+/// bytes.
 pub fn has_source_route(options: &[u8]) -> bool
     ensures { result ≡ is_some (find specs.is_source_route (specs.options_of specs.ipv4_option options.now)) }
 {

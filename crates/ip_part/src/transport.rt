@@ -48,7 +48,8 @@ pub struct TransportInIp<'a> {
 }
 
 impl<'a> TransportInIp<'a> {
-    /// The protocol of the payload, by its number and the version of the addresses, as `proto_over` returns it. A fragment has a protocol too.
+    /// The protocol of the payload, by its number and the version of the addresses, as `proto_over` returns it. A fragment has a protocol
+    /// too.
     #[inline(always)]
     pub fn proto(&self) -> Option<Proto>
         ensures { result ≡ specs.proto_over (by_value self.now.addresses) self.now.protocol.0 }

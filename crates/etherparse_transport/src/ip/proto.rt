@@ -4,8 +4,8 @@ ghost use Rattle.etherparse_transport.specs.Transports as specs;
 use crate::Proto;
 use crate::ip::TransportInIp;
 
-/// The protocol of the header that the payload begins with. `None` for a fragment, whose payload is only a part, and for any protocol except
-/// the four.
+/// The protocol of the header that the payload begins with. `None` for a fragment, whose payload is only a part, and for any protocol
+/// except the four.
 #[inline(always)]
 pub fn proto_in_ip(found: &TransportInIp<'_>) -> Option<Proto>
     ensures { result ≡ specs.proto_in found.now }

@@ -200,8 +200,8 @@ fn new_ipv4_addresses(packet: &[u8], new: &Ipv4Translation) -> Ipv4Header
     }
 }
 
-/// Replaces the addresses in the header of an IPv4 packet, and updates the checksum of the header by this change (RFC 1624). Returns the old
-/// and the new checksum.
+/// Replaces the addresses in the header of an IPv4 packet, and updates the checksum of the header by this change (RFC 1624). Returns the
+/// old and the new checksum.
 #[inline(always)]
 fn replace_ipv4_addresses(packet: &mut [u8], new: &Ipv4Header, change: ChecksumChange) -> (u16, u16)
     requires header { 20 ≤ length packet.old }

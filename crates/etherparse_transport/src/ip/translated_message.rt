@@ -26,8 +26,8 @@ const ICMP_CHECKSUM_AT: usize = 2;
 /// The place of the identifier of an echo message (RFC 792; RFC 4443, section 4).
 const IDENTIFIER_AT: usize = 4;
 
-/// Translates the message of a packet, as far as it is there: ports or the identifier of an echo message, and the checksum. The passed change
-/// replaces the addresses in the pseudo header. The returned change replaces the words of the message too.
+/// Translates the message of a packet, as far as it is there: ports or the identifier of an echo message, and the checksum. The passed
+/// change replaces the addresses in the pseudo header. The returned change replaces the words of the message too.
 #[inline(always)]
 pub(crate) fn translate_message(
     message: &mut [u8],
@@ -102,7 +102,8 @@ fn translate_icmpv6(
     }
 }
 
-/// Whether this is an echo message with this type of a request or this type of a reply, up to its identifier (RFC 792; RFC 4443, section 4).
+/// Whether this is an echo message with this type of a request or this type of a reply, up to its identifier (RFC 792; RFC 4443, section
+/// 4).
 pub(crate) fn is_echo(message: &[u8], request: u8, reply: u8) -> bool
     ensures { result ≡ specs.is_echo request reply message.now }
 {
