@@ -1,13 +1,12 @@
 -- Numbers of several words in a one's complement sum. 2 ^ 16, 2 ^ 32 and 2 ^ 64 are 1 modulo 65535, so a number is
 -- equivalent to the sum of its words and to the sum of its halves, and a carry is added at the low end.
-use Rattle.std.proofs.Common.{◌≡◌, ℕ, ◌+◌, ◌-◌, ◌*◌, ◌/◌, ◌%◌, ◌^◌, ◌<◌, ◌≤◌, List, [], ◌∷◌, ◌++◌, length, take, drop, slice_index, nat_lt, sym, ap, ◌∙◌, arith}
-use Rattle.std.proofs.lemmas.List.{length-take-le, take-append-drop}
-use Rattle.std.proofs.lemmas.Nat.{or_shifted}
+use Rattle.std.proofs.Common.{◌≡◌, ℕ, zero, suc, Bool, true, false, ◌+◌, ◌-◌, ◌*◌, ◌/◌, ◌%◌, ◌^◌, ◌<◌, ◌≤◌, List, [], ◌∷◌, ◌++◌, length, take, drop, slice_index, nat_lt, refl, sym, ap, ◌∙◌, arith}
+use Rattle.std.proofs.lemmas.List.{drop-drop, length-take-le, take-append-drop}
 use Rattle.std.proofs.Math.Logic.{⊎_elim}
 use Rattle.std.proofs.Math.Nat.{mod-eq_of_lt, mod-eq-sub-mod}
 use Rattle.std.proofs.lemmas.Bool.{cases_lt}
 use Rattle.std.proofs.lemmas.Bool.Decides.{nat_tests}
-use Rattle.std.specs.Int.{from_bool, from_le_bytes, rotate_left, swap_bytes, w16, w32, w64}
+use Rattle.std.specs.Int.{from_bool, from_le_bytes, swap_bytes, w16, w32, w64}
 use Rattle.word_sum.specs.Checksum.{folded, total}
 use Rattle.word_sum.proofs.ChecksumLemmas.{folded-none, folded-small, folded-some, folded_congruent, folded_twice, total-append, total_four, total_two}
 
@@ -51,24 +50,16 @@ folded_halves_64 number = sym (folded_congruent _ _ (number / 2 ^ 32 * 65537) (o
 pub folded_halves_32 : (number : ℕ) → folded (number / 2 ^ 16 + number % 2 ^ 16) ≡ folded number
 folded_halves_32 number = sym (folded_congruent _ _ (number / 2 ^ 16) (omega arith) (λ z. omega arith))
 
--- a sum of numbers modulo 2 ^ 64 without their upper halves: the sum of their lower halves
-abbrev pub lower_sum : ℕ → ℕ → ℕ
-lower_sum numbers upper = (numbers + (2 ^ 64 - upper * 2 ^ 32 % 2 ^ 64)) % 2 ^ 64
+-- a carry is added to the next number, and can be added to the sum
+pub folded_carried : (word number low : ℕ) (carry carried : Bool) → low + from_bool carried * 2 ^ 64 ≡ word + number + from_bool carry
+    → folded (low + from_bool carried) ≡ folded (word + from_bool carry + number)
+folded_carried word number low carry carried sum =
+    sym (folded_congruent (word + from_bool carry + number) (low + from_bool carried) (from_bool carried * 281479271743489) (omega arith) (λ z. omega arith))
 
-pub lower_sum-add : (numbers upper number : ℕ) → lower_sum numbers upper + number % 2 ^ 32 < 2 ^ 64
-    → lower_sum ((numbers + number) % 2 ^ 64) (upper + number / 2 ^ 32) ≡ lower_sum numbers upper + number % 2 ^ 32
-lower_sum-add numbers upper number fits = omega arith
-
--- a number with its halves exchanged
-rotate_left-halves : (n : ℕ) → n < 2 ^ 64 → rotate_left w64 n 32 ≡ n % 2 ^ 32 * 2 ^ 32 + n / 2 ^ 32
-rotate_left-halves n fits =
-    let shifted : n * 2 ^ 32 % 2 ^ 64 ≡ n % 2 ^ 32 * 2 ^ 32 = omega arith in
-    rw shifted (or_shifted (n % 2 ^ 32) 32 (n / 2 ^ 32) (omega arith))
-
-pub folded_rotated : (n : ℕ) → n < 2 ^ 64 → folded (rotate_left w64 n 32) ≡ folded n
-folded_rotated n fits =
-    rw (rotate_left-halves n fits)
-    (folded_congruent _ (n / 2 ^ 32 + n % 2 ^ 32) (n % 2 ^ 32 * 65537) (omega arith) (λ z. omega arith) ∙ folded_halves_64 n)
+pub carried-fits : (word number low : ℕ) (carry carried : Bool) → word + from_bool carry < 2 ^ 64 → number < 2 ^ 64 → low < 2 ^ 64
+    → low + from_bool carried * 2 ^ 64 ≡ word + number + from_bool carry → low + from_bool carried < 2 ^ 64
+carried-fits word number low carry true fits fits_too fits_three sum = omega arith
+carried-fits word number low carry false fits fits_too fits_three sum = omega arith
 
 -- the four words of eight bytes
 pub total_eight : (bytes : List ℕ) → length bytes ≡ 8
@@ -127,3 +118,62 @@ pub folded_front : (i value : ℕ) (front back bytes : List ℕ) → i % 2 ≡ 0
 folded_front i value front back bytes even is_front is_back long =
     folded_twice value (total front) (total back)
     ∙ ap (λ n. folded (value + n)) (total-front i front back bytes even is_front is_back long)
+
+-- a block that has a sum of its own
+pub folded_block : (i value word : ℕ) (front back bytes : List ℕ) → i % 2 ≡ 0 → front ≡ take i bytes → back ≡ drop i bytes → i ≤ length bytes
+    → folded (word * 256) ≡ folded (total front) → folded (folded (value + word * 256) + total back) ≡ folded (value + total bytes)
+folded_block i value word front back bytes even is_front is_back long same =
+    folded_twice value (word * 256) (total back)
+    ∙ ap folded (omega arith)
+    ∙ folded-add_alike (word * 256) (total front) (value + total back) (value + total back) same refl
+    ∙ ap folded (omega arith)
+    ∙ ap (λ n. folded (value + n)) (total-front i front back bytes even is_front is_back long)
+
+-- the last bytes of a slice are among its last eight, and the bytes before them are added after them
+pub folded_back : (rest value : ℕ) (front last bytes : List ℕ) → rest < 8 → 8 ≤ length bytes → (length bytes - rest) % 2 ≡ 0
+    → last ≡ drop (length bytes - 8) bytes → front ≡ take (length bytes - rest) bytes
+    → folded (folded (value + total (drop (8 - rest) last)) + total front) ≡ folded (value + total bytes)
+folded_back rest value front last bytes few long even is_last is_front =
+    let there : length bytes - 8 + (8 - rest) ≡ length bytes - rest = omega arith in
+    let back : drop (8 - rest) last ≡ drop (length bytes - rest) bytes =
+    ap (drop (8 - rest)) is_last ∙ drop-drop (8 - rest) (length bytes - 8) bytes ∙ ap (λ n. drop n bytes) there in
+    let whole = total-front (length bytes - rest) front (drop (8 - rest) last) bytes even is_front back (omega arith) in
+    folded_twice value (total (drop (8 - rest) last)) (total front)
+    ∙ ap (λ n. folded (value + n)) (omega arith)
+
+-- eight bytes as a little-endian number, without the bytes before the last ones
+end_of_eight : (b0 b1 b2 b3 b4 b5 b6 b7 count : ℕ) → b0 < 256 → b1 < 256 → b2 < 256 → b3 < 256 → b4 < 256 → b5 < 256 → b6 < 256 → b7 < 256 → count < 8
+    → folded (from_le_bytes w64 (b0 ∷ (b1 ∷ (b2 ∷ (b3 ∷ (b4 ∷ (b5 ∷ (b6 ∷ (b7 ∷ [])))))))) / 2 ^ 8 / 2 ^ (56 - 8 * count) * 256)
+    ≡ folded (total (drop (8 - count) (b0 ∷ (b1 ∷ (b2 ∷ (b3 ∷ (b4 ∷ (b5 ∷ (b6 ∷ (b7 ∷ []))))))))))
+end_of_eight b0 b1 b2 b3 b4 b5 b6 b7 zero f0 f1 f2 f3 f4 f5 f6 f7 few =
+    folded_congruent _ _ 0 (omega arith) (λ z. omega arith)
+end_of_eight b0 b1 b2 b3 b4 b5 b6 b7 (suc zero) f0 f1 f2 f3 f4 f5 f6 f7 few =
+    folded_congruent _ _ 0 (omega arith) (λ z. omega arith)
+end_of_eight b0 b1 b2 b3 b4 b5 b6 b7 (suc (suc zero)) f0 f1 f2 f3 f4 f5 f6 f7 few =
+    folded_congruent _ _ b7 (omega arith) (λ z. omega arith)
+end_of_eight b0 b1 b2 b3 b4 b5 b6 b7 (suc (suc (suc zero))) f0 f1 f2 f3 f4 f5 f6 f7 few =
+    folded_congruent _ _ (b6 + b7 * 256) (omega arith) (λ z. omega arith)
+end_of_eight b0 b1 b2 b3 b4 b5 b6 b7 (suc (suc (suc (suc zero)))) f0 f1 f2 f3 f4 f5 f6 f7 few =
+    folded_congruent _ _ (b5 + b6 * 256 + b7 * 65537) (omega arith) (λ z. omega arith)
+end_of_eight b0 b1 b2 b3 b4 b5 b6 b7 (suc (suc (suc (suc (suc zero))))) f0 f1 f2 f3 f4 f5 f6 f7 few =
+    folded_congruent _ _ (b4 + b5 * 256 + b6 * 65537 + b7 * 16777472) (omega arith) (λ z. omega arith)
+end_of_eight b0 b1 b2 b3 b4 b5 b6 b7 (suc (suc (suc (suc (suc (suc zero)))))) f0 f1 f2 f3 f4 f5 f6 f7 few =
+    folded_congruent _ _ (b3 + b4 * 256 + b5 * 65537 + b6 * 16777472 + b7 * 4295032833) (omega arith) (λ z. omega arith)
+end_of_eight b0 b1 b2 b3 b4 b5 b6 b7 (suc (suc (suc (suc (suc (suc (suc zero))))))) f0 f1 f2 f3 f4 f5 f6 f7 few =
+    folded_congruent _ _ (b2 + b3 * 256 + b4 * 65537 + b5 * 16777472 + b6 * 4295032833 + b7 * 1099528405248) (omega arith) (λ z. omega arith)
+end_of_eight b0 b1 b2 b3 b4 b5 b6 b7 (suc (suc (suc (suc (suc (suc (suc (suc count)))))))) f0 f1 f2 f3 f4 f5 f6 f7 few = absurd (omega arith)
+
+-- the last bytes of eight: the number of all eight, shifted down
+pub folded_end : (bytes : List ℕ) (count : ℕ) → length bytes ≡ 8 → count < 8 → ((place : ℕ) → slice_index bytes place < 256)
+    → folded (from_le_bytes w64 bytes / 2 ^ 8 / 2 ^ (56 - 8 * count) * 256) ≡ folded (total (drop (8 - count) bytes))
+folded_end (b0 ∷ (b1 ∷ (b2 ∷ (b3 ∷ (b4 ∷ (b5 ∷ (b6 ∷ (b7 ∷ [])))))))) count eight few fits =
+    end_of_eight b0 b1 b2 b3 b4 b5 b6 b7 count (fits 0) (fits 1) (fits 2) (fits 3) (fits 4) (fits 5) (fits 6) (fits 7) few
+folded_end [] count eight few fits = absurd (omega arith)
+folded_end (b0 ∷ []) count eight few fits = absurd (omega arith)
+folded_end (b0 ∷ (b1 ∷ [])) count eight few fits = absurd (omega arith)
+folded_end (b0 ∷ (b1 ∷ (b2 ∷ []))) count eight few fits = absurd (omega arith)
+folded_end (b0 ∷ (b1 ∷ (b2 ∷ (b3 ∷ [])))) count eight few fits = absurd (omega arith)
+folded_end (b0 ∷ (b1 ∷ (b2 ∷ (b3 ∷ (b4 ∷ []))))) count eight few fits = absurd (omega arith)
+folded_end (b0 ∷ (b1 ∷ (b2 ∷ (b3 ∷ (b4 ∷ (b5 ∷ [])))))) count eight few fits = absurd (omega arith)
+folded_end (b0 ∷ (b1 ∷ (b2 ∷ (b3 ∷ (b4 ∷ (b5 ∷ (b6 ∷ []))))))) count eight few fits = absurd (omega arith)
+folded_end (b0 ∷ (b1 ∷ (b2 ∷ (b3 ∷ (b4 ∷ (b5 ∷ (b6 ∷ (b7 ∷ (b8 ∷ rest))))))))) count eight few fits = absurd (omega arith)

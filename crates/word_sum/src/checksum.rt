@@ -23,25 +23,19 @@ ghost use Rattle.word_sum.specs.Checksum.{folded, total};
 /// ```
 #[derive(Clone, Copy)]
 pub struct Sum16BitWords {
-    // perf: little-endian numbers save a byte swap for each number. For 1,432 bytes `add_long` executes 509 instructions
-    // instead of 600, and `add_short` 500 instead of 984. callgrind counted them in Rust, compiled by rustc 1.95 for
-    // x86-64-v2 (26 Nov 2026).
+    // perf: little-endian numbers save a byte swap for each number.
     word: u64,
 }
 
-/// The length in bytes from which `add_long` is faster than `add_short`.
-// perf: for a shorter slice, the call and joining the two sums of `add_long` take longer than its loop saves. In Rust,
-// compiled by rustc 1.95 for x86-64-v2, `add_short` takes 8.1 ns for 128 bytes, 9.6 for 160 and 11.2 for 192, and
-// `add_long` 10.2, 11.1 and 12.1. Above 192 bytes `add_short` waits for its carries: with the fields and addresses of
-// UDP before it, 200 bytes take 16.1 ns and not 15.3 (27 Nov 2026). At 1,500 bytes they sum 12.3 and 22 to 26 GB/s
-// (23 Nov 2026).
-const LONG_LEN: usize = 192;
-
-/// The length of a part in bytes. The upper halves of its 8,192 numbers sum up to less than 2^45, and so do the lower halves.
-const PART_LEN: usize = 65_536;
+/// The length in bytes of a block, whose numbers are added with one chain of carries.
+// perf: a chain adds eight bytes by one instruction. In Rust, compiled by rustc 1.95 for x86-64-v2, the sum of 64, 200
+// and 256 bytes executes 58, 84 and 94 instructions. With a carry for each number up to 192 bytes, and above that two
+// sums without a carry, it executed 70, 161 and 174. With blocks of 64 bytes, 9,000 bytes take a seventh longer (27
+// Nov 2026).
+const BLOCK_LEN: usize = 128;
 
 impl Sum16BitWords {
-    ghost use Rattle.std.specs.Prelude.{◌%◌, ◌*◌, ◌++◌, List, ℕ};
+    ghost use Rattle.std.specs.Prelude.{◌%◌, ◌*◌, ◌-◌, ◌++◌, List, ℕ, drop};
     ghost use Rattle.std.specs.List.{concat};
     ghost use Rattle.word_sum.specs.Checksum.{complement, sum_of_pieces, zero_as_all_ones, AllEvenButLast};
     ghost use Rattle.word_sum.specs.SumValue.{sum_value};
@@ -88,11 +82,7 @@ impl Sum16BitWords {
         ensures pieces { (pieces : List (List ℕ)) → slice.now ≡ concat pieces → AllEvenButLast pieces →
             sum_value result ≡ sum_of_pieces (sum_value self) pieces }
     {
-        if slice.len() < LONG_LEN {
-            self.add_short(slice)
-        } else {
-            self.add_long(slice)
-        }
+        self.add_bytes(slice)
     }
 
     /// The checksum of the added data, as TCP and ICMP store it.
@@ -131,56 +121,98 @@ impl Sum16BitWords {
         }
     }
 
-    /// Adds a slice eight bytes at a time, each number with its carry.
-    #[inline]
-    fn add_short(self, slice: &[u8]) -> Sum16BitWords
+    /// Adds the words of a slice: its whole numbers of eight bytes, and the bytes after them.
+    #[inline(always)]
+    fn add_bytes(self, slice: &[u8]) -> Sum16BitWords
         ensures { sum_value result ≡ folded (sum_value self + total slice.now) }
     {
-        let mut sum = self;
-        let mut rest = slice;
-        while let Some((chunk, others)) = rest.split_first_chunk::<8>() {
-            sum = sum.add_8bytes(*chunk);
-            rest = others;
+        match slice.last_chunk::<8>() {
+            Some(last) => {
+                let end_len = slice.len() % 8;
+                self.add_end(last, end_len)
+                    .add_numbers(&slice[..slice.len() - end_len])
+            }
+            None => self.add_up_to_7bytes(slice),
         }
-        sum.add_up_to_7bytes(rest)
     }
 
-    /// Adds a slice part by part. It is never inlined, so that a short slice doesn't pay for it.
-    #[inline(never)]
-    fn add_long(self, slice: &[u8]) -> Sum16BitWords
-        ensures { sum_value result ≡ folded (sum_value self + total slice.now) }
+    /// Adds the last `count` of eight bytes.
+    #[inline(always)]
+    fn add_end(self, bytes: &[u8; 8], count: usize) -> Sum16BitWords
+        requires { count < 8 }
+        ensures { sum_value result ≡ folded (sum_value self + total (drop (8 - count) bytes.now)) }
     {
-        let mut sum = self;
-        let mut rest = slice;
-        while let Some((part, others)) = rest.split_first_chunk::<PART_LEN>() {
-            sum = sum.add_part(part);
-            rest = others;
-        }
-        sum.add_part(rest)
+        // The first byte is never added, and a number of 64 bits cannot be shifted by 64.
+        let number = u64::from_le_bytes(*bytes) >> 8;
+        self.add_number(number >> (56 - 8 * count))
     }
 
-    /// Adds the words of a part with two sums over its eight byte numbers: the numbers modulo 2^64, and their upper
-    /// halves. Neither sum needs a carry, so the compiler adds several numbers at once.
-    fn add_part(self, part: &[u8]) -> Sum16BitWords
-        requires { length part.now ≤ PART_LEN }
-        ensures { sum_value result ≡ folded (sum_value self + total part.now) }
+    /// Adds whole numbers of eight bytes.
+    #[inline(always)]
+    fn add_numbers(self, numbers: &[u8]) -> Sum16BitWords
+        requires { length numbers.now % 8 ≡ 0 }
+        ensures { sum_value result ≡ folded (sum_value self + total numbers.now) }
     {
-        let mut numbers = 0u64;
-        let mut upper = 0u64;
-        let mut rest = part;
-        while let Some((chunk, others)) = rest.split_first_chunk::<8>() {
-            let number = u64::from_le_bytes(*chunk);
-            numbers = numbers.wrapping_add(number);
-            upper += number >> 32;
+        let mut sum = self;
+        let mut rest = numbers;
+        while let Some((block, others)) = rest.split_first_chunk::<BLOCK_LEN>() {
+            // A block has a sum of its own, so it doesn't wait for the blocks before it.
+            let block_sum = Sum16BitWords::new().add_block(block);
+            sum = sum.add_number(block_sum.word);
             rest = others;
         }
-        // Subtracting the upper halves leaves the sum of the lower halves, which is less than 2^64. So it doesn't
-        // matter how often the sum of the numbers wrapped.
-        let lower = numbers.wrapping_sub(upper << 32);
-        // With end-around carry, 2^32 times a number is the number rotated by 32 bits.
-        self.add_number(upper.rotate_left(32))
-            .add_number(lower)
-            .add_up_to_7bytes(rest)
+        sum.add_short(rest)
+    }
+
+    /// Adds whole numbers of eight bytes that are shorter than a block.
+    #[inline(always)]
+    fn add_short(self, numbers: &[u8]) -> Sum16BitWords
+        requires whole { length numbers.now % 8 ≡ 0 }
+        requires short { length numbers.now < BLOCK_LEN }
+        ensures { sum_value result ≡ folded (sum_value self + total numbers.now) }
+    {
+        let (sum, rest) = self.add_front::<64>(numbers);
+        let (sum, rest) = sum.add_front::<32>(rest);
+        let (sum, rest) = sum.add_front::<16>(rest);
+        let (sum, _) = sum.add_front::<8>(rest);
+        sum
+    }
+
+    /// Adds the first `N` bytes if the slice has so many, and returns the sum and the bytes that are left.
+    #[inline(always)]
+    fn add_front<const N: usize>(self, numbers: &[u8]) -> (Sum16BitWords, &[u8])
+        requires whole { N % 8 ≡ 0 }
+        requires small { N < BLOCK_LEN }
+        requires twice { length numbers.now < 2 * N }
+        ensures sum { folded (sum_value result.0 + total result.1.now) ≡ folded (sum_value self + total numbers.now) }
+        ensures shorter { length result.1.now < N }
+        ensures whole { length result.1.now % 8 ≡ length numbers.now % 8 }
+    {
+        match numbers.split_first_chunk::<N>() {
+            Some((block, others)) => (self.add_block(block), others),
+            None => (self, numbers),
+        }
+    }
+
+    /// Adds the numbers of a block. Each carry is added to the next number, and the last carry at the low end.
+    #[inline(always)]
+    fn add_block<const N: usize>(self, block: &[u8; N]) -> Sum16BitWords
+        requires { N % 8 ≡ 0 }
+        ensures { sum_value result ≡ folded (sum_value self + total block.now) }
+    {
+        let mut word = self.word;
+        let mut carry = false;
+        let mut rest = block.as_slice();
+        while let Some((chunk, others)) = rest.split_first_chunk::<8>() {
+            let (sum, carried) = word.carrying_add(u64::from_le_bytes(*chunk), carry);
+            word = sum;
+            carry = carried;
+            rest = others;
+        }
+        // After a carry the word is at most 2^64 - 2, so this cannot overflow.
+        Sum16BitWords {
+            word: word + u64::from(carry),
+        }
     }
 
     /// Adds the last 0 to 7 bytes.
