@@ -6,7 +6,7 @@ use Rattle.std.proofs.Math.Logic.{⊎_elim}
 use Rattle.std.proofs.Math.Nat.{mod-eq_of_lt, mod-eq-sub-mod}
 use Rattle.std.proofs.lemmas.Bool.{cases_lt}
 use Rattle.std.proofs.lemmas.Bool.Decides.{nat_tests}
-use Rattle.std.specs.Int.{from_bool, from_le_bytes, swap_bytes, w16, w32, w64}
+use Rattle.std.specs.Int.{from_bool, from_le_bytes, swap_bytes, to_le_bytes, w16, w32, w64}
 use Rattle.word_sum.specs.Checksum.{folded, total}
 use Rattle.word_sum.proofs.ChecksumLemmas.{folded-none, folded-small, folded-some, folded_congruent, folded_twice, total-append, total_four, total_two}
 
@@ -104,6 +104,11 @@ folded_le_8 bytes eight =
     (slice_index bytes 1 + slice_index bytes 2 * 256 + (slice_index bytes 3 + slice_index bytes 4 * 256) * 65537
     + (slice_index bytes 5 + slice_index bytes 6 * 256) * 4295032833 + slice_index bytes 7 * 281479271743489)
     (omega arith) (λ z. omega arith)
+
+-- a sum of words, shifted by eight bits and written as four little-endian bytes, adds the words
+pub total_shifted : (words others : ℕ) → words < 2 ^ 24 → folded (others + total (to_le_bytes w32 (words * 2 ^ 8 % 2 ^ 32))) ≡ folded (others + words)
+total_shifted words others fits =
+    sym (folded_congruent (others + words) (others + total (to_le_bytes w32 (words * 2 ^ 8 % 2 ^ 32))) (words / 65536) (omega arith) (λ z. omega arith))
 
 -- a front of an even length, and the bytes after it
 pub total-front : (i : ℕ) (front back bytes : List ℕ) → i % 2 ≡ 0 → front ≡ take i bytes → back ≡ drop i bytes → i ≤ length bytes
