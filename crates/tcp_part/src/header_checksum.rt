@@ -176,12 +176,25 @@ fn checksum_post_ip(pseudo_header: Sum16BitWords, header: &[u8], payload: &[u8])
     ensures { result ≡ checksum_of (sum_value pseudo_header + (total (without_checksum header.now) + total payload.now)) }
 {
     let (front, back) = header.split_first_chunk::<16>().unwrap();
-    pseudo_header
+    let fields = pseudo_header
         .add_16bytes(*front)
-        .add_2bytes([back[2], back[3]])
-        .add_slice(&back[4..])
+        .add_2bytes([back[2], back[3]]);
+    add_options(fields, &back[4..])
         .add_slice(payload)
         .ones_complement()
+}
+
+/// Adds the words of the options. Most headers have none.
+// perf: adding no bytes is a call of 21 instructions (27 Nov 2026).
+#[inline(always)]
+pub(crate) fn add_options(sum: Sum16BitWords, options: &[u8]) -> Sum16BitWords
+    ensures { sum_value result ≡ folded (sum_value sum + total options.now) }
+{
+    if options.is_empty() {
+        sum
+    } else {
+        sum.add_slice(options)
+    }
 }
 
 /// Whether a pseudo header with this sum, and header and payload as received, sum up to all ones.

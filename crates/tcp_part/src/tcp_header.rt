@@ -2,7 +2,7 @@ ghost use Rattle.std.specs.Prelude.{◌≡◌, ◌+◌, ◌%◌, ◌≤◌, ◌+
 ghost use Rattle.tcp_part.specs.TcpFormat.{max_header_len, min_header_len};
 ghost use Rattle.tcp_part.specs.TcpOptions.{max_options_len};
 
-use crate::header_checksum::{len_over_ipv4, len_over_ipv6};
+use crate::header_checksum::{add_options, len_over_ipv4, len_over_ipv6};
 use crate::words::append_words;
 use crate::{
     TcpHeaderSlice, TcpOptionElement, TcpOptions, TcpOptionsIterator, TcpRawOptionsIterator,
@@ -467,7 +467,8 @@ impl TcpHeader {
         ensures sum { result ≡ checksum_of (sum_value pseudo_header + (total (without_checksum (wire self.now)) + total payload.now)) }
         ensures whole_words { length (wire self.now) % 4 ≡ 0 }
     {
-        // The sum of the fields of 16 bits fits into 32 bits, and a number of any width is equivalent to the sum of its words.
+        // The sum of the fields of 16 bits has less than 24 bits. A sum keeps its words with their bytes swapped, which is the
+        // same as shifting the number by eight bits.
         let offset_and_flags = u16::from_be_bytes([self.offset_byte(), self.flags_byte()]);
         let (window_size, urgent_pointer) = (self.window_size, self.urgent_pointer);
         let words = u32::from(self.source_port)
@@ -475,11 +476,11 @@ impl TcpHeader {
             + u32::from(offset_and_flags)
             + u32::from(window_size)
             + u32::from(urgent_pointer);
-        pseudo_header
-            .add_4bytes(words.to_be_bytes())
+        let fields = pseudo_header
+            .add_4bytes((words << 8).to_le_bytes())
             .add_4bytes(self.sequence_number.to_be_bytes())
-            .add_4bytes(self.acknowledgment_number.to_be_bytes())
-            .add_slice(self.options())
+            .add_4bytes(self.acknowledgment_number.to_be_bytes());
+        add_options(fields, self.options())
             .add_slice(payload)
             .ones_complement()
     }
