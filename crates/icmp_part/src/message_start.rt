@@ -9,22 +9,28 @@ use word_sum::checksum::Sum16BitWords;
 
 /// The first eight bytes of a header without the checksum: type, code, and bytes 4 to 7.
 ///
-/// Bytes 4 to 7 are kept as one number, so that each kind of message stores them in one width. If one kind stored
-/// single bytes and another kind words, reading them together would wait for the stores.
+/// Type and code are one number, and bytes 4 to 7 are one number, whose lowest byte is the first byte. So each kind of
+/// message makes them in one width, and the eight bytes are one number that is stored at once.
 #[derive(Drop)]
 pub(crate) struct MessageStart {
-    type_u8: u8,
-    code_u8: u8,
+    type_and_code: u16,
     bytes5to8: u32,
 }
 
 impl Model for MessageStart {
-    ghost use Rattle.std.specs.Int.{to_be_bytes, w32};
+    ghost use Rattle.std.specs.Prelude.{◌<◌, ◌%◌, ◌/◌, ◌^◌};
+    ghost use Rattle.std.specs.Int.{to_le_bytes, w32};
     ghost use Rattle.icmp_part.specs.MessageFormat.{Written};
 
     ghost Value = { Written };
 
-    ghost view = { λ start. record { type = start.type_u8; code = start.code_u8; fields = to_be_bytes w32 start.bytes5to8 } };
+    ghost view = { λ start. record {
+      type = start.type_and_code % 256;
+      code = start.type_and_code / 256;
+      fields = to_le_bytes w32 start.bytes5to8;
+    } };
+
+    ghost invariant = { λ start. (start.type_and_code < 2 ^ 16) × (start.bytes5to8 < 2 ^ 32) };
 }
 
 impl MessageStart {
@@ -34,15 +40,14 @@ impl MessageStart {
 
     /// The start with these fields.
     #[inline(always)]
-    #[tactic(auto, using(std::proofs::lemmas::Nat::be_bytes_4))]
+    #[tactic(auto, using(std::proofs::lemmas::Nat::le_bytes_4))]
     pub(crate) fn new(type_u8: u8, code_u8: u8, bytes5to8: [u8; 4]) -> MessageStart
         ensures made { result ≡ record { type = type_u8; code = code_u8; fields = bytes5to8 } }
         ensures fits { length bytes5to8 ≡ 4 }
     {
         MessageStart {
-            type_u8,
-            code_u8,
-            bytes5to8: u32::from_be_bytes(bytes5to8),
+            type_and_code: u16::from(type_u8) + u16::from(code_u8) * 0x100,
+            bytes5to8: u32::from_le_bytes(bytes5to8),
         }
     }
 
@@ -51,7 +56,7 @@ impl MessageStart {
     pub(crate) fn type_u8(self) -> u8
         ensures { result ≡ self.type }
     {
-        self.type_u8
+        (self.type_and_code % 0x100) as u8
     }
 
     /// The code (byte 1).
@@ -59,7 +64,7 @@ impl MessageStart {
     pub(crate) fn code_u8(self) -> u8
         ensures { result ≡ self.code }
     {
-        self.code_u8
+        (self.type_and_code / 0x100) as u8
     }
 
     /// The eight bytes with this checksum.
@@ -67,9 +72,12 @@ impl MessageStart {
     pub(crate) fn to_array(self, checksum: u16) -> [u8; 8]
         ensures { result ≡ header_bytes self checksum }
     {
-        let [high, low] = checksum.to_be_bytes();
-        let [a, b, c, d] = self.bytes5to8.to_be_bytes();
-        [self.type_u8, self.code_u8, high, low, a, b, c, d]
+        // perf: one number, so that the header is one move. As eight bytes it was eight moves, or sixteen instructions that
+        // joined them (27 Nov 2026).
+        let number = u64::from(self.type_and_code)
+            + u64::from(checksum.swap_bytes()) * 0x1_0000
+            + u64::from(self.bytes5to8) * 0x1_0000_0000;
+        number.to_le_bytes()
     }
 
     /// The same as a list with room for more bytes.
@@ -97,8 +105,8 @@ impl MessageStart {
     pub(crate) fn add_to(self, sum: Sum16BitWords) -> Sum16BitWords
         ensures { sum_value result ≡ folded (sum_value sum + total (header_bytes self 0)) }
     {
-        sum.add_2bytes([self.type_u8, self.code_u8])
-            .add_4bytes(self.bytes5to8.to_be_bytes())
+        sum.add_2bytes(self.type_and_code.to_le_bytes())
+            .add_4bytes(self.bytes5to8.to_le_bytes())
     }
 }
 
