@@ -10,10 +10,11 @@ use crate::icmpv6::{
     TYPE_PACKET_TOO_BIG, TYPE_PARAMETER_PROBLEM, TYPE_REDIRECT_MESSAGE, TYPE_ROUTER_ADVERTISEMENT,
     TYPE_ROUTER_SOLICITATION, TYPE_TIME_EXCEEDED, TimeExceededCode,
 };
+use crate::message_start::wrong_packet_length;
 use crate::quoted_packet::counted;
 use crate::{IcmpEchoHeader, Icmpv6Header, Icmpv6Type};
 use net_base::err::{Layer, LenError};
-use net_base::{ip_number, pseudo_header_ipv6, wrong_length};
+use net_base::{ip_number, pseudo_header_ipv6};
 use std::marker::Model;
 
 /// The bytes that 1 in the length field of an error stands for (RFC 4884, section 4).
@@ -72,10 +73,10 @@ impl<'a> Icmpv6Slice<'a> {
         ensures kept { IfOk result (λ packet. packet ≡ slice.now) }
     {
         if slice.len() < Icmpv6Header::MIN_LEN {
-            return Err(wrong_length(Layer::Icmpv6, Icmpv6Header::MIN_LEN, slice.len()));
+            return Err(wrong_packet_length(Layer::Icmpv6, Icmpv6Header::MIN_LEN, slice.len()));
         }
         if slice.len() > MAX_ICMPV6_BYTE_LEN {
-            return Err(wrong_length(Layer::Icmpv6, MAX_ICMPV6_BYTE_LEN, slice.len()));
+            return Err(wrong_packet_length(Layer::Icmpv6, MAX_ICMPV6_BYTE_LEN, slice.len()));
         }
         Ok(Icmpv6Slice { slice })
     }

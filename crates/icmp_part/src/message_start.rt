@@ -1,4 +1,5 @@
 ghost use Rattle.std.specs.Prelude.{◌≡◌, ◌+◌, ◌≤◌, ◌++◌, IfErr, IfOk, drop, length};
+ghost use Rattle.net_base.specs.Refusals as specs;
 ghost use Rattle.net_base.specs.Refusals.{RefusesExactly, no_room};
 
 use arrayvec::ArrayVec;
@@ -128,4 +129,14 @@ pub(crate) fn write_array<const N: usize>(
     };
     *front = bytes;
     Ok(N)
+}
+
+/// The error if a packet has this length and its layer requires another length, both in bytes.
+// perf: as a call, the refusal is out of the way of accepted packets, as in `UdpHeader::from_slice` (27 Nov 2026).
+#[cold]
+#[inline(never)]
+pub(crate) fn wrong_packet_length(layer: Layer, required_len: usize, len: usize) -> LenError
+    ensures { result ≡ specs.wrong_length layer required_len len }
+{
+    wrong_length(layer, required_len, len)
 }

@@ -1,3 +1,6 @@
+ghost use Rattle.std.specs.Prelude.{◌≡◌};
+ghost use Rattle.net_base.specs.Refusals as specs;
+
 use crate::{UdpHeader, UdpHeaderSlice};
 use net_base::err::{Layer, LenError};
 use net_base::{LenSource, ip_number, pseudo_header_ipv4, pseudo_header_ipv6, wrong_length};
@@ -32,7 +35,7 @@ impl<'a> Model for UdpSlice<'a> {
 }
 
 impl<'a> UdpSlice<'a> {
-    ghost use Rattle.std.specs.Prelude.{◌≡◌, ◌≢◌, ◌⊎◌, ◌≤◌, ◌%◌, ◌↔◌, List, ℕ, IfOk, IsOk, IsOkAnd, IsTrue, None, drop, length, take};
+    ghost use Rattle.std.specs.Prelude.{◌≢◌, ◌⊎◌, ◌≤◌, ◌%◌, ◌↔◌, List, ℕ, IfOk, IsOk, IsOkAnd, IsTrue, None, drop, length, take};
     ghost use Rattle.net_base.specs.Bytes.{be_number};
     ghost use Rattle.net_base.specs.Detection.{Detects};
     ghost use Rattle.net_base.specs.Refusals.{RefusesExactly};
@@ -59,16 +62,10 @@ impl<'a> UdpSlice<'a> {
             return Ok(UdpSlice { slice });
         }
         if slice.len() < length {
-            return Err(wrong_length(Layer::UdpPayload, length, slice.len()));
+            return Err(packet_cut_off(length, slice.len()));
         }
         if length < UdpHeader::LEN {
-            return Err(LenError {
-                required_len: UdpHeader::LEN,
-                len: length,
-                len_source: LenSource::UdpHeaderLen,
-                layer: Layer::UdpHeader,
-                layer_start_offset: 0,
-            });
+            return Err(length_below_header(length));
         }
         Ok(UdpSlice {
             slice: &slice[..length],
@@ -251,6 +248,37 @@ impl<'a> UdpSlice<'a> {
             length: self.length(),
             checksum: self.checksum(),
         }
+    }
+}
+
+/// The error if the length field, in bytes, is above the length of the slice.
+// perf: as a call, the refusal is out of the way of accepted packets, as in `UdpHeader::from_slice` (27 Nov 2026).
+#[cold]
+#[inline(never)]
+fn packet_cut_off(length: usize, len: usize) -> LenError
+    ensures { result ≡ specs.wrong_length Layer.UdpPayload length len }
+{
+    wrong_length(Layer::UdpPayload, length, len)
+}
+
+/// The error if the length field, in bytes, is below the length of a header.
+#[cold]
+#[inline(never)]
+fn length_below_header(length: usize) -> LenError
+    ensures { result ≡ record {
+      required_len = 8;
+      len = length;
+      len_source = LenSource.UdpHeaderLen;
+      layer = Layer.UdpHeader;
+      layer_start_offset = 0;
+    } }
+{
+    LenError {
+        required_len: UdpHeader::LEN,
+        len: length,
+        len_source: LenSource::UdpHeaderLen,
+        layer: Layer::UdpHeader,
+        layer_start_offset: 0,
     }
 }
 
