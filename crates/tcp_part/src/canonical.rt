@@ -3,7 +3,7 @@ ghost use Rattle.net_base.specs.Bytes.{IsBytes};
 ghost use Rattle.net_base.specs.Refusals.{RefusesExactly};
 ghost use Rattle.tcp_part.specs.TcpFormat.{DecodesAs, canonical, header_of, max_header_len, min_header_len, refusal, wire};
 
-use crate::words::append_words;
+use crate::words::append_words_after_half;
 use crate::{TcpHeader, TcpHeaderSlice};
 use arrayvec::ArrayVec;
 use net_base::err::tcp::HeaderSliceError;
@@ -42,12 +42,10 @@ fn cleared(header: &[u8]) -> ArrayVec<u8, 60>
     ensures fits { IsBytes header.now }
 {
     let (fields, options) = header.split_at(TcpHeader::MIN_LEN);
+    let mut fields: [u8; 20] = *fields.first_chunk::<20>().unwrap();
+    fields[OFFSET_AT] &= OFFSET_MASK;
     let mut bytes = ArrayVec::new();
-    bytes.try_extend_from_slice(&fields[..OFFSET_AT]).unwrap();
-    bytes.push(fields[OFFSET_AT] & OFFSET_MASK);
-    bytes
-        .try_extend_from_slice(&fields[OFFSET_AT + 1..])
-        .unwrap();
-    append_words(&mut bytes, options);
+    bytes.try_extend_from_slice(&fields).unwrap();
+    append_words_after_half(&mut bytes, options);
     bytes
 }

@@ -112,10 +112,14 @@ impl TcpOptions {
     }
 
     /// At most 40 bytes as options, padded with zeros to a multiple of 4.
+    // perf: whole words have constant lengths in each arm. A copy of another length is a call (27 Nov 2026).
     fn padded(slice: &[u8]) -> TcpOptions
         requires { length slice.now ≤ max_options_len }
         ensures { result ≡ pad slice.now }
     {
+        if slice.len() % 4 == 0 {
+            return TcpOptions::from_words(slice);
+        }
         let mut bytes = ArrayVec::new();
         bytes.try_extend_from_slice(slice).unwrap();
         append_padding(&mut bytes);

@@ -95,8 +95,8 @@ impl<'a> TcpRawOption<'a> {
     }
 
     /// The error for a wrong length of the kind.
-    #[cold]
-    #[inline(never)]
+    // perf: inlined. A call returns the error through memory, which was filled with zeros at every option (27 Nov 2026).
+    #[inline(always)]
     fn unexpected_size(&self) -> TcpOptionReadError
         ensures { result ≡ UnexpectedSize self.now.kind (length_byte self.now) }
     {
@@ -109,6 +109,8 @@ impl<'a> TcpRawOption<'a> {
 }
 
 /// A selective acknowledgement, from the length of its value.
+// perf: each array makes its own `Some` of two numbers. A pair or a `Some` that arrays share goes through memory, where it
+// is written and read in different parts, which takes long (27 Nov 2026).
 #[inline(always)]
 fn selective_acknowledgement(value: &[u8]) -> TcpOptionElement
     requires blocks { (length value.now ≡ 8) ⊎ ((length value.now ≡ 16) ⊎ ((length value.now ≡ 24) ⊎ (length value.now ≡ 32))) }
@@ -118,16 +120,29 @@ fn selective_acknowledgement(value: &[u8]) -> TcpOptionElement
     if value.len() == 8 {
         return TcpOptionElement::SelectiveAcknowledgement(first, [None, None, None]);
     }
-    let second = Some(pair_at(value, 8));
+    let second = pair_at(value, 8);
     if value.len() == 16 {
-        return TcpOptionElement::SelectiveAcknowledgement(first, [second, None, None]);
+        return TcpOptionElement::SelectiveAcknowledgement(
+            first,
+            [Some((second.0, second.1)), None, None],
+        );
     }
-    let third = Some(pair_at(value, 16));
+    let third = pair_at(value, 16);
     if value.len() == 24 {
-        return TcpOptionElement::SelectiveAcknowledgement(first, [second, third, None]);
+        return TcpOptionElement::SelectiveAcknowledgement(
+            first,
+            [Some((second.0, second.1)), Some((third.0, third.1)), None],
+        );
     }
-    let fourth = Some(pair_at(value, 24));
-    TcpOptionElement::SelectiveAcknowledgement(first, [second, third, fourth])
+    let fourth = pair_at(value, 24);
+    TcpOptionElement::SelectiveAcknowledgement(
+        first,
+        [
+            Some((second.0, second.1)),
+            Some((third.0, third.1)),
+            Some((fourth.0, fourth.1)),
+        ],
+    )
 }
 
 impl<'a> PartialEq for TcpRawOption<'a> {
