@@ -1,4 +1,4 @@
-use Rattle.std.proofs.Common.{◌≡◌, ◌+◌, ℕ, List, length, map, string_bytes}
+use Rattle.std.proofs.Common.{◌≡◌, ℕ, List, length, map, string_bytes}
 use Rattle.capture_report.specs.Words.{AreArguments, word_of}
 use Rattle.capture_report.proofs.words.words_of.Given as goal
 
