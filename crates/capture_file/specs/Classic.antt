@@ -101,8 +101,9 @@ version_refusal (Some form) bytes =
     refused_if (not (is_version_read (short_at form.0 bytes 4) (short_at form.0 bytes 6)))
     (Version (short_at form.0 bytes 4) (short_at form.0 bytes 6))
 
--- the errors of a header, in this order: a pcapng file, which begins with a block of this type; fewer than 24 bytes; no magic number that
--- is read; another version
+-- Why the header of a capture is rejected, if it is. The first of these reasons counts: the bytes begin with the type of a section header
+-- block, as a pcapng file does; there are fewer than 24 bytes; the first four bytes are no magic number that is read; the version is not
+-- read.
 abbrev pub header_refusal : List ℕ → Option CaptureHeaderError
 header_refusal bytes = first_of (
     refused_if (be_number bytes 0 4 == 0x0A0D0D0A) Pcapng

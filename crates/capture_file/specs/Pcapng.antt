@@ -32,7 +32,7 @@ order_by_magic bytes =
 abbrev pub lacks_magic : List ℕ → Bool
 lacks_magic bytes = is_section_header bytes && is_none (order_by_magic bytes)
 
--- the byte order of a block in a section with this byte order; a section header block has its own byte order, and begins another section
+-- the byte order of a block in a section with this byte order; a section header block states its own byte order, since it begins a section
 abbrev pub order_of : ByteOrder → List ℕ → ByteOrder
 order_of section bytes = if is_section_header bytes then unwrap_or (order_by_magic bytes) section else section
 
@@ -62,8 +62,8 @@ block_header section bytes = record {
 abbrev pub is_short_section : ByteOrder → List ℕ → Bool
 is_short_section section bytes = is_section_header bytes && nat_lt (block_len section bytes) 28
 
--- the errors of a header, in this order: fewer than the 12 bytes of every block; a section header block without a byte-order magic; a total
--- length that no block has; a total length below that of every section header block
+-- Why the header of a block is rejected, if it is. The first of these reasons counts: there are fewer than 12 bytes; a section header block
+-- has no byte-order magic; no block has this total length; a section header block with this total length ends within its fields.
 abbrev pub block_header_refusal : ByteOrder → List ℕ → Option BlockError
 block_header_refusal section bytes = first_of (
     refused_if (nat_lt (length bytes) 12) (CutOff 12 (length bytes))
@@ -72,7 +72,8 @@ block_header_refusal section bytes = first_of (
     ∷ refused_if (is_short_section section bytes) (SectionLength (block_len section bytes))
     ∷ [])
 
--- the errors of a block: the errors of its header, and then fewer bytes than the block contains, or another total length at its end
+-- Why a block is rejected, if it is. The first of these reasons counts: its header is rejected; there are fewer bytes than its total
+-- length; its last four bytes are another total length.
 abbrev pub block_refusal : ByteOrder → List ℕ → Option BlockError
 block_refusal section bytes =
     let len = block_len section bytes in

@@ -60,8 +60,8 @@ kind_object kind = option_object kind []
 abbrev pub IsOptionObject : RawOption → Data → Type 0
 IsOptionObject option value = (fields : List Member) × AreOptionFields option fields × (value ≡ option_object option.kind fields)
 
--- These are the objects of some bytes, read as options, and the fault after them: no object at the end of the bytes or at a fault; kind 0
--- at the end of the options; or the object of the first option, and then the objects of the rest.
+-- These are the objects of the options in some bytes, and the fault after them, if there is one. There is no object at the end of the bytes
+-- or at a fault. Kind 0 ends the options, and has the last object. Any other option has an object, and then come the objects of the rest.
 abbrev pub AreOptionObjects : List ℕ → List Data → Option TcpRawOptionError → Type 0
 AreOptionObjects bytes [] None = bytes ≡ []
 AreOptionObjects bytes [] (Some error) = raw_fault bytes ≡ Some error
