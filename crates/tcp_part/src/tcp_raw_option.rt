@@ -95,22 +95,29 @@ impl<'a> TcpRawOption<'a> {
     }
 
     /// The error for a wrong length of the kind.
-    // perf: inlined. A call returns the error through memory, which was filled with zeros at every option (27 Nov 2026).
+    // perf: only the number is a call. If the error is returned by a call, it goes through memory, which is filled with
+    // zeros at every option (27 Nov 2026).
     #[inline(always)]
     fn unexpected_size(&self) -> TcpOptionReadError
         ensures { result ≡ UnexpectedSize self.now.kind (length_byte self.now) }
     {
-        let size = u8::try_from(self.value.len() + 2).unwrap_or(u8::MAX);
         TcpOptionReadError::UnexpectedSize {
             option_id: self.kind,
-            size,
+            size: self.size_byte(),
         }
+    }
+
+    /// The length byte of the option, or 255 if its value is too long.
+    #[cold]
+    #[inline(never)]
+    fn size_byte(&self) -> u8
+        ensures { result ≡ length_byte self.now }
+    {
+        u8::try_from(self.value.len() + 2).unwrap_or(u8::MAX)
     }
 }
 
 /// A selective acknowledgement, from the length of its value.
-// perf: each array makes its own `Some` of two numbers. A pair or a `Some` that arrays share goes through memory, where it
-// is written and read in different parts, which takes long (27 Nov 2026).
 #[inline(always)]
 fn selective_acknowledgement(value: &[u8]) -> TcpOptionElement
     requires blocks { (length value.now ≡ 8) ⊎ ((length value.now ≡ 16) ⊎ ((length value.now ≡ 24) ⊎ (length value.now ≡ 32))) }
@@ -120,29 +127,16 @@ fn selective_acknowledgement(value: &[u8]) -> TcpOptionElement
     if value.len() == 8 {
         return TcpOptionElement::SelectiveAcknowledgement(first, [None, None, None]);
     }
-    let second = pair_at(value, 8);
+    let second = Some(pair_at(value, 8));
     if value.len() == 16 {
-        return TcpOptionElement::SelectiveAcknowledgement(
-            first,
-            [Some((second.0, second.1)), None, None],
-        );
+        return TcpOptionElement::SelectiveAcknowledgement(first, [second, None, None]);
     }
-    let third = pair_at(value, 16);
+    let third = Some(pair_at(value, 16));
     if value.len() == 24 {
-        return TcpOptionElement::SelectiveAcknowledgement(
-            first,
-            [Some((second.0, second.1)), Some((third.0, third.1)), None],
-        );
+        return TcpOptionElement::SelectiveAcknowledgement(first, [second, third, None]);
     }
-    let fourth = pair_at(value, 24);
-    TcpOptionElement::SelectiveAcknowledgement(
-        first,
-        [
-            Some((second.0, second.1)),
-            Some((third.0, third.1)),
-            Some((fourth.0, fourth.1)),
-        ],
-    )
+    let fourth = Some(pair_at(value, 24));
+    TcpOptionElement::SelectiveAcknowledgement(first, [second, third, fourth])
 }
 
 impl<'a> PartialEq for TcpRawOption<'a> {
