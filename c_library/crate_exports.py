@@ -8,6 +8,9 @@ TOP = pathlib.Path(__file__).resolve().parent.parent
 CRATE = TOP / "crates" / "etherparse_transport_c"
 HEADER = TOP / "c_library" / "include" / "etherparse_transport.h"
 SOURCES = [path.read_text() for path in sorted((CRATE / "src").rglob("*.rt"))]
+# A struct of one pointer is passed as that pointer, and a struct of one number is returned as that number (System V ABI for x86-64).
+# So these two are no structs in C.
+SCALARS = {"ErrorPlace": "&mut EtherparseError", "Answer": "u32"}
 
 
 def numbers():
@@ -47,17 +50,19 @@ def c_field(name):
 
 
 def structs():
-    """The name and the fields of each struct that crosses, a field as its name and its type."""
+    """The name and the fields of each struct of C, a field as its name and its type."""
     for text in SOURCES:
         for name, body in re.findall(r"#\[repr\(C\)\]\n(?:#[^\n]*\n)*pub struct (\w+) \{\n(.*?)\n\}", text, re.S):
-            yield name, re.findall(r"^    pub (\w+): (.*),$", body, re.M)
+            if name not in SCALARS:
+                yield name, re.findall(r"^    pub (\w+): (.*),$", body, re.M)
 
 
 def exports():
-    """The name, the types of the parameters, and the type of the result of each export."""
+    """The name, the types of the parameters, and the type of the result of each export, with a scalar for a struct of one field."""
     for text in SOURCES:
         for name, parameters, result in re.findall(r'pub extern "C" fn (\w+)\((.*?)\) -> (\w+)', text, re.S):
-            yield name, [found.strip() for found in re.findall(r"\w+: ([^,]*?\[[^\]]*\]|[^,]+)", parameters)], result
+            types = [found.strip() for found in re.findall(r"\w+: ([^,]*?\[[^\]]*\]|[^,]+)", parameters)]
+            yield name, [SCALARS.get(it, it) for it in types], SCALARS.get(result, result)
 
 
 def export_count():

@@ -313,7 +313,7 @@ typedef struct etherparse_ip_transport {
  * extension header ETHERPARSE_STATUS_IP_EXTENSION_CUT_OFF; ETHERPARSE_STATUS_IP_JUMBO_PAYLOAD_UNEXPECTED;
  * ETHERPARSE_STATUS_IP_JUMBO_PAYLOAD_FRAGMENT.
  */
-ETHERPARSE_CHECK_RESULT ETHERPARSE_NOT_NULL(3, 4)
+ETHERPARSE_CHECK_RESULT ETHERPARSE_NOT_NULL(3)
 etherparse_status etherparse_transport_in_ip(const uint8_t *bytes, size_t len, etherparse_ip_transport *transport,
                                              etherparse_error *error);
 
@@ -324,7 +324,7 @@ etherparse_status etherparse_transport_in_ip(const uint8_t *bytes, size_t len, e
  * of IPv6 with payload length 0, no jumbo payload length and another next header than 59 (no next header). Then is_length_missing is 1.
  * The other call always sets it to 0.
  */
-ETHERPARSE_CHECK_RESULT ETHERPARSE_NOT_NULL(3, 4)
+ETHERPARSE_CHECK_RESULT ETHERPARSE_NOT_NULL(3)
 etherparse_status etherparse_transport_in_ip_lax(const uint8_t *bytes, size_t len, etherparse_ip_transport *transport,
                                                  etherparse_error *error);
 
@@ -342,7 +342,7 @@ typedef struct etherparse_ip_addresses {
  * In this order: ETHERPARSE_STATUS_IP_HEADER_CUT_OFF: no bytes. ETHERPARSE_STATUS_IP_VERSION. Of IPv4 as
  * etherparse_ipv4_header_checksum refuses. Of IPv6 ETHERPARSE_STATUS_IP_HEADER_CUT_OFF: fewer than 40 bytes.
  */
-ETHERPARSE_CHECK_RESULT ETHERPARSE_NOT_NULL(3, 4)
+ETHERPARSE_CHECK_RESULT ETHERPARSE_NOT_NULL(3)
 etherparse_status etherparse_ip_header_addresses(const uint8_t *bytes, size_t len, etherparse_ip_addresses *addresses,
                                                  etherparse_error *error);
 
@@ -354,7 +354,7 @@ etherparse_status etherparse_ip_header_addresses(const uint8_t *bytes, size_t le
  * ETHERPARSE_STATUS_IP_HEADER_CUT_OFF: fewer than 20 bytes. ETHERPARSE_STATUS_IP_HEADER_LENGTH.
  * ETHERPARSE_STATUS_IP_HEADER_CUT_OFF: fewer bytes than the header length.
  */
-ETHERPARSE_CHECK_RESULT ETHERPARSE_NOT_NULL(3, 4)
+ETHERPARSE_CHECK_RESULT ETHERPARSE_NOT_NULL(3)
 etherparse_status etherparse_ipv4_header_checksum(const uint8_t *bytes, size_t len, uint16_t *checksum, etherparse_error *error);
 
 /*
@@ -363,7 +363,7 @@ etherparse_status etherparse_ipv4_header_checksum(const uint8_t *bytes, size_t l
  *
  * Refused as by etherparse_ipv4_header_checksum; the bytes are as they were.
  */
-ETHERPARSE_CHECK_RESULT ETHERPARSE_NOT_NULL(3)
+ETHERPARSE_CHECK_RESULT
 etherparse_status etherparse_ipv4_header_checksum_store(uint8_t *bytes, size_t len, etherparse_error *error);
 
 /*
@@ -372,7 +372,7 @@ etherparse_status etherparse_ipv4_header_checksum_store(uint8_t *bytes, size_t l
  *
  * Else refused as by etherparse_ipv4_header_checksum.
  */
-ETHERPARSE_CHECK_RESULT ETHERPARSE_NOT_NULL(3)
+ETHERPARSE_CHECK_RESULT
 etherparse_status etherparse_ipv4_header_checksum_test(const uint8_t *bytes, size_t len, etherparse_error *error);
 
 /*
@@ -409,14 +409,14 @@ typedef struct etherparse_ip_packet {
  * Refused as by etherparse_transport_in_ip; then as by the call that reads the protocol's packet, etherparse_udp_packet_read and so on.
  * layer_start_offset counts from the first byte of the IP packet.
  */
-ETHERPARSE_CHECK_RESULT ETHERPARSE_NOT_NULL(3, 4)
+ETHERPARSE_CHECK_RESULT ETHERPARSE_NOT_NULL(3)
 etherparse_status etherparse_packet_verdict(const uint8_t *bytes, size_t len, etherparse_ip_packet *packet, etherparse_error *error);
 
 /*
  * The same of a packet that is perhaps cut off: refused as by etherparse_transport_in_ip_lax, and of UDP in a packet that is cut off as
  * by etherparse_udp_packet_read_lax.
  */
-ETHERPARSE_CHECK_RESULT ETHERPARSE_NOT_NULL(3, 4)
+ETHERPARSE_CHECK_RESULT ETHERPARSE_NOT_NULL(3)
 etherparse_status etherparse_packet_verdict_lax(const uint8_t *bytes, size_t len, etherparse_ip_packet *packet,
                                                 etherparse_error *error);
 
@@ -448,7 +448,7 @@ typedef struct etherparse_udp_packet {
  * ETHERPARSE_STATUS_LENGTH, in this order: fewer than 8 bytes; a length field that counts more bytes than there are; a length field
  * of 1 to 7.
  */
-ETHERPARSE_CHECK_RESULT ETHERPARSE_NOT_NULL(3, 4)
+ETHERPARSE_CHECK_RESULT ETHERPARSE_NOT_NULL(3)
 etherparse_status etherparse_udp_packet_read(const uint8_t *bytes, size_t len, etherparse_udp_packet *packet,
                                              etherparse_error *error);
 
@@ -458,7 +458,7 @@ etherparse_status etherparse_udp_packet_read(const uint8_t *bytes, size_t len, e
  *
  * ETHERPARSE_STATUS_LENGTH: fewer than 8 bytes.
  */
-ETHERPARSE_CHECK_RESULT ETHERPARSE_NOT_NULL(3, 4)
+ETHERPARSE_CHECK_RESULT ETHERPARSE_NOT_NULL(3)
 etherparse_status etherparse_udp_packet_read_lax(const uint8_t *bytes, size_t len, etherparse_udp_packet *packet,
                                                  etherparse_error *error);
 
@@ -468,7 +468,7 @@ etherparse_status etherparse_udp_packet_read_lax(const uint8_t *bytes, size_t le
  *
  * ETHERPARSE_STATUS_BUFFER_TOO_SMALL: fewer than 8 bytes.
  */
-ETHERPARSE_CHECK_RESULT ETHERPARSE_NOT_NULL(1, 4, 5)
+ETHERPARSE_CHECK_RESULT ETHERPARSE_NOT_NULL(1, 4)
 etherparse_status etherparse_udp_header_write(const etherparse_udp_header *header, uint8_t *buffer, size_t buffer_len,
                                               size_t *written, etherparse_error *error);
 
@@ -479,10 +479,10 @@ etherparse_status etherparse_udp_header_write(const etherparse_udp_header *heade
  * Refused as by etherparse_udp_packet_read; then ETHERPARSE_STATUS_VALUE_TOO_BIG: the payload is longer than 65,527 bytes over
  * IPv4, or than 4,294,967,287 over IPv6, which the pseudo header can not count.
  */
-ETHERPARSE_CHECK_RESULT ETHERPARSE_NOT_NULL(3, 4, 5, 6)
+ETHERPARSE_CHECK_RESULT ETHERPARSE_NOT_NULL(3, 4, 5)
 etherparse_status etherparse_udp_checksum_ipv4(const uint8_t *bytes, size_t len, const uint8_t source[4],
                                                const uint8_t destination[4], uint16_t *checksum, etherparse_error *error);
-ETHERPARSE_CHECK_RESULT ETHERPARSE_NOT_NULL(3, 4, 5, 6)
+ETHERPARSE_CHECK_RESULT ETHERPARSE_NOT_NULL(3, 4, 5)
 etherparse_status etherparse_udp_checksum_ipv6(const uint8_t *bytes, size_t len, const uint8_t source[16],
                                                const uint8_t destination[16], uint16_t *checksum, etherparse_error *error);
 
@@ -492,10 +492,10 @@ etherparse_status etherparse_udp_checksum_ipv6(const uint8_t *bytes, size_t len,
  *
  * Refused as by them; the bytes are as they were.
  */
-ETHERPARSE_CHECK_RESULT ETHERPARSE_NOT_NULL(3, 4, 5)
+ETHERPARSE_CHECK_RESULT ETHERPARSE_NOT_NULL(3, 4)
 etherparse_status etherparse_udp_checksum_store_ipv4(uint8_t *bytes, size_t len, const uint8_t source[4],
                                                      const uint8_t destination[4], etherparse_error *error);
-ETHERPARSE_CHECK_RESULT ETHERPARSE_NOT_NULL(3, 4, 5)
+ETHERPARSE_CHECK_RESULT ETHERPARSE_NOT_NULL(3, 4)
 etherparse_status etherparse_udp_checksum_store_ipv6(uint8_t *bytes, size_t len, const uint8_t source[16],
                                                      const uint8_t destination[16], etherparse_error *error);
 
@@ -506,10 +506,10 @@ etherparse_status etherparse_udp_checksum_store_ipv6(uint8_t *bytes, size_t len,
  *
  * Else refused as by etherparse_udp_checksum_ipv4 and etherparse_udp_checksum_ipv6.
  */
-ETHERPARSE_CHECK_RESULT ETHERPARSE_NOT_NULL(3, 4, 5)
+ETHERPARSE_CHECK_RESULT ETHERPARSE_NOT_NULL(3, 4)
 etherparse_status etherparse_udp_checksum_test_ipv4(const uint8_t *bytes, size_t len, const uint8_t source[4],
                                                     const uint8_t destination[4], etherparse_error *error);
-ETHERPARSE_CHECK_RESULT ETHERPARSE_NOT_NULL(3, 4, 5)
+ETHERPARSE_CHECK_RESULT ETHERPARSE_NOT_NULL(3, 4)
 etherparse_status etherparse_udp_checksum_test_ipv6(const uint8_t *bytes, size_t len, const uint8_t source[16],
                                                     const uint8_t destination[16], etherparse_error *error);
 
@@ -561,7 +561,7 @@ typedef struct etherparse_tcp_packet {
  * In this order: ETHERPARSE_STATUS_LENGTH: fewer than 20 bytes. ETHERPARSE_STATUS_DATA_OFFSET: a data offset below 5.
  * ETHERPARSE_STATUS_LENGTH: fewer bytes than the data offset counts.
  */
-ETHERPARSE_CHECK_RESULT ETHERPARSE_NOT_NULL(3, 4)
+ETHERPARSE_CHECK_RESULT ETHERPARSE_NOT_NULL(3)
 etherparse_status etherparse_tcp_packet_read(const uint8_t *bytes, size_t len, etherparse_tcp_packet *packet,
                                              etherparse_error *error);
 
@@ -572,7 +572,7 @@ etherparse_status etherparse_tcp_packet_read(const uint8_t *bytes, size_t len, e
  *
  * In this order: ETHERPARSE_STATUS_OPTIONS_TOO_LONG, ETHERPARSE_STATUS_FLAGS_UNKNOWN, ETHERPARSE_STATUS_BUFFER_TOO_SMALL.
  */
-ETHERPARSE_CHECK_RESULT ETHERPARSE_NOT_NULL(1, 6, 7)
+ETHERPARSE_CHECK_RESULT ETHERPARSE_NOT_NULL(1, 6)
 etherparse_status etherparse_tcp_header_write(const etherparse_tcp_header *header, const uint8_t *options, size_t options_len,
                                               uint8_t *buffer, size_t buffer_len, size_t *written, etherparse_error *error);
 
@@ -582,7 +582,7 @@ etherparse_status etherparse_tcp_header_write(const etherparse_tcp_header *heade
  *
  * In this order: refused as by etherparse_tcp_packet_read; ETHERPARSE_STATUS_FLAGS_UNKNOWN. The bytes are as they were.
  */
-ETHERPARSE_CHECK_RESULT ETHERPARSE_NOT_NULL(1, 4)
+ETHERPARSE_CHECK_RESULT ETHERPARSE_NOT_NULL(1)
 etherparse_status etherparse_tcp_header_store(const etherparse_tcp_header *header, uint8_t *bytes, size_t len, etherparse_error *error);
 
 /*
@@ -591,10 +591,10 @@ etherparse_status etherparse_tcp_header_store(const etherparse_tcp_header *heade
  * Refused as by etherparse_tcp_packet_read; then ETHERPARSE_STATUS_VALUE_TOO_BIG: the packet is longer than 65,535 bytes over IPv4,
  * or than 4,294,967,295 over IPv6, which the pseudo header can not count. `actual` and `max_allowed` are lengths of the payload.
  */
-ETHERPARSE_CHECK_RESULT ETHERPARSE_NOT_NULL(3, 4, 5, 6)
+ETHERPARSE_CHECK_RESULT ETHERPARSE_NOT_NULL(3, 4, 5)
 etherparse_status etherparse_tcp_checksum_ipv4(const uint8_t *bytes, size_t len, const uint8_t source[4],
                                                const uint8_t destination[4], uint16_t *checksum, etherparse_error *error);
-ETHERPARSE_CHECK_RESULT ETHERPARSE_NOT_NULL(3, 4, 5, 6)
+ETHERPARSE_CHECK_RESULT ETHERPARSE_NOT_NULL(3, 4, 5)
 etherparse_status etherparse_tcp_checksum_ipv6(const uint8_t *bytes, size_t len, const uint8_t source[16],
                                                const uint8_t destination[16], uint16_t *checksum, etherparse_error *error);
 
@@ -604,10 +604,10 @@ etherparse_status etherparse_tcp_checksum_ipv6(const uint8_t *bytes, size_t len,
  *
  * Refused as by them; the bytes are as they were.
  */
-ETHERPARSE_CHECK_RESULT ETHERPARSE_NOT_NULL(3, 4, 5)
+ETHERPARSE_CHECK_RESULT ETHERPARSE_NOT_NULL(3, 4)
 etherparse_status etherparse_tcp_checksum_store_ipv4(uint8_t *bytes, size_t len, const uint8_t source[4],
                                                      const uint8_t destination[4], etherparse_error *error);
-ETHERPARSE_CHECK_RESULT ETHERPARSE_NOT_NULL(3, 4, 5)
+ETHERPARSE_CHECK_RESULT ETHERPARSE_NOT_NULL(3, 4)
 etherparse_status etherparse_tcp_checksum_store_ipv6(uint8_t *bytes, size_t len, const uint8_t source[16],
                                                      const uint8_t destination[16], etherparse_error *error);
 
@@ -616,10 +616,10 @@ etherparse_status etherparse_tcp_checksum_store_ipv6(uint8_t *bytes, size_t len,
  *
  * Else refused as by etherparse_tcp_checksum_ipv4 and etherparse_tcp_checksum_ipv6.
  */
-ETHERPARSE_CHECK_RESULT ETHERPARSE_NOT_NULL(3, 4, 5)
+ETHERPARSE_CHECK_RESULT ETHERPARSE_NOT_NULL(3, 4)
 etherparse_status etherparse_tcp_checksum_test_ipv4(const uint8_t *bytes, size_t len, const uint8_t source[4],
                                                     const uint8_t destination[4], etherparse_error *error);
-ETHERPARSE_CHECK_RESULT ETHERPARSE_NOT_NULL(3, 4, 5)
+ETHERPARSE_CHECK_RESULT ETHERPARSE_NOT_NULL(3, 4)
 etherparse_status etherparse_tcp_checksum_test_ipv6(const uint8_t *bytes, size_t len, const uint8_t source[16],
                                                     const uint8_t destination[16], etherparse_error *error);
 
@@ -650,7 +650,7 @@ typedef struct etherparse_tcp_option {
  * ETHERPARSE_STATUS_OPTION_SIZE and ETHERPARSE_STATUS_OPTION_CUT_OFF. After the end and after a fault *place is options_len, so
  * that every further call answers ETHERPARSE_STATUS_OPTIONS_END; *option is as it was.
  */
-ETHERPARSE_CHECK_RESULT ETHERPARSE_NOT_NULL(3, 4, 5)
+ETHERPARSE_CHECK_RESULT ETHERPARSE_NOT_NULL(3, 4)
 etherparse_status etherparse_tcp_option_next(const uint8_t *options, size_t options_len, size_t *place,
                                              etherparse_tcp_option *option, etherparse_error *error);
 
@@ -668,7 +668,7 @@ typedef struct etherparse_tcp_raw_option {
  * The faults are ETHERPARSE_STATUS_OPTION_SIZE: a length byte below 2; and ETHERPARSE_STATUS_OPTION_CUT_OFF: no length byte is
  * left, or fewer bytes than it counts.
  */
-ETHERPARSE_CHECK_RESULT ETHERPARSE_NOT_NULL(3, 4, 5)
+ETHERPARSE_CHECK_RESULT ETHERPARSE_NOT_NULL(3, 4)
 etherparse_status etherparse_tcp_raw_option_next(const uint8_t *options, size_t options_len, size_t *place,
                                                  etherparse_tcp_raw_option *option, etherparse_error *error);
 
@@ -681,7 +681,7 @@ etherparse_status etherparse_tcp_raw_option_next(const uint8_t *options, size_t 
  * or ETHERPARSE_STATUS_OPTION_VALUES of the first that is no option. ETHERPARSE_STATUS_OPTIONS_TOO_LONG: more than 40 bytes; `len`
  * is their number. ETHERPARSE_STATUS_BUFFER_TOO_SMALL.
  */
-ETHERPARSE_CHECK_RESULT ETHERPARSE_NOT_NULL(5, 6)
+ETHERPARSE_CHECK_RESULT ETHERPARSE_NOT_NULL(5)
 etherparse_status etherparse_tcp_options_write(const etherparse_tcp_option *options, size_t option_count, uint8_t *buffer,
                                                size_t buffer_len, size_t *written, etherparse_error *error);
 
@@ -733,7 +733,7 @@ typedef struct etherparse_icmpv4_packet {
  * ETHERPARSE_STATUS_LENGTH, in this order: fewer than 8 bytes; a timestamp message or its reply, of code 0, that is not 20 bytes
  * long.
  */
-ETHERPARSE_CHECK_RESULT ETHERPARSE_NOT_NULL(3, 4)
+ETHERPARSE_CHECK_RESULT ETHERPARSE_NOT_NULL(3)
 etherparse_status etherparse_icmpv4_packet_read(const uint8_t *bytes, size_t len, etherparse_icmpv4_packet *packet,
                                                 etherparse_error *error);
 
@@ -747,7 +747,7 @@ etherparse_status etherparse_icmpv4_packet_read(const uint8_t *bytes, size_t len
  *
  * In this order: ETHERPARSE_STATUS_MESSAGE_UNKNOWN, ETHERPARSE_STATUS_BUFFER_TOO_SMALL.
  */
-ETHERPARSE_CHECK_RESULT ETHERPARSE_NOT_NULL(1, 4, 5)
+ETHERPARSE_CHECK_RESULT ETHERPARSE_NOT_NULL(1, 4)
 etherparse_status etherparse_icmpv4_header_write(const etherparse_icmpv4_header *header, uint8_t *buffer, size_t buffer_len,
                                                  size_t *written, etherparse_error *error);
 
@@ -756,7 +756,7 @@ etherparse_status etherparse_icmpv4_header_write(const etherparse_icmpv4_header 
  *
  * Refused as by etherparse_icmpv4_packet_read.
  */
-ETHERPARSE_CHECK_RESULT ETHERPARSE_NOT_NULL(3, 4)
+ETHERPARSE_CHECK_RESULT ETHERPARSE_NOT_NULL(3)
 etherparse_status etherparse_icmpv4_checksum(const uint8_t *bytes, size_t len, uint16_t *checksum, etherparse_error *error);
 
 /*
@@ -765,7 +765,7 @@ etherparse_status etherparse_icmpv4_checksum(const uint8_t *bytes, size_t len, u
  *
  * Refused as by etherparse_icmpv4_packet_read; the bytes are as they were.
  */
-ETHERPARSE_CHECK_RESULT ETHERPARSE_NOT_NULL(3)
+ETHERPARSE_CHECK_RESULT
 etherparse_status etherparse_icmpv4_checksum_store(uint8_t *bytes, size_t len, etherparse_error *error);
 
 /*
@@ -773,7 +773,7 @@ etherparse_status etherparse_icmpv4_checksum_store(uint8_t *bytes, size_t len, e
  *
  * Else refused as by etherparse_icmpv4_packet_read.
  */
-ETHERPARSE_CHECK_RESULT ETHERPARSE_NOT_NULL(3)
+ETHERPARSE_CHECK_RESULT
 etherparse_status etherparse_icmpv4_checksum_test(const uint8_t *bytes, size_t len, etherparse_error *error);
 
 /* ---- ICMPv6 (RFC 4443; RFC 4861) ------------------------------------------------------------------------------------------ */
@@ -834,7 +834,7 @@ typedef struct etherparse_icmpv6_packet {
  *
  * ETHERPARSE_STATUS_LENGTH, in this order: fewer than 8 bytes; more than 4,294,967,295.
  */
-ETHERPARSE_CHECK_RESULT ETHERPARSE_NOT_NULL(3, 4)
+ETHERPARSE_CHECK_RESULT ETHERPARSE_NOT_NULL(3)
 etherparse_status etherparse_icmpv6_packet_read(const uint8_t *bytes, size_t len, etherparse_icmpv6_packet *packet,
                                                 etherparse_error *error);
 
@@ -848,7 +848,7 @@ etherparse_status etherparse_icmpv6_packet_read(const uint8_t *bytes, size_t len
  *
  * In this order: ETHERPARSE_STATUS_MESSAGE_UNKNOWN, ETHERPARSE_STATUS_BUFFER_TOO_SMALL.
  */
-ETHERPARSE_CHECK_RESULT ETHERPARSE_NOT_NULL(1, 4, 5)
+ETHERPARSE_CHECK_RESULT ETHERPARSE_NOT_NULL(1, 4)
 etherparse_status etherparse_icmpv6_header_write(const etherparse_icmpv6_header *header, uint8_t *buffer, size_t buffer_len,
                                                  size_t *written, etherparse_error *error);
 
@@ -858,7 +858,7 @@ etherparse_status etherparse_icmpv6_header_write(const etherparse_icmpv6_header 
  *
  * Refused as by etherparse_icmpv6_packet_read.
  */
-ETHERPARSE_CHECK_RESULT ETHERPARSE_NOT_NULL(3, 4, 5, 6)
+ETHERPARSE_CHECK_RESULT ETHERPARSE_NOT_NULL(3, 4, 5)
 etherparse_status etherparse_icmpv6_checksum(const uint8_t *bytes, size_t len, const uint8_t source[16],
                                              const uint8_t destination[16], uint16_t *checksum, etherparse_error *error);
 
@@ -868,7 +868,7 @@ etherparse_status etherparse_icmpv6_checksum(const uint8_t *bytes, size_t len, c
  *
  * Refused as by etherparse_icmpv6_packet_read; the bytes are as they were.
  */
-ETHERPARSE_CHECK_RESULT ETHERPARSE_NOT_NULL(3, 4, 5)
+ETHERPARSE_CHECK_RESULT ETHERPARSE_NOT_NULL(3, 4)
 etherparse_status etherparse_icmpv6_checksum_store(uint8_t *bytes, size_t len, const uint8_t source[16],
                                                    const uint8_t destination[16], etherparse_error *error);
 
@@ -877,7 +877,7 @@ etherparse_status etherparse_icmpv6_checksum_store(uint8_t *bytes, size_t len, c
  *
  * Else refused as by etherparse_icmpv6_packet_read.
  */
-ETHERPARSE_CHECK_RESULT ETHERPARSE_NOT_NULL(3, 4, 5)
+ETHERPARSE_CHECK_RESULT ETHERPARSE_NOT_NULL(3, 4)
 etherparse_status etherparse_icmpv6_checksum_test(const uint8_t *bytes, size_t len, const uint8_t source[16],
                                                   const uint8_t destination[16], etherparse_error *error);
 
@@ -900,13 +900,13 @@ etherparse_status etherparse_icmpv6_checksum_test(const uint8_t *bytes, size_t l
  * ETHERPARSE_STATUS_ECHO_HEADER_CHECKSUM_WRONG. ETHERPARSE_STATUS_ECHO_REQUEST_SOURCE. ETHERPARSE_STATUS_ECHO_REPLY_SOURCE. The
  * bytes and *reply_len are as they were.
  */
-ETHERPARSE_CHECK_RESULT ETHERPARSE_NOT_NULL(4, 5)
+ETHERPARSE_CHECK_RESULT ETHERPARSE_NOT_NULL(4)
 etherparse_status etherparse_echo_answer(uint8_t *packet, size_t packet_len, uint8_t hop_limit, size_t *reply_len,
                                          etherparse_error *error);
-ETHERPARSE_CHECK_RESULT ETHERPARSE_NOT_NULL(3, 5, 6)
+ETHERPARSE_CHECK_RESULT ETHERPARSE_NOT_NULL(3, 5)
 etherparse_status etherparse_echo_answer_ipv4(uint8_t *packet, size_t packet_len, const uint8_t source[4], uint8_t time_to_live,
                                               size_t *reply_len, etherparse_error *error);
-ETHERPARSE_CHECK_RESULT ETHERPARSE_NOT_NULL(3, 5, 6)
+ETHERPARSE_CHECK_RESULT ETHERPARSE_NOT_NULL(3, 5)
 etherparse_status etherparse_echo_answer_ipv6(uint8_t *packet, size_t packet_len, const uint8_t source[16], uint8_t hop_limit,
                                               size_t *reply_len, etherparse_error *error);
 
@@ -925,7 +925,7 @@ etherparse_status etherparse_echo_answer_ipv6(uint8_t *packet, size_t packet_len
  *
  * The checksums of the request are not tested.
  */
-ETHERPARSE_CHECK_RESULT ETHERPARSE_NOT_NULL(5)
+ETHERPARSE_CHECK_RESULT
 etherparse_status etherparse_echo_is_reply(const uint8_t *request, size_t request_len, const uint8_t *reply, size_t reply_len,
                                            etherparse_error *error);
 
@@ -944,10 +944,10 @@ etherparse_status etherparse_echo_is_reply(const uint8_t *request, size_t reques
  * In this order: refused as by etherparse_icmpv4_packet_read or etherparse_icmpv6_packet_read. ETHERPARSE_STATUS_NO_ICMP_ERROR.
  * *offset and *len are as they were.
  */
-ETHERPARSE_CHECK_RESULT ETHERPARSE_NOT_NULL(3, 4, 5)
+ETHERPARSE_CHECK_RESULT ETHERPARSE_NOT_NULL(3, 4)
 etherparse_status etherparse_icmpv4_quoted_packet(const uint8_t *bytes, size_t bytes_len, size_t *offset, size_t *len,
                                                   etherparse_error *error);
-ETHERPARSE_CHECK_RESULT ETHERPARSE_NOT_NULL(3, 4, 5)
+ETHERPARSE_CHECK_RESULT ETHERPARSE_NOT_NULL(3, 4)
 etherparse_status etherparse_icmpv6_quoted_packet(const uint8_t *bytes, size_t bytes_len, size_t *offset, size_t *len,
                                                   etherparse_error *error);
 
@@ -999,10 +999,10 @@ typedef struct etherparse_ipv6_translation {
  * ETHERPARSE_STATUS_TRANSLATE_QUOTED_PACKET: the packet that an ICMP error is about is refused up to its protocol. The bytes are as they
  * were.
  */
-ETHERPARSE_CHECK_RESULT ETHERPARSE_NOT_NULL(3, 4)
+ETHERPARSE_CHECK_RESULT ETHERPARSE_NOT_NULL(3)
 etherparse_status etherparse_translate_ipv4(uint8_t *packet, size_t packet_len, const etherparse_ipv4_translation *translation,
                                             etherparse_error *error);
-ETHERPARSE_CHECK_RESULT ETHERPARSE_NOT_NULL(3, 4)
+ETHERPARSE_CHECK_RESULT ETHERPARSE_NOT_NULL(3)
 etherparse_status etherparse_translate_ipv6(uint8_t *packet, size_t packet_len, const etherparse_ipv6_translation *translation,
                                             etherparse_error *error);
 
@@ -1016,7 +1016,7 @@ etherparse_status etherparse_translate_ipv6(uint8_t *packet, size_t packet_len, 
  * In this order: ETHERPARSE_STATUS_PROTOCOL_UNKNOWN; ETHERPARSE_STATUS_LENGTH or ETHERPARSE_STATUS_DATA_OFFSET, as the packet is
  * refused by the calls above (of UDP the length field is not looked at); ETHERPARSE_STATUS_BUFFER_TOO_SMALL.
  */
-ETHERPARSE_CHECK_RESULT ETHERPARSE_NOT_NULL(6, 7)
+ETHERPARSE_CHECK_RESULT ETHERPARSE_NOT_NULL(6)
 etherparse_status etherparse_canonical_header(uint32_t protocol, const uint8_t *bytes, size_t len, uint8_t *buffer,
                                               size_t buffer_len, size_t *written, etherparse_error *error);
 
@@ -1093,193 +1093,6 @@ uint16_t etherparse_checksum_change_apply(etherparse_checksum_change change, uin
  */
 ETHERPARSE_CHECK_RESULT
 uint16_t etherparse_checksum_change_apply_udp(etherparse_checksum_change change, uint16_t checksum);
-
-/* ---- NULL for `error` ------------------------------------------------------------------------------------------------------ */
-
-/*
- * The library requires an error. So the name of each call with an error stands for an inline function. If `error` is NULL, the inline
- * function passes an error of its own. If the compiler knows that `error` is not NULL, the inline function costs nothing.
- *
- * The symbols of the library have the names of the calls. Who calls a symbol, as a program with dlsym or in another language does, passes
- * an error. If a program defines ETHERPARSE_ERROR_REQUIRED before this file, the names stand for the symbols. Then `error` may not be NULL,
- * and ETHERPARSE_NO_ERROR is not defined.
- */
-#ifdef ETHERPARSE_ERROR_REQUIRED
-#undef ETHERPARSE_NO_ERROR
-#else
-#ifdef __cplusplus
-#define ETHERPARSE_INLINE inline
-#elif defined(__GNUC__) || defined(__clang__)
-#define ETHERPARSE_INLINE static inline __attribute__((unused))
-#else
-#define ETHERPARSE_INLINE static inline
-#endif
-#define ETHERPARSE_ERROR_OPTIONAL(call, not_null, parameters, arguments)                                                               \
-    ETHERPARSE_CHECK_RESULT not_null ETHERPARSE_INLINE etherparse_status call##_or_null parameters                                     \
-    {                                                                                                                                  \
-        etherparse_error unwanted;                                                                                                     \
-        if (!error)                                                                                                                    \
-            error = &unwanted;                                                                                                         \
-        return call arguments;                                                                                                         \
-    }
-
-/* Each call with an error, in the order of the prototypes. c_library/optional_error writes these lines. */
-ETHERPARSE_ERROR_OPTIONAL(etherparse_transport_in_ip, ETHERPARSE_NOT_NULL(3), (const uint8_t *bytes, size_t len,
-    etherparse_ip_transport *transport, etherparse_error *error), (bytes, len, transport, error))
-#define etherparse_transport_in_ip etherparse_transport_in_ip_or_null
-ETHERPARSE_ERROR_OPTIONAL(etherparse_transport_in_ip_lax, ETHERPARSE_NOT_NULL(3), (const uint8_t *bytes, size_t len,
-    etherparse_ip_transport *transport, etherparse_error *error), (bytes, len, transport, error))
-#define etherparse_transport_in_ip_lax etherparse_transport_in_ip_lax_or_null
-ETHERPARSE_ERROR_OPTIONAL(etherparse_ip_header_addresses, ETHERPARSE_NOT_NULL(3), (const uint8_t *bytes, size_t len,
-    etherparse_ip_addresses *addresses, etherparse_error *error), (bytes, len, addresses, error))
-#define etherparse_ip_header_addresses etherparse_ip_header_addresses_or_null
-ETHERPARSE_ERROR_OPTIONAL(etherparse_ipv4_header_checksum, ETHERPARSE_NOT_NULL(3), (const uint8_t *bytes, size_t len, uint16_t *checksum,
-    etherparse_error *error), (bytes, len, checksum, error))
-#define etherparse_ipv4_header_checksum etherparse_ipv4_header_checksum_or_null
-ETHERPARSE_ERROR_OPTIONAL(etherparse_ipv4_header_checksum_store, , (uint8_t *bytes, size_t len, etherparse_error *error), (bytes, len,
-    error))
-#define etherparse_ipv4_header_checksum_store etherparse_ipv4_header_checksum_store_or_null
-ETHERPARSE_ERROR_OPTIONAL(etherparse_ipv4_header_checksum_test, , (const uint8_t *bytes, size_t len, etherparse_error *error), (bytes, len,
-    error))
-#define etherparse_ipv4_header_checksum_test etherparse_ipv4_header_checksum_test_or_null
-ETHERPARSE_ERROR_OPTIONAL(etherparse_packet_verdict, ETHERPARSE_NOT_NULL(3), (const uint8_t *bytes, size_t len,
-    etherparse_ip_packet *packet, etherparse_error *error), (bytes, len, packet, error))
-#define etherparse_packet_verdict etherparse_packet_verdict_or_null
-ETHERPARSE_ERROR_OPTIONAL(etherparse_packet_verdict_lax, ETHERPARSE_NOT_NULL(3), (const uint8_t *bytes, size_t len,
-    etherparse_ip_packet *packet, etherparse_error *error), (bytes, len, packet, error))
-#define etherparse_packet_verdict_lax etherparse_packet_verdict_lax_or_null
-ETHERPARSE_ERROR_OPTIONAL(etherparse_udp_packet_read, ETHERPARSE_NOT_NULL(3), (const uint8_t *bytes, size_t len,
-    etherparse_udp_packet *packet, etherparse_error *error), (bytes, len, packet, error))
-#define etherparse_udp_packet_read etherparse_udp_packet_read_or_null
-ETHERPARSE_ERROR_OPTIONAL(etherparse_udp_packet_read_lax, ETHERPARSE_NOT_NULL(3), (const uint8_t *bytes, size_t len,
-    etherparse_udp_packet *packet, etherparse_error *error), (bytes, len, packet, error))
-#define etherparse_udp_packet_read_lax etherparse_udp_packet_read_lax_or_null
-ETHERPARSE_ERROR_OPTIONAL(etherparse_udp_header_write, ETHERPARSE_NOT_NULL(1, 4), (const etherparse_udp_header *header, uint8_t *buffer,
-    size_t buffer_len, size_t *written, etherparse_error *error), (header, buffer, buffer_len, written, error))
-#define etherparse_udp_header_write etherparse_udp_header_write_or_null
-ETHERPARSE_ERROR_OPTIONAL(etherparse_udp_checksum_ipv4, ETHERPARSE_NOT_NULL(3, 4, 5), (const uint8_t *bytes, size_t len,
-    const uint8_t source[4], const uint8_t destination[4], uint16_t *checksum, etherparse_error *error), (bytes, len, source, destination,
-    checksum, error))
-#define etherparse_udp_checksum_ipv4 etherparse_udp_checksum_ipv4_or_null
-ETHERPARSE_ERROR_OPTIONAL(etherparse_udp_checksum_ipv6, ETHERPARSE_NOT_NULL(3, 4, 5), (const uint8_t *bytes, size_t len,
-    const uint8_t source[16], const uint8_t destination[16], uint16_t *checksum, etherparse_error *error), (bytes, len, source, destination,
-    checksum, error))
-#define etherparse_udp_checksum_ipv6 etherparse_udp_checksum_ipv6_or_null
-ETHERPARSE_ERROR_OPTIONAL(etherparse_udp_checksum_store_ipv4, ETHERPARSE_NOT_NULL(3, 4), (uint8_t *bytes, size_t len,
-    const uint8_t source[4], const uint8_t destination[4], etherparse_error *error), (bytes, len, source, destination, error))
-#define etherparse_udp_checksum_store_ipv4 etherparse_udp_checksum_store_ipv4_or_null
-ETHERPARSE_ERROR_OPTIONAL(etherparse_udp_checksum_store_ipv6, ETHERPARSE_NOT_NULL(3, 4), (uint8_t *bytes, size_t len,
-    const uint8_t source[16], const uint8_t destination[16], etherparse_error *error), (bytes, len, source, destination, error))
-#define etherparse_udp_checksum_store_ipv6 etherparse_udp_checksum_store_ipv6_or_null
-ETHERPARSE_ERROR_OPTIONAL(etherparse_udp_checksum_test_ipv4, ETHERPARSE_NOT_NULL(3, 4), (const uint8_t *bytes, size_t len,
-    const uint8_t source[4], const uint8_t destination[4], etherparse_error *error), (bytes, len, source, destination, error))
-#define etherparse_udp_checksum_test_ipv4 etherparse_udp_checksum_test_ipv4_or_null
-ETHERPARSE_ERROR_OPTIONAL(etherparse_udp_checksum_test_ipv6, ETHERPARSE_NOT_NULL(3, 4), (const uint8_t *bytes, size_t len,
-    const uint8_t source[16], const uint8_t destination[16], etherparse_error *error), (bytes, len, source, destination, error))
-#define etherparse_udp_checksum_test_ipv6 etherparse_udp_checksum_test_ipv6_or_null
-ETHERPARSE_ERROR_OPTIONAL(etherparse_tcp_packet_read, ETHERPARSE_NOT_NULL(3), (const uint8_t *bytes, size_t len,
-    etherparse_tcp_packet *packet, etherparse_error *error), (bytes, len, packet, error))
-#define etherparse_tcp_packet_read etherparse_tcp_packet_read_or_null
-ETHERPARSE_ERROR_OPTIONAL(etherparse_tcp_header_write, ETHERPARSE_NOT_NULL(1, 6), (const etherparse_tcp_header *header,
-    const uint8_t *options, size_t options_len, uint8_t *buffer, size_t buffer_len, size_t *written, etherparse_error *error), (header,
-    options, options_len, buffer, buffer_len, written, error))
-#define etherparse_tcp_header_write etherparse_tcp_header_write_or_null
-ETHERPARSE_ERROR_OPTIONAL(etherparse_tcp_header_store, ETHERPARSE_NOT_NULL(1), (const etherparse_tcp_header *header, uint8_t *bytes,
-    size_t len, etherparse_error *error), (header, bytes, len, error))
-#define etherparse_tcp_header_store etherparse_tcp_header_store_or_null
-ETHERPARSE_ERROR_OPTIONAL(etherparse_tcp_checksum_ipv4, ETHERPARSE_NOT_NULL(3, 4, 5), (const uint8_t *bytes, size_t len,
-    const uint8_t source[4], const uint8_t destination[4], uint16_t *checksum, etherparse_error *error), (bytes, len, source, destination,
-    checksum, error))
-#define etherparse_tcp_checksum_ipv4 etherparse_tcp_checksum_ipv4_or_null
-ETHERPARSE_ERROR_OPTIONAL(etherparse_tcp_checksum_ipv6, ETHERPARSE_NOT_NULL(3, 4, 5), (const uint8_t *bytes, size_t len,
-    const uint8_t source[16], const uint8_t destination[16], uint16_t *checksum, etherparse_error *error), (bytes, len, source, destination,
-    checksum, error))
-#define etherparse_tcp_checksum_ipv6 etherparse_tcp_checksum_ipv6_or_null
-ETHERPARSE_ERROR_OPTIONAL(etherparse_tcp_checksum_store_ipv4, ETHERPARSE_NOT_NULL(3, 4), (uint8_t *bytes, size_t len,
-    const uint8_t source[4], const uint8_t destination[4], etherparse_error *error), (bytes, len, source, destination, error))
-#define etherparse_tcp_checksum_store_ipv4 etherparse_tcp_checksum_store_ipv4_or_null
-ETHERPARSE_ERROR_OPTIONAL(etherparse_tcp_checksum_store_ipv6, ETHERPARSE_NOT_NULL(3, 4), (uint8_t *bytes, size_t len,
-    const uint8_t source[16], const uint8_t destination[16], etherparse_error *error), (bytes, len, source, destination, error))
-#define etherparse_tcp_checksum_store_ipv6 etherparse_tcp_checksum_store_ipv6_or_null
-ETHERPARSE_ERROR_OPTIONAL(etherparse_tcp_checksum_test_ipv4, ETHERPARSE_NOT_NULL(3, 4), (const uint8_t *bytes, size_t len,
-    const uint8_t source[4], const uint8_t destination[4], etherparse_error *error), (bytes, len, source, destination, error))
-#define etherparse_tcp_checksum_test_ipv4 etherparse_tcp_checksum_test_ipv4_or_null
-ETHERPARSE_ERROR_OPTIONAL(etherparse_tcp_checksum_test_ipv6, ETHERPARSE_NOT_NULL(3, 4), (const uint8_t *bytes, size_t len,
-    const uint8_t source[16], const uint8_t destination[16], etherparse_error *error), (bytes, len, source, destination, error))
-#define etherparse_tcp_checksum_test_ipv6 etherparse_tcp_checksum_test_ipv6_or_null
-ETHERPARSE_ERROR_OPTIONAL(etherparse_tcp_option_next, ETHERPARSE_NOT_NULL(3, 4), (const uint8_t *options, size_t options_len, size_t *place,
-    etherparse_tcp_option *option, etherparse_error *error), (options, options_len, place, option, error))
-#define etherparse_tcp_option_next etherparse_tcp_option_next_or_null
-ETHERPARSE_ERROR_OPTIONAL(etherparse_tcp_raw_option_next, ETHERPARSE_NOT_NULL(3, 4), (const uint8_t *options, size_t options_len,
-    size_t *place, etherparse_tcp_raw_option *option, etherparse_error *error), (options, options_len, place, option, error))
-#define etherparse_tcp_raw_option_next etherparse_tcp_raw_option_next_or_null
-ETHERPARSE_ERROR_OPTIONAL(etherparse_tcp_options_write, ETHERPARSE_NOT_NULL(5), (const etherparse_tcp_option *options, size_t option_count,
-    uint8_t *buffer, size_t buffer_len, size_t *written, etherparse_error *error), (options, option_count, buffer, buffer_len, written,
-    error))
-#define etherparse_tcp_options_write etherparse_tcp_options_write_or_null
-ETHERPARSE_ERROR_OPTIONAL(etherparse_icmpv4_packet_read, ETHERPARSE_NOT_NULL(3), (const uint8_t *bytes, size_t len,
-    etherparse_icmpv4_packet *packet, etherparse_error *error), (bytes, len, packet, error))
-#define etherparse_icmpv4_packet_read etherparse_icmpv4_packet_read_or_null
-ETHERPARSE_ERROR_OPTIONAL(etherparse_icmpv4_header_write, ETHERPARSE_NOT_NULL(1, 4), (const etherparse_icmpv4_header *header,
-    uint8_t *buffer, size_t buffer_len, size_t *written, etherparse_error *error), (header, buffer, buffer_len, written, error))
-#define etherparse_icmpv4_header_write etherparse_icmpv4_header_write_or_null
-ETHERPARSE_ERROR_OPTIONAL(etherparse_icmpv4_checksum, ETHERPARSE_NOT_NULL(3), (const uint8_t *bytes, size_t len, uint16_t *checksum,
-    etherparse_error *error), (bytes, len, checksum, error))
-#define etherparse_icmpv4_checksum etherparse_icmpv4_checksum_or_null
-ETHERPARSE_ERROR_OPTIONAL(etherparse_icmpv4_checksum_store, , (uint8_t *bytes, size_t len, etherparse_error *error), (bytes, len, error))
-#define etherparse_icmpv4_checksum_store etherparse_icmpv4_checksum_store_or_null
-ETHERPARSE_ERROR_OPTIONAL(etherparse_icmpv4_checksum_test, , (const uint8_t *bytes, size_t len, etherparse_error *error), (bytes, len,
-    error))
-#define etherparse_icmpv4_checksum_test etherparse_icmpv4_checksum_test_or_null
-ETHERPARSE_ERROR_OPTIONAL(etherparse_icmpv6_packet_read, ETHERPARSE_NOT_NULL(3), (const uint8_t *bytes, size_t len,
-    etherparse_icmpv6_packet *packet, etherparse_error *error), (bytes, len, packet, error))
-#define etherparse_icmpv6_packet_read etherparse_icmpv6_packet_read_or_null
-ETHERPARSE_ERROR_OPTIONAL(etherparse_icmpv6_header_write, ETHERPARSE_NOT_NULL(1, 4), (const etherparse_icmpv6_header *header,
-    uint8_t *buffer, size_t buffer_len, size_t *written, etherparse_error *error), (header, buffer, buffer_len, written, error))
-#define etherparse_icmpv6_header_write etherparse_icmpv6_header_write_or_null
-ETHERPARSE_ERROR_OPTIONAL(etherparse_icmpv6_checksum, ETHERPARSE_NOT_NULL(3, 4, 5), (const uint8_t *bytes, size_t len,
-    const uint8_t source[16], const uint8_t destination[16], uint16_t *checksum, etherparse_error *error), (bytes, len, source, destination,
-    checksum, error))
-#define etherparse_icmpv6_checksum etherparse_icmpv6_checksum_or_null
-ETHERPARSE_ERROR_OPTIONAL(etherparse_icmpv6_checksum_store, ETHERPARSE_NOT_NULL(3, 4), (uint8_t *bytes, size_t len,
-    const uint8_t source[16], const uint8_t destination[16], etherparse_error *error), (bytes, len, source, destination, error))
-#define etherparse_icmpv6_checksum_store etherparse_icmpv6_checksum_store_or_null
-ETHERPARSE_ERROR_OPTIONAL(etherparse_icmpv6_checksum_test, ETHERPARSE_NOT_NULL(3, 4), (const uint8_t *bytes, size_t len,
-    const uint8_t source[16], const uint8_t destination[16], etherparse_error *error), (bytes, len, source, destination, error))
-#define etherparse_icmpv6_checksum_test etherparse_icmpv6_checksum_test_or_null
-ETHERPARSE_ERROR_OPTIONAL(etherparse_echo_answer, ETHERPARSE_NOT_NULL(4), (uint8_t *packet, size_t packet_len, uint8_t hop_limit,
-    size_t *reply_len, etherparse_error *error), (packet, packet_len, hop_limit, reply_len, error))
-#define etherparse_echo_answer etherparse_echo_answer_or_null
-ETHERPARSE_ERROR_OPTIONAL(etherparse_echo_answer_ipv4, ETHERPARSE_NOT_NULL(3, 5), (uint8_t *packet, size_t packet_len,
-    const uint8_t source[4], uint8_t time_to_live, size_t *reply_len, etherparse_error *error), (packet, packet_len, source, time_to_live,
-    reply_len, error))
-#define etherparse_echo_answer_ipv4 etherparse_echo_answer_ipv4_or_null
-ETHERPARSE_ERROR_OPTIONAL(etherparse_echo_answer_ipv6, ETHERPARSE_NOT_NULL(3, 5), (uint8_t *packet, size_t packet_len,
-    const uint8_t source[16], uint8_t hop_limit, size_t *reply_len, etherparse_error *error), (packet, packet_len, source, hop_limit,
-    reply_len, error))
-#define etherparse_echo_answer_ipv6 etherparse_echo_answer_ipv6_or_null
-ETHERPARSE_ERROR_OPTIONAL(etherparse_echo_is_reply, , (const uint8_t *request, size_t request_len, const uint8_t *reply, size_t reply_len,
-    etherparse_error *error), (request, request_len, reply, reply_len, error))
-#define etherparse_echo_is_reply etherparse_echo_is_reply_or_null
-ETHERPARSE_ERROR_OPTIONAL(etherparse_icmpv4_quoted_packet, ETHERPARSE_NOT_NULL(3, 4), (const uint8_t *bytes, size_t bytes_len,
-    size_t *offset, size_t *len, etherparse_error *error), (bytes, bytes_len, offset, len, error))
-#define etherparse_icmpv4_quoted_packet etherparse_icmpv4_quoted_packet_or_null
-ETHERPARSE_ERROR_OPTIONAL(etherparse_icmpv6_quoted_packet, ETHERPARSE_NOT_NULL(3, 4), (const uint8_t *bytes, size_t bytes_len,
-    size_t *offset, size_t *len, etherparse_error *error), (bytes, bytes_len, offset, len, error))
-#define etherparse_icmpv6_quoted_packet etherparse_icmpv6_quoted_packet_or_null
-ETHERPARSE_ERROR_OPTIONAL(etherparse_translate_ipv4, ETHERPARSE_NOT_NULL(3), (uint8_t *packet, size_t packet_len,
-    const etherparse_ipv4_translation *translation, etherparse_error *error), (packet, packet_len, translation, error))
-#define etherparse_translate_ipv4 etherparse_translate_ipv4_or_null
-ETHERPARSE_ERROR_OPTIONAL(etherparse_translate_ipv6, ETHERPARSE_NOT_NULL(3), (uint8_t *packet, size_t packet_len,
-    const etherparse_ipv6_translation *translation, etherparse_error *error), (packet, packet_len, translation, error))
-#define etherparse_translate_ipv6 etherparse_translate_ipv6_or_null
-ETHERPARSE_ERROR_OPTIONAL(etherparse_canonical_header, ETHERPARSE_NOT_NULL(6), (uint32_t protocol, const uint8_t *bytes, size_t len,
-    uint8_t *buffer, size_t buffer_len, size_t *written, etherparse_error *error), (protocol, bytes, len, buffer, buffer_len, written,
-    error))
-#define etherparse_canonical_header etherparse_canonical_header_or_null
-#undef ETHERPARSE_ERROR_OPTIONAL
-#undef ETHERPARSE_INLINE
-#endif
 
 #ifdef __cplusplus
 }

@@ -463,6 +463,14 @@ class Calls(unittest.TestCase):
         self.assertEqual(caught.exception.status, Status.IP_HEADER_CUT_OFF)
         self.assertEqual(list(ept.tcp_options(b"")), [])
 
+    def test_no_error_is_wanted(self):
+        """The library takes None for an error: where it accepts, and where it refuses."""
+        read, found = ept._library().etherparse_udp_packet_read, ept._UdpPacket()
+        self.assertEqual(read(PACKET[20:], len(PACKET) - 20, found, None), 0)
+        self.assertEqual(found.header.source_port, 21)
+        self.assertEqual(read(PACKET[20:], 7, found, None), Status.LENGTH)
+        self.assertEqual(found.header.source_port, 21)
+
     def test_unknown_numbers_have_names(self):
         found = ept.verdict(PACKET[:9] + bytes([47]) + PACKET[10:])
         self.assertEqual((found.transport.protocol, found.transport.protocol.name), (47, "UNKNOWN_47"))

@@ -1,7 +1,16 @@
 // SPDX-FileCopyrightText: 2026 The etherparse_transport developers
 // SPDX-License-Identifier: MIT OR Apache-2.0
 //! The interface of the library as it is: its numbers, its structs and its calls, with the names of the header in C without their
-//! prefix. What a caller owes is in `include/etherparse_transport.h`; the other modules keep it.
+//! prefix. What a caller owes is in `include/etherparse_transport.h`; the other modules keep it. `error` may be null if it is not wanted:
+//!
+//! ```
+//! use etherparse_transport_c::sys;
+//!
+//! let (bytes, mut packet) = ([0; 7], sys::UdpPacket::default());
+//! // Sound: the call reads 7 bytes and writes one packet.
+//! let status = unsafe { sys::etherparse_udp_packet_read(bytes.as_ptr(), bytes.len(), &mut packet, std::ptr::null_mut()) };
+//! assert_eq!(status, sys::STATUS_LENGTH);
+//! ```
 
 // ---- Statuses: what a call answers. 25 to 30 are kept for the headers of IP.
 

@@ -1,3 +1,4 @@
+pub mod AnswerLemmas
 pub mod AnswersLemmas
 pub mod ChecksumsLemmas
 pub mod IcmpLemmas

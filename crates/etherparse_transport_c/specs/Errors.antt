@@ -26,6 +26,8 @@ use Rattle.tcp_part.specs.TcpOptions.{max_options_len}
 use Rattle.tcp_part.specs.declared.tcp_raw_option_error.TcpRawOptionError.{TcpRawOptionError}
 use Rattle.tcp_part.specs.declared.tcp_raw_option_error.TcpRawOptionError.TheVariants.{NoLengthByte, LengthBelowTwo, LengthBeyondEnd}
 use Rattle.etherparse_transport_c.specs.Numbers as numbers
+use Rattle.etherparse_transport_c.specs.declared.answer.Answer.{Answer}
+use Rattle.etherparse_transport_c.specs.declared.answer.ErrorPlace.{ErrorPlace}
 use Rattle.etherparse_transport_c.specs.declared.error.EtherparseError.{EtherparseError}
 
 -- ---- the number of each variant
@@ -189,6 +191,10 @@ of_translate other_version translate.QuotedPacket = of_status numbers.status_tra
 abbrev pub status_of : Option EtherparseError → ℕ
 status_of None = numbers.status_ok
 status_of (Some error) = error.status
+
+-- the call leaves this error behind the caller's pointer, unless that is NULL
+abbrev pub Leaves : ErrorPlace → Answer → EtherparseError → Type 0
+Leaves place answer error = (answer.pointer ≡ place.pointer) × (answer.error ≡ error)
 
 -- what stands behind a pointer after the call: what was made, or where the call refused what stood there before
 abbrev pub unless_refused : {A : Type 0} → Option EtherparseError → A → A → A

@@ -1,6 +1,7 @@
 pub mod Canonical
 pub mod Checksums
 pub mod EchoReplies
+pub mod ErrorMemory
 pub mod ErrorText
 pub mod Errors
 pub mod Icmpv4

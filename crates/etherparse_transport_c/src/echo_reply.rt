@@ -6,9 +6,10 @@ ghost use Rattle.etherparse_transport.specs.EchoReplies.{icmpv4_reply_to, icmpv6
 ghost use Rattle.etherparse_transport.specs.Packets.{IsReadAs};
 ghost use Rattle.etherparse_transport.specs.declared.transport_header.TransportHeader.TheVariants as headers;
 ghost use Rattle.etherparse_transport_c.specs.EchoReplies.{ReplyTells, ipv4_refusal, ipv6_refusal, refusal};
-ghost use Rattle.etherparse_transport_c.specs.Errors.{status_of, test_error, unless_refused};
+ghost use Rattle.etherparse_transport_c.specs.Errors.{Leaves, status_of, test_error, unless_refused};
 
-use crate::error::{EtherparseError, of_answer_echo, of_status, refuse};
+use crate::answer::{Answer, ErrorPlace, accept, refuse};
+use crate::error::{of_answer_echo, of_status};
 use crate::status;
 use etherparse_transport::ip::{answer_echo, answer_echo_ipv4, answer_echo_ipv6, is_reply_to};
 
@@ -28,10 +29,10 @@ pub extern "C" fn etherparse_echo_answer(
     packet: &mut [u8],
     hop_limit: u8,
     reply_len: &mut usize,
-    error: &mut EtherparseError,
-) -> u32
-    ensures status { result ≡ status_of (refusal packet.old) }
-    ensures error { error.new ≡ unwrap_or (refusal packet.old) error.old }
+    error: ErrorPlace,
+) -> Answer
+    ensures status { result.status ≡ status_of (refusal packet.old) }
+    ensures error { Leaves error result (unwrap_or (refusal packet.old) error.before) }
     ensures reply_len { reply_len.new ≡ unless_refused (refusal packet.old) (counted_len false packet.old) reply_len.old }
     ensures packet { packet.new ≡ unless_refused (refusal packet.old) (replies.reply hop_limit packet.old) packet.old }
     // The reply is read with the identifier, the sequence number and the payload of the request, and its checksum is right.
@@ -41,7 +42,7 @@ pub extern "C" fn etherparse_echo_answer(
     match answer_echo(packet, hop_limit) {
         Ok(len) => {
             *reply_len = len;
-            status::OK
+            accept(error)
         }
         Err(refused) => refuse(error, of_answer_echo(&refused)),
     }
@@ -59,10 +60,10 @@ pub extern "C" fn etherparse_echo_answer_ipv4(
     source: &[u8; 4],
     time_to_live: u8,
     reply_len: &mut usize,
-    error: &mut EtherparseError,
-) -> u32
-    ensures status { result ≡ status_of (ipv4_refusal source.now packet.old) }
-    ensures error { error.new ≡ unwrap_or (ipv4_refusal source.now packet.old) error.old }
+    error: ErrorPlace,
+) -> Answer
+    ensures status { result.status ≡ status_of (ipv4_refusal source.now packet.old) }
+    ensures error { Leaves error result (unwrap_or (ipv4_refusal source.now packet.old) error.before) }
     ensures reply_len { reply_len.new ≡ unless_refused (ipv4_refusal source.now packet.old) (counted_len false packet.old) reply_len.old }
     ensures packet { packet.new ≡ unless_refused (ipv4_refusal source.now packet.old) (ipv4_reply source.now time_to_live packet.old) packet.old }
     // The reply is read with the identifier, the sequence number and the payload of the request, and its checksum is right.
@@ -73,7 +74,7 @@ pub extern "C" fn etherparse_echo_answer_ipv4(
     match answer_echo_ipv4(packet, Some(*source), time_to_live) {
         Ok(len) => {
             *reply_len = len;
-            status::OK
+            accept(error)
         }
         Err(refused) => refuse(error, of_answer_echo(&refused)),
     }
@@ -92,10 +93,10 @@ pub extern "C" fn etherparse_echo_answer_ipv6(
     source: &[u8; 16],
     hop_limit: u8,
     reply_len: &mut usize,
-    error: &mut EtherparseError,
-) -> u32
-    ensures status { result ≡ status_of (ipv6_refusal source.now packet.old) }
-    ensures error { error.new ≡ unwrap_or (ipv6_refusal source.now packet.old) error.old }
+    error: ErrorPlace,
+) -> Answer
+    ensures status { result.status ≡ status_of (ipv6_refusal source.now packet.old) }
+    ensures error { Leaves error result (unwrap_or (ipv6_refusal source.now packet.old) error.before) }
     ensures reply_len { reply_len.new ≡ unless_refused (ipv6_refusal source.now packet.old) (counted_len false packet.old) reply_len.old }
     ensures packet { packet.new ≡ unless_refused (ipv6_refusal source.now packet.old) (ipv6_reply source.now hop_limit packet.old) packet.old }
     // The reply is read with the identifier, the sequence number and the payload of the request, and its checksum is right.
@@ -107,7 +108,7 @@ pub extern "C" fn etherparse_echo_answer_ipv6(
     match answer_echo_ipv6(packet, Some(*source), hop_limit) {
         Ok(len) => {
             *reply_len = len;
-            status::OK
+            accept(error)
         }
         Err(refused) => refuse(error, of_answer_echo(&refused)),
     }
@@ -124,13 +125,13 @@ pub extern "C" fn etherparse_echo_answer_ipv6(
 pub extern "C" fn etherparse_echo_is_reply(
     request: &[u8],
     reply: &[u8],
-    error: &mut EtherparseError,
-) -> u32
-    ensures status { ReplyTells request.now reply.now result }
-    ensures error { error.new ≡ test_error None result error.old }
+    error: ErrorPlace,
+) -> Answer
+    ensures status { ReplyTells request.now reply.now result.status }
+    ensures error { Leaves error result (test_error None result.status error.before) }
 {
     if is_reply_to(request, reply) {
-        status::OK
+        accept(error)
     } else {
         refuse(error, of_status(status::ECHO_NO_REPLY))
     }

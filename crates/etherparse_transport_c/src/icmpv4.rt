@@ -5,12 +5,13 @@ ghost use Rattle.icmp_part.specs.Icmpv4Format.{HasWholeHeader, dest_unreachable_
 ghost use Rattle.icmp_part.specs.Icmpv4Validity.{IsValidIcmpv4};
 ghost use Rattle.icmp_part.specs.MessageFormat.{listed};
 ghost use Rattle.etherparse_transport_c.specs.Checksums.{with_checksum};
-ghost use Rattle.etherparse_transport_c.specs.Errors.{Answers, at_front, status_of, test_error, unless_refused};
+ghost use Rattle.etherparse_transport_c.specs.Errors.{Answers, Leaves, at_front, status_of, test_error, unless_refused};
 ghost use Rattle.etherparse_transport_c.specs.Icmpv4 as specs;
 ghost use Rattle.etherparse_transport_c.specs.Icmpv4.{IsSameHeader, ReadsBack, TestTells, header_bytes, message_fields, message_in, packet_of, refusal, write_refusal};
 ghost use Rattle.etherparse_transport_c.specs.Numbers as numbers;
 
-use crate::error::{EtherparseError, of_len, of_status, refuse};
+use crate::answer::{Answer, ErrorPlace, accept, refuse};
+use crate::error::{EtherparseError, of_len, of_status};
 use crate::store::store;
 use crate::verdict::verdict;
 use crate::write::write;
@@ -175,16 +176,16 @@ fn set_packet(slice: &Icmpv4Slice<'_>, read: &mut EtherparseIcmpv4Packet)
 pub extern "C" fn etherparse_icmpv4_packet_read(
     bytes: &[u8],
     read: &mut EtherparseIcmpv4Packet,
-    error: &mut EtherparseError,
-) -> u32
-    ensures status { result ≡ status_of (refusal bytes.now) }
-    ensures error { error.new ≡ unwrap_or (refusal bytes.now) error.old }
+    error: ErrorPlace,
+) -> Answer
+    ensures status { result.status ≡ status_of (refusal bytes.now) }
+    ensures error { Leaves error result (unwrap_or (refusal bytes.now) error.before) }
     ensures read { read.new ≡ unless_refused (refusal bytes.now) (packet_of bytes.now) read.old }
 {
     match Icmpv4Slice::from_slice(bytes) {
         Ok(slice) => {
             set_packet(&slice, read);
-            status::OK
+            accept(error)
         }
         Err(refused) => refuse(error, of_len(&refused)),
     }
@@ -279,10 +280,10 @@ pub extern "C" fn etherparse_icmpv4_header_write(
     fields: &EtherparseIcmpv4Header,
     buffer: &mut [u8],
     written: &mut usize,
-    error: &mut EtherparseError,
-) -> u32
-    ensures status { result ≡ status_of (write_refusal fields.now.checksum (message_in fields.now) (length buffer.old)) }
-    ensures error { error.new ≡ unwrap_or (write_refusal fields.now.checksum (message_in fields.now) (length buffer.old)) error.old }
+    error: ErrorPlace,
+) -> Answer
+    ensures status { result.status ≡ status_of (write_refusal fields.now.checksum (message_in fields.now) (length buffer.old)) }
+    ensures error { Leaves error result (unwrap_or (write_refusal fields.now.checksum (message_in fields.now) (length buffer.old)) error.before) }
     ensures buffer { buffer.new ≡ unless_refused (write_refusal fields.now.checksum (message_in fields.now) (length buffer.old))
         (at_front (header_bytes fields.now.checksum (message_in fields.now)) buffer.old) buffer.old }
     ensures written { written.new ≡ unless_refused (write_refusal fields.now.checksum (message_in fields.now) (length buffer.old))
@@ -345,10 +346,10 @@ fn checksum_of_packet(bytes: &[u8]) -> Result<u16, EtherparseError>
 pub extern "C" fn etherparse_icmpv4_checksum(
     bytes: &[u8],
     checksum: &mut u16,
-    error: &mut EtherparseError,
-) -> u32
-    ensures status { result ≡ status_of (refusal bytes.now) }
-    ensures error { error.new ≡ unwrap_or (refusal bytes.now) error.old }
+    error: ErrorPlace,
+) -> Answer
+    ensures status { result.status ≡ status_of (refusal bytes.now) }
+    ensures error { Leaves error result (unwrap_or (refusal bytes.now) error.before) }
     ensures checksum { checksum.new ≡ unless_refused (refusal bytes.now) (checksum_of (total (with_checksum 2 bytes.now 0))) checksum.old }
     // With the checksum in its place the packet is valid.
     ensures built { refusal bytes.now ≡ None → IsValidIcmpv4 (with_checksum 2 bytes.now checksum.new) }
@@ -358,7 +359,7 @@ pub extern "C" fn etherparse_icmpv4_checksum(
     match checksum_of_packet(bytes) {
         Ok(computed) => {
             *checksum = computed;
-            status::OK
+            accept(error)
         }
         Err(refused) => refuse(error, refused),
     }
@@ -371,12 +372,9 @@ pub extern "C" fn etherparse_icmpv4_checksum(
 /// The status is `OK`, or `LENGTH` if there are fewer than 8 bytes, or if a timestamp message or reply, of code 0, is
 /// not 20 bytes long.
 #[unsafe(no_mangle)]
-pub extern "C" fn etherparse_icmpv4_checksum_store(
-    bytes: &mut [u8],
-    error: &mut EtherparseError,
-) -> u32
-    ensures status { result ≡ status_of (refusal bytes.old) }
-    ensures error { error.new ≡ unwrap_or (refusal bytes.old) error.old }
+pub extern "C" fn etherparse_icmpv4_checksum_store(bytes: &mut [u8], error: ErrorPlace) -> Answer
+    ensures status { result.status ≡ status_of (refusal bytes.old) }
+    ensures error { Leaves error result (unwrap_or (refusal bytes.old) error.before) }
     ensures stored { bytes.new ≡ unless_refused (refusal bytes.old)
         (with_checksum 2 bytes.old (checksum_of (total (with_checksum 2 bytes.old 0)))) bytes.old }
     // The test of the bytes then answers that the checksum is right.
@@ -385,7 +383,7 @@ pub extern "C" fn etherparse_icmpv4_checksum_store(
     match checksum_of_packet(bytes) {
         Ok(checksum) => {
             store(bytes, CHECKSUM_AT, checksum);
-            status::OK
+            accept(error)
         }
         Err(refused) => refuse(error, refused),
     }
@@ -399,9 +397,9 @@ pub extern "C" fn etherparse_icmpv4_checksum_store(
 /// - `LENGTH` if there are fewer than 8 bytes, or if a timestamp message or reply, of code 0, is not 20 bytes long.
 /// - `CHECKSUM_WRONG` if the checksum is wrong.
 #[unsafe(no_mangle)]
-pub extern "C" fn etherparse_icmpv4_checksum_test(bytes: &[u8], error: &mut EtherparseError) -> u32
-    ensures status { TestTells bytes.now result }
-    ensures error { error.new ≡ test_error (refusal bytes.now) result error.old }
+pub extern "C" fn etherparse_icmpv4_checksum_test(bytes: &[u8], error: ErrorPlace) -> Answer
+    ensures status { TestTells bytes.now result.status }
+    ensures error { Leaves error result (test_error (refusal bytes.now) result.status error.before) }
 {
     match Icmpv4Slice::from_slice(bytes) {
         Ok(slice) => verdict(slice.is_checksum_valid(), error),

@@ -4,12 +4,13 @@ ghost use Rattle.net_base.specs.Refusals.{RefusesExactly};
 ghost use Rattle.icmp_part.specs.Icmpv6Format.{HasPacketLength, pseudo_header};
 ghost use Rattle.icmp_part.specs.Icmpv6Validity.{IsValidIcmpv6};
 ghost use Rattle.etherparse_transport_c.specs.Checksums.{with_checksum};
-ghost use Rattle.etherparse_transport_c.specs.Errors.{Answers, at_front, status_of, test_error, unless_refused};
+ghost use Rattle.etherparse_transport_c.specs.Errors.{Answers, Leaves, at_front, status_of, test_error, unless_refused};
 ghost use Rattle.etherparse_transport_c.specs.Icmpv6 as specs;
 ghost use Rattle.etherparse_transport_c.specs.Icmpv6.{IsSameHeader, ReadsBack, TestTells, header_bytes, message_fields, message_in, packet_of, refusal, write_refusal};
 ghost use Rattle.etherparse_transport_c.specs.Numbers as numbers;
 
-use crate::error::{EtherparseError, of_len, of_status, of_value, refuse};
+use crate::answer::{Answer, ErrorPlace, accept, refuse};
+use crate::error::{EtherparseError, of_len, of_status, of_value};
 use crate::store::store;
 use crate::verdict::verdict;
 use crate::write::write;
@@ -171,16 +172,16 @@ fn set_packet(slice: &Icmpv6Slice<'_>, read: &mut EtherparseIcmpv6Packet)
 pub extern "C" fn etherparse_icmpv6_packet_read(
     bytes: &[u8],
     read: &mut EtherparseIcmpv6Packet,
-    error: &mut EtherparseError,
-) -> u32
-    ensures status { result ≡ status_of (refusal bytes.now) }
-    ensures error { error.new ≡ unwrap_or (refusal bytes.now) error.old }
+    error: ErrorPlace,
+) -> Answer
+    ensures status { result.status ≡ status_of (refusal bytes.now) }
+    ensures error { Leaves error result (unwrap_or (refusal bytes.now) error.before) }
     ensures read { read.new ≡ unless_refused (refusal bytes.now) (packet_of bytes.now) read.old }
 {
     match Icmpv6Slice::from_slice(bytes) {
         Ok(slice) => {
             set_packet(&slice, read);
-            status::OK
+            accept(error)
         }
         Err(refused) => refuse(error, of_len(&refused)),
     }
@@ -266,10 +267,10 @@ pub extern "C" fn etherparse_icmpv6_header_write(
     fields: &EtherparseIcmpv6Header,
     buffer: &mut [u8],
     written: &mut usize,
-    error: &mut EtherparseError,
-) -> u32
-    ensures status { result ≡ status_of (write_refusal fields.now.checksum (message_in fields.now) (length buffer.old)) }
-    ensures error { error.new ≡ unwrap_or (write_refusal fields.now.checksum (message_in fields.now) (length buffer.old)) error.old }
+    error: ErrorPlace,
+) -> Answer
+    ensures status { result.status ≡ status_of (write_refusal fields.now.checksum (message_in fields.now) (length buffer.old)) }
+    ensures error { Leaves error result (unwrap_or (write_refusal fields.now.checksum (message_in fields.now) (length buffer.old)) error.before) }
     ensures buffer { buffer.new ≡ unless_refused (write_refusal fields.now.checksum (message_in fields.now) (length buffer.old))
         (at_front (header_bytes fields.now.checksum (message_in fields.now)) buffer.old) buffer.old }
     ensures written { written.new ≡ unless_refused (write_refusal fields.now.checksum (message_in fields.now) (length buffer.old))
@@ -349,10 +350,10 @@ pub extern "C" fn etherparse_icmpv6_checksum(
     source: &[u8; 16],
     destination: &[u8; 16],
     checksum: &mut u16,
-    error: &mut EtherparseError,
-) -> u32
-    ensures status { result ≡ status_of (refusal bytes.now) }
-    ensures error { error.new ≡ unwrap_or (refusal bytes.now) error.old }
+    error: ErrorPlace,
+) -> Answer
+    ensures status { result.status ≡ status_of (refusal bytes.now) }
+    ensures error { Leaves error result (unwrap_or (refusal bytes.now) error.before) }
     ensures checksum { checksum.new ≡ unless_refused (refusal bytes.now)
         (checksum_of (total (pseudo_header source.now destination.now (length bytes.now)) + total (with_checksum 2 bytes.now 0))) checksum.old }
     // With the checksum in its place the packet is valid.
@@ -363,7 +364,7 @@ pub extern "C" fn etherparse_icmpv6_checksum(
     match checksum_of_packet(bytes, source, destination) {
         Ok(computed) => {
             *checksum = computed;
-            status::OK
+            accept(error)
         }
         Err(refused) => refuse(error, refused),
     }
@@ -379,10 +380,10 @@ pub extern "C" fn etherparse_icmpv6_checksum_store(
     bytes: &mut [u8],
     source: &[u8; 16],
     destination: &[u8; 16],
-    error: &mut EtherparseError,
-) -> u32
-    ensures status { result ≡ status_of (refusal bytes.old) }
-    ensures error { error.new ≡ unwrap_or (refusal bytes.old) error.old }
+    error: ErrorPlace,
+) -> Answer
+    ensures status { result.status ≡ status_of (refusal bytes.old) }
+    ensures error { Leaves error result (unwrap_or (refusal bytes.old) error.before) }
     ensures stored { bytes.new ≡ unless_refused (refusal bytes.old) (with_checksum 2 bytes.old (checksum_of
         (total (pseudo_header source.now destination.now (length bytes.old)) + total (with_checksum 2 bytes.old 0)))) bytes.old }
     // The test of the bytes then answers that the checksum is right.
@@ -391,7 +392,7 @@ pub extern "C" fn etherparse_icmpv6_checksum_store(
     match checksum_of_packet(bytes, source, destination) {
         Ok(checksum) => {
             store(bytes, CHECKSUM_AT, checksum);
-            status::OK
+            accept(error)
         }
         Err(refused) => refuse(error, refused),
     }
@@ -409,10 +410,10 @@ pub extern "C" fn etherparse_icmpv6_checksum_test(
     bytes: &[u8],
     source: &[u8; 16],
     destination: &[u8; 16],
-    error: &mut EtherparseError,
-) -> u32
-    ensures status { TestTells source.now destination.now bytes.now result }
-    ensures error { error.new ≡ test_error (refusal bytes.now) result error.old }
+    error: ErrorPlace,
+) -> Answer
+    ensures status { TestTells source.now destination.now bytes.now result.status }
+    ensures error { Leaves error result (test_error (refusal bytes.now) result.status error.before) }
 {
     match Icmpv6Slice::from_slice(bytes) {
         Ok(slice) => verdict(slice.is_checksum_valid(*source, *destination), error),

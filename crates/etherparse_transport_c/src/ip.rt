@@ -1,13 +1,13 @@
 ghost use Rattle.std.specs.Prelude.{◌≡◌, ℕ, List, None, false, unwrap_or};
 ghost use Rattle.ip_part.specs.Addresses.{by_value};
 ghost use Rattle.ip_part.specs.Ip.{Carries, headers_of, lacks_len};
-ghost use Rattle.etherparse_transport_c.specs.Errors.{status_of, unless_refused};
+ghost use Rattle.etherparse_transport_c.specs.Errors.{Leaves, status_of, unless_refused};
 ghost use Rattle.etherparse_transport_c.specs.Ip as specs;
 ghost use Rattle.etherparse_transport_c.specs.Ip.{HasPayload, destination_of, found, lax_refusal, refusal, source_of, version_of};
 ghost use Rattle.etherparse_transport_c.specs.declared.ip.EtherparseIpTransport.{EtherparseIpTransport};
 
-use crate::error::{EtherparseError, of_ip, refuse};
-use crate::status;
+use crate::answer::{Answer, ErrorPlace, accept, refuse};
+use crate::error::of_ip;
 use etherparse_transport::ip::{IpAddresses, TransportInIp, transport_in_ip, transport_in_ip_lax};
 
 /// What an IP packet carries (RFC 791, section 3.1; RFC 8200, sections 3 and 4).
@@ -116,9 +116,9 @@ pub(crate) fn fields(transport: &TransportInIp<'_>) -> EtherparseIpTransport
 
 /// Finds the transport in an IP packet of either version.
 #[inline(always)]
-fn find(bytes: &[u8], transport: &mut EtherparseIpTransport, error: &mut EtherparseError) -> u32
-    ensures status { result ≡ status_of (refusal bytes.now) }
-    ensures error { error.new ≡ unwrap_or (refusal bytes.now) error.old }
+fn find(bytes: &[u8], transport: &mut EtherparseIpTransport, error: ErrorPlace) -> Answer
+    ensures status { result.status ≡ status_of (refusal bytes.now) }
+    ensures error { Leaves error result (unwrap_or (refusal bytes.now) error.before) }
     ensures transport { transport.new ≡ unless_refused (refusal bytes.now)
         (found false bytes.now (headers_of false bytes.now) transport.old) transport.old }
     ensures payload { refusal bytes.now ≡ None → HasPayload false bytes.now transport.new }
@@ -126,7 +126,7 @@ fn find(bytes: &[u8], transport: &mut EtherparseIpTransport, error: &mut Etherpa
     match transport_in_ip(bytes) {
         Ok(carried) => {
             *transport = fields(&carried);
-            status::OK
+            accept(error)
         }
         Err(refused) => refuse(error, of_ip(&refused)),
     }
@@ -134,13 +134,9 @@ fn find(bytes: &[u8], transport: &mut EtherparseIpTransport, error: &mut Etherpa
 
 /// The same in a function of its own.
 #[inline(never)]
-fn find_apart(
-    bytes: &[u8],
-    transport: &mut EtherparseIpTransport,
-    error: &mut EtherparseError,
-) -> u32
-    ensures status { result ≡ status_of (refusal bytes.now) }
-    ensures error { error.new ≡ unwrap_or (refusal bytes.now) error.old }
+fn find_apart(bytes: &[u8], transport: &mut EtherparseIpTransport, error: ErrorPlace) -> Answer
+    ensures status { result.status ≡ status_of (refusal bytes.now) }
+    ensures error { Leaves error result (unwrap_or (refusal bytes.now) error.before) }
     ensures transport { transport.new ≡ unless_refused (refusal bytes.now)
         (found false bytes.now (headers_of false bytes.now) transport.old) transport.old }
     ensures payload { refusal bytes.now ≡ None → HasPayload false bytes.now transport.new }
@@ -162,10 +158,10 @@ fn find_apart(
 pub extern "C" fn etherparse_transport_in_ip(
     bytes: &[u8],
     transport: &mut EtherparseIpTransport,
-    error: &mut EtherparseError,
-) -> u32
-    ensures status { result ≡ status_of (refusal bytes.now) }
-    ensures error { error.new ≡ unwrap_or (refusal bytes.now) error.old }
+    error: ErrorPlace,
+) -> Answer
+    ensures status { result.status ≡ status_of (refusal bytes.now) }
+    ensures error { Leaves error result (unwrap_or (refusal bytes.now) error.before) }
     ensures transport { transport.new ≡ unless_refused (refusal bytes.now)
         (found false bytes.now (headers_of false bytes.now) transport.old) transport.old }
     ensures payload { refusal bytes.now ≡ None → HasPayload false bytes.now transport.new }
@@ -180,9 +176,9 @@ pub extern "C" fn etherparse_transport_in_ip(
 
 /// Finds the transport in an IP packet of either version that may be cut off or state no length.
 #[inline(always)]
-fn find_lax(bytes: &[u8], transport: &mut EtherparseIpTransport, error: &mut EtherparseError) -> u32
-    ensures status { result ≡ status_of (lax_refusal bytes.now) }
-    ensures error { error.new ≡ unwrap_or (lax_refusal bytes.now) error.old }
+fn find_lax(bytes: &[u8], transport: &mut EtherparseIpTransport, error: ErrorPlace) -> Answer
+    ensures status { result.status ≡ status_of (lax_refusal bytes.now) }
+    ensures error { Leaves error result (unwrap_or (lax_refusal bytes.now) error.before) }
     ensures transport { transport.new ≡ unless_refused (lax_refusal bytes.now)
         (found (lacks_len bytes.now) bytes.now (headers_of (lacks_len bytes.now) bytes.now) transport.old) transport.old }
     ensures payload { lax_refusal bytes.now ≡ None → HasPayload (lacks_len bytes.now) bytes.now transport.new }
@@ -190,7 +186,7 @@ fn find_lax(bytes: &[u8], transport: &mut EtherparseIpTransport, error: &mut Eth
     match transport_in_ip_lax(bytes) {
         Ok(kept) => {
             *transport = fields(&kept);
-            status::OK
+            accept(error)
         }
         Err(refused) => refuse(error, of_ip(&refused)),
     }
@@ -198,13 +194,9 @@ fn find_lax(bytes: &[u8], transport: &mut EtherparseIpTransport, error: &mut Eth
 
 /// The same in a function of its own.
 #[inline(never)]
-fn find_lax_apart(
-    bytes: &[u8],
-    transport: &mut EtherparseIpTransport,
-    error: &mut EtherparseError,
-) -> u32
-    ensures status { result ≡ status_of (lax_refusal bytes.now) }
-    ensures error { error.new ≡ unwrap_or (lax_refusal bytes.now) error.old }
+fn find_lax_apart(bytes: &[u8], transport: &mut EtherparseIpTransport, error: ErrorPlace) -> Answer
+    ensures status { result.status ≡ status_of (lax_refusal bytes.now) }
+    ensures error { Leaves error result (unwrap_or (lax_refusal bytes.now) error.before) }
     ensures transport { transport.new ≡ unless_refused (lax_refusal bytes.now)
         (found (lacks_len bytes.now) bytes.now (headers_of (lacks_len bytes.now) bytes.now) transport.old) transport.old }
     ensures payload { lax_refusal bytes.now ≡ None → HasPayload (lacks_len bytes.now) bytes.now transport.new }
@@ -225,10 +217,10 @@ fn find_lax_apart(
 pub extern "C" fn etherparse_transport_in_ip_lax(
     bytes: &[u8],
     transport: &mut EtherparseIpTransport,
-    error: &mut EtherparseError,
-) -> u32
-    ensures status { result ≡ status_of (lax_refusal bytes.now) }
-    ensures error { error.new ≡ unwrap_or (lax_refusal bytes.now) error.old }
+    error: ErrorPlace,
+) -> Answer
+    ensures status { result.status ≡ status_of (lax_refusal bytes.now) }
+    ensures error { Leaves error result (unwrap_or (lax_refusal bytes.now) error.before) }
     ensures transport { transport.new ≡ unless_refused (lax_refusal bytes.now)
         (found (lacks_len bytes.now) bytes.now (headers_of (lacks_len bytes.now) bytes.now) transport.old) transport.old }
     ensures payload { lax_refusal bytes.now ≡ None → HasPayload (lacks_len bytes.now) bytes.now transport.new }

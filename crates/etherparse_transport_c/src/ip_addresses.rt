@@ -1,13 +1,13 @@
 ghost use Rattle.std.specs.Prelude.{◌≡◌, IfOk, unwrap_or};
 ghost use Rattle.net_base.specs.Refusals.{RefusesExactly};
-ghost use Rattle.etherparse_transport_c.specs.Errors.{status_of, unless_refused};
+ghost use Rattle.etherparse_transport_c.specs.Errors.{Leaves, status_of, unless_refused};
 ghost use Rattle.etherparse_transport_c.specs.IpAddresses as specs;
 ghost use Rattle.etherparse_transport_c.specs.IpAddresses.{addresses_in, addresses_of_ipv4, addresses_of_ipv6, refusal};
 
-use crate::error::{EtherparseError, of_ip, refuse};
+use crate::answer::{Answer, ErrorPlace, accept, refuse};
+use crate::error::{EtherparseError, of_ip};
 use crate::ip::ipv4_address;
 use crate::ipv4_header::header;
-use crate::status;
 use etherparse_transport::ip::IpError;
 use etherparse_transport::{Ipv4HeaderSlice, Ipv6HeaderSlice};
 
@@ -84,16 +84,16 @@ fn addresses(bytes: &[u8]) -> Result<EtherparseIpAddresses, EtherparseError>
 pub extern "C" fn etherparse_ip_header_addresses(
     bytes: &[u8],
     found: &mut EtherparseIpAddresses,
-    error: &mut EtherparseError,
-) -> u32
-    ensures status { result ≡ status_of (refusal bytes.now) }
-    ensures error { error.new ≡ unwrap_or (refusal bytes.now) error.old }
+    error: ErrorPlace,
+) -> Answer
+    ensures status { result.status ≡ status_of (refusal bytes.now) }
+    ensures error { Leaves error result (unwrap_or (refusal bytes.now) error.before) }
     ensures addresses { found.new ≡ unless_refused (refusal bytes.now) (addresses_in bytes.now) found.old }
 {
     match addresses(bytes) {
         Ok(addresses) => {
             *found = addresses;
-            status::OK
+            accept(error)
         }
         Err(refused) => refuse(error, refused),
     }

@@ -4,13 +4,13 @@ ghost use Rattle.net_base.specs.Refusals.{RefusesExactly};
 ghost use Rattle.word_sum.specs.Checksum.{Verifies, checksum_of, total};
 ghost use Rattle.ip_part.specs.Ip.{ipv4_header};
 ghost use Rattle.etherparse_transport_c.specs.Checksums.{with_checksum};
-ghost use Rattle.etherparse_transport_c.specs.Errors.{Answers, status_of, test_error, unless_refused};
+ghost use Rattle.etherparse_transport_c.specs.Errors.{Answers, Leaves, status_of, test_error, unless_refused};
 ghost use Rattle.etherparse_transport_c.specs.Ipv4Header as specs;
 ghost use Rattle.etherparse_transport_c.specs.Ipv4Header.{TestTells, header_refusal, refusal};
 ghost use Rattle.etherparse_transport_c.specs.Numbers as numbers;
 
-use crate::error::{EtherparseError, of_ip, refuse};
-use crate::status;
+use crate::answer::{Answer, ErrorPlace, accept, refuse};
+use crate::error::{EtherparseError, of_ip};
 use crate::store::store;
 use crate::verdict::verdict;
 use etherparse_transport::Ipv4HeaderSlice;
@@ -107,10 +107,10 @@ fn computed(bytes: &[u8]) -> Result<u16, EtherparseError>
 pub extern "C" fn etherparse_ipv4_header_checksum(
     bytes: &[u8],
     checksum: &mut u16,
-    error: &mut EtherparseError,
-) -> u32
-    ensures status { result ≡ status_of (refusal bytes.now) }
-    ensures error { error.new ≡ unwrap_or (refusal bytes.now) error.old }
+    error: ErrorPlace,
+) -> Answer
+    ensures status { result.status ≡ status_of (refusal bytes.now) }
+    ensures error { Leaves error result (unwrap_or (refusal bytes.now) error.before) }
     ensures checksum { checksum.new ≡ unless_refused (refusal bytes.now) (specs.checksum bytes.now) checksum.old }
     // With the checksum in its place the header is valid.
     ensures built { refusal bytes.now ≡ None → Verifies [] (with_checksum 10 (ipv4_header bytes.now) checksum.new) }
@@ -120,7 +120,7 @@ pub extern "C" fn etherparse_ipv4_header_checksum(
     match computed(bytes) {
         Ok(computed) => {
             *checksum = computed;
-            status::OK
+            accept(error)
         }
         Err(refused) => refuse(error, refused),
     }
@@ -134,10 +134,10 @@ pub extern "C" fn etherparse_ipv4_header_checksum(
 #[unsafe(no_mangle)]
 pub extern "C" fn etherparse_ipv4_header_checksum_store(
     bytes: &mut [u8],
-    error: &mut EtherparseError,
-) -> u32
-    ensures status { result ≡ status_of (refusal bytes.old) }
-    ensures error { error.new ≡ unwrap_or (refusal bytes.old) error.old }
+    error: ErrorPlace,
+) -> Answer
+    ensures status { result.status ≡ status_of (refusal bytes.old) }
+    ensures error { Leaves error result (unwrap_or (refusal bytes.old) error.before) }
     ensures stored { bytes.new ≡ unless_refused (refusal bytes.old) (with_checksum 10 bytes.old (specs.checksum bytes.old)) bytes.old }
     // The test of the bytes then answers that the checksum is right.
     ensures passes { refusal bytes.old ≡ None → Answers (TestTells bytes.new) numbers.status_ok }
@@ -145,7 +145,7 @@ pub extern "C" fn etherparse_ipv4_header_checksum_store(
     match computed(bytes) {
         Ok(checksum) => {
             store(bytes, CHECKSUM_AT, checksum);
-            status::OK
+            accept(error)
         }
         Err(refused) => refuse(error, refused),
     }
@@ -158,12 +158,9 @@ pub extern "C" fn etherparse_ipv4_header_checksum_store(
 /// The status is `OK` if the checksum is right, otherwise the first that applies of the statuses of
 /// `etherparse_ipv4_header_checksum`, and then `CHECKSUM_WRONG`.
 #[unsafe(no_mangle)]
-pub extern "C" fn etherparse_ipv4_header_checksum_test(
-    bytes: &[u8],
-    error: &mut EtherparseError,
-) -> u32
-    ensures status { TestTells bytes.now result }
-    ensures error { error.new ≡ test_error (refusal bytes.now) result error.old }
+pub extern "C" fn etherparse_ipv4_header_checksum_test(bytes: &[u8], error: ErrorPlace) -> Answer
+    ensures status { TestTells bytes.now result.status }
+    ensures error { Leaves error result (test_error (refusal bytes.now) result.status error.before) }
 {
     match header(bytes) {
         Ok(header) => verdict(header.is_checksum_valid(), error),

@@ -3,9 +3,11 @@
 //!
 //! Each export is a thin call of `etherparse_transport`. Its clauses say the whole of what it answers, the status, the error and
 //! what it writes, in the words of the call that it makes. No export requires anything: what a caller can get wrong has a status.
+//! The error crosses as an `ErrorPlace`, a pointer that may be NULL. The `Answer` hands the memory behind the pointer back.
 //! `include/etherparse_transport.h` declares the exports, and says what a caller in C owes.
 #![tactic(auto)]
 
+mod answer;
 mod canonical;
 mod checksum_change;
 mod echo_reply;

@@ -2,13 +2,14 @@ ghost use Rattle.std.specs.Prelude.{◌≡◌, ℕ, List, None, false, unwrap_or
 ghost use Rattle.etherparse_transport.specs.Transports as transports;
 ghost use Rattle.etherparse_transport.specs.Transports.{kept};
 ghost use Rattle.ip_part.specs.Ip.{Carries, lacks_len};
-ghost use Rattle.etherparse_transport_c.specs.Errors.{status_of};
+ghost use Rattle.etherparse_transport_c.specs.Errors.{Leaves, status_of};
 ghost use Rattle.etherparse_transport_c.specs.PacketVerdict as specs;
 ghost use Rattle.etherparse_transport_c.specs.PacketVerdict.{Judges, lax_refusal, refusal, refusal_of_carried};
 
-use crate::error::{EtherparseError, of_header_slice, of_ip, refuse};
+use crate::answer::{Answer, ErrorPlace, accept, refuse};
+use crate::error::{EtherparseError, of_header_slice, of_ip};
 use crate::ip::{EtherparseIpTransport, fields};
-use crate::{protocol, status, verdict_kind};
+use crate::{protocol, verdict_kind};
 use etherparse_transport::err::tcp::HeaderSliceError;
 use etherparse_transport::ip::{
     TransportInIp, checksum_verdict, transport_in_ip, transport_in_ip_lax, transport_slice,
@@ -103,13 +104,9 @@ fn of_transport(place: usize, error: &HeaderSliceError) -> EtherparseError
 }
 
 /// Tells what a packet carries, and the verdict on it, whichever packet carries it.
-fn judge(
-    carried: &TransportInIp<'_>,
-    packet: &mut EtherparseIpPacket,
-    error: &mut EtherparseError,
-) -> u32
-    ensures status { (bytes : List ℕ) → Carries bytes carried.now → result ≡ status_of (refusal_of_carried bytes carried.now) }
-    ensures error { (bytes : List ℕ) → Carries bytes carried.now → error.new ≡ unwrap_or (refusal_of_carried bytes carried.now) error.old }
+fn judge(carried: &TransportInIp<'_>, packet: &mut EtherparseIpPacket, error: ErrorPlace) -> Answer
+    ensures status { (bytes : List ℕ) → Carries bytes carried.now → result.status ≡ status_of (refusal_of_carried bytes carried.now) }
+    ensures error { (bytes : List ℕ) → Carries bytes carried.now → Leaves error result (unwrap_or (refusal_of_carried bytes carried.now) error.before) }
     ensures packet { (bytes : List ℕ) → Carries bytes carried.now →
         Judges (refusal_of_carried bytes carried.now) carried.now.is_length_missing bytes packet.new packet.old }
 {
@@ -122,7 +119,7 @@ fn judge(
                 verdict: number_of_verdict(verdict),
                 expected_checksum: expected_checksum(verdict),
             };
-            status::OK
+            accept(error)
         }
         Err(refused) => refuse(error, of_transport(transport.payload_offset, &refused)),
     }
@@ -139,10 +136,10 @@ fn judge(
 pub extern "C" fn etherparse_packet_verdict(
     bytes: &[u8],
     packet: &mut EtherparseIpPacket,
-    error: &mut EtherparseError,
-) -> u32
-    ensures status { result ≡ status_of (refusal bytes.now) }
-    ensures error { error.new ≡ unwrap_or (refusal bytes.now) error.old }
+    error: ErrorPlace,
+) -> Answer
+    ensures status { result.status ≡ status_of (refusal bytes.now) }
+    ensures error { Leaves error result (unwrap_or (refusal bytes.now) error.before) }
     ensures packet { Judges (refusal bytes.now) false bytes.now packet.new packet.old }
 {
     match transport_in_ip(bytes) {
@@ -163,10 +160,10 @@ pub extern "C" fn etherparse_packet_verdict(
 pub extern "C" fn etherparse_packet_verdict_lax(
     bytes: &[u8],
     packet: &mut EtherparseIpPacket,
-    error: &mut EtherparseError,
-) -> u32
-    ensures status { result ≡ status_of (lax_refusal bytes.now) }
-    ensures error { error.new ≡ unwrap_or (lax_refusal bytes.now) error.old }
+    error: ErrorPlace,
+) -> Answer
+    ensures status { result.status ≡ status_of (lax_refusal bytes.now) }
+    ensures error { Leaves error result (unwrap_or (lax_refusal bytes.now) error.before) }
     ensures packet { Judges (lax_refusal bytes.now) (lacks_len bytes.now) bytes.now packet.new packet.old }
 {
     match transport_in_ip_lax(bytes) {

@@ -1,9 +1,10 @@
 ghost use Rattle.std.specs.Prelude.{◌≡◌, None, Some, drop, take, unwrap_or};
 ghost use Rattle.icmp_part.specs.QuotedPackets.{quoted_by_icmpv4, quoted_by_icmpv6};
-ghost use Rattle.etherparse_transport_c.specs.Errors.{status_of, unless_refused};
+ghost use Rattle.etherparse_transport_c.specs.Errors.{Leaves, status_of, unless_refused};
 ghost use Rattle.etherparse_transport_c.specs.QuotedPackets.{icmpv4_refusal, icmpv6_refusal, quoted_len};
 
-use crate::error::{EtherparseError, of_len, of_status, refuse};
+use crate::answer::{Answer, ErrorPlace, accept, refuse};
+use crate::error::{of_len, of_status};
 use crate::status;
 use etherparse_transport::{Icmpv4Header, Icmpv4Slice, Icmpv6Header, Icmpv6Slice};
 
@@ -20,10 +21,10 @@ pub extern "C" fn etherparse_icmpv4_quoted_packet(
     bytes: &[u8],
     offset: &mut usize,
     len: &mut usize,
-    error: &mut EtherparseError,
-) -> u32
-    ensures status { result ≡ status_of (icmpv4_refusal bytes.now) }
-    ensures error { error.new ≡ unwrap_or (icmpv4_refusal bytes.now) error.old }
+    error: ErrorPlace,
+) -> Answer
+    ensures status { result.status ≡ status_of (icmpv4_refusal bytes.now) }
+    ensures error { Leaves error result (unwrap_or (icmpv4_refusal bytes.now) error.before) }
     ensures offset { offset.new ≡ unless_refused (icmpv4_refusal bytes.now) 8 offset.old }
     ensures len { len.new ≡ unless_refused (icmpv4_refusal bytes.now) (quoted_len (quoted_by_icmpv4 bytes.now)) len.old }
     ensures quoted { icmpv4_refusal bytes.now ≡ None → quoted_by_icmpv4 bytes.now ≡ Some (take len.new (drop offset.new bytes.now)) }
@@ -33,7 +34,7 @@ pub extern "C" fn etherparse_icmpv4_quoted_packet(
             Some(quoted) => {
                 *offset = Icmpv4Header::MIN_LEN;
                 *len = quoted.len();
-                status::OK
+                accept(error)
             }
             None => refuse(error, of_status(status::NO_ICMP_ERROR)),
         },
@@ -54,10 +55,10 @@ pub extern "C" fn etherparse_icmpv6_quoted_packet(
     bytes: &[u8],
     offset: &mut usize,
     len: &mut usize,
-    error: &mut EtherparseError,
-) -> u32
-    ensures status { result ≡ status_of (icmpv6_refusal bytes.now) }
-    ensures error { error.new ≡ unwrap_or (icmpv6_refusal bytes.now) error.old }
+    error: ErrorPlace,
+) -> Answer
+    ensures status { result.status ≡ status_of (icmpv6_refusal bytes.now) }
+    ensures error { Leaves error result (unwrap_or (icmpv6_refusal bytes.now) error.before) }
     ensures offset { offset.new ≡ unless_refused (icmpv6_refusal bytes.now) 8 offset.old }
     ensures len { len.new ≡ unless_refused (icmpv6_refusal bytes.now) (quoted_len (quoted_by_icmpv6 bytes.now)) len.old }
     ensures quoted { icmpv6_refusal bytes.now ≡ None → quoted_by_icmpv6 bytes.now ≡ Some (take len.new (drop offset.new bytes.now)) }
@@ -67,7 +68,7 @@ pub extern "C" fn etherparse_icmpv6_quoted_packet(
             Some(quoted) => {
                 *offset = Icmpv6Header::MIN_LEN;
                 *len = quoted.len();
-                status::OK
+                accept(error)
             }
             None => refuse(error, of_status(status::NO_ICMP_ERROR)),
         },

@@ -7,15 +7,16 @@ ghost use Rattle.tcp_part.specs.TcpFormat.{checksummed_ipv4, checksummed_ipv6, h
 ghost use Rattle.tcp_part.specs.TcpOptions.{pad};
 ghost use Rattle.tcp_part.specs.TcpValidity.{IsValidTcpIpv4, IsValidTcpIpv6};
 ghost use Rattle.etherparse_transport_c.specs.Checksums.{with_checksum};
-ghost use Rattle.etherparse_transport_c.specs.Errors.{Answers, at_front, status_of, test_error, unless_refused};
+ghost use Rattle.etherparse_transport_c.specs.Errors.{Answers, Leaves, at_front, status_of, test_error, unless_refused};
 ghost use Rattle.etherparse_transport_c.specs.Numbers as numbers;
 ghost use Rattle.etherparse_transport_c.specs.Tcp.{TestTellsIpv4, TestTellsIpv6, checksum_refusal, fields_of, fields_refusal, flags_of, header_bytes, header_in, is_set, packet_of, payload_bytes, refusal, store_refusal, with_fields, write_refusal};
 
-use crate::error::{EtherparseError, of_flags, of_header_slice, of_options, of_value, refuse};
+use crate::answer::{Answer, ErrorPlace, accept, refuse};
+use crate::error::{EtherparseError, of_flags, of_header_slice, of_options, of_value};
 use crate::store::store;
+use crate::tcp_flag;
 use crate::verdict::verdict;
 use crate::write::{put_front, write};
-use crate::{status, tcp_flag};
 use etherparse_transport::err::ValueType;
 use etherparse_transport::{TcpHeader, TcpHeaderSlice, TcpSlice};
 use net_base::check_payload_len;
@@ -112,16 +113,16 @@ fn packet(segment: &TcpSlice<'_>) -> EtherparseTcpPacket
 pub extern "C" fn etherparse_tcp_packet_read(
     bytes: &[u8],
     read: &mut EtherparseTcpPacket,
-    error: &mut EtherparseError,
-) -> u32
-    ensures status { result ≡ status_of (refusal bytes.now) }
-    ensures error { error.new ≡ unwrap_or (refusal bytes.now) error.old }
+    error: ErrorPlace,
+) -> Answer
+    ensures status { result.status ≡ status_of (refusal bytes.now) }
+    ensures error { Leaves error result (unwrap_or (refusal bytes.now) error.before) }
     ensures read { read.new ≡ unless_refused (refusal bytes.now) (packet_of bytes.now) read.old }
 {
     match TcpSlice::from_slice(bytes) {
         Ok(segment) => {
             *read = packet(&segment);
-            status::OK
+            accept(error)
         }
         Err(error_of_header) => refuse(error, of_header_slice(&error_of_header)),
     }
@@ -181,10 +182,10 @@ pub extern "C" fn etherparse_tcp_header_write(
     options: &[u8],
     buffer: &mut [u8],
     written: &mut usize,
-    error: &mut EtherparseError,
-) -> u32
-    ensures status { result ≡ status_of (write_refusal fields.now options.now (length buffer.old)) }
-    ensures error { error.new ≡ unwrap_or (write_refusal fields.now options.now (length buffer.old)) error.old }
+    error: ErrorPlace,
+) -> Answer
+    ensures status { result.status ≡ status_of (write_refusal fields.now options.now (length buffer.old)) }
+    ensures error { Leaves error result (unwrap_or (write_refusal fields.now options.now (length buffer.old)) error.before) }
     ensures buffer { buffer.new ≡ unless_refused (write_refusal fields.now options.now (length buffer.old))
         (at_front (wire (header_in fields.now options.now)) buffer.old) buffer.old }
     ensures written { written.new ≡ unless_refused (write_refusal fields.now options.now (length buffer.old))
@@ -223,10 +224,10 @@ fn changed_header(fields: &EtherparseTcpHeader, bytes: &[u8]) -> Result<TcpHeade
 pub extern "C" fn etherparse_tcp_header_store(
     fields: &EtherparseTcpHeader,
     bytes: &mut [u8],
-    error: &mut EtherparseError,
-) -> u32
-    ensures status { result ≡ status_of (store_refusal fields.now bytes.old) }
-    ensures error { error.new ≡ unwrap_or (store_refusal fields.now bytes.old) error.old }
+    error: ErrorPlace,
+) -> Answer
+    ensures status { result.status ≡ status_of (store_refusal fields.now bytes.old) }
+    ensures error { Leaves error result (unwrap_or (store_refusal fields.now bytes.old) error.before) }
     ensures stored { bytes.new ≡ unless_refused (store_refusal fields.now bytes.old) (with_fields fields.now bytes.old) bytes.old }
     // What was stored is read back, with the options that were there and the bytes after them.
     ensures reads_back { store_refusal fields.now bytes.old ≡ None
@@ -236,7 +237,7 @@ pub extern "C" fn etherparse_tcp_header_store(
     match changed_header(fields, bytes) {
         Ok(header) => {
             put_front(&header.to_bytes(), bytes);
-            status::OK
+            accept(error)
         }
         Err(refused) => refuse(error, refused),
     }
@@ -281,10 +282,10 @@ pub extern "C" fn etherparse_tcp_checksum_ipv4(
     source: &[u8; 4],
     destination: &[u8; 4],
     checksum: &mut u16,
-    error: &mut EtherparseError,
-) -> u32
-    ensures status { result ≡ status_of (checksum_refusal TcpPayloadLengthIpv4 max_len_over_ipv4 bytes.now) }
-    ensures error { error.new ≡ unwrap_or (checksum_refusal TcpPayloadLengthIpv4 max_len_over_ipv4 bytes.now) error.old }
+    error: ErrorPlace,
+) -> Answer
+    ensures status { result.status ≡ status_of (checksum_refusal TcpPayloadLengthIpv4 max_len_over_ipv4 bytes.now) }
+    ensures error { Leaves error result (unwrap_or (checksum_refusal TcpPayloadLengthIpv4 max_len_over_ipv4 bytes.now) error.before) }
     ensures checksum { checksum.new ≡ unless_refused (checksum_refusal TcpPayloadLengthIpv4 max_len_over_ipv4 bytes.now)
         (checksum_of (checksummed_ipv4 source.now destination.now (header_bytes bytes.now) (payload_bytes bytes.now))) checksum.old }
     // With the checksum in its place the packet is valid.
@@ -297,7 +298,7 @@ pub extern "C" fn etherparse_tcp_checksum_ipv4(
     match checksum_ipv4(bytes, source, destination) {
         Ok(ipv4_checksum) => {
             *checksum = ipv4_checksum;
-            status::OK
+            accept(error)
         }
         Err(refused) => refuse(error, refused),
     }
@@ -315,10 +316,10 @@ pub extern "C" fn etherparse_tcp_checksum_store_ipv4(
     bytes: &mut [u8],
     source: &[u8; 4],
     destination: &[u8; 4],
-    error: &mut EtherparseError,
-) -> u32
-    ensures status { result ≡ status_of (checksum_refusal TcpPayloadLengthIpv4 max_len_over_ipv4 bytes.old) }
-    ensures error { error.new ≡ unwrap_or (checksum_refusal TcpPayloadLengthIpv4 max_len_over_ipv4 bytes.old) error.old }
+    error: ErrorPlace,
+) -> Answer
+    ensures status { result.status ≡ status_of (checksum_refusal TcpPayloadLengthIpv4 max_len_over_ipv4 bytes.old) }
+    ensures error { Leaves error result (unwrap_or (checksum_refusal TcpPayloadLengthIpv4 max_len_over_ipv4 bytes.old) error.before) }
     ensures stored { bytes.new ≡ unless_refused (checksum_refusal TcpPayloadLengthIpv4 max_len_over_ipv4 bytes.old)
         (with_checksum 16 bytes.old (checksum_of (checksummed_ipv4 source.now destination.now (header_bytes bytes.old) (payload_bytes bytes.old)))) bytes.old }
     // The test of the bytes then answers that the checksum is right.
@@ -328,7 +329,7 @@ pub extern "C" fn etherparse_tcp_checksum_store_ipv4(
     match checksum_ipv4(bytes, source, destination) {
         Ok(ipv4_checksum) => {
             store(bytes, CHECKSUM_AT, ipv4_checksum);
-            status::OK
+            accept(error)
         }
         Err(refused) => refuse(error, refused),
     }
@@ -373,10 +374,10 @@ pub extern "C" fn etherparse_tcp_checksum_ipv6(
     source: &[u8; 16],
     destination: &[u8; 16],
     checksum: &mut u16,
-    error: &mut EtherparseError,
-) -> u32
-    ensures status { result ≡ status_of (checksum_refusal TcpPayloadLengthIpv6 max_len_over_ipv6 bytes.now) }
-    ensures error { error.new ≡ unwrap_or (checksum_refusal TcpPayloadLengthIpv6 max_len_over_ipv6 bytes.now) error.old }
+    error: ErrorPlace,
+) -> Answer
+    ensures status { result.status ≡ status_of (checksum_refusal TcpPayloadLengthIpv6 max_len_over_ipv6 bytes.now) }
+    ensures error { Leaves error result (unwrap_or (checksum_refusal TcpPayloadLengthIpv6 max_len_over_ipv6 bytes.now) error.before) }
     ensures checksum { checksum.new ≡ unless_refused (checksum_refusal TcpPayloadLengthIpv6 max_len_over_ipv6 bytes.now)
         (checksum_of (checksummed_ipv6 source.now destination.now (header_bytes bytes.now) (payload_bytes bytes.now))) checksum.old }
     // With the checksum in its place the packet is valid.
@@ -389,7 +390,7 @@ pub extern "C" fn etherparse_tcp_checksum_ipv6(
     match checksum_ipv6(bytes, source, destination) {
         Ok(ipv6_checksum) => {
             *checksum = ipv6_checksum;
-            status::OK
+            accept(error)
         }
         Err(refused) => refuse(error, refused),
     }
@@ -407,10 +408,10 @@ pub extern "C" fn etherparse_tcp_checksum_store_ipv6(
     bytes: &mut [u8],
     source: &[u8; 16],
     destination: &[u8; 16],
-    error: &mut EtherparseError,
-) -> u32
-    ensures status { result ≡ status_of (checksum_refusal TcpPayloadLengthIpv6 max_len_over_ipv6 bytes.old) }
-    ensures error { error.new ≡ unwrap_or (checksum_refusal TcpPayloadLengthIpv6 max_len_over_ipv6 bytes.old) error.old }
+    error: ErrorPlace,
+) -> Answer
+    ensures status { result.status ≡ status_of (checksum_refusal TcpPayloadLengthIpv6 max_len_over_ipv6 bytes.old) }
+    ensures error { Leaves error result (unwrap_or (checksum_refusal TcpPayloadLengthIpv6 max_len_over_ipv6 bytes.old) error.before) }
     ensures stored { bytes.new ≡ unless_refused (checksum_refusal TcpPayloadLengthIpv6 max_len_over_ipv6 bytes.old)
         (with_checksum 16 bytes.old (checksum_of (checksummed_ipv6 source.now destination.now (header_bytes bytes.old) (payload_bytes bytes.old)))) bytes.old }
     // The test of the bytes then answers that the checksum is right.
@@ -420,7 +421,7 @@ pub extern "C" fn etherparse_tcp_checksum_store_ipv6(
     match checksum_ipv6(bytes, source, destination) {
         Ok(ipv6_checksum) => {
             store(bytes, CHECKSUM_AT, ipv6_checksum);
-            status::OK
+            accept(error)
         }
         Err(refused) => refuse(error, refused),
     }
@@ -439,10 +440,10 @@ pub extern "C" fn etherparse_tcp_checksum_test_ipv4(
     bytes: &[u8],
     source: &[u8; 4],
     destination: &[u8; 4],
-    error: &mut EtherparseError,
-) -> u32
-    ensures status { TestTellsIpv4 source.now destination.now bytes.now result }
-    ensures error { error.new ≡ test_error (checksum_refusal TcpPayloadLengthIpv4 max_len_over_ipv4 bytes.now) result error.old }
+    error: ErrorPlace,
+) -> Answer
+    ensures status { TestTellsIpv4 source.now destination.now bytes.now result.status }
+    ensures error { Leaves error result (test_error (checksum_refusal TcpPayloadLengthIpv4 max_len_over_ipv4 bytes.now) result.status error.before) }
 {
     match TcpHeaderSlice::from_slice(bytes) {
         Ok(header) => {
@@ -478,10 +479,10 @@ pub extern "C" fn etherparse_tcp_checksum_test_ipv6(
     bytes: &[u8],
     source: &[u8; 16],
     destination: &[u8; 16],
-    error: &mut EtherparseError,
-) -> u32
-    ensures status { TestTellsIpv6 source.now destination.now bytes.now result }
-    ensures error { error.new ≡ test_error (checksum_refusal TcpPayloadLengthIpv6 max_len_over_ipv6 bytes.now) result error.old }
+    error: ErrorPlace,
+) -> Answer
+    ensures status { TestTellsIpv6 source.now destination.now bytes.now result.status }
+    ensures error { Leaves error result (test_error (checksum_refusal TcpPayloadLengthIpv6 max_len_over_ipv6 bytes.now) result.status error.before) }
 {
     match TcpHeaderSlice::from_slice(bytes) {
         Ok(header) => {

@@ -1,12 +1,12 @@
 ghost use Rattle.std.specs.Prelude.{◌≡◌, unwrap_or};
 ghost use Rattle.etherparse_transport.specs.Ipv4Translations.{ipv4_translated};
 ghost use Rattle.etherparse_transport.specs.Ipv6Translations.{ipv6_translated};
-ghost use Rattle.etherparse_transport_c.specs.Errors.{status_of, unless_refused};
+ghost use Rattle.etherparse_transport_c.specs.Errors.{Leaves, status_of, unless_refused};
 ghost use Rattle.etherparse_transport_c.specs.Translations as specs;
 ghost use Rattle.etherparse_transport_c.specs.Translations.{ipv4_refusal, ipv4_translation, ipv6_refusal, ipv6_translation};
 
-use crate::error::{EtherparseError, of_translate, refuse};
-use crate::status;
+use crate::answer::{Answer, ErrorPlace, accept, refuse};
+use crate::error::of_translate;
 use etherparse_transport::ip::{Ipv4Translation, Ipv6Translation, translate_ipv4, translate_ipv6};
 
 /// What an address translator replaces in an IPv4 packet (RFC 3022). A flag that is 0 keeps what the packet contains.
@@ -107,15 +107,15 @@ fn of_ipv6(translation: &EtherparseIpv6Translation) -> Ipv6Translation
 pub extern "C" fn etherparse_translate_ipv4(
     packet: &mut [u8],
     translation: &EtherparseIpv4Translation,
-    error: &mut EtherparseError,
-) -> u32
-    ensures status { result ≡ status_of (ipv4_refusal packet.old) }
-    ensures error { error.new ≡ unwrap_or (ipv4_refusal packet.old) error.old }
+    error: ErrorPlace,
+) -> Answer
+    ensures status { result.status ≡ status_of (ipv4_refusal packet.old) }
+    ensures error { Leaves error result (unwrap_or (ipv4_refusal packet.old) error.before) }
     ensures packet { packet.new ≡
         unless_refused (ipv4_refusal packet.old) (ipv4_translated (ipv4_translation translation.now) packet.old) packet.old }
 {
     match translate_ipv4(packet, &of_ipv4(translation)) {
-        Ok(()) => status::OK,
+        Ok(()) => accept(error),
         Err(refused) => refuse(error, of_translate(&refused, 6)),
     }
 }
@@ -131,15 +131,15 @@ pub extern "C" fn etherparse_translate_ipv4(
 pub extern "C" fn etherparse_translate_ipv6(
     packet: &mut [u8],
     translation: &EtherparseIpv6Translation,
-    error: &mut EtherparseError,
-) -> u32
-    ensures status { result ≡ status_of (ipv6_refusal packet.old) }
-    ensures error { error.new ≡ unwrap_or (ipv6_refusal packet.old) error.old }
+    error: ErrorPlace,
+) -> Answer
+    ensures status { result.status ≡ status_of (ipv6_refusal packet.old) }
+    ensures error { Leaves error result (unwrap_or (ipv6_refusal packet.old) error.before) }
     ensures packet { packet.new ≡
         unless_refused (ipv6_refusal packet.old) (ipv6_translated (ipv6_translation translation.now) packet.old) packet.old }
 {
     match translate_ipv6(packet, &of_ipv6(translation)) {
-        Ok(()) => status::OK,
+        Ok(()) => accept(error),
         Err(refused) => refuse(error, of_translate(&refused, 4)),
     }
 }

@@ -9,11 +9,12 @@ ghost use Rattle.udp_part.specs.UdpFormat.{header_of, max_payload_len, max_paylo
 ghost use Rattle.udp_part.specs.UdpSlice.{cut, length_field};
 ghost use Rattle.udp_part.specs.UdpValidity.{IsValidUdpIpv4, IsValidUdpIpv6};
 ghost use Rattle.etherparse_transport_c.specs.Checksums.{with_checksum};
-ghost use Rattle.etherparse_transport_c.specs.Errors.{Answers, at_front, no_room, status_of, test_error, unless_refused};
+ghost use Rattle.etherparse_transport_c.specs.Errors.{Answers, Leaves, at_front, no_room, status_of, test_error, unless_refused};
 ghost use Rattle.etherparse_transport_c.specs.Numbers as numbers;
 ghost use Rattle.etherparse_transport_c.specs.Udp.{TestTellsIpv4, TestTellsIpv6, checksum_refusal, checksummed_ipv4, checksummed_ipv6, fields_of, header_in, header_refusal, packet_in, packet_refusal};
 
-use crate::error::{EtherparseError, number_of_len_source, of_len, of_status, of_value, refuse};
+use crate::answer::{Answer, ErrorPlace, accept, refuse};
+use crate::error::{EtherparseError, number_of_len_source, of_len, of_status, of_value};
 use crate::status;
 use crate::store::store;
 use crate::verdict::verdict;
@@ -99,16 +100,16 @@ fn packet(slice: &UdpSlice<'_>) -> EtherparseUdpPacket
 pub extern "C" fn etherparse_udp_packet_read(
     bytes: &[u8],
     read: &mut EtherparseUdpPacket,
-    error: &mut EtherparseError,
-) -> u32
-    ensures status { result ≡ status_of (packet_refusal bytes.now) }
-    ensures error { error.new ≡ unwrap_or (packet_refusal bytes.now) error.old }
+    error: ErrorPlace,
+) -> Answer
+    ensures status { result.status ≡ status_of (packet_refusal bytes.now) }
+    ensures error { Leaves error result (unwrap_or (packet_refusal bytes.now) error.before) }
     ensures read { read.new ≡ unless_refused (packet_refusal bytes.now) (packet_in (cut bytes.now)) read.old }
 {
     match UdpSlice::from_slice(bytes) {
         Ok(slice) => {
             *read = packet(&slice);
-            status::OK
+            accept(error)
         }
         Err(refusal) => refuse(error, of_len(&refusal)),
     }
@@ -124,16 +125,16 @@ pub extern "C" fn etherparse_udp_packet_read(
 pub extern "C" fn etherparse_udp_packet_read_lax(
     bytes: &[u8],
     read: &mut EtherparseUdpPacket,
-    error: &mut EtherparseError,
-) -> u32
-    ensures status { result ≡ status_of (header_refusal bytes.now) }
-    ensures error { error.new ≡ unwrap_or (header_refusal bytes.now) error.old }
+    error: ErrorPlace,
+) -> Answer
+    ensures status { result.status ≡ status_of (header_refusal bytes.now) }
+    ensures error { Leaves error result (unwrap_or (header_refusal bytes.now) error.before) }
     ensures read { read.new ≡ unless_refused (header_refusal bytes.now) (packet_in (cut bytes.now)) read.old }
 {
     match UdpSlice::from_slice_lax(bytes) {
         Ok(kept) => {
             *read = packet(&kept);
-            status::OK
+            accept(error)
         }
         Err(refusal) => refuse(error, of_len(&refusal)),
     }
@@ -149,10 +150,10 @@ pub extern "C" fn etherparse_udp_header_write(
     fields: &EtherparseUdpHeader,
     buffer: &mut [u8],
     written: &mut usize,
-    error: &mut EtherparseError,
-) -> u32
-    ensures status { result ≡ status_of (no_room 8 (length buffer.old)) }
-    ensures error { error.new ≡ unwrap_or (no_room 8 (length buffer.old)) error.old }
+    error: ErrorPlace,
+) -> Answer
+    ensures status { result.status ≡ status_of (no_room 8 (length buffer.old)) }
+    ensures error { Leaves error result (unwrap_or (no_room 8 (length buffer.old)) error.before) }
     ensures buffer { buffer.new ≡ unless_refused (no_room 8 (length buffer.old)) (at_front (wire (header_in fields.now)) buffer.old) buffer.old }
     ensures written { written.new ≡ unless_refused (no_room 8 (length buffer.old)) 8 written.old }
     // What was written is read back.
@@ -264,10 +265,10 @@ pub extern "C" fn etherparse_udp_checksum_ipv4(
     source: &[u8; 4],
     destination: &[u8; 4],
     checksum: &mut u16,
-    error: &mut EtherparseError,
-) -> u32
-    ensures status { result ≡ status_of (checksum_refusal UdpPayloadLengthIpv4 max_payload_len bytes.now) }
-    ensures error { error.new ≡ unwrap_or (checksum_refusal UdpPayloadLengthIpv4 max_payload_len bytes.now) error.old }
+    error: ErrorPlace,
+) -> Answer
+    ensures status { result.status ≡ status_of (checksum_refusal UdpPayloadLengthIpv4 max_payload_len bytes.now) }
+    ensures error { Leaves error result (unwrap_or (checksum_refusal UdpPayloadLengthIpv4 max_payload_len bytes.now) error.before) }
     ensures checksum { checksum.new ≡ unless_refused (checksum_refusal UdpPayloadLengthIpv4 max_payload_len bytes.now)
         (udp_checksum_of (checksummed_ipv4 source.now destination.now (cut bytes.now))) checksum.old }
     // With the checksum in its place the packet is valid.
@@ -283,7 +284,7 @@ pub extern "C" fn etherparse_udp_checksum_ipv4(
     match checksum_ipv4(bytes, source, destination) {
         Ok(ipv4_checksum) => {
             *checksum = ipv4_checksum;
-            status::OK
+            accept(error)
         }
         Err(refused) => refuse(error, refused),
     }
@@ -301,10 +302,10 @@ pub extern "C" fn etherparse_udp_checksum_store_ipv4(
     bytes: &mut [u8],
     source: &[u8; 4],
     destination: &[u8; 4],
-    error: &mut EtherparseError,
-) -> u32
-    ensures status { result ≡ status_of (checksum_refusal UdpPayloadLengthIpv4 max_payload_len bytes.old) }
-    ensures error { error.new ≡ unwrap_or (checksum_refusal UdpPayloadLengthIpv4 max_payload_len bytes.old) error.old }
+    error: ErrorPlace,
+) -> Answer
+    ensures status { result.status ≡ status_of (checksum_refusal UdpPayloadLengthIpv4 max_payload_len bytes.old) }
+    ensures error { Leaves error result (unwrap_or (checksum_refusal UdpPayloadLengthIpv4 max_payload_len bytes.old) error.before) }
     ensures stored { bytes.new ≡ unless_refused (checksum_refusal UdpPayloadLengthIpv4 max_payload_len bytes.old)
         (with_checksum 6 bytes.old (udp_checksum_of (checksummed_ipv4 source.now destination.now (cut bytes.old)))) bytes.old }
     // The test of the bytes then answers that the checksum is right.
@@ -314,7 +315,7 @@ pub extern "C" fn etherparse_udp_checksum_store_ipv4(
     match checksum_ipv4(bytes, source, destination) {
         Ok(ipv4_checksum) => {
             store(bytes, CHECKSUM_AT, ipv4_checksum);
-            status::OK
+            accept(error)
         }
         Err(refused) => refuse(error, refused),
     }
@@ -355,10 +356,10 @@ pub extern "C" fn etherparse_udp_checksum_ipv6(
     source: &[u8; 16],
     destination: &[u8; 16],
     checksum: &mut u16,
-    error: &mut EtherparseError,
-) -> u32
-    ensures status { result ≡ status_of (checksum_refusal UdpPayloadLengthIpv6 max_payload_len_of_32_bits bytes.now) }
-    ensures error { error.new ≡ unwrap_or (checksum_refusal UdpPayloadLengthIpv6 max_payload_len_of_32_bits bytes.now) error.old }
+    error: ErrorPlace,
+) -> Answer
+    ensures status { result.status ≡ status_of (checksum_refusal UdpPayloadLengthIpv6 max_payload_len_of_32_bits bytes.now) }
+    ensures error { Leaves error result (unwrap_or (checksum_refusal UdpPayloadLengthIpv6 max_payload_len_of_32_bits bytes.now) error.before) }
     ensures checksum { checksum.new ≡ unless_refused (checksum_refusal UdpPayloadLengthIpv6 max_payload_len_of_32_bits bytes.now)
         (udp_checksum_of (checksummed_ipv6 source.now destination.now (cut bytes.now))) checksum.old }
     // With the checksum in its place the packet is valid.
@@ -374,7 +375,7 @@ pub extern "C" fn etherparse_udp_checksum_ipv6(
     match checksum_ipv6(bytes, source, destination) {
         Ok(ipv6_checksum) => {
             *checksum = ipv6_checksum;
-            status::OK
+            accept(error)
         }
         Err(refused) => refuse(error, refused),
     }
@@ -392,10 +393,10 @@ pub extern "C" fn etherparse_udp_checksum_store_ipv6(
     bytes: &mut [u8],
     source: &[u8; 16],
     destination: &[u8; 16],
-    error: &mut EtherparseError,
-) -> u32
-    ensures status { result ≡ status_of (checksum_refusal UdpPayloadLengthIpv6 max_payload_len_of_32_bits bytes.old) }
-    ensures error { error.new ≡ unwrap_or (checksum_refusal UdpPayloadLengthIpv6 max_payload_len_of_32_bits bytes.old) error.old }
+    error: ErrorPlace,
+) -> Answer
+    ensures status { result.status ≡ status_of (checksum_refusal UdpPayloadLengthIpv6 max_payload_len_of_32_bits bytes.old) }
+    ensures error { Leaves error result (unwrap_or (checksum_refusal UdpPayloadLengthIpv6 max_payload_len_of_32_bits bytes.old) error.before) }
     ensures stored { bytes.new ≡ unless_refused (checksum_refusal UdpPayloadLengthIpv6 max_payload_len_of_32_bits bytes.old)
         (with_checksum 6 bytes.old (udp_checksum_of (checksummed_ipv6 source.now destination.now (cut bytes.old)))) bytes.old }
     // The test of the bytes then answers that the checksum is right.
@@ -405,7 +406,7 @@ pub extern "C" fn etherparse_udp_checksum_store_ipv6(
     match checksum_ipv6(bytes, source, destination) {
         Ok(ipv6_checksum) => {
             store(bytes, CHECKSUM_AT, ipv6_checksum);
-            status::OK
+            accept(error)
         }
         Err(refused) => refuse(error, refused),
     }
@@ -425,10 +426,10 @@ pub extern "C" fn etherparse_udp_checksum_test_ipv4(
     bytes: &[u8],
     source: &[u8; 4],
     destination: &[u8; 4],
-    error: &mut EtherparseError,
-) -> u32
-    ensures status { TestTellsIpv4 source.now destination.now bytes.now result }
-    ensures error { error.new ≡ test_error (checksum_refusal UdpPayloadLengthIpv4 max_payload_len bytes.now) result error.old }
+    error: ErrorPlace,
+) -> Answer
+    ensures status { TestTellsIpv4 source.now destination.now bytes.now result.status }
+    ensures error { Leaves error result (test_error (checksum_refusal UdpPayloadLengthIpv4 max_payload_len bytes.now) result.status error.before) }
 {
     match counted_packet(bytes, MAX_PAYLOAD_LEN_IPV4, ValueType::UdpPayloadLengthIpv4) {
         Ok(packet) => {
@@ -456,10 +457,10 @@ pub extern "C" fn etherparse_udp_checksum_test_ipv6(
     bytes: &[u8],
     source: &[u8; 16],
     destination: &[u8; 16],
-    error: &mut EtherparseError,
-) -> u32
-    ensures status { TestTellsIpv6 source.now destination.now bytes.now result }
-    ensures error { error.new ≡ test_error (checksum_refusal UdpPayloadLengthIpv6 max_payload_len_of_32_bits bytes.now) result error.old }
+    error: ErrorPlace,
+) -> Answer
+    ensures status { TestTellsIpv6 source.now destination.now bytes.now result.status }
+    ensures error { Leaves error result (test_error (checksum_refusal UdpPayloadLengthIpv6 max_payload_len_of_32_bits bytes.now) result.status error.before) }
 {
     match counted_packet(bytes, MAX_PAYLOAD_LEN_IPV6, ValueType::UdpPayloadLengthIpv6) {
         Ok(packet) => {

@@ -1,17 +1,18 @@
 ghost use Rattle.std.specs.Prelude.{◌≡◌, None, if◌then◌else◌};
-ghost use Rattle.etherparse_transport_c.specs.Errors.{test_error};
+ghost use Rattle.etherparse_transport_c.specs.Errors.{Leaves, test_error};
 ghost use Rattle.etherparse_transport_c.specs.Numbers as numbers;
 
-use crate::error::{EtherparseError, of_status, refuse};
+use crate::answer::{Answer, ErrorPlace, accept, refuse};
+use crate::error::of_status;
 use crate::status;
 
 /// The status of a checksum that was tested. If the checksum is wrong, the error contains that status.
-pub(crate) fn verdict(valid: bool, error: &mut EtherparseError) -> u32
-    ensures status { result ≡ (if valid then numbers.status_ok else numbers.status_checksum_wrong) }
-    ensures error { error.new ≡ test_error None result error.old }
+pub(crate) fn verdict(valid: bool, error: ErrorPlace) -> Answer
+    ensures status { result.status ≡ (if valid then numbers.status_ok else numbers.status_checksum_wrong) }
+    ensures error { Leaves error result (test_error None result.status error.before) }
 {
     if valid {
-        status::OK
+        accept(error)
     } else {
         refuse(error, of_status(status::CHECKSUM_WRONG))
     }

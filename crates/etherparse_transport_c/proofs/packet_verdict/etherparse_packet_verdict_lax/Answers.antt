@@ -13,5 +13,9 @@ returns-in-Ok-clause-status c =
 pub returns-in-Ok-clause-error : goal.returns-in-Ok-clause-error
 returns-in-Ok-clause-error c =
     let bytes = c.args.bytes.now in
-    rw c.in-Ok.ensures.refused (c.judge.ensures.error bytes c.in-Ok.ensures.found
-    ∙ ap (λ missing. unwrap_or (transport_refusal missing bytes (headers_of missing bytes)) c.args.error.now) c.in-Ok.ensures.stated)
+    let left = c.judge.ensures.error bytes c.in-Ok.ensures.found in
+    rw c.in-Ok.ensures.refused (
+      left.0,
+      left.1
+          ∙ ap (λ missing. unwrap_or (transport_refusal missing bytes (headers_of missing bytes)) c.args.error.before) c.in-Ok.ensures.stated,
+    )

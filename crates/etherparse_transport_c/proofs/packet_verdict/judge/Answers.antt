@@ -27,4 +27,4 @@ returns-in-Err-clause-error c packet carries =
     let carried = c.args.carried.now in
     let told = told_of_carried packet carried carries c.fields-transport.result (c.fields-transport.ensures packet carries) in
     rw (refusal_by_headers packet carried carries, c.in-Err.ensures.refused)
-    (c.refuse.ensures.told ∙ c.of_transport.ensures ∙ ap (λ transport. of_transport transport.payload_offset c.in-Err.refused) told)
+    (c.refuse.ensures.pointer, c.refuse.ensures.error ∙ c.of_transport.ensures ∙ ap (λ transport. of_transport transport.payload_offset c.in-Err.refused) told)
