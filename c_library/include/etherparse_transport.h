@@ -7,35 +7,36 @@
  *
  * What holds of every call
  *
- *  - A call that can refuse answers with a status. ETHERPARSE_OK, which is 0, says that the call did what was asked for, and that
- *    `error` is as it was. Every other status says why not. Then `error` is filled and contains the status, and nothing else is
- *    written: results, buffers and lengths are as they were. Only the two calls that read the next option also move `*place`, and
- *    their comments say so.
- *  - Bytes are passed as a pointer and a number of bytes, and a call reads and writes none beyond that number. The number may be 0.
- *  - `error` may be NULL if it is not wanted. A pointer that has a number beside it may be NULL if that number is 0. No other may: gcc
- *    and clang warn of one that they see.
- *  - What a pointer without `const` points to may not overlap what another argument of the same call points to. Arguments with
+ *  - A call that can refuse its input returns a status. ETHERPARSE_OK, which is 0, means that the call did what it is for, and then
+ *    `error` is unchanged. Every other status is the reason for a refusal. Then `error` is filled and contains the status, and nothing
+ *    else is written: results, buffers and lengths are unchanged. Only the two calls that read the next option also move `*place`, as
+ *    their comments state.
+ *  - `error` may be NULL if it is not wanted, in C, in C++ and in every language that calls the library. The status is the same.
+ *  - Bytes are passed as a pointer and a number of bytes. A call reads and writes no byte beyond that number. The number may be 0.
+ *  - A pointer that is followed by a number may be NULL if the number is 0. Except for `error`, no other pointer may be NULL. gcc and clang
+ *    warn of a NULL that they see.
+ *  - What a pointer without `const` points to must not overlap what another argument of the same call points to. Arguments with
  *    `const` may overlap each other.
- *  - A packet is changed in place: read its header into a struct, write the struct to the front of the packet's bytes, of TCP with
- *    etherparse_tcp_header_store, and store the checksum with a call that has `checksum_store` in its name. Each changes bytes of the
- *    header alone, and what it refuses it leaves.
- *  - A result or a buffer need not be set before the call. `*place` of etherparse_tcp_option_next has to be.
- *  - Numbers in structs are in the order of the host. Bytes of packets and addresses are in network order.
- *  - The bytes of a packet begin where its transport header begins, and end where the IP packet ends: an Ethernet frame has padding
- *    behind a short packet. Addresses are those that the checksum covers: with a source route or a routing header the destination is
- *    the final one. etherparse_transport_in_ip finds the bytes and the addresses.
- *  - Nothing is allocated and nothing is kept between calls, and there is nothing to start or to end. A call reads and writes what
- *    its arguments point to and nothing else. Threads may call at the same time, and a signal handler may call.
+ *  - To change a packet in place, read its header into a struct, write the struct to the front of the packet's bytes, and store the
+ *    checksum by a call that has `checksum_store` in its name. A TCP header is written by etherparse_tcp_header_store. Each of these calls
+ *    changes bytes of the header only, and changes nothing if it refuses.
+ *  - A result or a buffer need not be set before the call. `*place` of etherparse_tcp_option_next has to be set.
+ *  - Numbers in structs are in the byte order of the host. Bytes of packets and addresses are in network byte order.
+ *  - The bytes of a packet begin with its transport header and end where the IP packet ends: in an Ethernet frame, padding follows a
+ *    short packet. Addresses are the addresses that the checksum covers: with a source route or a routing header, the destination is
+ *    the final destination. etherparse_transport_in_ip finds the bytes and the addresses.
+ *  - Nothing is allocated, nothing is kept between calls, and there is nothing to initialise. A call reads and writes only what
+ *    its arguments point to. Threads may call at the same time, and a signal handler may call.
  *
- * What a program was built against stays as it is while ETHERPARSE_VERSION_MAJOR stays, and of version 0 while
- * ETHERPARSE_VERSION_MINOR stays too: no number is given another meaning, no struct gets another size or another place of a field,
- * and no call another type. Later versions may add numbers, so that a `switch` needs a `default`. What needs another struct gets a
- * call and a struct of another name. Version 0.4 has all that 0.3 has, but statuses 5, 6 and 10 fill the error too.
+ * The interface stays compatible while ETHERPARSE_VERSION_MAJOR stays the same, and in version 0 while ETHERPARSE_VERSION_MINOR stays the
+ * same too: no number gets another meaning, no struct gets another size or another offset of a field, and no call gets another type.
+ * Later versions may add numbers, so a `switch` needs a `default`. A change that needs another struct gets a call and a struct with
+ * other names. Version 0.4 has everything that version 0.3 has, but statuses 5, 6 and 10 fill the error too.
  *
  * A program links with -letherparse_transport, or names libetherparse_transport.a after its own files. It needs nothing else.
  *
- * To read the UDP packet in an IP packet and test its checksum: call etherparse_packet_verdict, and where `header_protocol` is
- * ETHERPARSE_PROTOCOL_UDP pass bytes + transport.payload_offset and transport.payload_len to etherparse_udp_packet_read.
+ * To read the UDP packet in an IP packet and test its checksum, call etherparse_packet_verdict. If `header_protocol` is
+ * ETHERPARSE_PROTOCOL_UDP, pass bytes + transport.payload_offset and transport.payload_len to etherparse_udp_packet_read.
  */
 #ifndef ETHERPARSE_TRANSPORT_H
 #define ETHERPARSE_TRANSPORT_H
@@ -44,8 +45,8 @@
 #include <stdint.h>
 
 /*
- * The library is built for x86-64 processors of the level x86-64-v2, and the structs are laid out as they are there. Compilers for Windows
- * and macOS define __x86_64__ too, but their calls or their object files are others.
+ * The library is built for x86-64 processors of level x86-64-v2, and the structs have the layout of x86-64 Linux. Compilers for Windows
+ * and macOS define __x86_64__ too, but use another calling convention or another object format.
  */
 #if !defined(__x86_64__) || defined(__ILP32__)
 #error "etherparse_transport is built for x86-64, with pointers of 64 bits"
@@ -55,8 +56,8 @@
 #endif
 
 /*
- * The compiler warns of a NULL, and of a result that is not looked at. To ignore one on purpose, compare it: (void)(call == 0). Whoever
- * ignores all of them defines ETHERPARSE_CHECK_RESULT as nothing before this file.
+ * The compiler warns of a NULL that is not allowed, and of an unused result. To ignore a result on purpose, compare it: (void)(call == 0).
+ * To ignore all results, define ETHERPARSE_CHECK_RESULT as nothing before this file is included.
  */
 #if defined(__GNUC__) || defined(__clang__)
 #define ETHERPARSE_NOT_NULL(...) __attribute__((nonnull(__VA_ARGS__)))
@@ -82,24 +83,24 @@ extern "C" {
 #define ETHERPARSE_VERSION_PATCH 0
 #define ETHERPARSE_VERSION_STRING "0.4.0"
 
-/* The same as one number, as etherparse_version answers it. The preprocessor may compare it. */
+/* The version as one number, as etherparse_version returns it. The preprocessor can compare it. */
 #define ETHERPARSE_VERSION (ETHERPARSE_VERSION_MAJOR * 65536 + ETHERPARSE_VERSION_MINOR * 256 + ETHERPARSE_VERSION_PATCH)
 
-/* The version of the interface that the library has: major times 65536, minor times 256, and patch. */
+/* Returns the version of the interface of the library: major times 65536, plus minor times 256, plus patch. */
 ETHERPARSE_CHECK_RESULT
 uint32_t etherparse_version(void);
 
 /* ---- statuses and errors ------------------------------------------------------------------------------------------------- */
 
-/* What a call answers: one of the numbers below. */
+/* What a call returns: one of the numbers below. */
 typedef uint32_t etherparse_status;
 
 /*
- * The comment of a status names the fields of etherparse_error that it fills. 25 to 30 are kept for IP headers. Each begins with
- * ETHERPARSE_STATUS_ but the one that says that nothing was refused.
+ * The comment of a status names the fields of etherparse_error that it fills in addition to `status`. The numbers 25 to 30 are
+ * reserved for IP headers. The name of each status begins with ETHERPARSE_STATUS_, except ETHERPARSE_OK.
  */
 
-/* The call did what was asked for; of a test: the checksum is right, or the packet is the reply. `error` is as it was. */
+/* The call did what it is for. Of a test: the checksum is right, or the packet is the reply. `error` is unchanged. */
 #define ETHERPARSE_OK 0
 /* A length is too short or too long: layer, len_source, required_len, len, layer_start_offset. */
 #define ETHERPARSE_STATUS_LENGTH 1
@@ -107,11 +108,11 @@ typedef uint32_t etherparse_status;
 #define ETHERPARSE_STATUS_DATA_OFFSET 2
 /* A value is above its limit: value_type, actual, max_allowed. */
 #define ETHERPARSE_STATUS_VALUE_TOO_BIG 3
-/* The buffer is too small: required_len, len. The buffer is as it was. */
+/* The buffer is too small: required_len, len. The buffer is unchanged. */
 #define ETHERPARSE_STATUS_BUFFER_TOO_SMALL 4
 /* The checksum is wrong: no other field. */
 #define ETHERPARSE_STATUS_CHECKSUM_WRONG 5
-/* The checksum field of a UDP packet is 0, which says that there is none: no other field. */
+/* The checksum field of a UDP packet is 0, which means that the packet has no checksum: no other field. */
 #define ETHERPARSE_STATUS_CHECKSUM_ABSENT 6
 /*
  * More than 40 bytes of TCP options, or more than 40 options: required_len, which is 40, and len, which is the number of bytes, or of
@@ -120,7 +121,7 @@ typedef uint32_t etherparse_status;
 #define ETHERPARSE_STATUS_OPTIONS_TOO_LONG 7
 /* Flags of a TCP header above ETHERPARSE_TCP_FLAGS: actual, max_allowed. */
 #define ETHERPARSE_STATUS_FLAGS_UNKNOWN 8
-/* A protocol that is none of the four: actual. */
+/* A protocol other than UDP, TCP, ICMPv4 and ICMPv6: actual. */
 #define ETHERPARSE_STATUS_PROTOCOL_UNKNOWN 9
 /* No TCP option is left: no other field. */
 #define ETHERPARSE_STATUS_OPTIONS_END 10
@@ -128,25 +129,27 @@ typedef uint32_t etherparse_status;
 #define ETHERPARSE_STATUS_OPTION_CUT_OFF 11
 /* No TCP option of this kind has this length byte: option_kind, option_size. */
 #define ETHERPARSE_STATUS_OPTION_SIZE 12
-/* A kind of TCP option that is not known: option_kind. */
+/* An unknown kind of TCP option: option_kind. */
 #define ETHERPARSE_STATUS_OPTION_UNKNOWN 13
-/* A kind of ICMP message, or a code of its kind, that is not known: no other field. */
+/* An unknown kind of ICMP message, or an unknown code of its kind: no other field. */
 #define ETHERPARSE_STATUS_MESSAGE_UNKNOWN 14
-/* The bytes end within an IP header: required_len, which is 1 of no bytes, 20 or the header length of IPv4, 40 of
- * IPv6, or 48 or the end of hop-by-hop options that have the length; len. */
+/*
+ * The bytes end within an IP header: required_len and len. required_len is 1 if there are no bytes. Otherwise it is 20 or the header length
+ * of IPv4, or 40 of IPv6. It is 48 or the end of the hop-by-hop options if these contain the length.
+ */
 #define ETHERPARSE_STATUS_IP_HEADER_CUT_OFF 15
 /* The version of an IP packet is neither 4 nor 6, or a version that the call does not accept: actual. */
 #define ETHERPARSE_STATUS_IP_VERSION 16
 /* The header length of an IPv4 packet is below 20 bytes: required_len, which is 20, and len, which is the header length. */
 #define ETHERPARSE_STATUS_IP_HEADER_LENGTH 17
-/* The total length of an IPv4 packet is below its header length: required_len, which is the header length, and len, the total one. */
+/* The total length of an IPv4 packet is below its header length: required_len is the header length, and len is the total length. */
 #define ETHERPARSE_STATUS_IP_TOTAL_LENGTH 18
-/* An IP header counts more bytes than there are: required_len, which is what it counts, its own included, and len. */
+/* An IP header counts more bytes than there are: required_len, which is what it counts, header included, and len. */
 #define ETHERPARSE_STATUS_IP_PACKET_CUT_OFF 19
 /*
  * A packet ends within an extension header of IPv6, or within the authentication header of IPv4: actual, which is its number,
- * layer_start_offset, required_len, which is its length, or 8 where fewer bytes are left, and len, which is what is left of the packet
- * from there on.
+ * layer_start_offset, required_len, which is its length, or 8 if fewer than 8 bytes are left, and len, which is the number of bytes left
+ * in the packet.
  */
 #define ETHERPARSE_STATUS_IP_EXTENSION_CUT_OFF 20
 /* The payload length of an IPv6 packet is 0, and the hop-by-hop options after its header have no jumbo payload option (RFC 2675): no
@@ -158,12 +161,12 @@ typedef uint32_t etherparse_status;
 #define ETHERPARSE_STATUS_IP_JUMBO_PAYLOAD_UNEXPECTED 23
 /* A fragment header in an IPv6 packet with a jumbo payload option: layer_start_offset. */
 #define ETHERPARSE_STATUS_IP_JUMBO_PAYLOAD_FRAGMENT 24
-/* Values that a TCP option of this kind does not have, another count of them or one above its limit: option_kind. */
+/* The values don't fit the kind of TCP option: a wrong number of values, or a value above its limit: option_kind. */
 #define ETHERPARSE_STATUS_OPTION_VALUES 31
 /* The packet is a fragment. An echo request is answered only after its packet is put together (RFC 1122, section 3.3.2): no other field. */
 #define ETHERPARSE_STATUS_ECHO_FRAGMENT 32
 /*
- * The packet is no echo request, whose type is 8 over IPv4 and 128 over IPv6, and whose code is 0. Or it has another IP version than the
+ * The packet is no echo request, which has type 8 over IPv4 and 128 over IPv6, and code 0. Or it has another IP version than the
  * call: no other field.
  */
 #define ETHERPARSE_STATUS_ECHO_NO_REQUEST 33
@@ -195,7 +198,7 @@ typedef uint32_t etherparse_status;
 /* The IPv4 options contain a loose or strict source route, so the packet is not translated: no other field. */
 #define ETHERPARSE_STATUS_TRANSLATE_SOURCE_ROUTE 45
 
-/* The layer whose length was wrong. 0 is none; 8 and up are kept for IP headers. */
+/* The layer whose length was wrong. 0 means no layer. The numbers from 8 on are reserved for IP headers. */
 enum {
     ETHERPARSE_LAYER_UDP_HEADER = 1,
     ETHERPARSE_LAYER_UDP_PAYLOAD = 2,
@@ -206,13 +209,13 @@ enum {
     ETHERPARSE_LAYER_ICMPV6 = 7
 };
 
-/* Where a length came from. 0 is none. */
+/* The source of a length. 0 means no source. */
 enum {
-    ETHERPARSE_LEN_SOURCE_SLICE = 1,         /* the number of bytes that was passed */
+    ETHERPARSE_LEN_SOURCE_SLICE = 1,         /* the number of bytes passed to the call */
     ETHERPARSE_LEN_SOURCE_UDP_HEADER_LEN = 2 /* the length field of a UDP header */
 };
 
-/* Which value was above its limit. 0 is none. */
+/* Which value was above its limit. 0 means no value. */
 enum {
     ETHERPARSE_VALUE_UDP_PAYLOAD_LENGTH_IPV4 = 1,
     ETHERPARSE_VALUE_UDP_PAYLOAD_LENGTH_IPV6 = 2,
@@ -221,53 +224,53 @@ enum {
     ETHERPARSE_VALUE_ICMPV6_PAYLOAD_LENGTH = 5
 };
 
-/* Why a call refused. A field that the status does not speak of is 0. */
+/* Why a call refused its input. A field that the status does not use is 0. */
 typedef struct etherparse_error {
-    uint32_t status;           /* the status that the call answered with */
+    uint32_t status;           /* the status that the call returned */
     uint32_t layer;            /* ETHERPARSE_LAYER_..: the layer that could not be read */
-    uint32_t len_source;       /* ETHERPARSE_LEN_SOURCE_..: where `len` came from */
+    uint32_t len_source;       /* ETHERPARSE_LEN_SOURCE_..: the source of `len` */
     uint32_t value_type;       /* ETHERPARSE_VALUE_..: which value was too big */
     uint32_t data_offset;      /* the data offset that was read, in words of four bytes */
     uint32_t option_kind;      /* the kind of the option */
     uint32_t option_size;      /* the length byte of the option */
     size_t required_len;       /* the length that would have been accepted, in bytes */
-    size_t len;                /* the length that there is, in bytes */
-    size_t layer_start_offset; /* where the layer starts, in bytes from the first that was passed */
-    size_t actual;             /* the value that was too big, or that is not known */
+    size_t len;                /* the actual length, in bytes */
+    size_t layer_start_offset; /* the start of the layer, in bytes from the first byte that was passed */
+    size_t actual;             /* the value that was too big, or that is unknown */
     size_t max_allowed;        /* the largest value that is allowed */
 } etherparse_error;
 
-/* NULL for `error`. Programs for earlier versions pass it. */
+/* NULL for `error`. Programs written for earlier versions pass it. */
 #define ETHERPARSE_NO_ERROR (NULL)
 
-/* No text of an error has more bytes. */
+/* The length of the longest text of an error, in bytes. */
 #define ETHERPARSE_ERROR_TEXT_MAX_LEN 256
 
 /*
- * Writes the text of an error to the buffer, in ASCII and with a zero byte at its end, and answers its length without that byte, as
- * snprintf does. Where the answer is buffer_len or more, the buffer has the front of the text, with a zero byte at its end; nothing is
- * written where buffer_len is 0. Every struct has a text, also one whose numbers no call tells. A buffer of
- * ETHERPARSE_ERROR_TEXT_MAX_LEN + 1 bytes holds each. The texts may change in later versions.
+ * Writes the text of an error to the buffer, in ASCII and with a zero byte at its end, and returns its length without that byte, as
+ * snprintf does. If the result is buffer_len or more, the buffer contains the beginning of the text, with a zero byte at its end. If
+ * buffer_len is 0, nothing is written. Every struct has a text, even with numbers that no call fills in. A buffer of
+ * ETHERPARSE_ERROR_TEXT_MAX_LEN + 1 bytes is long enough for every text. The texts may change in later versions.
  */
 ETHERPARSE_NOT_NULL(1)
 size_t etherparse_error_text(const etherparse_error *error, char *buffer, size_t buffer_len);
 
 /*
- * Writes the name that this file has for a status, as ETHERPARSE_OK or ETHERPARSE_STATUS_LENGTH, and answers its length, both as
- * etherparse_error_text does. The name of a number that is none is "unknown status". No name has more than 63 bytes.
+ * Writes the name of a status in this file, such as ETHERPARSE_OK or ETHERPARSE_STATUS_LENGTH, and returns its length, both as
+ * etherparse_error_text does. For a number that is no status the name is "unknown status". No name has more than 63 bytes.
  */
 size_t etherparse_status_name(etherparse_status status, char *buffer, size_t buffer_len);
 
 /*
- * Writes what a status means in a few words of ASCII, such as "the checksum is wrong", and answers the length of this text, both as
- * etherparse_error_text does. The text of a number that is none is "unknown status". etherparse_error_text says more, since it has the
- * error. No text has more than 127 bytes. The texts may change in later versions.
+ * Writes what a status means in a few words of ASCII, such as "the checksum is wrong", and returns the length of this text, both as
+ * etherparse_error_text does. For a number that is no status the text is "unknown status". etherparse_error_text writes more, since it is
+ * passed the error. No text has more than 127 bytes. The texts may change in later versions.
  */
 size_t etherparse_status_text(etherparse_status status, char *buffer, size_t buffer_len);
 
 /* ---- IP ------------------------------------------------------------------------------------------------------------------ */
 
-/* The protocols, by the numbers that IP has for them. */
+/* The protocols, by their numbers in IP. */
 enum {
     ETHERPARSE_PROTOCOL_ICMPV4 = 1,
     ETHERPARSE_PROTOCOL_TCP = 6,
@@ -278,13 +281,13 @@ enum {
 /* What an IP packet carries. */
 typedef struct etherparse_ip_transport {
     uint32_t version;           /* 4 or 6 */
-    uint32_t protocol;          /* ETHERPARSE_PROTOCOL_.., or another number that IP has for a protocol */
+    uint32_t protocol;          /* ETHERPARSE_PROTOCOL_.., or the number of another protocol in IP */
     size_t payload_offset;      /* the payload begins at bytes[payload_offset]: it is what the calls below read */
-    size_t payload_len;         /* in bytes, without the padding behind a packet that states its length */
-    uint32_t is_fragment;       /* 1 where the payload is a part of a packet's only, or 0 */
-    uint32_t is_cut_off;        /* 1 where the IP header counts more bytes than there are, or 0 */
-    uint32_t has_destination;   /* 1 where the destination is known, or 0, as with some routing headers of IPv6 */
-    uint8_t source[16];         /* the source that the checksum covers; one of IPv4 is in the first four bytes, with 0 behind it */
+    size_t payload_len;         /* in bytes, without the padding after a packet that states its length */
+    uint32_t is_fragment;       /* 1 if the payload is only a part of the packet's payload, otherwise 0 */
+    uint32_t is_cut_off;        /* 1 if the IP header counts more bytes than there are, otherwise 0 */
+    uint32_t has_destination;   /* 1 if the destination is known, otherwise 0, as with some IPv6 routing headers */
+    uint8_t source[16];         /* the source that the checksum covers; an IPv4 address is in the first four bytes, followed by zeros */
     uint8_t destination[16];    /* the destination that the checksum covers, in the same form, or 0 */
     uint32_t is_length_missing; /* 1 if the IP header states no length and all bytes are counted, otherwise 0 */
 } etherparse_ip_transport;
@@ -297,13 +300,13 @@ typedef struct etherparse_ip_transport {
  */
 
 /*
- * Finds the transport in the IP packet at the front of the bytes, as an Ethernet frame carries it behind its own header. Over IPv4
+ * Finds the transport in the IP packet at the front of the bytes. In an Ethernet frame the IP packet follows the Ethernet header. Over IPv4
  * the options are skipped, except that a source route names the destination. An authentication header directly after them (RFC 4302) is
  * skipped too, except in a later fragment. Over IPv6 these extension headers are skipped: hop-by-hop options, routing, fragment,
  * destination options (RFC 8200, section 4), authentication (RFC 4302), mobility (RFC 6275), Host Identity Protocol (RFC 7401) and Shim6
  * (RFC 5533). A routing header names the destination, and a home address in the destination options is the source. `source` and
- * `destination` can be passed to the calls for IPv4 and for IPv6. No checksum is tested. That of a fragment can be tested once its packet
- * is put together, and where has_destination is 0 none can be.
+ * `destination` can be passed to the calls for IPv4 and for IPv6. No checksum is tested. The checksum of a fragment can be tested only
+ * after its packet is reassembled. If has_destination is 0, the checksum can't be tested.
  *
  * In this order: ETHERPARSE_STATUS_IP_HEADER_CUT_OFF: no bytes. ETHERPARSE_STATUS_IP_VERSION. Of IPv4
  * ETHERPARSE_STATUS_IP_HEADER_CUT_OFF: fewer than 20 bytes; ETHERPARSE_STATUS_IP_HEADER_LENGTH;
@@ -318,11 +321,11 @@ etherparse_status etherparse_transport_in_ip(const uint8_t *bytes, size_t len, e
                                              etherparse_error *error);
 
 /*
- * The same, but a packet of which fewer bytes are there than its header counts is not refused: its payload is what is there, and
- * is_cut_off is 1. So it reads what was cut off when it was captured. Of a packet whose header states no length, as a host captures what
- * its network card has yet to segment, all bytes are counted, whether or not the other call refuses it: of IPv4 with total length 0, and
- * of IPv6 with payload length 0, no jumbo payload length and another next header than 59 (no next header). Then is_length_missing is 1.
- * The other call always sets it to 0.
+ * The same, but a packet with fewer bytes than its header counts is not refused. Its payload is the bytes that are there, and is_cut_off
+ * is 1. So this call reads packets of a truncated capture. If the header states no length, all bytes are counted, and is_length_missing is
+ * 1. These are IPv4 packets with total length 0, and IPv6 packets with payload length 0, no jumbo payload length and another next header
+ * than 59 (no next header). A host captures such packets before its network card segments them. The other call refuses such a packet, or
+ * sets is_length_missing to 0.
  */
 ETHERPARSE_CHECK_RESULT ETHERPARSE_NOT_NULL(3)
 etherparse_status etherparse_transport_in_ip_lax(const uint8_t *bytes, size_t len, etherparse_ip_transport *transport,
@@ -331,13 +334,13 @@ etherparse_status etherparse_transport_in_ip_lax(const uint8_t *bytes, size_t le
 /* The addresses of an IP header itself. */
 typedef struct etherparse_ip_addresses {
     uint32_t version;        /* 4 or 6 */
-    uint8_t source[16];      /* an address of IPv4 is in the first four bytes, with 0 behind it */
+    uint8_t source[16];      /* an IPv4 address is in the first four bytes, followed by zeros */
     uint8_t destination[16]; /* in the same form */
 } etherparse_ip_addresses;
 
 /*
- * Reads the addresses of the IP header at the front of the bytes. Options and extension headers are not looked at, nor are lengths other
- * than that of the IPv4 header, so the packet may be cut off behind its header.
+ * Reads the addresses of the IP header at the front of the bytes. Options, extension headers, and lengths other than the IPv4 header
+ * length are ignored, so the packet may be cut off after its header.
  *
  * In this order: ETHERPARSE_STATUS_IP_HEADER_CUT_OFF: no bytes. ETHERPARSE_STATUS_IP_VERSION. Of IPv4 as
  * etherparse_ipv4_header_checksum refuses. Of IPv6 ETHERPARSE_STATUS_IP_HEADER_CUT_OFF: fewer than 40 bytes.
@@ -347,8 +350,8 @@ etherparse_status etherparse_ip_header_addresses(const uint8_t *bytes, size_t le
                                                  etherparse_error *error);
 
 /*
- * What to store in bytes 10 and 11 of the IPv4 header at the front of the bytes, whatever stands there (RFC 791, section 3.1). The sum has
- * the whole header, options included, and none of the bytes behind it.
+ * Computes the checksum to store in bytes 10 and 11 of the IPv4 header at the front of the bytes, whatever these bytes contain (RFC 791,
+ * section 3.1). The sum covers the whole header, options included, and no byte after it.
  *
  * In this order: ETHERPARSE_STATUS_IP_HEADER_CUT_OFF: no bytes. ETHERPARSE_STATUS_IP_VERSION: another version than 4.
  * ETHERPARSE_STATUS_IP_HEADER_CUT_OFF: fewer than 20 bytes. ETHERPARSE_STATUS_IP_HEADER_LENGTH.
@@ -358,10 +361,10 @@ ETHERPARSE_CHECK_RESULT ETHERPARSE_NOT_NULL(3)
 etherparse_status etherparse_ipv4_header_checksum(const uint8_t *bytes, size_t len, uint16_t *checksum, etherparse_error *error);
 
 /*
- * Stores in bytes 10 and 11 what etherparse_ipv4_header_checksum answers. No other byte changes, and the test of these bytes then answers
- * ETHERPARSE_OK.
+ * Stores the checksum of etherparse_ipv4_header_checksum in bytes 10 and 11. No other byte changes, and the test of these bytes then
+ * returns ETHERPARSE_OK.
  *
- * Refused as by etherparse_ipv4_header_checksum; the bytes are as they were.
+ * Refused as by etherparse_ipv4_header_checksum; the bytes are unchanged.
  */
 ETHERPARSE_CHECK_RESULT
 etherparse_status etherparse_ipv4_header_checksum_store(uint8_t *bytes, size_t len, etherparse_error *error);
@@ -370,28 +373,28 @@ etherparse_status etherparse_ipv4_header_checksum_store(uint8_t *bytes, size_t l
  * Tests the checksum of the IPv4 header at the front of the bytes. ETHERPARSE_OK: it is right. ETHERPARSE_STATUS_CHECKSUM_WRONG: it is
  * wrong. etherparse_transport_in_ip and etherparse_packet_verdict do not test it.
  *
- * Else refused as by etherparse_ipv4_header_checksum.
+ * Otherwise refused as by etherparse_ipv4_header_checksum.
  */
 ETHERPARSE_CHECK_RESULT
 etherparse_status etherparse_ipv4_header_checksum_test(const uint8_t *bytes, size_t len, etherparse_error *error);
 
 /*
- * What is said of a checksum. From 16 on each number says why it is not tested. If several of these reasons apply, the verdict is the first
- * of 16, 17, 19, 20, 18 and 21. So a packet of another protocol that is cut off has verdict 17, and not 19.
+ * The verdict on a checksum. From 16 on each number is a reason why the checksum is not tested. If several of these reasons apply, the
+ * verdict is the first of 16, 17, 19, 20, 18 and 21. So a packet of another protocol that is cut off has verdict 17, and not 19.
  */
 enum {
     ETHERPARSE_VERDICT_RIGHT = 1,
-    ETHERPARSE_VERDICT_ABSENT = 2,                        /* over IPv4 a UDP checksum of 0 says that there is none (RFC 768) */
+    ETHERPARSE_VERDICT_ABSENT = 2,                        /* over IPv4 a UDP checksum of 0 means no checksum (RFC 768) */
     ETHERPARSE_VERDICT_WRONG = 3,                         /* expected_checksum would be right */
     ETHERPARSE_VERDICT_PARTIAL = 4,                       /* wrong, and the sum of the pseudo header alone, which a host leaves
                                                              for its network card to complete */
     ETHERPARSE_VERDICT_UNTESTED_FRAGMENT = 16,            /* the checksum covers all fragments */
-    ETHERPARSE_VERDICT_UNTESTED_CUT_OFF = 17,             /* not all bytes of the packet are there */
+    ETHERPARSE_VERDICT_UNTESTED_CUT_OFF = 17,             /* bytes of the packet are missing */
     ETHERPARSE_VERDICT_UNTESTED_UNKNOWN_DESTINATION = 18, /* has_destination is 0 */
     ETHERPARSE_VERDICT_UNTESTED_OTHER_PROTOCOL = 19,      /* none of the four, or ICMP of the other version of IP */
     ETHERPARSE_VERDICT_UNTESTED_ZERO_LENGTH = 20,         /* the length field of a UDP packet of at most 65,535 bytes is 0, which is
                                                              malformed (RFC 768) */
-    ETHERPARSE_VERDICT_UNTESTED_TOO_LONG = 21             /* no pseudo header counts so many bytes, as of a packet without a length */
+    ETHERPARSE_VERDICT_UNTESTED_TOO_LONG = 21             /* too many bytes for a pseudo header, as in a packet without a length */
 };
 
 /* An IP packet that was read, and the verdict on its checksum. */
@@ -400,7 +403,7 @@ typedef struct etherparse_ip_packet {
     uint32_t header_protocol;   /* ETHERPARSE_PROTOCOL_.. whose calls read the payload, or 0: of a fragment, of another protocol, and of
                                    ICMPv4 over IPv6 or ICMPv6 over IPv4 */
     uint32_t verdict;           /* ETHERPARSE_VERDICT_.. */
-    uint16_t expected_checksum; /* the checksum that would be right where the stored one is wrong or partial, or 0 */
+    uint16_t expected_checksum; /* the right checksum if the stored checksum is wrong or partial, otherwise 0 */
 } etherparse_ip_packet;
 
 /*
@@ -413,7 +416,7 @@ ETHERPARSE_CHECK_RESULT ETHERPARSE_NOT_NULL(3)
 etherparse_status etherparse_packet_verdict(const uint8_t *bytes, size_t len, etherparse_ip_packet *packet, etherparse_error *error);
 
 /*
- * The same of a packet that is perhaps cut off: refused as by etherparse_transport_in_ip_lax, and of UDP in a packet that is cut off as
+ * The same for a packet that may be cut off: refused as by etherparse_transport_in_ip_lax. UDP in a packet that is cut off is refused as
  * by etherparse_udp_packet_read_lax.
  */
 ETHERPARSE_CHECK_RESULT ETHERPARSE_NOT_NULL(3)
@@ -430,7 +433,7 @@ typedef struct etherparse_udp_header {
     uint16_t source_port;      /* bytes 0 and 1 */
     uint16_t destination_port; /* bytes 2 and 3 */
     uint16_t length;           /* bytes 4 and 5: the length of header and payload, in bytes */
-    uint16_t checksum;         /* bytes 6 and 7; 0 says that there is none */
+    uint16_t checksum;         /* bytes 6 and 7; 0 means no checksum */
 } etherparse_udp_header;
 
 /* A UDP packet that was read. */
@@ -438,11 +441,11 @@ typedef struct etherparse_udp_packet {
     etherparse_udp_header header;
     size_t payload_offset;       /* the payload begins at bytes[payload_offset] */
     size_t payload_len;          /* in bytes */
-    uint32_t payload_len_source; /* ETHERPARSE_LEN_SOURCE_..: where payload_len came from */
+    uint32_t payload_len_source; /* ETHERPARSE_LEN_SOURCE_..: the source of payload_len */
 } etherparse_udp_packet;
 
 /*
- * Reads the UDP packet at the front of the bytes: as many of them as the length field counts, or all where that field is 0, as in a
+ * Reads the UDP packet at the front of the bytes: the bytes that the length field counts, or all bytes if this field is 0, as in a
  * jumbogram (RFC 2675, section 4).
  *
  * ETHERPARSE_STATUS_LENGTH, in this order: fewer than 8 bytes; a length field that counts more bytes than there are; a length field
@@ -453,8 +456,8 @@ etherparse_status etherparse_udp_packet_read(const uint8_t *bytes, size_t len, e
                                              etherparse_error *error);
 
 /*
- * Reads the UDP packet at the front of the bytes, and all of them where the length field counts more than there are, or less than a
- * header. So it reads what was cut off when it was captured.
+ * Reads the UDP packet at the front of the bytes, or all bytes if the length field counts more bytes than there are, or fewer than a
+ * header. So this call reads packets of a truncated capture.
  *
  * ETHERPARSE_STATUS_LENGTH: fewer than 8 bytes.
  */
@@ -463,8 +466,8 @@ etherparse_status etherparse_udp_packet_read_lax(const uint8_t *bytes, size_t le
                                                  etherparse_error *error);
 
 /*
- * Writes the header, 8 bytes, at the front of the buffer, and 8 to *written. Bytes of the buffer behind it are as they were. What
- * was written is read back as the same struct.
+ * Writes the header, 8 bytes, at the front of the buffer, and 8 to *written. The bytes of the buffer after it are unchanged. The header
+ * is read back as the same struct.
  *
  * ETHERPARSE_STATUS_BUFFER_TOO_SMALL: fewer than 8 bytes.
  */
@@ -473,11 +476,12 @@ etherparse_status etherparse_udp_header_write(const etherparse_udp_header *heade
                                               size_t *written, etherparse_error *error);
 
 /*
- * What to store in bytes 6 and 7 of the packet at the front of the bytes, whatever stands there; never 0. The packet is the one
- * that etherparse_udp_packet_read reads. The pseudo header has its length in bytes, whatever its length field is.
+ * Computes the checksum to store in bytes 6 and 7 of the packet at the front of the bytes, whatever these bytes contain. It is never 0.
+ * The packet is the packet that etherparse_udp_packet_read reads. The pseudo header contains its length in bytes, whatever its length
+ * field is.
  *
  * Refused as by etherparse_udp_packet_read; then ETHERPARSE_STATUS_VALUE_TOO_BIG: the payload is longer than 65,527 bytes over
- * IPv4, or than 4,294,967,287 over IPv6, which the pseudo header can not count.
+ * IPv4, or than 4,294,967,287 over IPv6, the most that a pseudo header can count.
  */
 ETHERPARSE_CHECK_RESULT ETHERPARSE_NOT_NULL(3, 4, 5)
 etherparse_status etherparse_udp_checksum_ipv4(const uint8_t *bytes, size_t len, const uint8_t source[4],
@@ -487,10 +491,10 @@ etherparse_status etherparse_udp_checksum_ipv6(const uint8_t *bytes, size_t len,
                                                const uint8_t destination[16], uint16_t *checksum, etherparse_error *error);
 
 /*
- * Stores in bytes 6 and 7 what etherparse_udp_checksum_ipv4 and etherparse_udp_checksum_ipv6 answer. No other byte changes, and the
- * test of these bytes, with the same addresses, then answers ETHERPARSE_OK.
+ * Stores the checksum of etherparse_udp_checksum_ipv4 or etherparse_udp_checksum_ipv6 in bytes 6 and 7. No other byte changes, and the
+ * test of these bytes, with the same addresses, then returns ETHERPARSE_OK.
  *
- * Refused as by them; the bytes are as they were.
+ * Refused as by these calls; the bytes are unchanged.
  */
 ETHERPARSE_CHECK_RESULT ETHERPARSE_NOT_NULL(3, 4)
 etherparse_status etherparse_udp_checksum_store_ipv4(uint8_t *bytes, size_t len, const uint8_t source[4],
@@ -500,11 +504,11 @@ etherparse_status etherparse_udp_checksum_store_ipv6(uint8_t *bytes, size_t len,
                                                      const uint8_t destination[16], etherparse_error *error);
 
 /*
- * Tests the checksum of the packet at the front of the bytes, which is the one that etherparse_udp_packet_read reads.
- * ETHERPARSE_OK: it is right. ETHERPARSE_STATUS_CHECKSUM_WRONG: it is wrong. ETHERPARSE_STATUS_CHECKSUM_ABSENT: there is none; a
- * receiver over IPv6 discards the packet, but for tunnels that allow it (RFC 8200, section 8.1; RFC 6935).
+ * Tests the checksum of the packet at the front of the bytes, which is the packet that etherparse_udp_packet_read reads.
+ * ETHERPARSE_OK: it is right. ETHERPARSE_STATUS_CHECKSUM_WRONG: it is wrong. ETHERPARSE_STATUS_CHECKSUM_ABSENT: the packet has none.
+ * Over IPv6 a receiver discards such a packet, except in tunnels that allow it (RFC 8200, section 8.1; RFC 6935).
  *
- * Else refused as by etherparse_udp_checksum_ipv4 and etherparse_udp_checksum_ipv6.
+ * Otherwise refused as by etherparse_udp_checksum_ipv4 and etherparse_udp_checksum_ipv6.
  */
 ETHERPARSE_CHECK_RESULT ETHERPARSE_NOT_NULL(3, 4)
 etherparse_status etherparse_udp_checksum_test_ipv4(const uint8_t *bytes, size_t len, const uint8_t source[4],
@@ -534,7 +538,7 @@ enum {
     ETHERPARSE_TCP_FLAGS = 0x1ff /* all nine */
 };
 
-/* A TCP header without its options. The data offset is not here: a writer makes it from the options. */
+/* A TCP header without its options. A call that writes the header computes the data offset from the options. */
 typedef struct etherparse_tcp_header {
     uint32_t sequence_number;       /* bytes 4 to 7 */
     uint32_t acknowledgment_number; /* bytes 8 to 11 */
@@ -556,7 +560,7 @@ typedef struct etherparse_tcp_packet {
 } etherparse_tcp_packet;
 
 /*
- * Reads the TCP header at the front of the bytes. All bytes behind it are the payload. Options are not looked at.
+ * Reads the TCP header at the front of the bytes. All bytes after it are the payload. Options are not checked.
  *
  * In this order: ETHERPARSE_STATUS_LENGTH: fewer than 20 bytes. ETHERPARSE_STATUS_DATA_OFFSET: a data offset below 5.
  * ETHERPARSE_STATUS_LENGTH: fewer bytes than the data offset counts.
@@ -566,9 +570,9 @@ etherparse_status etherparse_tcp_packet_read(const uint8_t *bytes, size_t len, e
                                              etherparse_error *error);
 
 /*
- * Writes the header with these option bytes at the front of the buffer, and its length in bytes, 20 to 60, to *written. Zeros
- * behind the options fill the last word of four bytes. The data offset is made from the options. Bytes of the buffer behind the
- * header are as they were. What was written is read back as the same struct, with the options as they were filled.
+ * Writes the header with these option bytes at the front of the buffer, and its length in bytes, 20 to 60, to *written. The options are
+ * padded with zeros to whole words of four bytes. The data offset is computed from the options. The bytes of the buffer after the
+ * header are unchanged. The header is read back as the same struct, with the padded options.
  *
  * In this order: ETHERPARSE_STATUS_OPTIONS_TOO_LONG, ETHERPARSE_STATUS_FLAGS_UNKNOWN, ETHERPARSE_STATUS_BUFFER_TOO_SMALL.
  */
@@ -577,19 +581,19 @@ etherparse_status etherparse_tcp_header_write(const etherparse_tcp_header *heade
                                               uint8_t *buffer, size_t buffer_len, size_t *written, etherparse_error *error);
 
 /*
- * Stores the header in the packet at the front of the bytes, in place of the one that is there. Options, data offset and payload stay
- * as they are; the three bits of byte 12 that have no meaning are cleared. What was stored is read back as the same struct.
+ * Replaces the header of the packet at the front of the bytes. Options, data offset and payload are unchanged. The three reserved bits
+ * of byte 12 are cleared. The header is read back as the same struct.
  *
- * In this order: refused as by etherparse_tcp_packet_read; ETHERPARSE_STATUS_FLAGS_UNKNOWN. The bytes are as they were.
+ * In this order: refused as by etherparse_tcp_packet_read; ETHERPARSE_STATUS_FLAGS_UNKNOWN. The bytes are unchanged.
  */
 ETHERPARSE_CHECK_RESULT ETHERPARSE_NOT_NULL(1)
 etherparse_status etherparse_tcp_header_store(const etherparse_tcp_header *header, uint8_t *bytes, size_t len, etherparse_error *error);
 
 /*
- * What to store in bytes 16 and 17 of the packet that the bytes are, header and payload, whatever stands there.
+ * Computes the checksum to store in bytes 16 and 17, whatever these bytes contain. All bytes are the packet, header and payload.
  *
  * Refused as by etherparse_tcp_packet_read; then ETHERPARSE_STATUS_VALUE_TOO_BIG: the packet is longer than 65,535 bytes over IPv4,
- * or than 4,294,967,295 over IPv6, which the pseudo header can not count. `actual` and `max_allowed` are lengths of the payload.
+ * or than 4,294,967,295 over IPv6, the most that a pseudo header can count. `actual` and `max_allowed` are lengths of the payload.
  */
 ETHERPARSE_CHECK_RESULT ETHERPARSE_NOT_NULL(3, 4, 5)
 etherparse_status etherparse_tcp_checksum_ipv4(const uint8_t *bytes, size_t len, const uint8_t source[4],
@@ -599,10 +603,10 @@ etherparse_status etherparse_tcp_checksum_ipv6(const uint8_t *bytes, size_t len,
                                                const uint8_t destination[16], uint16_t *checksum, etherparse_error *error);
 
 /*
- * Stores in bytes 16 and 17 what etherparse_tcp_checksum_ipv4 and etherparse_tcp_checksum_ipv6 answer. No other byte changes, and the
- * test of these bytes, with the same addresses, then answers ETHERPARSE_OK.
+ * Stores the checksum of etherparse_tcp_checksum_ipv4 or etherparse_tcp_checksum_ipv6 in bytes 16 and 17. No other byte changes, and the
+ * test of these bytes, with the same addresses, then returns ETHERPARSE_OK.
  *
- * Refused as by them; the bytes are as they were.
+ * Refused as by these calls; the bytes are unchanged.
  */
 ETHERPARSE_CHECK_RESULT ETHERPARSE_NOT_NULL(3, 4)
 etherparse_status etherparse_tcp_checksum_store_ipv4(uint8_t *bytes, size_t len, const uint8_t source[4],
@@ -612,9 +616,9 @@ etherparse_status etherparse_tcp_checksum_store_ipv6(uint8_t *bytes, size_t len,
                                                      const uint8_t destination[16], etherparse_error *error);
 
 /*
- * Tests the checksum of the packet that the bytes are. ETHERPARSE_OK: it is right. ETHERPARSE_STATUS_CHECKSUM_WRONG: it is wrong.
+ * Tests the checksum of the packet. All bytes are the packet. ETHERPARSE_OK: it is right. ETHERPARSE_STATUS_CHECKSUM_WRONG: it is wrong.
  *
- * Else refused as by etherparse_tcp_checksum_ipv4 and etherparse_tcp_checksum_ipv6.
+ * Otherwise refused as by etherparse_tcp_checksum_ipv4 and etherparse_tcp_checksum_ipv6.
  */
 ETHERPARSE_CHECK_RESULT ETHERPARSE_NOT_NULL(3, 4)
 etherparse_status etherparse_tcp_checksum_test_ipv4(const uint8_t *bytes, size_t len, const uint8_t source[4],
@@ -625,7 +629,7 @@ etherparse_status etherparse_tcp_checksum_test_ipv6(const uint8_t *bytes, size_t
 
 /* ---- TCP options ---------------------------------------------------------------------------------------------------------- */
 
-/* The kinds of TCP options, as they are registered, and the values that each has. */
+/* The registered kinds of TCP options, and the values of each kind. */
 enum {
     ETHERPARSE_TCP_OPTION_NOOP = 1,                 /* none (RFC 9293) */
     ETHERPARSE_TCP_OPTION_MAXIMUM_SEGMENT_SIZE = 2, /* the size, at most 65,535 bytes (RFC 9293) */
@@ -639,22 +643,22 @@ enum {
 typedef struct etherparse_tcp_option {
     uint32_t kind;        /* ETHERPARSE_TCP_OPTION_.. */
     uint32_t value_count; /* how many values the option has */
-    uint32_t values[8];   /* the values, and 0 behind them */
+    uint32_t values[8];   /* the values, followed by zeros */
 } etherparse_tcp_option;
 
 /*
- * Reads the option at *place, a number of bytes from the first option byte, and moves *place behind it. Begin with 0, and call
- * until the answer is not ETHERPARSE_OK. A *place above options_len is the end.
+ * Reads the option at *place, a number of bytes from the first option byte, and moves *place to the end of the option. Begin with 0, and
+ * call until the status is not ETHERPARSE_OK. A *place above options_len is the end.
  *
  * ETHERPARSE_STATUS_OPTIONS_END: the end of the list (kind 0), or of the bytes. The faults are ETHERPARSE_STATUS_OPTION_UNKNOWN,
  * ETHERPARSE_STATUS_OPTION_SIZE and ETHERPARSE_STATUS_OPTION_CUT_OFF. After the end and after a fault *place is options_len, so
- * that every further call answers ETHERPARSE_STATUS_OPTIONS_END; *option is as it was.
+ * every further call returns ETHERPARSE_STATUS_OPTIONS_END. *option is unchanged.
  */
 ETHERPARSE_CHECK_RESULT ETHERPARSE_NOT_NULL(3, 4)
 etherparse_status etherparse_tcp_option_next(const uint8_t *options, size_t options_len, size_t *place,
                                              etherparse_tcp_option *option, etherparse_error *error);
 
-/* A TCP option as it stands, known or not (RFC 9293, section 3.1). */
+/* A TCP option of any kind, known or not (RFC 9293, section 3.1). */
 typedef struct etherparse_tcp_raw_option {
     uint32_t kind;       /* the first byte of the option */
     size_t value_offset; /* the value begins at options[value_offset] */
@@ -662,8 +666,8 @@ typedef struct etherparse_tcp_raw_option {
 } etherparse_tcp_raw_option;
 
 /*
- * Reads the option of any kind at *place, and moves *place behind it. A kind that is not known is passed over by its length byte
- * (RFC 1122, section 4.2.2.5). *place is as of etherparse_tcp_option_next, and so are the end and what a fault leaves.
+ * Reads the option of any kind at *place, and moves *place to the end of the option. The length byte gives the end of an unknown option
+ * (RFC 1122, section 4.2.2.5). *place, the end, and *place after a fault are those of etherparse_tcp_option_next.
  *
  * The faults are ETHERPARSE_STATUS_OPTION_SIZE: a length byte below 2; and ETHERPARSE_STATUS_OPTION_CUT_OFF: no length byte is
  * left, or fewer bytes than it counts.
@@ -673,12 +677,12 @@ etherparse_status etherparse_tcp_raw_option_next(const uint8_t *options, size_t 
                                                  etherparse_tcp_raw_option *option, etherparse_error *error);
 
 /*
- * Writes the bytes of some options one behind the other at the front of the buffer, as etherparse_tcp_header_write takes them, and
- * their length in bytes, 0 to 40, to *written. Zeros behind them fill the last word of four bytes. Values behind value_count are
- * not looked at.
+ * Writes the bytes of some options one after another at the front of the buffer, as etherparse_tcp_header_write takes them, and
+ * their length in bytes, 0 to 40, to *written. The options are padded with zeros to whole words of four bytes. Values after the
+ * first value_count are ignored.
  *
  * In this order: ETHERPARSE_STATUS_OPTIONS_TOO_LONG: more than 40 options; `len` is their number. ETHERPARSE_STATUS_OPTION_UNKNOWN
- * or ETHERPARSE_STATUS_OPTION_VALUES of the first that is no option. ETHERPARSE_STATUS_OPTIONS_TOO_LONG: more than 40 bytes; `len`
+ * or ETHERPARSE_STATUS_OPTION_VALUES of the first that is not an option. ETHERPARSE_STATUS_OPTIONS_TOO_LONG: more than 40 bytes; `len`
  * is their number. ETHERPARSE_STATUS_BUFFER_TOO_SMALL.
  */
 ETHERPARSE_CHECK_RESULT ETHERPARSE_NOT_NULL(5)
@@ -687,7 +691,7 @@ etherparse_status etherparse_tcp_options_write(const etherparse_tcp_option *opti
 
 /* ---- ICMPv4 (RFC 792) ----------------------------------------------------------------------------------------------------- */
 
-/* The length of an ICMPv4 header, and of that of a timestamp message, in bytes. */
+/* The length of an ICMPv4 header, and of the header of a timestamp message, in bytes. */
 #define ETHERPARSE_ICMPV4_HEADER_LEN 8
 #define ETHERPARSE_ICMPV4_TIMESTAMP_LEN 20
 
@@ -728,7 +732,7 @@ typedef struct etherparse_icmpv4_packet {
 } etherparse_icmpv4_packet;
 
 /*
- * Reads the ICMPv4 packet that the bytes are, all of them.
+ * Reads an ICMPv4 packet. All bytes are the packet.
  *
  * ETHERPARSE_STATUS_LENGTH, in this order: fewer than 8 bytes; a timestamp message or its reply, of code 0, that is not 20 bytes
  * long.
@@ -738,12 +742,12 @@ etherparse_status etherparse_icmpv4_packet_read(const uint8_t *bytes, size_t len
                                                 etherparse_error *error);
 
 /*
- * Writes the header at the front of the buffer, and its length in bytes, 8 or of a timestamp message 20, to *written. It is made
- * from kind, code, checksum and the fields that the kind has; other fields are not looked at, and bytes that the kind does not use
- * are zero. The type is that of the kind, and so is the code where the kind has one code alone. Of ETHERPARSE_ICMPV4_UNKNOWN type,
- * code and bytes4to7 are written as they are. Bytes of the buffer behind the header are as they were. What was written is read
- * back as the same: kind, checksum and the fields that the kind has. Of ETHERPARSE_ICMPV4_UNKNOWN type, code, checksum and
- * bytes4to7 are the same, and the kind is the one that type and code have.
+ * Writes the header at the front of the buffer, and its length in bytes to *written: 20 for a timestamp message, otherwise 8. The header
+ * is made from kind, code, checksum and the fields of the kind. Other fields are ignored, and bytes that the kind does not use are
+ * zero. The kind determines the type, and also the code if the kind has only one. For ETHERPARSE_ICMPV4_UNKNOWN, type, code and
+ * bytes4to7 are written as they are. The bytes of the buffer after the header are unchanged. Kind, checksum and the fields of the kind
+ * are read back as they were written. For ETHERPARSE_ICMPV4_UNKNOWN, type, code, checksum and bytes4to7 are read back, with the kind of
+ * this type and code.
  *
  * In this order: ETHERPARSE_STATUS_MESSAGE_UNKNOWN, ETHERPARSE_STATUS_BUFFER_TOO_SMALL.
  */
@@ -752,7 +756,7 @@ etherparse_status etherparse_icmpv4_header_write(const etherparse_icmpv4_header 
                                                  size_t *written, etherparse_error *error);
 
 /*
- * What to store in bytes 2 and 3 of the packet that the bytes are, header and payload, whatever stands there.
+ * Computes the checksum to store in bytes 2 and 3, whatever these bytes contain. All bytes are the packet, header and payload.
  *
  * Refused as by etherparse_icmpv4_packet_read.
  */
@@ -760,18 +764,18 @@ ETHERPARSE_CHECK_RESULT ETHERPARSE_NOT_NULL(3)
 etherparse_status etherparse_icmpv4_checksum(const uint8_t *bytes, size_t len, uint16_t *checksum, etherparse_error *error);
 
 /*
- * Stores in bytes 2 and 3 what etherparse_icmpv4_checksum answers. No other byte changes, and the test of these bytes then answers
+ * Stores the checksum of etherparse_icmpv4_checksum in bytes 2 and 3. No other byte changes, and the test of these bytes then returns
  * ETHERPARSE_OK.
  *
- * Refused as by etherparse_icmpv4_packet_read; the bytes are as they were.
+ * Refused as by etherparse_icmpv4_packet_read; the bytes are unchanged.
  */
 ETHERPARSE_CHECK_RESULT
 etherparse_status etherparse_icmpv4_checksum_store(uint8_t *bytes, size_t len, etherparse_error *error);
 
 /*
- * Tests the checksum of the packet that the bytes are. ETHERPARSE_OK: it is right. ETHERPARSE_STATUS_CHECKSUM_WRONG: it is wrong.
+ * Tests the checksum of the packet. All bytes are the packet. ETHERPARSE_OK: it is right. ETHERPARSE_STATUS_CHECKSUM_WRONG: it is wrong.
  *
- * Else refused as by etherparse_icmpv4_packet_read.
+ * Otherwise refused as by etherparse_icmpv4_packet_read.
  */
 ETHERPARSE_CHECK_RESULT
 etherparse_status etherparse_icmpv4_checksum_test(const uint8_t *bytes, size_t len, etherparse_error *error);
@@ -830,7 +834,7 @@ typedef struct etherparse_icmpv6_packet {
 } etherparse_icmpv6_packet;
 
 /*
- * Reads the ICMPv6 packet that the bytes are, all of them.
+ * Reads an ICMPv6 packet. All bytes are the packet.
  *
  * ETHERPARSE_STATUS_LENGTH, in this order: fewer than 8 bytes; more than 4,294,967,295.
  */
@@ -839,12 +843,11 @@ etherparse_status etherparse_icmpv6_packet_read(const uint8_t *bytes, size_t len
                                                 etherparse_error *error);
 
 /*
- * Writes the header, 8 bytes, at the front of the buffer, and 8 to *written. It is made from kind, code, checksum and the fields
- * that the kind has; other fields and other flags are not looked at, and bits that the kind does not use are zero. The type is that
- * of the kind, and so is the code where the kind has one code alone. Of ETHERPARSE_ICMPV6_UNKNOWN type, code and bytes4to7 are
- * written as they are. Bytes of the buffer behind the header are as they were. What was written is read back as the same: kind,
- * checksum and the fields that the kind has. Of ETHERPARSE_ICMPV6_UNKNOWN type, code, checksum and bytes4to7 are the same, and the
- * kind is the one that type and code have.
+ * Writes the header, 8 bytes, at the front of the buffer, and 8 to *written. The header is made from kind, code, checksum and the fields
+ * of the kind. Other fields and other flags are ignored, and bits that the kind does not use are zero. The kind determines the type, and
+ * also the code if the kind has only one. For ETHERPARSE_ICMPV6_UNKNOWN, type, code and bytes4to7 are written as they are. The bytes of
+ * the buffer after the header are unchanged. Kind, checksum and the fields of the kind are read back as they were written. For
+ * ETHERPARSE_ICMPV6_UNKNOWN, type, code, checksum and bytes4to7 are read back, with the kind of this type and code.
  *
  * In this order: ETHERPARSE_STATUS_MESSAGE_UNKNOWN, ETHERPARSE_STATUS_BUFFER_TOO_SMALL.
  */
@@ -853,8 +856,8 @@ etherparse_status etherparse_icmpv6_header_write(const etherparse_icmpv6_header 
                                                  size_t *written, etherparse_error *error);
 
 /*
- * What to store in bytes 2 and 3 of the packet that the bytes are, header and payload, whatever stands there (RFC 4443, section
- * 2.3).
+ * Computes the checksum to store in bytes 2 and 3, whatever these bytes contain (RFC 4443, section 2.3). All bytes are the packet,
+ * header and payload.
  *
  * Refused as by etherparse_icmpv6_packet_read.
  */
@@ -863,19 +866,19 @@ etherparse_status etherparse_icmpv6_checksum(const uint8_t *bytes, size_t len, c
                                              const uint8_t destination[16], uint16_t *checksum, etherparse_error *error);
 
 /*
- * Stores in bytes 2 and 3 what etherparse_icmpv6_checksum answers. No other byte changes, and the test of these bytes, with the same
- * addresses, then answers ETHERPARSE_OK.
+ * Stores the checksum of etherparse_icmpv6_checksum in bytes 2 and 3. No other byte changes, and the test of these bytes, with the same
+ * addresses, then returns ETHERPARSE_OK.
  *
- * Refused as by etherparse_icmpv6_packet_read; the bytes are as they were.
+ * Refused as by etherparse_icmpv6_packet_read; the bytes are unchanged.
  */
 ETHERPARSE_CHECK_RESULT ETHERPARSE_NOT_NULL(3, 4)
 etherparse_status etherparse_icmpv6_checksum_store(uint8_t *bytes, size_t len, const uint8_t source[16],
                                                    const uint8_t destination[16], etherparse_error *error);
 
 /*
- * Tests the checksum of the packet that the bytes are. ETHERPARSE_OK: it is right. ETHERPARSE_STATUS_CHECKSUM_WRONG: it is wrong.
+ * Tests the checksum of the packet. All bytes are the packet. ETHERPARSE_OK: it is right. ETHERPARSE_STATUS_CHECKSUM_WRONG: it is wrong.
  *
- * Else refused as by etherparse_icmpv6_packet_read.
+ * Otherwise refused as by etherparse_icmpv6_packet_read.
  */
 ETHERPARSE_CHECK_RESULT ETHERPARSE_NOT_NULL(3, 4)
 etherparse_status etherparse_icmpv6_checksum_test(const uint8_t *bytes, size_t len, const uint8_t source[16],
@@ -890,15 +893,14 @@ etherparse_status etherparse_icmpv6_checksum_test(const uint8_t *bytes, size_t l
  * packet stay.
  *
  * etherparse_echo_answer accepts a packet of either IP version. Its reply comes from the destination of the request. The reply of
- * the other two calls comes from `source`. If the request was sent to a multicast or broadcast address, pass an address of the
- * host.
+ * the other two calls comes from `source`. For a request to a multicast or broadcast address, pass an address of the host.
  *
  * In this order: refused as by etherparse_transport_in_ip. ETHERPARSE_STATUS_ECHO_NO_REQUEST: another IP version than that of the
  * call. ETHERPARSE_STATUS_ECHO_FRAGMENT. ETHERPARSE_STATUS_ECHO_NO_REQUEST: another protocol. ETHERPARSE_STATUS_ECHO_HAS_OPTIONS.
  * Refused as by etherparse_icmpv4_packet_read or etherparse_icmpv6_packet_read, where layer_start_offset counts from the first byte
  * of the message. ETHERPARSE_STATUS_ECHO_NO_REQUEST: another message. ETHERPARSE_STATUS_CHECKSUM_WRONG. Over IPv4
  * ETHERPARSE_STATUS_ECHO_HEADER_CHECKSUM_WRONG. ETHERPARSE_STATUS_ECHO_REQUEST_SOURCE. ETHERPARSE_STATUS_ECHO_REPLY_SOURCE. The
- * bytes and *reply_len are as they were.
+ * bytes and *reply_len are unchanged.
  */
 ETHERPARSE_CHECK_RESULT ETHERPARSE_NOT_NULL(4)
 etherparse_status etherparse_echo_answer(uint8_t *packet, size_t packet_len, uint8_t hop_limit, size_t *reply_len,
@@ -912,8 +914,8 @@ etherparse_status etherparse_echo_answer_ipv6(uint8_t *packet, size_t packet_len
 
 /*
  * Tests whether the packet `reply` is the reply to the echo request in the packet `request`. ETHERPARSE_OK: it is.
- * ETHERPARSE_STATUS_ECHO_NO_REPLY: it is not, also where a packet would be refused. Each begins with its IP header. Options, extension
- * headers and bytes behind a packet are accepted.
+ * ETHERPARSE_STATUS_ECHO_NO_REPLY: it is not, also if a packet would be refused. Each packet begins with its IP header. Options, extension
+ * headers and bytes after a packet are accepted.
  *
  * It is the reply exactly if all of this holds:
  *  - etherparse_transport_in_ip accepts both packets, which have the same version of IP, and neither is a fragment.
@@ -942,7 +944,7 @@ etherparse_status etherparse_echo_is_reply(const uint8_t *request, size_t reques
  * (4). No checksum is tested.
  *
  * In this order: refused as by etherparse_icmpv4_packet_read or etherparse_icmpv6_packet_read. ETHERPARSE_STATUS_NO_ICMP_ERROR.
- * *offset and *len are as they were.
+ * *offset and *len are unchanged.
  */
 ETHERPARSE_CHECK_RESULT ETHERPARSE_NOT_NULL(3, 4)
 etherparse_status etherparse_icmpv4_quoted_packet(const uint8_t *bytes, size_t bytes_len, size_t *offset, size_t *len,
@@ -996,8 +998,8 @@ typedef struct etherparse_ipv6_translation {
  * an address left. Other options stay. ETHERPARSE_STATUS_TRANSLATE_PROTOCOL: neither UDP nor TCP nor ICMP of the version of the call, so
  * also an authentication header or an IPv6 extension header, except one fragment header directly after the IPv6 header.
  * ETHERPARSE_STATUS_TRANSLATE_HEADER_CUT_OFF: fewer than 8 bytes of UDP or ICMP, or 20 of TCP. ETHERPARSE_STATUS_TRANSLATE_ICMP_MESSAGE.
- * ETHERPARSE_STATUS_TRANSLATE_QUOTED_PACKET: the packet that an ICMP error is about is refused up to its protocol. The bytes are as they
- * were.
+ * ETHERPARSE_STATUS_TRANSLATE_QUOTED_PACKET: the packet that an ICMP error is about is refused up to its protocol. The bytes are
+ * unchanged.
  */
 ETHERPARSE_CHECK_RESULT ETHERPARSE_NOT_NULL(3)
 etherparse_status etherparse_translate_ipv4(uint8_t *packet, size_t packet_len, const etherparse_ipv4_translation *translation,
@@ -1009,12 +1011,11 @@ etherparse_status etherparse_translate_ipv6(uint8_t *packet, size_t packet_len, 
 /* ---- canonical headers ---------------------------------------------------------------------------------------------------- */
 
 /*
- * Writes the header at the front of the bytes with every bit cleared that has no meaning to the library, and its length in bytes,
- * at most 60, to *written. The checksum is that of the packet: where a bit was cleared it may be wrong. Bytes of the buffer behind
- * the header are as they were.
+ * Writes the header at the front of the bytes to the buffer, with all reserved bits cleared, and its length in bytes, at most 60, to
+ * *written. The checksum is copied, so it may be wrong if a bit was cleared. The bytes of the buffer after the header are unchanged.
  *
  * In this order: ETHERPARSE_STATUS_PROTOCOL_UNKNOWN; ETHERPARSE_STATUS_LENGTH or ETHERPARSE_STATUS_DATA_OFFSET, as the packet is
- * refused by the calls above (of UDP the length field is not looked at); ETHERPARSE_STATUS_BUFFER_TOO_SMALL.
+ * refused by the calls above (the length field of UDP is ignored); ETHERPARSE_STATUS_BUFFER_TOO_SMALL.
  */
 ETHERPARSE_CHECK_RESULT ETHERPARSE_NOT_NULL(6)
 etherparse_status etherparse_canonical_header(uint32_t protocol, const uint8_t *bytes, size_t len, uint8_t *buffer,
@@ -1024,72 +1025,72 @@ etherparse_status etherparse_canonical_header(uint32_t protocol, const uint8_t *
 
 /* A running one's complement sum of 16 bit words. Every number is a sum. */
 typedef struct etherparse_sum {
-    uint16_t value; /* 0 only of nothing but zeros */
+    uint16_t value; /* 0 only if all bytes are zeros */
 } etherparse_sum;
 
-/* The sum of nothing. */
+/* Returns the sum of no bytes. */
 ETHERPARSE_CHECK_RESULT
 etherparse_sum etherparse_sum_new(void);
 
 /*
- * The sum with the words of these bytes. An odd last byte is the high half of a word: of several parts only the last may be odd.
+ * Adds the words of these bytes to a sum. An odd last byte is the high half of a word, so only the last of several parts may be odd.
  * etherparse_sum_add_at adds parts of any lengths.
  */
 ETHERPARSE_CHECK_RESULT
 etherparse_sum etherparse_sum_add(etherparse_sum sum, const uint8_t *bytes, size_t len);
 
 /*
- * The sum with the words of these bytes, which come after `offset` bytes that it has already. After an odd number the first byte is the low
- * half of a word (RFC 1071, section 2 (B)). So the parts of a packet may have any lengths: begin with offset 0, and add to it the length
- * of each part. Whether the offset is even or odd is all that matters.
+ * Adds the words of these bytes to a sum that already covers `offset` bytes. If `offset` is odd, the first byte is the low half of a word
+ * (RFC 1071, section 2 (B)). So the parts of a packet may have any lengths: begin with offset 0, and add the length of each part to it.
+ * Only whether the offset is even or odd matters.
  */
 ETHERPARSE_CHECK_RESULT
 etherparse_sum etherparse_sum_add_at(etherparse_sum sum, size_t offset, const uint8_t *bytes, size_t len);
 
-/* The checksum of what was added, as TCP, ICMP and the IPv4 header store it. Of bytes with a right checksum among them it is 0. */
+/* Returns the checksum of what was added, as TCP, ICMP and the IPv4 header store it. It is 0 if the bytes contain a right checksum. */
 ETHERPARSE_CHECK_RESULT
 uint16_t etherparse_sum_checksum(etherparse_sum sum);
 
-/* The checksum of what was added, as UDP stores it: 65535 in place of 0. */
+/* Returns the checksum of what was added, as UDP stores it: 65535 instead of 0. */
 ETHERPARSE_CHECK_RESULT
 uint16_t etherparse_sum_udp_checksum(etherparse_sum sum);
 
 /* ---- the update of a checksum (RFC 1624) ---------------------------------------------------------------------------------- */
 
-/* A change of what a checksum covers: some bytes are replaced by others. Any two numbers are a change. */
+/* A change of the bytes that a checksum covers: some bytes are replaced by others. Any two numbers are a change. */
 typedef struct etherparse_checksum_change {
     uint16_t removed; /* the one's complement sum of the bytes that are replaced */
-    uint16_t added;   /* the one's complement sum of the bytes that take their place */
+    uint16_t added;   /* the one's complement sum of the new bytes */
 } etherparse_checksum_change;
 
-/* The change that replaces nothing. */
+/* Returns the change that replaces nothing. */
 ETHERPARSE_CHECK_RESULT
 etherparse_checksum_change etherparse_checksum_change_new(void);
 
 /*
- * The change that replaces the old bytes by the new ones too. They begin at an even place of what the checksum covers, and both
- * lengths are even or both are odd; the library can not see that. The lengths may be different, as those of pseudo headers of IPv6
- * and IPv4.
+ * Returns the change that also replaces the old bytes by the new bytes. They begin at an even offset in what the checksum covers, and
+ * both lengths are even or both are odd. The library can't check that. The lengths may differ, as the lengths of IPv6 and IPv4 pseudo
+ * headers do.
  */
 ETHERPARSE_CHECK_RESULT
 etherparse_checksum_change etherparse_checksum_change_replace(etherparse_checksum_change change, const uint8_t *old_bytes,
                                                               size_t old_len, const uint8_t *new_bytes, size_t new_len);
 
-/* The change that puts the old bytes back, as a translator does in the packets that come back. */
+/* Returns the change that restores the old bytes, as a translator does in the packets of the other direction. */
 ETHERPARSE_CHECK_RESULT
 etherparse_checksum_change etherparse_checksum_change_reversed(etherparse_checksum_change change);
 
 /*
- * The checksum of the changed packet, from the checksum that the packet had, as TCP, ICMP and the IPv4 header store it (RFC 1624,
- * section 3, equation 3). A right checksum becomes the right one but in one case: where every byte that it covers becomes zero it
- * is 0, and should be 65535. No packet with a pseudo header is such.
+ * Returns the checksum of the changed packet, from the checksum of the packet before, as TCP, ICMP and the IPv4 header store it (RFC 1624,
+ * section 3, equation 3). A right checksum becomes the right checksum, with one exception: if all bytes that it covers become zeros, it is
+ * 0 and should be 65535. With a pseudo header this can't happen.
  */
 ETHERPARSE_CHECK_RESULT
 uint16_t etherparse_checksum_change_apply(etherparse_checksum_change change, uint16_t checksum);
 
 /*
- * The same as UDP stores it: 0, which says that there is none, stays 0, and no other checksum becomes 0. A right checksum becomes
- * the right one, and a wrong one stays wrong.
+ * The same as UDP stores it: 0, which means no checksum, stays 0, and no other checksum becomes 0. A right checksum becomes
+ * the right checksum, and a wrong checksum stays wrong.
  */
 ETHERPARSE_CHECK_RESULT
 uint16_t etherparse_checksum_change_apply_udp(etherparse_checksum_change change, uint16_t checksum);
