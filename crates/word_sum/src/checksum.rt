@@ -3,7 +3,8 @@
 #[cfg(test)]
 mod tests;
 
-ghost use Rattle.std.specs.Prelude.{◌≡◌, ◌+◌, ◌<◌, ◌≤◌, ◌^◌, length};
+ghost use Rattle.std.specs.Int.{from_bool};
+ghost use Rattle.std.specs.Prelude.{◌≡◌, ◌+◌, ◌*◌, ◌<◌, ◌^◌, length};
 ghost use Rattle.word_sum.specs.Checksum.{folded, total};
 
 /// A running one's complement sum of 16 bit big-endian words (RFC 1071, section 1).
@@ -35,7 +36,7 @@ pub struct Sum16BitWords {
 const BLOCK_LEN: usize = 128;
 
 impl Sum16BitWords {
-    ghost use Rattle.std.specs.Prelude.{◌%◌, ◌*◌, ◌-◌, ◌++◌, List, ℕ, drop};
+    ghost use Rattle.std.specs.Prelude.{◌%◌, ◌-◌, ◌++◌, List, ℕ, drop};
     ghost use Rattle.std.specs.List.{concat};
     ghost use Rattle.word_sum.specs.Checksum.{complement, sum_of_pieces, zero_as_all_ones, AllEvenButLast};
     ghost use Rattle.word_sum.specs.SumValue.{sum_value};
@@ -204,7 +205,7 @@ impl Sum16BitWords {
         let mut carry = false;
         let mut rest = block.as_slice();
         while let Some((chunk, others)) = rest.split_first_chunk::<8>() {
-            let (sum, carried) = word.carrying_add(u64::from_le_bytes(*chunk), carry);
+            let (sum, carried) = add_with_carry(word, u64::from_le_bytes(*chunk), carry);
             word = sum;
             carry = carried;
             rest = others;
@@ -240,6 +241,18 @@ impl Sum16BitWords {
             _ => self,
         }
     }
+}
+
+/// Adds a number and a carry, and returns the sum and its carry.
+// perf: for `u64::carrying_add` the toolchain stores each carry in a register, in place of one instruction that adds
+// with carry. For these comparisons it doesn't (27 Nov 2026).
+#[inline(always)]
+fn add_with_carry(word: u64, number: u64, carry: bool) -> (u64, bool)
+    ensures { result.0 + from_bool result.1 * 2 ^ 64 ≡ word + number + from_bool carry }
+{
+    let sum = word.wrapping_add(number);
+    let next = sum.wrapping_add(u64::from(carry));
+    (next, (sum < number) | (next < sum))
 }
 
 /// Adds the upper half of a number to its lower half, and the carry at the low end.

@@ -17,8 +17,8 @@ loop-chunk-preserved g c =
     let word = c.loop-chunk.word in
     let carry = c.loop-chunk.carry in
     let number = c.from_le_bytes.result in
-    let low = c.carrying_add-sum.result.0 in
-    let carried = c.carrying_add-sum.result.1 in
+    let low = c.add_with_carry-sum.result.0 in
+    let carried = c.add_with_carry-sum.result.1 in
     let chunk = c.in-Some.chunk.now in
     let others = c.in-Some.others.now in
     let cases = c.in-Some.ensures.cases in
@@ -28,12 +28,12 @@ loop-chunk-preserved g c =
     record {
       summed =
           folded-add_alike _ _ (total others) (total others)
-          (folded_times_256 (low + from_bool carried) (word + from_bool carry + number) (folded_carried word number low carry carried c.carrying_add-sum.ensures))
+          (folded_times_256 (low + from_bool carried) (word + from_bool carry + number) (folded_carried word number low carry carried c.add_with_carry-sum.ensures))
           refl
           ∙ ap folded (omega arith)
           ∙ folded-add_alike ((word + from_bool carry) * 256 + total others) ((word + from_bool carry) * 256 + total others) (number * 256) (total chunk) refl words
           ∙ ap folded (omega arith)
           ∙ c.loop-chunk.invariant.summed;
-      fits = carried-fits word number low carry carried c.loop-chunk.invariant.fits (omega arith) (omega arith) c.carrying_add-sum.ensures;
+      fits = carried-fits word number low carry carried c.loop-chunk.invariant.fits (omega arith) (omega arith) c.add_with_carry-sum.ensures;
       whole = omega arith;
     }
