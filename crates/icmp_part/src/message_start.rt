@@ -14,7 +14,7 @@ use word_sum::checksum::Sum16BitWords;
 /// message makes them in one width, and the eight bytes are one number that is stored at once.
 #[derive(Drop)]
 pub(crate) struct MessageStart {
-    type_and_code: u16,
+    type_and_code: u32,
     bytes5to8: u32,
 }
 
@@ -47,7 +47,7 @@ impl MessageStart {
         ensures fits { length bytes5to8 ≡ 4 }
     {
         MessageStart {
-            type_and_code: u16::from(type_u8) + u16::from(code_u8) * 0x100,
+            type_and_code: u32::from(type_u8) + u32::from(code_u8) * 0x100,
             bytes5to8: u32::from_le_bytes(bytes5to8),
         }
     }
@@ -106,7 +106,7 @@ impl MessageStart {
     pub(crate) fn add_to(self, sum: Sum16BitWords) -> Sum16BitWords
         ensures { sum_value result ≡ folded (sum_value sum + total (header_bytes self 0)) }
     {
-        sum.add_2bytes(self.type_and_code.to_le_bytes())
+        sum.add_2bytes((self.type_and_code as u16).to_le_bytes())
             .add_4bytes(self.bytes5to8.to_le_bytes())
     }
 }
