@@ -1,5 +1,3 @@
-ghost use Rattle.std.specs.Prelude.{◌≡◌, ◌/◌};
-
 use crate::header_checksum::{checksum_ipv4, checksum_ipv6, is_valid_ipv4, is_valid_ipv6};
 use crate::{TcpHeader, TcpOptions, TcpOptionsIterator, TcpRawOptionsIterator, flag_bits};
 use net_base::err::tcp::{HeaderError, HeaderSliceError};
@@ -69,7 +67,6 @@ impl<'a> TcpHeaderSlice<'a> {
         }
         let data_offset = slice[12] >> 4;
         if data_offset < TcpHeader::MIN_DATA_OFFSET {
-            let data_offset = refused_data_offset(slice[12]);
             return Err(HeaderSliceError::Content(HeaderError::DataOffsetTooSmall { data_offset }));
         }
         let header_len = usize::from(data_offset) * 4;
@@ -442,15 +439,4 @@ impl<'a> Eq for TcpHeaderSlice<'a> {
     ghost use Rattle.std.proofs.Common.{rules};
 
     ghost laws = { Prim.search (comparing, rules) };
-}
-
-/// The data offset in this byte, for the error.
-// perf: a call that is never inlined tells the compiler which way is rare. So an accepted header needs one jump less
-// (27 Nov 2026).
-#[cold]
-#[inline(never)]
-fn refused_data_offset(byte: u8) -> u8
-    ensures { result ≡ byte / 16 }
-{
-    byte >> 4
 }
