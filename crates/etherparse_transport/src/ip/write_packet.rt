@@ -46,8 +46,8 @@ const TIMESTAMP_LEN: usize = 20;
 /// - `PayloadLen` if the packet is longer than 65,535 bytes.
 /// - `TimestampLen` if an ICMPv4 timestamp message or reply, of code 0, is not 20 bytes long.
 /// - `Space` if the slice is shorter than the packet.
-// perf: compiled into the caller, where the protocol is known and the addresses are in registers. As a call, a packet of TCP over IPv6 with
-// 64 bytes took 50 instead of 28 ns, and UDP 37 instead of 21 (27 Nov 2026).
+// perf: compiled into the caller, where the protocol is known and the addresses are in registers. As a call, TCP over IPv6 with 64 bytes
+// ran at 0.6 of the speed of plain Rust instead of 1.2, and UDP at 0.8 instead of 1.3 (27 Nov 2026).
 #[inline(always)]
 pub fn write_packet_ipv4(
     slice: &mut [u8],
@@ -538,7 +538,7 @@ fn with_udp_length(header: &UdpHeader, payload_len: usize) -> UdpHeader
 
 /// Writes a TCP header with this checksum, and the payload after it.
 // perf: the stored checksum is replaced in the written bytes. A copy of the header with the new checksum also copies 40 bytes of options:
-// a packet of 64 bytes then took 56 instead of 35 ns (27 Nov 2026).
+// TCP over IPv6 with 64 bytes then ran at 0.53 instead of 0.62 of the speed of plain Rust (27 Nov 2026).
 #[inline(always)]
 fn write_tcp(message: &mut [u8], header: &TcpHeader, checksum: u16, payload: &[u8])
     requires room { length (tcp.wire header.now) + length payload.now ≤ length message.old }
