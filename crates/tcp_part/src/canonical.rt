@@ -20,8 +20,8 @@ const OFFSET_MASK: u8 = 0xf1;
 /// # Errors
 ///
 /// The errors of `TcpHeader::from_slice`.
-// perf: the bytes are copied. For 20 bytes the benchmark executes 133 instructions. Reading the header as numbers and flags,
-// and writing it again, takes 188 (27 Nov 2026).
+// perf: the bytes are copied. For 20 bytes a loop over this call executes 107 instructions a header. Reading the header as
+// numbers and flags, and writing it again, takes 188 (27 Nov 2026).
 #[inline(always)]
 pub fn canonical_header(slice: &[u8]) -> Result<(ArrayVec<u8, 60>, &[u8]), HeaderSliceError>
     ensures refused { RefusesExactly result (refusal slice.now) }
