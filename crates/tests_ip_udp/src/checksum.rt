@@ -68,7 +68,7 @@ fn words_are_summed(rt: HostRuntime) {
     }
 }
 
-/// Every length up to 400, so that slices are added both as short ones and as long ones.
+/// Every length up to 400, so that slices have up to three blocks of 128 bytes, and every length after them.
 #[test]
 fn slices_of_every_length_are_summed(rt: HostRuntime) {
     let zeros = [0; 400];
@@ -85,7 +85,7 @@ fn slices_of_every_length_are_summed(rt: HostRuntime) {
     }
 }
 
-/// Lengths about one part, and two parts and a byte.
+/// Long slices, one of them with an odd last byte after its blocks.
 #[test]
 fn slices_of_several_parts_are_summed(rt: HostRuntime) {
     let ones = [0xFF; 131_073];
