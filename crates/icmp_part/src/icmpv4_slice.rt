@@ -8,10 +8,10 @@ use crate::icmpv4::{
     TYPE_ECHO_REPLY, TYPE_ECHO_REQUEST, TYPE_PARAMETER_PROBLEM, TYPE_REDIRECT, TYPE_SOURCE_QUENCH,
     TYPE_TIME_EXCEEDED, TYPE_TIMESTAMP, TYPE_TIMESTAMP_REPLY, TimeExceededCode, TimestampMessage,
 };
-use crate::message_start::wrong_packet_length;
 use crate::quoted_packet::counted;
 use crate::{IcmpEchoHeader, Icmpv4Header, Icmpv4Type};
 use net_base::err::{Layer, LenError};
+use net_base::wrong_length;
 use std::marker::Model;
 use word_sum::checksum::Sum16BitWords;
 
@@ -70,20 +70,16 @@ impl<'a> Icmpv4Slice<'a> {
         ensures kept { IfOk result (λ packet. packet ≡ slice.now) }
     {
         if slice.len() < Icmpv4Header::MIN_LEN {
-            return Err(wrong_packet_length(Layer::Icmpv4, Icmpv4Header::MIN_LEN, slice.len()));
+            return Err(wrong_length(Layer::Icmpv4, Icmpv4Header::MIN_LEN, slice.len()));
         }
         if slice[0] == TYPE_TIMESTAMP && slice[1] == 0 && slice.len() != TimestampMessage::LEN {
-            return Err(wrong_packet_length(
-                Layer::Icmpv4Timestamp,
-                TimestampMessage::LEN,
-                slice.len(),
-            ));
+            return Err(wrong_length(Layer::Icmpv4Timestamp, TimestampMessage::LEN, slice.len()));
         }
         if slice[0] == TYPE_TIMESTAMP_REPLY
             && slice[1] == 0
             && slice.len() != TimestampMessage::LEN
         {
-            return Err(wrong_packet_length(
+            return Err(wrong_length(
                 Layer::Icmpv4TimestampReply,
                 TimestampMessage::LEN,
                 slice.len(),
