@@ -46,7 +46,7 @@ use Rattle.capture_json.specs.Words.{with_underscores}
 use Rattle.capture_text.specs.Flags.{NamedFlag}
 use Rattle.capture_text.specs.Icmpv4Text as icmpv4_text
 use Rattle.capture_text.specs.Icmpv6Text as icmpv6_text
-use Rattle.capture_summary.specs.ProtocolNames.{ip_protocol_name, network_protocol_name}
+use Rattle.capture_protocols.specs.Protocols.{ip_protocol_name, network_protocol_name}
 use Rattle.capture_text.specs.Refusals.{refusal_text}
 use Rattle.capture_text.specs.TcpText.{tcp_flags}
 use Rattle.capture_text.specs.TimeText.{time_text}

@@ -8,7 +8,8 @@ use Rattle.capture_summary.specs.FlowOf.{IsFlowOf}
 use Rattle.capture_packet.specs.Frames.{IsRead, max_packet_len}
 use Rattle.capture_packet.specs.Packets.{in_no_tunnel}
 use Rattle.capture_packet.specs.Verdicts.{untested}
-use Rattle.capture_summary.specs.Kinds.{content_protocol, verdict_kind, verdict_refusal_kind}
+use Rattle.capture_protocols.specs.Protocols.{content_protocol}
+use Rattle.capture_summary.specs.Kinds.{verdict_kind, verdict_refusal_kind}
 use Rattle.capture_summary.specs.SummaryTables.{CountsOne, SummaryTables}
 use Rattle.capture_file.specs.declared.link_type.LinkType.{LinkType}
 use Rattle.capture_packet.specs.declared.content.Content.TheVariants.{NotIp, Unread}

@@ -1,7 +1,7 @@
 -- The packets that are chosen: by hosts, ports and protocols.
 use Rattle.std.specs.Prelude.{◌≡◌, ◌⊎◌, ℕ, Bool, true, false, IfSome, IsSomeAnd, List, [], ◌∷◌, Option, Some, None}
 use Rattle.ip_part.specs.Addresses.{Addresses, Ipv4, Ipv6, by_value}
-use Rattle.capture_summary.specs.Kinds.{content_protocol}
+use Rattle.capture_protocols.specs.Protocols.{content_protocol}
 use Rattle.capture_summary.specs.Networks.{IsIpv4In, IsIpv6In}
 use Rattle.capture_packet.specs.declared.content.Content.{Content}
 use Rattle.capture_packet.specs.declared.content.Content.TheVariants as contents
@@ -13,8 +13,8 @@ use Rattle.capture_summary.specs.declared.choice.Choice.{Choice}
 use Rattle.capture_summary.specs.declared.choice.Protocols.{Protocols}
 use Rattle.capture_summary.specs.declared.flow.FlowProtocol.{FlowProtocol}
 use Rattle.capture_summary.specs.declared.network.Network.{Network}
-use Rattle.capture_summary.specs.declared.protocol.Protocol.{Protocol}
-use Rattle.capture_summary.specs.declared.protocol.Protocol.TheVariants.{Udp, Tcp, Icmpv4, Icmpv6, OtherOverIp, NotIp, Unknown}
+use Rattle.capture_protocols.specs.declared.protocol.Protocol.{Protocol}
+use Rattle.capture_protocols.specs.declared.protocol.Protocol.TheVariants.{Udp, Tcp, Icmpv4, Icmpv6}
 
 -- the choice of all packets
 abbrev pub every_packet : Choice
@@ -76,9 +76,7 @@ is_among chosen Udp = chosen.udp
 is_among chosen Tcp = chosen.tcp
 is_among chosen Icmpv4 = chosen.icmpv4
 is_among chosen Icmpv6 = chosen.icmpv6
-is_among chosen OtherOverIp = false
-is_among chosen NotIp = false
-is_among chosen Unknown = false
+is_among chosen other = false
 
 -- a packet is chosen: it matches one of the hosts, one of the ports and one of the protocols of the choice, each if they are given
 pub record IsChosen (choice : Choice) (packet : Packet) : Type 0 where

@@ -18,64 +18,19 @@ use Rattle.capture_packet.specs.declared.refusal.Refusal.{Refusal}
 use Rattle.capture_packet.specs.declared.refusal.Refusal.TheVariants as refusals
 use Rattle.capture_packet.specs.declared.verdict.Verdict.{Verdict}
 use Rattle.capture_packet.specs.declared.verdict.Verdict.TheVariants as verdicts
+use Rattle.capture_protocols.specs.Protocols.{protocol_kinds, protocol_place, protocol_word}
 use Rattle.capture_summary.specs.Tables.{no_packets}
 use Rattle.capture_summary.specs.declared.count.Count.{Count}
 use Rattle.capture_summary.specs.declared.flow.FlowProtocol.{FlowProtocol}
 use Rattle.capture_summary.specs.declared.flow.FlowProtocol.TheVariants as flow_protocols
 use Rattle.capture_summary.specs.declared.link_kind.LinkKind.{LinkKind}
 use Rattle.capture_summary.specs.declared.link_kind.LinkKind.TheVariants.{Known, Other as OtherLink, Unknown as UnknownLink}
-use Rattle.capture_summary.specs.declared.protocol.Protocol.{Protocol}
-use Rattle.capture_summary.specs.declared.protocol.Protocol.TheVariants.{Udp, Tcp, Icmpv4, Icmpv6, OtherOverIp, NotIp, Unknown}
 use Rattle.capture_summary.specs.declared.refusal_kind.RefusalKind.{RefusalKind}
 use Rattle.capture_summary.specs.declared.refusal_kind.RefusalKind.TheVariants.{LinkHeader, IpHeaderCutOff, IpVersion, IpHeaderLength, IpTotalLength, IpPacketCutOff, IpExtensionHeader, UdpLength, TcpLength, TcpDataOffset, Icmpv4Length, Icmpv6Length}
 use Rattle.capture_summary.specs.declared.verdict_kind.VerdictKind.{VerdictKind}
 use Rattle.capture_summary.specs.declared.verdict_kind.VerdictKind.TheVariants.{Right, Wrong, Partial, Absent, Fragment, CutOff, LengthMissing, UnknownDestination, OtherProtocol, TooLong, Refused}
 
 -- ---- the table of protocols
-
--- the row of a transport protocol
-abbrev pub protocol_of : Proto → Protocol
-protocol_of protos.Udp = Udp
-protocol_of protos.Tcp = Tcp
-protocol_of protos.Icmpv4 = Icmpv4
-protocol_of protos.Icmpv6 = Icmpv6
-
--- the row of a protocol over IP
-abbrev pub protocol_over_ip : Option Proto → Protocol
-protocol_over_ip (Some proto) = protocol_of proto
-protocol_over_ip None = OtherOverIp
-
--- the row of a packet's protocol
-abbrev pub content_protocol : Content → Protocol
-content_protocol contents.Unread = Unknown
-content_protocol (contents.IpHeader addresses) = Unknown
-content_protocol (contents.NotIp protocol) = NotIp
-content_protocol (contents.Ip addresses protocol proto transport payload_len) = protocol_over_ip proto
-
--- all rows, in their order
-abbrev pub protocol_kinds : List Protocol
-protocol_kinds =
-    Udp ∷ Tcp ∷ Icmpv4 ∷ Icmpv6 ∷ OtherOverIp ∷ NotIp ∷ Unknown ∷ []
-
--- the place of a row
-abbrev pub protocol_place : Protocol → ℕ
-protocol_place Udp = 0
-protocol_place Tcp = 1
-protocol_place Icmpv4 = 2
-protocol_place Icmpv6 = 3
-protocol_place OtherOverIp = 4
-protocol_place NotIp = 5
-protocol_place Unknown = 6
-
--- the word of a row
-abbrev pub protocol_word : Protocol → List ℕ
-protocol_word Udp = codes "UDP"
-protocol_word Tcp = codes "TCP"
-protocol_word Icmpv4 = codes "ICMPv4"
-protocol_word Icmpv6 = codes "ICMPv6"
-protocol_word OtherOverIp = codes "other over IP"
-protocol_word NotIp = codes "not IP"
-protocol_word Unknown = codes "unknown"
 
 -- the rows with their words; the counts are in the order of the places
 abbrev pub protocol_rows : List Count → List (List ℕ × Count)

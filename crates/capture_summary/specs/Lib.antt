@@ -6,7 +6,6 @@ pub mod FlowPlaces
 pub mod FlowTable
 pub mod Kinds
 pub mod Networks
-pub mod ProtocolNames
 pub mod Ranking
 pub mod Rates
 pub mod SummaryTables

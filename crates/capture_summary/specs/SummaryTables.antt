@@ -1,6 +1,6 @@
 -- The counts of a summary, and the change by one packet.
 use Rattle.std.specs.Prelude.{◌≡◌, ℕ, Bool, nat_lt, ◌+◌, ◌-◌, ◌^◌, min, List, [], length, replicate, slice_index, sum, sum_by, Option, Some, None}
-use Rattle.capture_summary.specs.Kinds.{link_kind, link_kinds, link_place, protocol_kinds, protocol_place, refusal_kinds, refusal_place, verdict_kinds, verdict_place}
+use Rattle.capture_summary.specs.Kinds.{link_kind, link_kinds, link_place, refusal_kinds, refusal_place, verdict_kinds, verdict_place}
 use Rattle.capture_summary.specs.FlowTable.{FlowTable, packets_counted, table_counted}
 use Rattle.capture_summary.specs.Tables.{counted_at, no_packets, packet_counted_at}
 use Rattle.capture_summary.specs.declared.refusal_kind.RefusalKind.{RefusalKind}
@@ -12,7 +12,8 @@ use Rattle.capture_summary.specs.declared.capture_info.FrameLen.{FrameLen}
 use Rattle.capture_summary.specs.declared.count.Count.{Count}
 use Rattle.capture_summary.specs.declared.flow.Flow.{Flow}
 use Rattle.capture_summary.specs.declared.time_span.TimeSpan.{TimeSpan}
-use Rattle.capture_summary.specs.declared.protocol.Protocol.{Protocol}
+use Rattle.capture_protocols.specs.Protocols.{protocol_kinds, protocol_place}
+use Rattle.capture_protocols.specs.declared.protocol.Protocol.{Protocol}
 
 -- the numbers of packets and bytes, the times of the packets, and the tables in which each packet is counted
 pub record SummaryTables : Type 0 where

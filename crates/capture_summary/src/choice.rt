@@ -1,6 +1,6 @@
 ghost use Rattle.std.specs.Prelude.{◌≡◌, ◌↔◌, IfSome, IsTrue, None, true};
 ghost use Rattle.ip_part.specs.Addresses.{by_value};
-ghost use Rattle.capture_summary.specs.Kinds.{content_protocol};
+ghost use Rattle.capture_protocols.specs.Protocols.{content_protocol};
 ghost use Rattle.capture_summary.specs.Choice.{HasAny, HasHost, HasPort, HasTunnelEnd, IsChosen, IsPortOf, IsSourceOrDestination, MatchesHost, QuotesHost, QuotesPort, is_among};
 ghost use Rattle.capture_packet.specs.Quotes.{quoted_in};
 ghost use Rattle.capture_summary.specs.FlowOf.{ports_of};
@@ -69,7 +69,7 @@ impl Protocols {
             Protocol::Tcp => self.tcp,
             Protocol::Icmpv4 => self.icmpv4,
             Protocol::Icmpv6 => self.icmpv6,
-            Protocol::OtherOverIp | Protocol::NotIp | Protocol::Unknown => false,
+            _ => false,
         }
     }
 }

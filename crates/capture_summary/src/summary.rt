@@ -1,10 +1,12 @@
 ghost use Rattle.std.specs.Prelude.{◌≡◌, ◌↔◌, ◌<◌, ◌-◌, ◌^◌, ◌+◌, map, slice_index, slice_index_or, IsSome, OnOk, OnErr};
 ghost use Rattle.capture_summary.specs.SummaryTables.{CountsOne, IsBalanced, empty_tables, has_fault};
-ghost use Rattle.capture_summary.specs.Kinds.{link_place, link_rows, protocol_place, protocol_rows, refusal_place, refusal_rows, verdict_place, verdict_rows};
+ghost use Rattle.capture_summary.specs.Kinds.{link_place, link_rows, protocol_rows, refusal_place, refusal_rows, verdict_place, verdict_rows};
+ghost use Rattle.capture_protocols.specs.Protocols.{protocol_place};
 ghost use Rattle.capture_summary.specs.Rates.{average_len};
 ghost use Rattle.capture_summary.specs.Tables.{no_packets};
 ghost use Rattle.capture_summary.specs.declared.verdict_kind.VerdictKind.TheVariants.{Refused};
 
+use crate::protocol_rows;
 use crate::{
     CaptureInfo, Count, Flow, Flows, LinkKind, Protocol, RefusalKind, TimeSpan, VerdictKind,
 };
@@ -140,7 +142,7 @@ impl Summary {
     pub fn protocols(&self) -> [(&'static str, Count); Protocol::COUNT]
         ensures { map (λ row. (row.0.now, row.1)) result ≡ protocol_rows self.now.protocols }
     {
-        Protocol::rows(&self.protocols)
+        protocol_rows::rows(&self.protocols)
     }
 
     /// The rows of the table of checksums: the name and the number of packets of each.

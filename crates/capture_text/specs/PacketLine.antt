@@ -25,7 +25,7 @@ use Rattle.capture_text.specs.AddressText.{addresses_text, endpoints_text}
 use Rattle.capture_text.specs.Icmpv4Text as icmpv4_text
 use Rattle.capture_text.specs.Icmpv6Text as icmpv6_text
 use Rattle.capture_text.specs.Numbers.{hex_padded}
-use Rattle.capture_summary.specs.ProtocolNames.{ip_protocol_name, network_protocol_name}
+use Rattle.capture_protocols.specs.Protocols.{ip_protocol_name, network_protocol_name}
 use Rattle.capture_summary.specs.declared.capture_info.FrameLen.{FrameLen}
 use Rattle.capture_text.specs.TcpText.{IsHeaderText}
 use Rattle.capture_text.specs.TimeText.{time_text}

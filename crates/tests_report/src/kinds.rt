@@ -143,10 +143,14 @@ const OVER_IPV4: IpAddresses = IpAddresses::Ipv4 {
 type ProtocolRow = (Content<'static>, Protocol);
 
 #[rattlefmt::skip]
-const PROTOCOLS: [ProtocolRow; 8] = [
+const PROTOCOLS: [ProtocolRow; 13] = [
     (Content::Unread, Protocol::Unknown),
     (Content::IpHeader(OVER_IPV4), Protocol::Unknown),
-    (Content::NotIp(NetworkProtocol::EtherType(0x0806)), Protocol::NotIp),
+    (Content::NotIp(NetworkProtocol::EtherType(0x0806)), Protocol::Arp),
+    (Content::NotIp(NetworkProtocol::EtherType(0x8848)), Protocol::Mpls),
+    (Content::NotIp(NetworkProtocol::EtherType(0x0842)), Protocol::OtherWithoutIp),
+    (Content::NotIp(NetworkProtocol::LinkType(147)), Protocol::OtherWithoutIp),
+    (Content::NotIp(NetworkProtocol::Llc { dsap: 0x42, ssap: 0x42 }), Protocol::Stp),
     (
         Content::Ip { addresses: OVER_IPV4, protocol: ip_number::UDP, proto: Some(Proto::Udp), transport: Transport::Unread(&[]), payload_len: 0 },
         Protocol::Udp,
@@ -163,7 +167,8 @@ const PROTOCOLS: [ProtocolRow; 8] = [
         Content::Ip { addresses: OVER_IPV4, protocol: ip_number::IPV6_ICMP, proto: Some(Proto::Icmpv6), transport: Transport::Unread(&[]), payload_len: 0 },
         Protocol::Icmpv6,
     ),
-    (Content::Ip { addresses: OVER_IPV4, protocol: IpNumber(50), proto: None, transport: Transport::Unread(&[]), payload_len: 0 }, Protocol::OtherOverIp),
+    (Content::Ip { addresses: OVER_IPV4, protocol: IpNumber(50), proto: None, transport: Transport::Unread(&[]), payload_len: 0 }, Protocol::Esp),
+    (Content::Ip { addresses: OVER_IPV4, protocol: IpNumber(48), proto: None, transport: Transport::Unread(&[]), payload_len: 0 }, Protocol::OtherOverIp),
 ];
 
 /// Stops the test unless the packet of a row is counted in the row of its protocol.

@@ -103,7 +103,7 @@ fn judge_many(summary: &mut Summary, number: u32, packets: u32, len: u64) -> Res
 
 /// Packets that are not refused, each with whether it has ports.
 #[rattlefmt::skip]
-const JUDGED: [(Protocol, VerdictKind, bool); 11] = [
+const JUDGED: [(Protocol, VerdictKind, bool); 13] = [
     (UDP, VerdictKind::Right, true),
     (UDP, VerdictKind::Absent, true),
     (TCP, VerdictKind::Wrong, true),
@@ -113,7 +113,9 @@ const JUDGED: [(Protocol, VerdictKind, bool); 11] = [
     (ICMPV6, VerdictKind::CutOff, false),
     (TCP, VerdictKind::LengthMissing, true),
     (Protocol::OtherOverIp, VerdictKind::Fragment, false),
-    (Protocol::NotIp, VerdictKind::OtherProtocol, false),
+    (Protocol::OtherWithoutIp, VerdictKind::OtherProtocol, false),
+    (Protocol::Ospf, VerdictKind::OtherProtocol, false),
+    (Protocol::Arp, VerdictKind::OtherProtocol, false),
     (Protocol::Unknown, VerdictKind::TooLong, false),
 ];
 
@@ -154,13 +156,15 @@ fn refuse_each(summary: &mut Summary) -> Result<(), Fail> {
 
 /// How many packets and bytes each protocol has.
 #[rattlefmt::skip]
-const OF_PROTOCOLS: [(Protocol, u64, u64); 7] = [
+const OF_PROTOCOLS: [(Protocol, u64, u64); 9] = [
     (UDP, 2, 200),
     (TCP, 4, 400),
     (ICMPV4, 1, 100),
     (ICMPV6, 1, 100),
+    (Protocol::Ospf, 1, 100),
     (Protocol::OtherOverIp, 1, 100),
-    (Protocol::NotIp, 1, 100),
+    (Protocol::Arp, 1, 100),
+    (Protocol::OtherWithoutIp, 1, 100),
     (Protocol::Unknown, 14, 880),
 ];
 
@@ -186,7 +190,7 @@ const OF_VERDICTS: [(VerdictKind, u64); 11] = [
     (VerdictKind::CutOff, 1),
     (VerdictKind::LengthMissing, 1),
     (VerdictKind::UnknownDestination, 1),
-    (VerdictKind::OtherProtocol, 1),
+    (VerdictKind::OtherProtocol, 3),
     (VerdictKind::TooLong, 1),
     (VerdictKind::Refused, 13),
 ];
@@ -217,13 +221,58 @@ fn expect_refusals(rt: &impl Abort, summary: &Summary) {
 
 /// The rows of each table, in their order: names and counts.
 #[rattlefmt::skip]
-static PROTOCOL_ROWS: [(&str, Count); 7] = [
+static PROTOCOL_ROWS: [(&str, Count); 52] = [
     ("UDP", Count { packets: 2, bytes: 200 }),
     ("TCP", Count { packets: 4, bytes: 400 }),
     ("ICMPv4", Count { packets: 1, bytes: 100 }),
     ("ICMPv6", Count { packets: 1, bytes: 100 }),
+    ("IGMP", Count::NONE),
+    ("IPv4", Count::NONE),
+    ("DCCP", Count::NONE),
+    ("IPv6", Count::NONE),
+    ("RSVP", Count::NONE),
+    ("GRE", Count::NONE),
+    ("ESP", Count::NONE),
+    ("AH", Count::NONE),
+    ("no next header", Count::NONE),
+    ("EIGRP", Count::NONE),
+    ("OSPF", Count { packets: 1, bytes: 100 }),
+    ("EtherIP", Count::NONE),
+    ("PIM", Count::NONE),
+    ("IPComp", Count::NONE),
+    ("VRRP", Count::NONE),
+    ("L2TP", Count::NONE),
+    ("SCTP", Count::NONE),
+    ("UDP-Lite", Count::NONE),
+    ("MPLS-in-IP", Count::NONE),
     ("other over IP", Count { packets: 1, bytes: 100 }),
-    ("not IP", Count { packets: 1, bytes: 100 }),
+    ("ARP", Count { packets: 1, bytes: 100 }),
+    ("RARP", Count::NONE),
+    ("IPX", Count::NONE),
+    ("slow protocol", Count::NONE),
+    ("MPLS", Count::NONE),
+    ("PPPoE discovery", Count::NONE),
+    ("PPPoE session", Count::NONE),
+    ("EAPOL", Count::NONE),
+    ("LLDP", Count::NONE),
+    ("MACsec", Count::NONE),
+    ("MVRP", Count::NONE),
+    ("PTP", Count::NONE),
+    ("CFM", Count::NONE),
+    ("loopback", Count::NONE),
+    ("IPCP", Count::NONE),
+    ("IPV6CP", Count::NONE),
+    ("CCP", Count::NONE),
+    ("LCP", Count::NONE),
+    ("PAP", Count::NONE),
+    ("LQR", Count::NONE),
+    ("CHAP", Count::NONE),
+    ("EAP", Count::NONE),
+    ("CLNP", Count::NONE),
+    ("ES-IS", Count::NONE),
+    ("IS-IS", Count::NONE),
+    ("STP", Count::NONE),
+    ("other without IP", Count { packets: 1, bytes: 100 }),
     ("unknown", Count { packets: 14, bytes: 880 }),
 ];
 
@@ -237,7 +286,7 @@ static VERDICT_ROWS: [(&str, u64); 11] = [
     ("cut off", 1),
     ("no length stated", 1),
     ("final destination unknown", 1),
-    ("another protocol", 1),
+    ("another protocol", 3),
     ("too long", 1),
     ("refused", 13),
 ];
@@ -245,7 +294,7 @@ static VERDICT_ROWS: [(&str, u64); 11] = [
 #[rattlefmt::skip]
 static LINK_ROWS: [(&str, u64); 23] = [
     ("BSD loopback", 0),
-    ("Ethernet", 24),
+    ("Ethernet", 26),
     ("PPP", 0),
     ("PPP or Cisco HDLC", 0),
     ("PPP over Ethernet", 0),
@@ -308,14 +357,14 @@ fn each_packet_is_counted_once_in_each_table(rt: HostRuntime) -> Result<(), Fail
     let mut summary = Summary::new(rt.alloc(), RandomState::new(&rt)?);
     judge_each(&mut summary)?;
     refuse_each(&mut summary)?;
-    expect_equal(&rt, &(summary.packets(), summary.bytes()), &(24, 1880));
+    expect_equal(&rt, &(summary.packets(), summary.bytes()), &(26, 2080));
     expect_protocols(&rt, &summary);
     expect_verdicts(&rt, &summary);
     expect_refusals(&rt, &summary);
     expect_rows(&rt, &summary);
     let without_ports = Count {
-        packets: 18,
-        bytes: 1280,
+        packets: 20,
+        bytes: 1480,
     };
     expect_flows(&rt, &summary, (1, without_ports, Count::NONE));
     Ok(())
