@@ -1,0 +1,137 @@
+ghost use Rattle.std.specs.Prelude.{◌≡◌, drop};
+ghost use Rattle.capture_texts.specs.Texts as specs;
+
+use crate::KeptText;
+use crate::options::{number_in, option_value};
+use arrayvec::ArrayVec;
+
+/// The number of interfaces of a section whose texts are kept, at most.
+pub const MAX_INTERFACES: usize = 32;
+
+/// The type of a section header block (draft-ietf-opsawg-pcapng, section 4.1).
+const SECTION_HEADER: u32 = 0x0A0D_0D0A;
+
+/// The type of an interface description block (section 4.2).
+const INTERFACE_DESCRIPTION: u32 = 1;
+
+/// The type of an enhanced packet block (section 4.3).
+const ENHANCED_PACKET: u32 = 6;
+
+/// The code of a comment in any block (section 3.5).
+const COMMENT: u16 = 1;
+
+/// The texts of an interface description block (section 4.2).
+#[derive(Clone, Debug, Default, Drop)]
+pub struct InterfaceTexts {
+    /// The name of the interface: the option `if_name`.
+    pub name: KeptText,
+    /// The description of the interface: the option `if_description`.
+    pub description: KeptText,
+    /// The first comment of the block.
+    pub comment: KeptText,
+}
+
+impl InterfaceTexts {
+    /// The texts among the options of a block.
+    fn from_options(is_big_endian: bool, options: &[u8]) -> InterfaceTexts
+        ensures { result ≡ specs.interface_texts is_big_endian options.now }
+    {
+        let text_of = |code| KeptText::new(option_value(is_big_endian, options, code));
+        InterfaceTexts {
+            name: text_of(2),
+            description: text_of(3),
+            comment: text_of(COMMENT),
+        }
+    }
+}
+
+/// The texts of the section that is read, and the number of packets with a comment.
+#[derive(Clone, Debug, Default, Drop)]
+pub struct FileTexts {
+    /// The first comment of the section header block.
+    pub comment: KeptText,
+    /// The hardware that the section was written on: the option `shb_hardware` (section 4.1).
+    pub hardware: KeptText,
+    /// The operating system that the section was written on: the option `shb_os`.
+    pub operating_system: KeptText,
+    /// The application that wrote the section: the option `shb_userappl`.
+    pub application: KeptText,
+    /// The texts of the first interfaces of the section, in their order.
+    pub interfaces: ArrayVec<InterfaceTexts, 32>,
+    /// The number of packets of the file with a comment, in all its sections. It counts to 2^64 - 1 at most.
+    pub commented_packets: u64,
+}
+
+impl FileTexts {
+    /// No text, before the first block.
+    pub fn new() -> FileTexts
+        ensures { result ≡ specs.no_texts }
+    {
+        FileTexts::default()
+    }
+
+    /// Takes in the texts of the next block with this type and body, in a section with this byte order.
+    pub fn note(&mut self, is_big_endian: bool, block_type: u32, body: &[u8])
+        ensures { self.new ≡ specs.texts_after is_big_endian block_type body.now self.old }
+    {
+        match block_type {
+            SECTION_HEADER => self.begin_section(is_big_endian, after(body, 16)),
+            INTERFACE_DESCRIPTION => self.add_interface(is_big_endian, after(body, 8)),
+            ENHANCED_PACKET => self.add_packet(is_big_endian, body),
+            _ => {}
+        }
+    }
+
+    /// Begins a section whose header block has these options.
+    fn begin_section(&mut self, is_big_endian: bool, options: &[u8])
+        ensures { self.new ≡ specs.section_begun is_big_endian options.now self.old }
+    {
+        let text_of = |code| KeptText::new(option_value(is_big_endian, options, code));
+        self.comment = text_of(COMMENT);
+        self.hardware = text_of(2);
+        self.operating_system = text_of(3);
+        self.application = text_of(4);
+        self.interfaces.clear();
+    }
+
+    /// Adds the interface of a block with these options, if there is room.
+    fn add_interface(&mut self, is_big_endian: bool, options: &[u8])
+        ensures { self.new ≡ specs.interface_added is_big_endian options.now self.old }
+    {
+        if !self.interfaces.is_full() {
+            let texts = InterfaceTexts::from_options(is_big_endian, options);
+            self.interfaces.push(texts);
+        }
+    }
+
+    /// Counts the packet of an enhanced packet block with this body, if it has a comment.
+    fn add_packet(&mut self, is_big_endian: bool, body: &[u8])
+        ensures { self.new ≡ specs.packet_added is_big_endian body.now self.old }
+    {
+        if has_comment(is_big_endian, body) {
+            self.commented_packets = self.commented_packets.saturating_add(1);
+        }
+    }
+}
+
+/// Whether an enhanced packet block with this body has a comment. The options follow the captured bytes, which are padded to four bytes.
+fn has_comment(is_big_endian: bool, body: &[u8]) -> bool
+    ensures { result ≡ specs.has_comment is_big_endian body.now }
+{
+    if body.len() <= 20 {
+        return false;
+    }
+    let captured_len = number_in(is_big_endian, body, 12) as usize;
+    let options = after(body, 20 + (captured_len + 3) / 4 * 4);
+    !option_value(is_big_endian, options, COMMENT).is_empty()
+}
+
+/// The bytes after the first bytes.
+fn after(bytes: &[u8], len: usize) -> &[u8]
+    ensures { result.now ≡ drop len bytes.now }
+{
+    if bytes.len() <= len {
+        return &[];
+    }
+    &bytes[len..]
+}

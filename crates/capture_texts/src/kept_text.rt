@@ -1,0 +1,62 @@
+ghost use Rattle.std.specs.Prelude.{◌≡◌, ◌<◌, ◌≤◌, length};
+ghost use Rattle.capture_texts.specs.Texts as specs;
+
+use arrayvec::ArrayVec;
+
+/// The number of bytes of a text that are kept, at most.
+pub const MAX_TEXT_LEN: usize = 128;
+
+/// A text of a block, as far as it is kept. It should be UTF-8, and may consist of any bytes.
+#[derive(Clone, Debug, Default, Drop)]
+pub struct KeptText {
+    /// The first bytes of the text. It is empty if the block has no such text.
+    pub bytes: ArrayVec<u8, 128>,
+    /// Whether the text has more bytes. Then it ends before the character that goes beyond `MAX_TEXT_LEN` bytes.
+    pub is_cut: bool,
+}
+
+impl KeptText {
+    /// What is kept of a text with these bytes.
+    pub fn new(text: &[u8]) -> KeptText
+        ensures { result ≡ specs.kept_text text.now }
+    {
+        let len = kept_len(text);
+        let mut bytes = ArrayVec::new();
+        bytes.try_extend_from_slice(&text[..len]).unwrap();
+        let is_cut = len < text.len();
+        KeptText { bytes, is_cut }
+    }
+}
+
+/// The number of bytes that are kept of a text.
+fn kept_len(text: &[u8]) -> usize
+    ensures len { result ≡ specs.kept_len text.now }
+    ensures within { result ≤ length text.now }
+    ensures most { result ≤ 128 }
+{
+    if text.len() <= MAX_TEXT_LEN {
+        text.len()
+    } else {
+        char_start(text, MAX_TEXT_LEN)
+    }
+}
+
+/// The start of the character that the byte at this place belongs to.
+fn char_start(text: &[u8], place: usize) -> usize
+    requires { place < length text.now }
+    ensures start { result ≡ specs.char_start text.now place }
+    ensures within { result ≤ place }
+{
+    let mut start = place;
+    while start > 0 && is_continuation(text[start]) {
+        start -= 1;
+    }
+    start
+}
+
+/// Whether a byte of UTF-8 is not the first byte of its character (RFC 3629, section 3).
+fn is_continuation(byte: u8) -> bool
+    ensures { result ≡ specs.is_continuation byte }
+{
+    byte / 64 == 2
+}
