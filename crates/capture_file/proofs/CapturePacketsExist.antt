@@ -10,6 +10,7 @@ use Rattle.capture_file.proofs.PcapngReadingLemmas.{last_by}
 use Rattle.capture_file.proofs.ReadingLaws.{there_is_a_reading}
 use Rattle.capture_file.proofs.SectionLaws.{there_is_taken}
 use Rattle.capture_file.proofs.StepLaws.{reader_of}
+use Rattle.capture_file.specs.BlockTexts.{noted}
 use Rattle.capture_file.specs.CapturePackets.{EndsWith, ReadsOne, HasPackets, FilePacket, next_after, packet_in, record_packet}
 use Rattle.capture_file.specs.Laws.{Exist}
 use Rattle.capture_file.specs.Pcapng.{IsBlock, block_header, block_len, block_refusal}
@@ -53,7 +54,8 @@ whole_step room before all block rest whole is within =
     let has_room : length buffer ≡ room = omega (arith, length-append block more, blank_len (room - length block), within) in
     let (section, taken, takes) = there_is_taken before.section header (slice_range buffer 8 (header.total_len - 4)) in
     record {
-      after = reader_of section (offset_after before.offset header);
+      after = reader_of section (offset_after before.offset header)
+          (noted (Whole header) buffer (next_by_taken before.offset taken) before.texts);
       rest = rest;
       buffer = buffer;
       has_room = has_room;
@@ -67,6 +69,7 @@ whole_step room before all block rest whole is within =
           is_last = tt;
         };
         is_step = (refl, (taken, takes, refl));
+        texts = refl;
       };
       fewer = omega (arith, ap length whole, length-append block rest, is.shortest);
     }
@@ -75,7 +78,7 @@ whole_step room before all block rest whole is within =
 too_long_step : (room : ℕ) (before : PcapngReader) (all block rest : List ℕ) → all ≡ block ++ rest → IsBlock before.section.byte_order block
     → room < length block → Step room before all
 too_long_step room before all block rest whole is above = record {
-  after = reader_of before.section (offset_after before.offset (block_header before.section.byte_order block));
+  after = reader_of before.section (offset_after before.offset (block_header before.section.byte_order block)) before.texts;
   rest = rest;
   buffer = blank room;
   has_room = blank_len room;
@@ -84,6 +87,7 @@ too_long_step room before all block rest whole is above = record {
     block = TooLong (block_header before.section.byte_order block);
     reads = record { bytes = block; consumed = whole; is_next = (is, refl, omega (arith, is.begins, blank_len room, above)); is_last = tt };
     is_step = (refl, refl, refl);
+    texts = refl;
   };
   fewer = omega (arith, ap length whole, length-append block rest, is.shortest);
 }
@@ -125,7 +129,12 @@ step_ends room before after left still_left buffer next has_room step none = rec
 pub no_byte_ends : (room : ℕ) (before : PcapngReader) → EndsWith room (Pcapng before) (Some []) packets.End
 no_byte_ends room before =
     step_ends room before before (Some []) (Some []) (blank room) packets.End (blank_len room)
-    (record { block = End; reads = record { bytes = []; consumed = refl; is_next = refl; is_last = refl }; is_step = (refl, refl) }) refl
+    (record {
+      block = End;
+      reads = record { bytes = []; consumed = refl; is_next = refl; is_last = refl };
+      is_step = (refl, refl);
+      texts = refl;
+    }) refl
 
 -- rejected bytes are the end
 pub refusal_ends : (room : ℕ) (before : PcapngReader) (all : List ℕ) (error : BlockError) → all ≢ []
@@ -136,7 +145,7 @@ refusal_ends room before all error some refused =
     let reads : ReadsNextBlock before.section.byte_order (Some all) (Some []) (blank room) (Refused error) =
     record { bytes = all; consumed = sym (append-nil all); is_next = (some, refused); is_last = at_end } in
     step_ends room before before (Some all) (Some []) (blank room) (next_by_refusal before.offset error) (blank_len room)
-    (record { block = Refused error; reads = reads; is_step = (refl, refl) }) (grind arith)
+    (record { block = Refused error; reads = reads; is_step = (refl, refl); texts = refl }) (grind arith)
 
 -- ---- a step before others
 

@@ -1,6 +1,6 @@
 -- The packets of a pcapng file are the packets of the fold over its blocks.
 use Rattle.std.proofs.lemmas.Bool.Decides.{nat_tests}
-use Rattle.std.proofs.Common.{◌≡◌, ◌≢◌, ℕ, ◌-◌, ◌<◌, ◌≤◌, Bool, true, false, if◌then◌else◌, List, [], ◌∷◌, ◌++◌, Option, Some, None, Ok, Err, Result, arith, length, take, refl, sym, ap, ◌∙◌, subst, append_assoc, length-append, ⊎_elim}
+use Rattle.std.proofs.Common.{◌≡◌, ◌≢◌, ℕ, ◌-◌, ◌<◌, ◌≤◌, nat_lt, Bool, true, false, if◌then◌else◌, List, [], ◌∷◌, ◌++◌, Option, Some, None, Ok, Err, Result, arith, length, take, refl, sym, ap, ◌∙◌, subst, append_assoc, length-append, ⊎_elim}
 use Rattle.std.proofs.lemmas.Bool.{cases_lt}
 use Rattle.std.proofs.lemmas.List.{take_at}
 use Rattle.std.specs.List.{concat}
@@ -13,6 +13,7 @@ use Rattle.capture_file.proofs.PacketsOfBlocksLemmas.{IsTaken, both_orders, byte
 use Rattle.capture_file.proofs.PcapngLaws.{there_is_a_reading, there_is_one_reading}
 use Rattle.capture_file.proofs.SectionLaws.{Given, same_section, section_of, there_is_taken}
 use Rattle.capture_file.proofs.StepLaws.{in_front, reader_of}
+use Rattle.capture_file.specs.BlockTexts.{texts_with, unless_refused}
 use Rattle.capture_file.specs.CapturePackets.{FilePacket, HasPackets, ReadsOne, packet_in, too_long}
 use Rattle.capture_file.specs.Opening.{BeginsFile, BeginsUnless, IsFirstBlock}
 use Rattle.capture_file.specs.Packets.{long_block}
@@ -37,15 +38,28 @@ use Rattle.capture_file.specs.declared.reader.packet_error.PacketError.{PacketEr
 use Rattle.capture_file.specs.declared.reader.packet_error.PacketError.TheVariants as errors
 use Rattle.capture_file.specs.declared.reader.pcapng_reader.PcapngReader.{PcapngReader}
 use Rattle.capture_file.specs.declared.reader.pcapng_reader.Section.{Section}
+use Rattle.capture_texts.specs.declared.file_texts.FileTexts.{FileTexts}
 
 -- ---- one block
 
--- the reader after a block, by the fold
-abbrev reader_after : PcapngReader → List ℕ → PcapngReader
-reader_after before block =
+-- the reader after a block, by the fold, with these texts
+abbrev reader_with : PcapngReader → List ℕ → FileTexts → PcapngReader
+reader_with before block texts =
     let header = block_header before.section.byte_order block in
     let interfaces = interfaces_after header before.section.interfaces.items (body_of block) in
-    reader_of (section_of header.byte_order interfaces) (offset_after before.offset header)
+    reader_of (section_of header.byte_order interfaces) (offset_after before.offset header) texts
+
+-- the texts after a block for which the buffer has room
+abbrev whole_texts : PcapngReader → List ℕ → FileTexts
+whole_texts before block = texts_with (block_header before.section.byte_order block) (body_of block) before.texts
+
+-- the texts after a block
+abbrev texts_of : ℕ → PcapngReader → List ℕ → FileTexts
+texts_of room before block = if nat_lt room (length block) then before.texts else whole_texts before block
+
+-- the reader after a block, by the fold
+abbrev reader_after : ℕ → PcapngReader → List ℕ → PcapngReader
+reader_after room before block = reader_with before block (texts_of room before block)
 
 -- the item of a block is this result of the fold, and the reader after the block is as expected unless the result is an error
 abbrev IsResult : ℕ → List ℕ → Option NextPacket → PcapngReader → PcapngReader → Result (Option FilePacket) PacketError → Type 0
@@ -66,20 +80,25 @@ record BlockStep (room : ℕ) (before : PcapngReader) (all rest : List ℕ) (exp
 
 -- the result of a block that the reader takes
 taken_result : (result : Result (Option FilePacket) PacketError) (offset place : ℕ) (header : BlockHeader)
-    (interfaces : List InterfaceDescription) (body buffer : List ℕ) (given : Given) (section : Section)
+    (interfaces : List InterfaceDescription) (body buffer : List ℕ) (given : Given) (section : Section) (old new : FileTexts)
     → IsTaken header interfaces body buffer given section result
-    → IsResult offset buffer (next_by_taken offset given) (reader_of section place)
-    (reader_of (section_of header.byte_order (interfaces_after header interfaces body)) place) result
-taken_result (Err error) offset place header interfaces body buffer given section is = ap (next_by_taken offset) is
-taken_result (Ok None) offset place header interfaces body buffer given section is = (
+    → IsResult offset buffer (next_by_taken offset given)
+    (reader_of section place (unless_refused (next_by_taken offset given) old new))
+    (reader_of (section_of header.byte_order (interfaces_after header interfaces body)) place new) result
+taken_result (Err error) offset place header interfaces body buffer given section old new is = ap (next_by_taken offset) is
+taken_result (Ok None) offset place header interfaces body buffer given section old new is = (
   ap (next_by_taken offset) is.0,
-  ap (λ s. reader_of s place) (same_section section (section_of header.byte_order (interfaces_after header interfaces body)) is.1.0 is.1.1),
+  ap (λ g. reader_of section place (unless_refused (next_by_taken offset g) old new)) is.0
+  ∙ ap (λ s. reader_of s place new)
+      (same_section section (section_of header.byte_order (interfaces_after header interfaces body)) is.1.0 is.1.1),
 )
-taken_result (Ok (Some packet)) offset place header interfaces body buffer given section is = (
+taken_result (Ok (Some packet)) offset place header interfaces body buffer given section old new is = (
   packets.Whole is.0,
   ap (next_by_taken offset) is.1,
   is.2,
-  ap (λ s. reader_of s place) (same_section section (section_of header.byte_order (interfaces_after header interfaces body)) is.3.0 is.3.1),
+  ap (λ g. reader_of section place (unless_refused (next_by_taken offset g) old new)) is.1
+  ∙ ap (λ s. reader_of s place new)
+      (same_section section (section_of header.byte_order (interfaces_after header interfaces body)) is.3.0 is.3.1),
 )
 
 -- the body of a block that is in front of the buffer
@@ -92,7 +111,7 @@ body_in_front block buffer len is front =
 -- a block for which the buffer has room
 whole_step : (room : ℕ) (before : PcapngReader) (block rest : List ℕ) → IsBlock before.section.byte_order block → IsBytes block
     → length block ≤ room
-    → BlockStep room before (block ++ rest) rest (reader_after before block)
+    → BlockStep room before (block ++ rest) rest (reader_with before block (whole_texts before block))
     (whole_result (block_header before.section.byte_order block) before.section.interfaces.items (body_of block))
 whole_step room before block rest is fits within =
     let header : BlockHeader = block_header before.section.byte_order block in
@@ -110,7 +129,8 @@ whole_step room before block rest is fits within =
     let taken_so : IsTaken header items (body_of block) buffer taken section (whole_result header items (body_of block)) =
     subst (λ bytes. IsTaken header items bytes buffer taken section (whole_result header items bytes)) is_body taken_is in
     record {
-      after = reader_of section (offset_after before.offset header);
+      after = reader_of section (offset_after before.offset header)
+          (unless_refused (next_by_taken before.offset taken) before.texts (whole_texts before block));
       buffer = buffer;
       has_room = has_room;
       next = next_by_taken before.offset taken;
@@ -123,9 +143,10 @@ whole_step room before block rest is fits within =
           is_last = tt;
         };
         is_step = (refl, (taken, takes, refl));
+        texts = sym (ap (λ b. unless_refused (next_by_taken before.offset taken) before.texts (texts_with header b before.texts)) is_body);
       };
       is_result = taken_result (whole_result header items (body_of block)) before.offset (offset_after before.offset header) header items
-          (body_of block) buffer taken section taken_so;
+          (body_of block) buffer taken section before.texts (whole_texts before block) taken_so;
     }
 
 -- the result of a block for which the buffer has no room, by the type of the block
@@ -144,22 +165,24 @@ long_by false false header offset buffer after expected same = (refl, same refl)
 -- a block that is no section header and no interface description leaves the section unchanged
 unchanged : (before : PcapngReader) (block : List ℕ) → IsBytes block
     → is_description (block_header before.section.byte_order block).block_type ≡ false
-    → reader_of before.section (offset_after before.offset (block_header before.section.byte_order block)) ≡ reader_after before block
+    → reader_of before.section (offset_after before.offset (block_header before.section.byte_order block)) before.texts
+    ≡ reader_with before block before.texts
 unchanged before block fits other =
     let header : BlockHeader = block_header before.section.byte_order block in
     let items : List InterfaceDescription = before.section.interfaces.items in
     let no_section : header.block_type ≢ section_header_type = λ section. grind (arith, nat_tests) in
     let none_added : items ≡ interfaces_after header items (body_of block) = grind (arith, nat_tests) in
     let order : before.section.byte_order ≡ header.byte_order = sym (same_order before.section.byte_order block fits no_section) in
-    ap (λ s. reader_of s (offset_after before.offset header))
+    ap (λ s. reader_of s (offset_after before.offset header) before.texts)
     (same_section before.section (section_of header.byte_order (interfaces_after header items (body_of block))) order none_added)
 
 too_long_step : (room : ℕ) (before : PcapngReader) (block rest : List ℕ) → IsBlock before.section.byte_order block → IsBytes block
     → room < length block
-    → BlockStep room before (block ++ rest) rest (reader_after before block) (long_result (block_header before.section.byte_order block))
+    → BlockStep room before (block ++ rest) rest (reader_with before block before.texts)
+    (long_result (block_header before.section.byte_order block))
 too_long_step room before block rest is fits above =
     let header : BlockHeader = block_header before.section.byte_order block in
-    let after : PcapngReader = reader_of before.section (offset_after before.offset header) in
+    let after : PcapngReader = reader_of before.section (offset_after before.offset header) before.texts in
     record {
       after = after;
       buffer = blank room;
@@ -174,14 +197,15 @@ too_long_step room before block rest is fits above =
           is_last = tt;
         };
         is_step = (refl, refl, refl);
+        texts = refl;
       };
       is_result = long_by (is_description header.block_type) (is_packet header.block_type) header before.offset (blank room) after
-          (reader_after before block) (unchanged before block fits);
+          (reader_with before block before.texts) (unchanged before block fits);
     }
 
 -- a block is read with the result of the fold
 block_step : (room : ℕ) (before : PcapngReader) (block rest : List ℕ) → IsBlock before.section.byte_order block → IsBytes block
-    → BlockStep room before (block ++ rest) rest (reader_after before block)
+    → BlockStep room before (block ++ rest) rest (reader_after room before block)
     (block_result room (block_header before.section.byte_order block) before.section.interfaces.items (body_of block))
 block_step room before block rest is fits =
     let header : BlockHeader = block_header before.section.byte_order block in
@@ -189,13 +213,17 @@ block_step room before block rest is fits =
     ⊎_elim
     (λ above.
     let long : block_result room header items (body_of block) ≡ long_result header = grind (arith, nat_tests, above, is.begins) in
-    subst (BlockStep room before (block ++ rest) rest (reader_after before block)) (sym long)
-    (too_long_step room before block rest is fits above))
+    let texts : texts_of room before block ≡ before.texts = grind (arith, nat_tests, above) in
+    subst (BlockStep room before (block ++ rest) rest (reader_after room before block)) (sym long)
+    (subst (λ t. BlockStep room before (block ++ rest) rest (reader_with before block t) (long_result header)) (sym texts)
+    (too_long_step room before block rest is fits above)))
     (λ within.
     let whole : block_result room header items (body_of block) ≡ whole_result header items (body_of block) =
     grind (arith, nat_tests, within, is.begins) in
-    subst (BlockStep room before (block ++ rest) rest (reader_after before block)) (sym whole)
-    (whole_step room before block rest is fits within))
+    let texts : texts_of room before block ≡ whole_texts before block = grind (arith, nat_tests, within) in
+    subst (BlockStep room before (block ++ rest) rest (reader_after room before block)) (sym whole)
+    (subst (λ t. BlockStep room before (block ++ rest) rest (reader_with before block t) (whole_result header items (body_of block)))
+    (sym texts) (whole_step room before block rest is fits within)))
     (cases_lt room (length block))
 
 -- ---- all blocks
@@ -249,7 +277,7 @@ blocks_have (block ∷ blocks) rest room reader each refused fits =
     let header : BlockHeader = block_header reader.section.byte_order block in
     let items : List InterfaceDescription = reader.section.interfaces.items in
     let result : Result (Option FilePacket) PacketError = block_result room header items (body_of block) in
-    let after : PcapngReader = reader_after reader block in
+    let after : PcapngReader = reader_after room reader block in
     let more : List ℕ = concat blocks ++ rest in
     let whole : (block ++ concat blocks) ++ rest ≡ block ++ more = append_assoc block (concat blocks) rest in
     let all_fit : IsBytes (block ++ more) = subst IsBytes whole fits in
@@ -278,14 +306,14 @@ pub record FirstBlock (room : ℕ) (reader : PcapngReader) (file bytes : List �
   pub is_section : is_section_header block ≡ true
   pub within : (block_header BigEndian block).total_len ≤ room
   pub accepted : section_header_refusal (order_of BigEndian block) (body_of block) ≡ None
-  pub begins : BeginsFile (block_header BigEndian block) reader
+  pub begins : BeginsFile (block_header BigEndian block) (body_of block) reader
 
-first_begins : (refusal : Option BodyError) (header : BlockHeader) (reader : PcapngReader) → BeginsUnless refusal header (Ok reader)
-    → (refusal ≡ None) × BeginsFile header reader
-first_begins (Some error) header reader begins = absurd (cc begins)
-first_begins None header reader begins =
+first_begins : (refusal : Option BodyError) (header : BlockHeader) (body : List ℕ) (reader : PcapngReader)
+    → BeginsUnless refusal header body (Ok reader) → (refusal ≡ None) × BeginsFile header body reader
+first_begins (Some error) header body reader begins = absurd (cc begins)
+first_begins None header body reader begins =
     let same : begins.0 ≡ reader = cc begins.1 in
-    (refl, subst (BeginsFile header) same begins.2)
+    (refl, subst (BeginsFile header body) same begins.2)
 
 pub first_block : (room : ℕ) (reader : PcapngReader) (file bytes buffer : List ℕ) (block : NextBlock) → length buffer ≡ room
     → (reads : ReadsNextBlock BigEndian (Some file) (Some bytes) buffer block) → is_section_header reads.bytes ≡ true
@@ -293,7 +321,7 @@ pub first_block : (room : ℕ) (reader : PcapngReader) (file bytes buffer : List
 first_block room reader file bytes buffer (Whole header) has_room reads section is_first =
     let (is, is_header, within, front) = reads.is_next in
     let len : header.total_len ≡ length reads.bytes = ap (λ h. h.total_len) is_header ∙ is.begins in
-    let (accepted, begins) = first_begins _ header reader is_first in
+    let (accepted, begins) = first_begins _ header (slice_range buffer 8 (header.total_len - 4)) reader is_first in
     let is_body = body_in_front reads.bytes buffer header.total_len len front in
     record {
       block = reads.bytes;
@@ -302,7 +330,7 @@ first_block room reader file bytes buffer (Whole header) has_room reads section 
       is_section = section;
       within = omega (arith, within, has_room, ap (λ h. h.total_len) is_header);
       accepted = cc (accepted, ap (section_header_refusal header.byte_order) is_body, is_header);
-      begins = subst (λ h. BeginsFile h reader) is_header begins;
+      begins = subst (λ h. BeginsFile h (body_of reads.bytes) reader) is_header (subst (λ b. BeginsFile header b reader) is_body begins);
     }
 first_block room reader file bytes buffer (TooLong header) has_room reads section is_first = absurd (cc is_first)
 first_block room reader file bytes buffer End has_room reads section is_first = absurd (cc is_first)

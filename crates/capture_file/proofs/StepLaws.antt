@@ -10,6 +10,7 @@ use Rattle.std.specs.Prelude.{slice_range}
 use Rattle.capture_file.proofs.PcapngLemmas.{accepted, same_block}
 use Rattle.capture_file.proofs.PcapngReadingLemmas.{refused_more}
 use Rattle.capture_file.proofs.SectionLaws.{Given, one_taken, packet_within}
+use Rattle.capture_file.specs.BlockTexts.{noted, texts_with, unless_refused}
 use Rattle.capture_file.specs.CapturePackets.{FilePacket, packet_in}
 use Rattle.capture_file.specs.Pcapng.{IsBlock, block_header, block_refusal}
 use Rattle.capture_file.specs.PcapngReading.{ReadsNextBlock}
@@ -26,6 +27,7 @@ use Rattle.capture_file.specs.declared.reader.next_packet.NextPacket.{NextPacket
 use Rattle.capture_file.specs.declared.reader.next_packet.NextPacket.TheVariants as packets
 use Rattle.capture_file.specs.declared.reader.pcapng_reader.PcapngReader.{PcapngReader}
 use Rattle.capture_file.specs.declared.reader.pcapng_reader.Section.{Section}
+use Rattle.capture_texts.specs.declared.file_texts.FileTexts.{FileTexts}
 
 -- ---- the item of a block, whatever is in the buffer after it
 
@@ -165,20 +167,22 @@ more_accepted : (section : ByteOrder) (first more : List ℕ) (left : Option (Li
 more_accepted section first more None block is consumed = absurd consumed
 more_accepted section first more (Some rest) block is consumed = grind (arith, append_assoc, accepted section block (rest ++ more) is)
 
--- a reader is its section and its place
-abbrev pub reader_of : Section → ℕ → PcapngReader
-reader_of section offset = record { section = section; offset = offset }
+-- a reader is its section, its place and its texts
+abbrev pub reader_of : Section → ℕ → FileTexts → PcapngReader
+reader_of section offset texts = record { section = section; offset = offset; texts = texts }
 
--- two readers with the same section and the same place are the same
-same_reader : (a b : PcapngReader) → a.section ≡ b.section → a.offset ≡ b.offset → a ≡ b
-same_reader a b section offset = ap (λ s. reader_of s a.offset) section ∙ ap (reader_of b.section) offset
+-- two readers with the same section, the same place and the same texts are the same
+same_reader : (a b : PcapngReader) → a.section ≡ b.section → a.offset ≡ b.offset → a.texts ≡ b.texts → a ≡ b
+same_reader a b section offset texts =
+    ap (λ s. reader_of s a.offset a.texts) section ∙ ap (λ o. reader_of b.section o a.texts) offset ∙ ap (reader_of b.section b.offset) texts
 
 -- a whole block determines the reader and the item
 one_whole : (before : PcapngReader) (header : BlockHeader) (buffer other : List ℕ) (after other_after : PcapngReader)
     (next other_next : Option NextPacket) → 12 ≤ header.total_len → take header.total_len buffer ≡ take header.total_len other
     → IsStep before buffer (Whole header) after next → IsStep before other (Whole header) other_after other_next
+    → after.texts ≡ noted (Whole header) buffer next before.texts → other_after.texts ≡ noted (Whole header) other other_next before.texts
     → (after ≡ other_after) × (said_of buffer next ≡ said_of other other_next)
-one_whole before header buffer other after other_after next other_next shortest same step other_step =
+one_whole before header buffer other after other_after next other_next shortest same step other_step texts other_texts =
     let end : ℕ = header.total_len - 4 in
     let body : List ℕ = slice_range buffer 8 end in
     let inside : end - 8 ≤ header.total_len - 8 = omega arith in
@@ -191,7 +195,11 @@ one_whole before header buffer other after other_after next other_next shortest 
     (λ packet is.
     let takes = subst (TakesBlock before.section header body after.section) is step.1.1 in
     omega (arith, packet_within before.section header body after.section packet takes, shortest, length-take (end - 8) (drop 8 buffer))) same in
-    (same_reader after other_after sections (cc (step.0, other_step.0)), grind (arith, said, givens, step.1.2, other_step.1.2))
+    let items : next ≡ other_next = step.1.2 ∙ ap (next_by_taken before.offset) givens ∙ sym other_step.1.2 in
+    let same_texts : after.texts ≡ other_after.texts =
+    texts ∙ ap (λ n. noted (Whole header) buffer n before.texts) items
+    ∙ ap (λ b. unless_refused other_next before.texts (texts_with header b before.texts)) bodies ∙ sym other_texts in
+    (same_reader after other_after sections (cc (step.0, other_step.0)) same_texts, grind (arith, said, givens, step.1.2, other_step.1.2))
 
 -- the blocks read from the whole file and from its beginning, into buffers of the same length
 module _ (before : PcapngReader) (first more : List ℕ) (left first_left : Option (List ℕ)) (after first_after : PcapngReader)
@@ -204,26 +212,35 @@ module _ (before : PcapngReader) (first more : List ℕ) (left first_left : Opti
   abbrev ReadsFirst : NextBlock → Type 0
   ReadsFirst block = ReadsNextBlock before.section.byte_order (Some first) first_left first_buffer block
 
+  -- the texts after the block that is read from the whole file, and after the block that is read from its beginning
+  abbrev Texts : NextBlock → Type 0
+  Texts block = after.texts ≡ noted block buffer next before.texts
+
+  abbrev FirstTexts : NextBlock → Type 0
+  FirstTexts block = first_after.texts ≡ noted block first_buffer first_next before.texts
+
   -- both make the same step
   abbrev StepAlike : Type 0
   StepAlike = SameStep more after first_after left first_left (said_of buffer next) (said_of first_buffer first_next)
 
   -- both contain a block with room in the buffers
   same_whole : (header first_header : BlockHeader) → ReadsWhole (Whole header) → ReadsFirst (Whole first_header)
-      → IsStep before buffer (Whole header) after next → IsStep before first_buffer (Whole first_header) first_after first_next → StepAlike
-  same_whole header first_header reads first_reads step first_step =
+      → IsStep before buffer (Whole header) after next → IsStep before first_buffer (Whole first_header) first_after first_next
+      → Texts (Whole header) → FirstTexts (Whole first_header) → StepAlike
+  same_whole header first_header reads first_reads step first_step texts first_texts =
       let (bytes, rest, left_is, first_left_is) = same_front before.section.byte_order first more left first_left reads.bytes
       first_reads.bytes reads.is_next.0 first_reads.is_next.0 reads.consumed first_reads.consumed in
       let same : header ≡ first_header = cc (reads.is_next.1, first_reads.is_next.1, bytes) in
       let (readers, saids) = one_whole before header buffer first_buffer after first_after next first_next (grind arith)
-      (cc (reads.is_next.3, first_reads.is_next.3, bytes, same)) step (grind (arith, same, first_step)) in
+      (cc (reads.is_next.3, first_reads.is_next.3, bytes, same)) step (grind (arith, same, first_step)) texts
+      (subst (λ h. first_after.texts ≡ noted (Whole h) first_buffer first_next before.texts) (sym same) first_texts) in
       record { readers = readers; says = saids; rest = rest; left_is = left_is; first_left_is = first_left_is }
 
   -- both contain a block without room in the buffers
   same_too_long : (header first_header : BlockHeader) → ReadsWhole (TooLong header) → ReadsFirst (TooLong first_header)
       → IsStep before buffer (TooLong header) after next → IsStep before first_buffer (TooLong first_header) first_after first_next
-      → StepAlike
-  same_too_long header first_header reads first_reads step first_step = grind (arith, nat_tests, same_front, same_reader, said_too_long)
+      → Texts (TooLong header) → FirstTexts (TooLong first_header) → StepAlike
+  same_too_long header first_header reads first_reads step first_step texts first_texts = grind (arith, nat_tests, same_front, same_reader, said_too_long)
 
   -- the block has the same length in both
   one_len : (a b : List ℕ) (header first_header : BlockHeader) → IsBlock before.section.byte_order a
@@ -248,31 +265,32 @@ module _ (before : PcapngReader) (first more : List ℕ) (left first_left : Opti
   -- if the beginning contains a block, the block is the block of the whole file
   same_step : (block : NextBlock) (first_header : BlockHeader) → length buffer ≡ length first_buffer → ReadsWhole block
       → ReadsFirst (Whole first_header) → IsStep before buffer block after next
-      → IsStep before first_buffer (Whole first_header) first_after first_next → StepAlike
-  same_step (Whole header) first_header room reads first_reads step first_step =
-      same_whole header first_header reads first_reads step first_step
-  same_step (TooLong header) first_header room reads first_reads step first_step =
+      → IsStep before first_buffer (Whole first_header) first_after first_next → Texts block → FirstTexts (Whole first_header) → StepAlike
+  same_step (Whole header) first_header room reads first_reads step first_step texts first_texts =
+      same_whole header first_header reads first_reads step first_step texts first_texts
+  same_step (TooLong header) first_header room reads first_reads step first_step texts first_texts =
       let len = one_len _ _ header first_header reads.is_next.0 first_reads.is_next.0 reads.is_next.1 first_reads.is_next.1 reads.consumed
       first_reads.consumed in
       absurd (omega (arith, len, room, reads.is_next.2, first_reads.is_next.2))
-  same_step End first_header room reads first_reads step first_step =
+  same_step End first_header room reads first_reads step first_step texts first_texts =
       absurd (no_end first_reads.bytes first_reads.is_next.0 first_reads.consumed reads)
-  same_step (Refused error) first_header room reads first_reads step first_step =
+  same_step (Refused error) first_header room reads first_reads step first_step texts first_texts =
       absurd (no_refusal first_reads.bytes error first_reads.is_next.0 first_reads.consumed reads)
 
   -- the same for a block without room in the buffer
   same_step_too_long : (block : NextBlock) (first_header : BlockHeader) → length buffer ≡ length first_buffer → ReadsWhole block
       → ReadsFirst (TooLong first_header) → IsStep before buffer block after next
-      → IsStep before first_buffer (TooLong first_header) first_after first_next → StepAlike
-  same_step_too_long (Whole header) first_header room reads first_reads step first_step =
+      → IsStep before first_buffer (TooLong first_header) first_after first_next → Texts block → FirstTexts (TooLong first_header)
+      → StepAlike
+  same_step_too_long (Whole header) first_header room reads first_reads step first_step texts first_texts =
       let len = one_len _ _ header first_header reads.is_next.0 first_reads.is_next.0 reads.is_next.1 first_reads.is_next.1 reads.consumed
       first_reads.consumed in
       absurd (omega (arith, len, room, reads.is_next.2, first_reads.is_next.2))
-  same_step_too_long (TooLong header) first_header room reads first_reads step first_step =
-      same_too_long header first_header reads first_reads step first_step
-  same_step_too_long End first_header room reads first_reads step first_step =
+  same_step_too_long (TooLong header) first_header room reads first_reads step first_step texts first_texts =
+      same_too_long header first_header reads first_reads step first_step texts first_texts
+  same_step_too_long End first_header room reads first_reads step first_step texts first_texts =
       absurd (no_end first_reads.bytes first_reads.is_next.0 first_reads.consumed reads)
-  same_step_too_long (Refused error) first_header room reads first_reads step first_step =
+  same_step_too_long (Refused error) first_header room reads first_reads step first_step texts first_texts =
       absurd (no_refusal first_reads.bytes error first_reads.is_next.0 first_reads.consumed reads)
 
   -- if the beginning contains no block, the item of the whole file extends beyond the beginning
@@ -304,13 +322,13 @@ module _ (before : PcapngReader) (first more : List ℕ) (left first_left : Opti
 
   -- the item of a block in the whole file, and the item of a block in its beginning
   compared_blocks : (block first_block : NextBlock) → length buffer ≡ length first_buffer → ReadsWhole block → ReadsFirst first_block
-      → IsStep before buffer block after next → IsStep before first_buffer first_block first_after first_next
-      → Compared more after first_after left first_left (said_of buffer next) (said_of first_buffer first_next)
-  compared_blocks block (Whole header) room reads first_reads step first_step =
-      inl (same_step block header room reads first_reads step first_step)
-  compared_blocks block (TooLong header) room reads first_reads step first_step =
-      inl (same_step_too_long block header room reads first_reads step first_step)
-  compared_blocks block End room reads first_reads step first_step =
+      → IsStep before buffer block after next → IsStep before first_buffer first_block first_after first_next → Texts block
+      → FirstTexts first_block → Compared more after first_after left first_left (said_of buffer next) (said_of first_buffer first_next)
+  compared_blocks block (Whole header) room reads first_reads step first_step texts first_texts =
+      inl (same_step block header room reads first_reads step first_step texts first_texts)
+  compared_blocks block (TooLong header) room reads first_reads step first_step texts first_texts =
+      inl (same_step_too_long block header room reads first_reads step first_step texts first_texts)
+  compared_blocks block End room reads first_reads step first_step texts first_texts =
       let none : first ≡ [] = no_byte before.section.byte_order first first_left first_buffer first_reads in
       inr (record {
         next = packets.End;
@@ -318,7 +336,7 @@ module _ (before : PcapngReader) (first more : List ℕ) (left first_left : Opti
         ends = λ no_more. same_end block (cc (none, no_more)) reads step;
         beyond = goes_beyond block (λ is_none. cc (ap (block_refusal before.section.byte_order) none, is_none)) reads step;
       })
-  compared_blocks block (Refused error) room reads first_reads step first_step =
+  compared_blocks block (Refused error) room reads first_reads step first_step texts first_texts =
       let refused : block_refusal before.section.byte_order first ≡ Some error =
       refusal_of_all before.section.byte_order first first_left first_buffer error first_reads in
       inr (record {
@@ -333,4 +351,5 @@ module _ (before : PcapngReader) (first more : List ℕ) (left first_left : Opti
       → ReadsStep before (Some first) first_left first_after first_buffer first_next
       → Compared more after first_after left first_left (said_of buffer next) (said_of first_buffer first_next)
   compared_steps room step first_step =
-      compared_blocks step.block first_step.block room step.reads first_step.reads step.is_step first_step.is_step
+      compared_blocks step.block first_step.block room step.reads first_step.reads step.is_step first_step.is_step step.texts
+      first_step.texts

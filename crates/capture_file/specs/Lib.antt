@@ -1,3 +1,4 @@
+pub mod BlockTexts
 pub mod CapturePackets
 pub mod Classic
 pub mod Laws

@@ -2,6 +2,7 @@
 -- a pcapng file, a section header block (draft-ietf-opsawg-pcapng, section 4.1).
 use Rattle.std.specs.Prelude.{◌≡◌, ◌≢◌, ℕ, ◌-◌, ◌<◌, ◌≤◌, true, List, [], ◌++◌, length, slice_range, Option, Some, None, Result, Ok, Err}
 use Rattle.std.specs.Io.KnownBytes.{Consumes, IsAtEnd}
+use Rattle.capture_file.specs.BlockTexts.{texts_with}
 use Rattle.capture_file.specs.Classic.{IsHeaderOf, header_refusal}
 use Rattle.capture_file.specs.Packets.{begins_records}
 use Rattle.capture_file.specs.Pcapng.{is_section_header}
@@ -24,25 +25,28 @@ use Rattle.capture_file.specs.declared.reader.open_error.OpenError.TheVariants a
 use Rattle.capture_file.specs.declared.reader.packet_error.PacketError.{PacketError}
 use Rattle.capture_file.specs.declared.reader.packet_error.PacketError.TheVariants as errors
 use Rattle.capture_file.specs.declared.reader.pcapng_reader.PcapngReader.{PcapngReader}
+use Rattle.capture_texts.specs.Texts.{no_texts}
 
 -- ---- a pcapng file
 
--- The reader after a section header block with this header at the start of a file. Its section has no interface so far, and the next block
--- follows.
-pub record BeginsFile (header : BlockHeader) (reader : PcapngReader) : Type 0 where
+-- The reader after a section header block with this header and body at the start of a file. Its section has no interface so far, and the
+-- next block follows. Its texts are the texts of the block.
+pub record BeginsFile (header : BlockHeader) (body : List ℕ) (reader : PcapngReader) : Type 0 where
   pub byte_order : reader.section.byte_order ≡ header.byte_order
   pub interfaces : reader.section.interfaces.items ≡ []
   pub offset : reader.offset ≡ header.total_len
+  pub texts : reader.texts ≡ texts_with header body no_texts
 
 -- the same, or the error that rejects the body of the block
-abbrev pub BeginsUnless : Option BodyError → BlockHeader → Result PcapngReader PacketError → Type 0
-BeginsUnless None header result = (reader : PcapngReader) × (result ≡ Ok reader) × BeginsFile header reader
-BeginsUnless (Some error) header result = result ≡ Err (errors.Body error)
+abbrev pub BeginsUnless : Option BodyError → BlockHeader → List ℕ → Result PcapngReader PacketError → Type 0
+BeginsUnless None header body result = (reader : PcapngReader) × (result ≡ Ok reader) × BeginsFile header body reader
+BeginsUnless (Some error) header body result = result ≡ Err (errors.Body error)
 
 -- the result of the section header block at the start of a file; a whole block is at the front of the buffer
 abbrev pub IsFirstBlock : List ℕ → NextBlock → Result PcapngReader PacketError → Type 0
 IsFirstBlock buffer (blocks.Whole header) result =
-    BeginsUnless (section_header_refusal header.byte_order (slice_range buffer 8 (header.total_len - 4))) header result
+    let body = slice_range buffer 8 (header.total_len - 4) in
+    BeginsUnless (section_header_refusal header.byte_order body) header body result
 IsFirstBlock buffer (blocks.TooLong header) result = result ≡ Err (errors.TooLong header.block_type header.total_len)
 IsFirstBlock buffer blocks.End result = result ≡ Err (errors.Block (CutOff 12 0))
 IsFirstBlock buffer (blocks.Refused error) result = result ≡ Err (errors.Block error)

@@ -1,5 +1,6 @@
 -- The packets of a pcapng file in a stream, read block by block, up to the next block with a packet or an error.
 use Rattle.std.specs.Prelude.{◌≡◌, ℕ, zero, suc, ◌+◌, ◌-◌, ◌^◌, ◌==◌, Bool, ◌||◌, if◌then◌else◌, min, List, length, slice_range, Option, Some, None, Result, Ok, Err}
+use Rattle.capture_file.specs.BlockTexts.{noted}
 use Rattle.capture_file.specs.Packets.{ReadsRecordPacket, long_block}
 use Rattle.capture_file.specs.PcapngBody.{enhanced_packet_type, interface_description_type, obsolete_packet_type, section_header_type, simple_packet_type}
 use Rattle.capture_file.specs.PcapngReading.{ReadsNextBlock}
@@ -70,6 +71,7 @@ pub record ReadsStep (before : PcapngReader) (left still_left : Option (List ℕ
   pub block : NextBlock
   pub reads : ReadsNextBlock before.section.byte_order left still_left buffer block
   pub is_step : IsStep before buffer block after next
+  pub texts : after.texts ≡ noted block buffer next before.texts
 
 -- this number of blocks were read into a buffer of this length, and none of them determines the next item
 abbrev pub PassesBlocks : ℕ → ℕ → PcapngReader → Option (List ℕ) → Option (List ℕ) → PcapngReader → Type 0

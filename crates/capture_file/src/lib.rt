@@ -5,12 +5,7 @@
 //!
 //! ```
 //! let mut capture = CaptureReader::read_header(&mut input, buffer.as_mut_slice())??;
-//! for _ in 0..u64::MAX {
-//!     let packet = match capture.next_packet(&mut input, buffer.as_mut_slice())? {
-//!         NextPacket::Whole(packet) => packet,
-//!         NextPacket::TooLong(_) => continue,
-//!         NextPacket::End | NextPacket::CutOff { .. } | NextPacket::Refused(_) => break,
-//!     };
+//! while let NextPacket::Whole(packet) = capture.next_packet(&mut input, buffer.as_mut_slice())? {
 //!     let frame = &buffer.as_slice()[packet.start..packet.start + packet.captured_len];
 //! }
 //! ```

@@ -17,6 +17,7 @@ use capture_file::classic::{CaptureHeader, read_capture_header};
 use capture_file::pcapng::{MIN_BLOCK_LEN, SECTION_HEADER};
 use capture_file::reader::{OpenError, PcapngReader, Section};
 use capture_run::{CaptureError, Parts};
+use capture_texts::FileTexts;
 use std::io::{Read, Write};
 use streams::{fill, fill_after};
 
@@ -61,6 +62,7 @@ pub fn write_selected<R: Read, W: Write>(
     let mut file = PcapngReader {
         section: Section::new(ByteOrder::BigEndian),
         offset: 0,
+        texts: FileTexts::new(),
     };
     select_blocks(input, output, buffer, begin, &mut file, parts, counts)
 }

@@ -1,4 +1,5 @@
 ghost use Rattle.std.specs.Prelude.{◌≡◌, ◌+◌, ◌-◌, ℕ, IfOk, IfSome, OnErr, [], length};
+ghost use Rattle.capture_file.specs.BlockTexts.{texts_with};
 ghost use Rattle.capture_file.specs.Opening.{ReadsRestOfBlock};
 ghost use Rattle.capture_file.specs.Packets.{IsNextWithin, IsWithin};
 ghost use Rattle.capture_file.specs.PcapngReading.{AreFirst};
@@ -13,6 +14,7 @@ use crate::pcapng::{
 };
 use crate::reader::{CapturedPacket, NextPacket, PacketError, PlacedPacketError, TooLongPacket};
 use arrayvec::ArrayVec;
+use capture_texts::FileTexts;
 use std::io::{self, ErrorKind, Read};
 
 /// A pcapng file that is read packet by packet.
@@ -22,6 +24,8 @@ pub struct PcapngReader {
     pub section: Section,
     /// Where the next block begins, in bytes from the start of the file. It counts to 2^64 - 1 at most.
     pub offset: u64,
+    /// The texts of the section, and the number of packets with a comment.
+    pub texts: FileTexts,
 }
 
 impl PcapngReader {
@@ -40,8 +44,10 @@ impl PcapngReader {
                     let body = &buffer[8..header.total_len as usize - 4];
                     let section = Section::new(header.byte_order);
                     let offset = u64::from(header.total_len);
+                    let mut texts = FileTexts::new();
+                    note(&mut texts, header, body);
                     SectionHeader::from_body(header.byte_order, body)
-                        .map(|_| PcapngReader { section, offset })
+                        .map(|_| PcapngReader { section, offset, texts })
                         .map_err(PacketError::Body)
                 }
                 NextBlock::TooLong(header) => Err(PacketError::TooLong {
@@ -97,7 +103,10 @@ impl PcapngReader {
                 self.offset = offset.saturating_add(u64::from(header.total_len));
                 let body = &buffer[8..header.total_len as usize - 4];
                 match self.section.take(&Block { header, body }) {
-                    Ok(packet) => Ok(packet.map(NextPacket::Whole)),
+                    Ok(packet) => {
+                        note(&mut self.texts, header, body);
+                        Ok(packet.map(NextPacket::Whole))
+                    }
                     Err(error) => Ok(refused(error)),
                 }
             }
@@ -112,6 +121,14 @@ impl PcapngReader {
             NextBlock::Refused(error) => Ok(refused(PacketError::Block(error))),
         }
     }
+}
+
+/// Takes in the texts of a block with this body.
+fn note(texts: &mut FileTexts, header: BlockHeader, body: &[u8])
+    ensures { texts.new ≡ texts_with header body.now texts.old }
+{
+    let is_big_endian = matches!(header.byte_order, ByteOrder::BigEndian);
+    texts.note(is_big_endian, header.block_type, body);
 }
 
 /// What comes next where the buffer has no room for a block.

@@ -4,6 +4,7 @@ use capture_file::ByteOrder;
 use capture_file::classic::{CaptureHeader, Resolution};
 use capture_file::pcapng::{InterfaceDescription, TimeResolution};
 use capture_file::reader::{CaptureReader, ClassicReader, PcapngReader, Section};
+use capture_texts::FileTexts;
 use std::process::Abort;
 use std::test::Fail;
 
@@ -75,6 +76,7 @@ fn what_a_pcapng_file_is(rt: HostRuntime) -> Result<(), Fail> {
         let capture = Some(CaptureReader::Pcapng(PcapngReader {
             section,
             offset: 28,
+            texts: FileTexts::new(),
         }));
         expect_facts(&rt, &capture, wanted)?;
     }
