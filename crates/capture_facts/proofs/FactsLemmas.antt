@@ -3,25 +3,35 @@ use Rattle.std.proofs.Common.{◌≡◌, ◌<◌, ◌+◌, ◌∙◌, ℕ, List,
 use Rattle.std.proofs.KnownBytes.{Appends-trans}
 use Rattle.std.proofs.lemmas.List.{take_more}
 use Rattle.std.specs.Io.KnownBytes.{Appends}
-use Rattle.capture_facts.specs.FactsText.{interface_text, interfaces_text}
+use Rattle.std.specs.Prelude.{codes}
+use Rattle.capture_facts.specs.FactsText.{described_text, interfaces_text}
 use Rattle.capture_file.specs.declared.pcapng.interface_description.InterfaceDescription.{InterfaceDescription}
+use Rattle.capture_texts.specs.declared.file_texts.InterfaceTexts.{InterfaceTexts}
 
 -- an interface after others
-interfaces-push : (first now : ℕ) (interfaces : List InterfaceDescription) (interface : InterfaceDescription) → now ≡ first + length interfaces
-    → interfaces_text first (interfaces ++ interface ∷ []) ≡ interfaces_text first interfaces ++ interface_text now interface
-interfaces-push first now [] interface is =
+interfaces-push : (texts : List InterfaceTexts) (first now : ℕ) (interfaces : List InterfaceDescription) (interface : InterfaceDescription)
+    → now ≡ first + length interfaces → interfaces_text texts first (interfaces ++ interface ∷ [])
+    ≡ interfaces_text texts first interfaces ++ described_text texts now interface
+interfaces-push texts first now [] interface is =
     let same : first ≡ now = omega (arith, is) in
-    append-nil (interface_text first interface) ∙ ap (λ number. interface_text number interface) same
-interfaces-push first now (one ∷ others) interface is =
-    ap (λ text. interface_text first one ++ text) (interfaces-push (first + 1) now others interface (omega (arith, is)))
-    ∙ sym (append_assoc (interface_text first one) (interfaces_text (first + 1) others) (interface_text now interface))
+    append-nil (described_text texts first interface) ∙ ap (λ number. described_text texts number interface) same
+interfaces-push texts first now (one ∷ others) interface is =
+    ap (λ text. described_text texts first one ++ text) (interfaces-push texts (first + 1) now others interface (omega (arith, is)))
+    ∙ sym (append_assoc (described_text texts first one) (interfaces_text texts (first + 1) others) (described_text texts now interface))
 
 -- the line of one more interface
-pub one-more : (interfaces : List InterfaceDescription) (i : ℕ) (d : InterfaceDescription) (a b c : Option (List ℕ)) → i < length interfaces
-    → Appends a b (interfaces_text 0 (take i interfaces)) → Appends b c (interface_text i (get_or interfaces i d))
-    → Appends a c (interfaces_text 0 (take (i + 1) interfaces))
-one-more interfaces i d a b c below before one =
+pub one-more : (texts : List InterfaceTexts) (interfaces : List InterfaceDescription) (i : ℕ) (d : InterfaceDescription)
+    (a b c : Option (List ℕ)) → i < length interfaces
+    → Appends a b (interfaces_text texts 0 (take i interfaces)) → Appends b c (described_text texts i (get_or interfaces i d))
+    → Appends a c (interfaces_text texts 0 (take (i + 1) interfaces))
+one-more texts interfaces i d a b c below before one =
     subst (Appends a c)
-    (sym (interfaces-push 0 i (take i interfaces) (get_or interfaces i d) (omega (arith, below, length-take-le i interfaces (omega (arith, below)))))
-    ∙ ap (interfaces_text 0) (sym (take_more interfaces i d below)))
-    (Appends-trans a b c (interfaces_text 0 (take i interfaces)) (interface_text i (get_or interfaces i d)) before one)
+    (sym (interfaces-push texts 0 i (take i interfaces) (get_or interfaces i d) (omega (arith, below, length-take-le i interfaces (omega (arith, below)))))
+    ∙ ap (interfaces_text texts 0) (sym (take_more interfaces i d below)))
+    (Appends-trans a b c (interfaces_text texts 0 (take i interfaces)) (described_text texts i (get_or interfaces i d)) before one)
+
+-- the parts of a pcapng file, one after the other
+pub section_parts : (order count texts interfaces : List ℕ)
+    → (codes "file type pcapng, byte order " ++ (order ++ (codes ", interfaces " ++ (count ++ codes "\n")))) ++ (texts ++ interfaces)
+    ≡ codes "file type pcapng, byte order " ++ (order ++ (codes ", interfaces " ++ (count ++ (codes "\n" ++ (texts ++ interfaces)))))
+section_parts order count texts interfaces = simp append_assoc

@@ -1,1 +1,2 @@
 pub mod FactsLemmas
+pub mod ShownLemmas

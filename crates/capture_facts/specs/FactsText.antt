@@ -1,5 +1,5 @@
 -- What a capture is, as text (draft-ietf-opsawg-pcap, section 4; draft-ietf-opsawg-pcapng, sections 4.1 and 4.2).
-use Rattle.std.specs.Prelude.{ℕ, ◌+◌, List, [], ◌∷◌, ◌++◌, length, codes, decimal, Option, Some, None}
+use Rattle.std.specs.Prelude.{ℕ, ◌+◌, List, [], ◌∷◌, ◌++◌, length, codes, decimal, slice_get, Option, Some, None}
 use Rattle.capture_file.specs.Packets.{power_of_ten}
 use Rattle.capture_file.specs.declared.byte_order.ByteOrder.{ByteOrder}
 use Rattle.capture_file.specs.declared.byte_order.ByteOrder.TheVariants.{BigEndian, LittleEndian}
@@ -9,7 +9,10 @@ use Rattle.capture_file.specs.declared.pcapng.time_resolution.TimeResolution.{Ti
 use Rattle.capture_file.specs.declared.pcapng.time_resolution.TimeResolution.TheVariants.{PowerOfTen, PowerOfTwo}
 use Rattle.capture_file.specs.declared.reader.capture_reader.CaptureReader.{CaptureReader}
 use Rattle.capture_file.specs.declared.reader.capture_reader.CaptureReader.TheVariants.{Classic, Pcapng}
-use Rattle.capture_file.specs.declared.reader.pcapng_reader.Section.{Section}
+use Rattle.capture_file.specs.declared.reader.pcapng_reader.PcapngReader.{PcapngReader}
+use Rattle.capture_facts.specs.TextsText.{interface_lines, texts_text}
+use Rattle.capture_texts.specs.declared.file_texts.FileTexts.{FileTexts}
+use Rattle.capture_texts.specs.declared.file_texts.InterfaceTexts.{InterfaceTexts}
 
 -- the word for a byte order
 abbrev pub byte_order_word : ByteOrder → List ℕ
@@ -37,23 +40,29 @@ abbrev pub interface_text : ℕ → InterfaceDescription → List ℕ
 interface_text number interface =
     codes "interface " ++ (decimal number ++ (limits_text interface.snap_len interface.time_resolution ++ codes "\n"))
 
+-- an interface with this number, and its texts, which are in this list if they are kept
+abbrev pub described_text : List InterfaceTexts → ℕ → InterfaceDescription → List ℕ
+described_text texts number interface = interface_text number interface ++ interface_lines number (slice_get texts number)
+
 -- interfaces, one after the other, the first with this number
-abbrev pub interfaces_text : ℕ → List InterfaceDescription → List ℕ
-interfaces_text number [] = []
-interfaces_text number (interface ∷ interfaces) = interface_text number interface ++ interfaces_text (number + 1) interfaces
+abbrev pub interfaces_text : List InterfaceTexts → ℕ → List InterfaceDescription → List ℕ
+interfaces_text texts number [] = []
+interfaces_text texts number (interface ∷ interfaces) =
+    described_text texts number interface ++ interfaces_text texts (number + 1) interfaces
 
--- a pcapng file: the word for its byte order, and its interfaces in their order
-abbrev pub pcapng_text : List ℕ → List InterfaceDescription → List ℕ
-pcapng_text order interfaces =
+-- a pcapng file: the word for its byte order, the texts of its section, and its interfaces in their order, with their texts
+abbrev pub pcapng_text : List ℕ → FileTexts → List InterfaceDescription → List InterfaceTexts → List ℕ
+pcapng_text order texts interfaces interface_texts =
     codes "file type pcapng, byte order " ++ (order ++ (codes ", interfaces " ++ (decimal (length interfaces)
-    ++ (codes "\n" ++ interfaces_text 0 interfaces))))
+    ++ (codes "\n" ++ (texts_text texts ++ interfaces_text interface_texts 0 interfaces)))))
 
--- a section of a pcapng file
-abbrev pub section_text : Section → List ℕ
-section_text section = pcapng_text (byte_order_word section.byte_order) section.interfaces.items
+-- the section of a pcapng file that was read last
+abbrev pub section_text : PcapngReader → List ℕ
+section_text reader =
+    pcapng_text (byte_order_word reader.section.byte_order) reader.texts reader.section.interfaces.items reader.texts.interfaces.items
 
 -- a capture, if there is one
 abbrev pub facts_text : Option CaptureReader → List ℕ
 facts_text None = []
 facts_text (Some (Classic reader)) = classic_text reader.header
-facts_text (Some (Pcapng reader)) = section_text reader.section
+facts_text (Some (Pcapng reader)) = section_text reader

@@ -1,1 +1,3 @@
 pub mod FactsText
+pub mod ShownText
+pub mod TextsText

@@ -4,16 +4,18 @@ ghost use Rattle.std.specs.Prelude.{OnOk};
 ghost use Rattle.std.specs.Io.KnownBytes.{Appends};
 ghost use Rattle.capture_facts.specs.FactsText as specs;
 
+use crate::texts::{write_interface_texts, write_texts};
 use crate::{byte_order_word, time_resolution, write_resolution};
 use capture_file::classic::CaptureHeader;
 use capture_file::pcapng::{InterfaceDescription, TimeResolution};
-use capture_file::reader::{CaptureReader, Section};
+use capture_file::reader::{CaptureReader, PcapngReader};
+use capture_texts::InterfaceTexts;
 use std::io;
 use std::io::Write;
 
 /// Writes what a capture is, if there is one: the type of its file, its byte order, and the snap length and the time resolution. A pcapng
-/// file has the last two for each interface. `capture` is the reader of the capture after its packets. Of a pcapng file it knows the
-/// section that was read last, and the interfaces that were described up to there.
+/// file has the last two for each interface, and the texts of the section and of each interface. `capture` is the reader of the capture
+/// after its packets. Of a pcapng file it knows the section that was read last, and the interfaces that were described up to there.
 ///
 /// # Errors
 ///
@@ -23,7 +25,7 @@ pub fn write_facts<W: Write>(output: &mut W, capture: &Option<CaptureReader>) ->
 {
     match capture {
         Some(CaptureReader::Classic(reader)) => write_classic(output, reader.header),
-        Some(CaptureReader::Pcapng(reader)) => write_section(output, &reader.section),
+        Some(CaptureReader::Pcapng(reader)) => write_section(output, reader),
         None => Ok(()),
     }
 }
@@ -38,28 +40,46 @@ fn write_classic<W: Write>(output: &mut W, header: CaptureHeader) -> io::Result<
     writeln!(output)
 }
 
-/// Writes what a section of a pcapng file is, and each interface in a line.
-fn write_section<W: Write>(output: &mut W, section: &Section) -> io::Result<()>
-    ensures { OnOk result (Appends (W.contents output.old) (W.contents output.new) (specs.section_text section.now)) }
+/// Writes what the section of this reader is, its texts, and its interfaces.
+fn write_section<W: Write>(output: &mut W, reader: &PcapngReader) -> io::Result<()>
+    ensures { OnOk result (Appends (W.contents output.old) (W.contents output.new) (specs.section_text reader.now)) }
 {
-    let order = byte_order_word(section.byte_order);
-    let interfaces = section.interfaces.as_slice();
+    let order = byte_order_word(reader.section.byte_order);
+    let interfaces = reader.section.interfaces.as_slice();
     let count = interfaces.len();
     writeln!(
         output,
         "file type pcapng, byte order {order}, interfaces {count}"
     )?;
-    write_interfaces(output, interfaces)
+    write_texts(output, &reader.texts)?;
+    write_interfaces(output, interfaces, reader.texts.interfaces.as_slice())
 }
 
-/// Writes the line of each interface.
-fn write_interfaces<W: Write>(output: &mut W, interfaces: &[InterfaceDescription]) -> io::Result<()>
-    ensures { OnOk result (Appends (W.contents output.old) (W.contents output.new) (specs.interfaces_text 0 interfaces.now)) }
+/// Writes the line of each interface, and its texts. `texts` are the texts of the first interfaces.
+fn write_interfaces<W: Write>(
+    output: &mut W,
+    interfaces: &[InterfaceDescription],
+    texts: &[InterfaceTexts],
+) -> io::Result<()>
+    ensures { OnOk result (Appends (W.contents output.old) (W.contents output.new) (specs.interfaces_text texts.now 0 interfaces.now)) }
 {
     for (number, interface) in interfaces.iter().enumerate() {
-        write_interface(output, number, interface)?;
+        write_described(output, texts, number, interface)?;
     }
     Ok(())
+}
+
+/// Writes the line of an interface with this number, and its texts.
+fn write_described<W: Write>(
+    output: &mut W,
+    texts: &[InterfaceTexts],
+    number: usize,
+    interface: &InterfaceDescription,
+) -> io::Result<()>
+    ensures { OnOk result (Appends (W.contents output.old) (W.contents output.new) (specs.described_text texts.now number interface.now)) }
+{
+    write_interface(output, number, interface)?;
+    write_interface_texts(output, number, texts)
 }
 
 /// Writes the line of an interface with this number.

@@ -82,3 +82,50 @@ fn what_a_pcapng_file_is(rt: HostRuntime) -> Result<(), Fail> {
     }
     Ok(())
 }
+
+/// The type of a section header block, and of an interface description block.
+const SECTION_HEADER: u32 = 0x0A0D_0D0A;
+const INTERFACE_DESCRIPTION: u32 = 1;
+
+/// The bodies of a section header block and of an interface description block, in little-endian order. The section has a comment with an
+/// escape character, hardware with a byte that is not UTF-8, an operating system, and an application. The interface has a name, a
+/// description and a comment.
+#[rattlefmt::skip]
+const SECTION: [u8; 52] = [
+    0x4D, 0x3C, 0x2B, 0x1A, 1, 0, 0, 0, 0xFF, 0xFF, 0xFF, 0xFF, 0xFF, 0xFF, 0xFF, 0xFF,
+    1, 0, 3, 0, b'a', 0x1B, b'b', 0,
+    2, 0, 2, 0, b'x', 0xE9, 0, 0,
+    3, 0, 5, 0, b'L', b'i', b'n', b'u', b'x', 0, 0, 0,
+    4, 0, 4, 0, b'd', b'u', b'm', b'p',
+];
+#[rattlefmt::skip]
+const INTERFACE: [u8; 36] = [
+    1, 0, 0, 0, 0, 0, 4, 0,
+    2, 0, 4, 0, b'e', b't', b'h', b'0',
+    3, 0, 3, 0, b'L', b'A', b'N', 0,
+    1, 0, 2, 0, 0xC3, 0xA9, 0, 0,
+    0, 0, 0, 0,
+];
+
+/// The lines of a section with these texts.
+const OF_TEXTS: &str = "file type pcapng, byte order little-endian, interfaces 1\napplication dump\noperating system Linux\nhardware x\\xE9\ncomment a\\x1Bb\ninterface 0, snap length 262144, time resolution 10^-6 s\ninterface 0 name eth0\ninterface 0 description LAN\ninterface 0 comment \u{E9}\n";
+
+#[test]
+fn texts_of_a_pcapng_file(rt: HostRuntime) -> Result<(), Fail> {
+    let mut section = Section::new(ByteOrder::LittleEndian);
+    let interface = InterfaceDescription {
+        snap_len: 262_144,
+        ..InterfaceDescription::default()
+    };
+    let pushed = section.interfaces.try_push(interface);
+    pushed.ok().ok_or("no room")?;
+    let mut texts = FileTexts::new();
+    texts.note(false, SECTION_HEADER, &SECTION);
+    texts.note(false, INTERFACE_DESCRIPTION, &INTERFACE);
+    let capture = Some(CaptureReader::Pcapng(PcapngReader {
+        section,
+        offset: 28,
+        texts,
+    }));
+    expect_facts(&rt, &capture, OF_TEXTS)
+}

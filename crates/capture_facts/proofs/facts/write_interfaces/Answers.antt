@@ -5,4 +5,5 @@ use Rattle.capture_facts.proofs.facts.write_interfaces.Goals as goal
 -- one more interface
 pub loop-number-preserved : goal.loop-number-preserved
 loop-number-preserved g c =
-    one-more c.args.interfaces.now c.loop-number.number _ _ _ _ (search rules) c.loop-number.invariant c.in_ok-write_interface.ensures
+    one-more c.args.texts.now c.args.interfaces.now c.loop-number.number _ _ _ _ (search rules) c.loop-number.invariant
+    c.in_ok-write_described.ensures

@@ -6,4 +6,4 @@ use Rattle.capture_facts.proofs.facts.write_interfaces.Given as goal
 -- the lines so far
 abbrev pub invariant-loop-number : goal.invariant-loop-number
 invariant-loop-number g l =
-    Appends (g.W.Write.contents l.initial.output) (g.W.Write.contents l.output) (interfaces_text 0 (take l.number l.interfaces))
+    Appends (g.W.Write.contents l.initial.output) (g.W.Write.contents l.output) (interfaces_text l.texts 0 (take l.number l.interfaces))
