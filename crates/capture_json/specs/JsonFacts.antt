@@ -1,5 +1,5 @@
 -- What a capture is, as members of the summary.
-use Rattle.std.specs.Prelude.{ℕ, List, [], ◌∷◌, ◌++◌, map, codes, Option, Some, None}
+use Rattle.std.specs.Prelude.{ℕ, ◌+◌, List, [], ◌∷◌, ◌++◌, codes, slice_get, Option, Some, None}
 use Rattle.capture_facts.specs.FactsText.{byte_order_word, resolution_text}
 use Rattle.capture_file.specs.Packets.{power_of_ten}
 use Rattle.capture_file.specs.declared.byte_order.ByteOrder.{ByteOrder}
@@ -7,7 +7,9 @@ use Rattle.capture_file.specs.declared.pcapng.interface_description.InterfaceDes
 use Rattle.capture_file.specs.declared.pcapng.time_resolution.TimeResolution.{TimeResolution}
 use Rattle.capture_file.specs.declared.reader.capture_reader.CaptureReader.{CaptureReader}
 use Rattle.capture_file.specs.declared.reader.capture_reader.CaptureReader.TheVariants.{Classic, Pcapng}
+use Rattle.capture_json.specs.JsonTexts.{interface_members, texts_members}
 use Rattle.capture_json.specs.Members.{Member, array_of, object_of, whole_number}
+use Rattle.capture_texts.specs.declared.file_texts.InterfaceTexts.{InterfaceTexts}
 use Rattle.serde_json.specs.Data.{Data, string}
 
 -- the type of a file, and its byte order
@@ -19,9 +21,16 @@ abbrev pub limits_members : ℕ → TimeResolution → List Member
 limits_members snap_len resolution =
     (codes "snap_length", whole_number snap_len) ∷ (codes "time_resolution", string (resolution_text resolution)) ∷ []
 
--- an interface, as an object
-abbrev pub interface_data : InterfaceDescription → Data
-interface_data interface = object_of (limits_members interface.snap_len interface.time_resolution)
+-- the interface with this number, as an object; its texts are in this list if they are kept
+abbrev pub interface_data : List InterfaceTexts → ℕ → InterfaceDescription → Data
+interface_data texts number interface =
+    object_of (limits_members interface.snap_len interface.time_resolution ++ interface_members (slice_get texts number))
+
+-- interfaces, one after the other, the first with this number
+abbrev pub interfaces_data : List InterfaceTexts → ℕ → List InterfaceDescription → List Data
+interfaces_data texts number [] = []
+interfaces_data texts number (interface ∷ interfaces) =
+    interface_data texts number interface ∷ interfaces_data texts (number + 1) interfaces
 
 -- a capture, if there is one
 abbrev pub facts_members : Option CaptureReader → List Member
@@ -30,4 +39,5 @@ facts_members (Some (Classic reader)) =
     form_members (codes "classic") reader.header.byte_order ++ limits_members reader.header.snap_len (power_of_ten reader.header.resolution)
 facts_members (Some (Pcapng reader)) =
     form_members (codes "pcapng") reader.section.byte_order
-    ++ (codes "interfaces", array_of (map interface_data reader.section.interfaces.items)) ∷ []
+    ++ (texts_members reader.texts
+    ++ (codes "interfaces", array_of (interfaces_data reader.texts.interfaces.items 0 reader.section.interfaces.items)) ∷ [])

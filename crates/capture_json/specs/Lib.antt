@@ -3,6 +3,7 @@ pub mod JsonIcmp
 pub mod JsonOptions
 pub mod JsonPacket
 pub mod JsonSummary
+pub mod JsonTexts
 pub mod JsonTimes
 pub mod Members
 pub mod Tokens

@@ -1,18 +1,20 @@
 //! What a capture is, as members of the summary.
 
-ghost use Rattle.std.specs.Prelude.{◌≡◌, OnOk, codes, map};
+ghost use Rattle.std.specs.Prelude.{◌≡◌, OnOk, codes};
 ghost use Rattle.capture_facts.specs.FactsText.{resolution_text};
-ghost use Rattle.capture_json.specs.JsonFacts.{facts_members, form_members, interface_data, limits_members};
+ghost use Rattle.capture_json.specs.JsonFacts.{facts_members, form_members, interface_data, interfaces_data, limits_members};
 ghost use Rattle.capture_json.specs.Members.{array_of};
 ghost use Rattle.capture_json.specs.Tokens.{push, put, tokens_in, with_items, with_members};
 ghost use Rattle.serde_json.specs.Data.{string};
 
 use crate::Line;
 use crate::text::put_written;
+use crate::texts::{put_interface_texts, put_texts};
 use capture_facts::{byte_order_word, time_resolution, write_resolution};
 use capture_file::ByteOrder;
 use capture_file::pcapng::{InterfaceDescription, TimeResolution};
 use capture_file::reader::CaptureReader;
+use capture_texts::InterfaceTexts;
 use std::alloc::AllocError;
 use std::io;
 
@@ -37,7 +39,9 @@ pub fn put_facts(
         }
         Some(CaptureReader::Pcapng(reader)) => {
             put_form(line, "pcapng", reader.section.byte_order)?;
-            put_interfaces(line, room, reader.section.interfaces.as_slice())
+            put_texts(line, room, &reader.texts)?;
+            let texts = reader.texts.interfaces.as_slice();
+            put_interfaces(line, room, reader.section.interfaces.as_slice(), texts)
         }
         None => Ok(()),
     }
@@ -73,16 +77,18 @@ fn put_resolution(line: &mut Line, room: &mut Vec<u8>, resolution: TimeResolutio
     put_written(line, "time_resolution", room.as_slice())
 }
 
-/// Writes the interfaces of a section, as an array of objects.
+/// Writes the interfaces of a section, as an array of objects. `texts` are the texts of the first interfaces.
 fn put_interfaces(
     line: &mut Line,
     room: &mut Vec<u8>,
     interfaces: &[InterfaceDescription],
+    texts: &[InterfaceTexts],
 ) -> io::Result<()>
-    ensures { OnOk result (tokens_in line.new ≡ put (codes "interfaces") (array_of (map interface_data interfaces.now)) (tokens_in line.old)) }
+    ensures { OnOk result (tokens_in line.new
+        ≡ put (codes "interfaces") (array_of (interfaces_data texts.now 0 interfaces.now)) (tokens_in line.old)) }
 {
     line.begin_array("interfaces")?;
-    push_interfaces(line, room, interfaces)?;
+    push_interfaces(line, room, interfaces, texts)?;
     Ok(line.end_array()?)
 }
 
@@ -91,24 +97,28 @@ fn push_interfaces(
     line: &mut Line,
     room: &mut Vec<u8>,
     interfaces: &[InterfaceDescription],
+    texts: &[InterfaceTexts],
 ) -> io::Result<()>
-    ensures { OnOk result (tokens_in line.new ≡ with_items (map interface_data interfaces.now) (tokens_in line.old)) }
+    ensures { OnOk result (tokens_in line.new ≡ with_items (interfaces_data texts.now 0 interfaces.now) (tokens_in line.old)) }
 {
-    for interface in interfaces {
-        push_interface(line, room, interface)?;
+    for (number, interface) in interfaces.iter().enumerate() {
+        push_interface(line, room, texts, number, interface)?;
     }
     Ok(())
 }
 
-/// Writes an interface as an object.
+/// Writes the interface with this number as an object, with its texts, if they are kept.
 fn push_interface(
     line: &mut Line,
     room: &mut Vec<u8>,
+    texts: &[InterfaceTexts],
+    number: usize,
     interface: &InterfaceDescription,
 ) -> io::Result<()>
-    ensures { OnOk result (tokens_in line.new ≡ push (interface_data interface.now) (tokens_in line.old)) }
+    ensures { OnOk result (tokens_in line.new ≡ push (interface_data texts.now number interface.now) (tokens_in line.old)) }
 {
     line.begin_item()?;
     put_limits(line, room, interface.snap_len, interface.time_resolution)?;
+    put_interface_texts(line, room, texts, number)?;
     Ok(line.end_object()?)
 }

@@ -23,6 +23,7 @@ mod summary;
 mod tcp;
 mod tcp_options;
 mod text;
+mod texts;
 mod times;
 mod totals;
 mod tunnels;

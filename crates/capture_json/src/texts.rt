@@ -1,0 +1,69 @@
+//! The texts of a pcapng file, as members of the summary.
+
+ghost use Rattle.std.specs.Prelude.{◌≡◌, OnOk, slice_get};
+ghost use Rattle.capture_json.specs.JsonTexts.{commented_members, interface_members, kept_interface_members, kept_members, texts_members};
+ghost use Rattle.capture_json.specs.Tokens.{tokens_in, with_members};
+
+use crate::Line;
+use crate::text::put_written;
+use capture_facts::write_shown;
+use capture_texts::{FileTexts, InterfaceTexts, KeptText};
+use std::alloc::AllocError;
+use std::io;
+
+/// Writes the texts of a section, and the number of packets with a comment, as `capture_facts::write_facts` does.
+pub fn put_texts(line: &mut Line, room: &mut Vec<u8>, texts: &FileTexts) -> io::Result<()>
+    ensures { OnOk result (tokens_in line.new ≡ with_members (texts_members texts.now) (tokens_in line.old)) }
+{
+    put_kept(line, room, "application", &texts.application)?;
+    put_kept(line, room, "operating_system", &texts.operating_system)?;
+    put_kept(line, room, "hardware", &texts.hardware)?;
+    put_kept(line, room, "comment", &texts.comment)?;
+    Ok(put_commented(line, texts.commented_packets)?)
+}
+
+/// Writes the texts of the interface with this number, if they are kept.
+pub fn put_interface_texts(
+    line: &mut Line,
+    room: &mut Vec<u8>,
+    texts: &[InterfaceTexts],
+    number: usize,
+) -> io::Result<()>
+    ensures { OnOk result (tokens_in line.new ≡ with_members (interface_members (slice_get texts.now number)) (tokens_in line.old)) }
+{
+    match texts.get(number) {
+        Some(texts) => put_kept_texts(line, room, texts),
+        None => Ok(()),
+    }
+}
+
+/// Writes the texts of an interface.
+fn put_kept_texts(line: &mut Line, room: &mut Vec<u8>, texts: &InterfaceTexts) -> io::Result<()>
+    ensures { OnOk result (tokens_in line.new ≡ with_members (kept_interface_members texts.now) (tokens_in line.old)) }
+{
+    put_kept(line, room, "name", &texts.name)?;
+    put_kept(line, room, "description", &texts.description)?;
+    put_kept(line, room, "comment", &texts.comment)
+}
+
+/// Writes a text under this name, if there is one.
+fn put_kept(line: &mut Line, room: &mut Vec<u8>, name: &str, text: &KeptText) -> io::Result<()>
+    ensures { OnOk result (tokens_in line.new ≡ with_members (kept_members name.now text.now) (tokens_in line.old)) }
+{
+    if text.bytes.is_empty() {
+        return Ok(());
+    }
+    room.clear();
+    write_shown(room, text)?;
+    put_written(line, name, room.as_slice())
+}
+
+/// Writes the number of packets with a comment, if there is one.
+fn put_commented(line: &mut Line, count: u64) -> Result<(), AllocError>
+    ensures { OnOk result (tokens_in line.new ≡ with_members (commented_members count) (tokens_in line.old)) }
+{
+    if count == 0 {
+        return Ok(());
+    }
+    line.put_number("packets_with_comment", count)
+}
