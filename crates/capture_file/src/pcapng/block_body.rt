@@ -119,8 +119,7 @@ impl<'a> PacketBlock<'a> {
     ///
     /// # Errors
     ///
-    /// In this order: `CutOff` if there are fewer than 20 bytes, `Interface` if the interface does not exist, and `CutOff` if there are
-    /// fewer captured bytes than the block counts.
+    /// In this order: `CutOff` below 20 bytes, `Interface` if it does not exist, and `CutOff` below the captured bytes of the block.
     pub fn from_enhanced(
         order: ByteOrder,
         interfaces: &[InterfaceDescription],

@@ -46,9 +46,10 @@ impl PcapngReader {
                     let offset = u64::from(header.total_len);
                     let mut texts = FileTexts::new();
                     note(&mut texts, header, body);
-                    SectionHeader::from_body(header.byte_order, body)
-                        .map(|_| PcapngReader { section, offset, texts })
-                        .map_err(PacketError::Body)
+                    match SectionHeader::from_body(header.byte_order, body) {
+                        Ok(_) => Ok(PcapngReader { section, offset, texts }),
+                        Err(error) => Err(PacketError::Body(error)),
+                    }
                 }
                 NextBlock::TooLong(header) => Err(PacketError::TooLong {
                     block_type: header.block_type,
@@ -75,7 +76,6 @@ impl PcapngReader {
     ) -> io::Result<NextPacket>
         ensures reads { IfOk result (ReadsBlockPacket self.old (R.remaining input.old) (R.remaining input.new) self.new buffer.new) }
         ensures within { IfOk result (IsNextWithin (length buffer.new)) }
-        // After an error the reader is at the block that can't be read.
         ensures fails { OnErr result (HasPassed (length buffer.old) self.old (R.remaining input.old) self.new) }
     {
         for _passed in 0..u64::MAX {
@@ -105,7 +105,10 @@ impl PcapngReader {
                 match self.section.take(&Block { header, body }) {
                     Ok(packet) => {
                         note(&mut self.texts, header, body);
-                        Ok(packet.map(NextPacket::Whole))
+                        match packet {
+                            Some(packet) => Ok(Some(NextPacket::Whole(packet))),
+                            None => Ok(None),
+                        }
                     }
                     Err(error) => Ok(refused(error)),
                 }
