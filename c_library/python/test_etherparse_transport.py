@@ -58,7 +58,7 @@ def ip_packet(frame):
 
 def packets():
     """The IP packets of the capture, each with its number and its line of the report."""
-    lines = (STORED / "stdout").read_text().splitlines()
+    lines = (STORED / "stdout").read_text().removeprefix("==> - <==\n").splitlines()
     for number, frame in frames():
         packet = ip_packet(frame)
         if packet is not None:
