@@ -1,7 +1,7 @@
 -- Worked examples of link headers: a frame of each link type, and stacks of MPLS labels. A wrong definition fails here before any code.
 use Rattle.std.proofs.Common.{◌≡◌, ◌<◌, ◌≤◌, ℕ, zero, suc, false, List, [], ◌∷◌, ◌++◌, Option, Some, None, Ok, arith, inl, inr, length, refl, replicate}
 use Rattle.capture_file.specs.declared.byte_order.ByteOrder.TheVariants.{BigEndian, LittleEndian}
-use Rattle.capture_file.specs.declared.link_type.LinkType.TheVariants.{Avs, BsdLoopback, CiscoHdlc, Ethernet, FrameRelay, Ieee80211, InfiniBand, LinuxCooked, LinuxCooked2, Nflog, OpenBsdLoopback, Ppp, PppHdlc, Radiotap, RawIp}
+use Rattle.capture_file.specs.declared.link_type.LinkType.TheVariants.{Avs, BsdLoopback, CiscoHdlc, Ethernet, FrameRelay, Ieee80211, InfiniBand, Ipnet, LinuxCooked, LinuxCooked2, Nflog, OpenBsdLoopback, Pflog, Pktap, Ppi, Ppp, PppHdlc, PppOverEthernet, Prism, Radiotap, RawIp}
 use Rattle.capture_link.specs.Link.{HasEtherHeader, HasLinkHeader, NeedsLinkHeader, after_tags, ether_type_after, is_vlan_tag, tagged_len}
 use Rattle.capture_link.specs.declared.network_protocol.NetworkProtocol.{NetworkProtocol}
 use Rattle.capture_link.specs.declared.network_protocol.NetworkProtocol.TheVariants.{AddressFamily, EtherType, Ieee80211 as OtherFrame, LinkType, Llc, Nlpid, PppProtocol}
@@ -77,6 +77,10 @@ infiniband = no_tag _ _ 44 None refl (omega arith) refl
 session : HasLinkHeader Ethernet LittleEndian
     (addresses ++ 0x88 ∷ 0x64 ∷ 0x11 ∷ 0x00 ∷ 0 ∷ 1 ∷ 0 ∷ 4 ∷ 0x00 ∷ 0x21 ∷ packet) 22 None
 session = no_tag _ _ 22 None refl (omega arith) refl
+
+-- the same session without the header of Ethernet
+ppp_over_ethernet : HasLinkHeader PppOverEthernet LittleEndian (0x11 ∷ 0x00 ∷ 0 ∷ 1 ∷ 0 ∷ 4 ∷ 0x00 ∷ 0x21 ∷ packet) 8 None
+ppp_over_ethernet = (refl, refl)
 
 -- ---- stacks of MPLS labels
 
@@ -172,7 +176,37 @@ avs = no_tag _ _ 44 None refl (omega arith) refl
 avs_without_length : HasLinkHeader Avs LittleEndian (0x80 ∷ 0x21 ∷ 0x10 ∷ 0x01 ∷ 0 ∷ 0 ∷ 0 ∷ 7 ∷ []) 8 (Some (LinkType 163))
 avs_without_length = (refl, refl)
 
+-- 144 bytes, which begin with a message code of the Prism header
+prism : HasLinkHeader Prism LittleEndian (0 ∷ 0 ∷ 0 ∷ 0x44 ∷ (replicate 140 0 ++ data_frame)) 176 None
+prism = no_tag _ _ 176 None refl (omega arith) refl
+
+-- a header of AVS instead
+avs_as_prism : HasLinkHeader Prism LittleEndian (0x80 ∷ 0x21 ∷ 0x10 ∷ 0x02 ∷ 0 ∷ 0 ∷ 0 ∷ 8 ∷ data_frame) 40 None
+avs_as_prism = no_tag _ _ 40 None refl (omega arith) refl
+
+-- ---- a frame of a link type that the header states
+
+-- a frame of IEEE 802.11, whose link type has the number 105, after a header of 8 bytes
+ppi : HasLinkHeader Ppi BigEndian (0 ∷ 0 ∷ 8 ∷ 0 ∷ 105 ∷ 0 ∷ 0 ∷ 0 ∷ data_frame) 40 None
+ppi = no_tag _ _ 40 None refl (omega arith) refl
+
+-- an IP packet without a link header, whose link type has the number 101, after a header of 12 bytes; the record is a packet
+pktap : HasLinkHeader Pktap BigEndian (12 ∷ 0 ∷ 0 ∷ 0 ∷ 1 ∷ 0 ∷ 0 ∷ 0 ∷ 101 ∷ 0 ∷ 0 ∷ 0 ∷ packet) 12 None
+pktap = (refl, refl)
+
+-- a record that is no packet
+pktap_without_packet : HasLinkHeader Pktap BigEndian (12 ∷ 0 ∷ 0 ∷ 0 ∷ 2 ∷ 0 ∷ 0 ∷ 0 ∷ 101 ∷ 0 ∷ 0 ∷ 0 ∷ []) 12 (Some (LinkType 258))
+pktap_without_packet = (refl, refl)
+
 -- ---- packets that were logged
+
+-- a length of 61 bytes, which does not count the padding of 3 bytes, and IPv4
+pflog : HasLinkHeader Pflog LittleEndian (61 ∷ 2 ∷ (replicate 62 0 ++ packet)) 64 None
+pflog = (refl, refl)
+
+-- IPv6 on Solaris
+ipnet : HasLinkHeader Ipnet LittleEndian (1 ∷ 26 ∷ (replicate 22 0 ++ packet)) 24 None
+ipnet = (refl, refl)
 
 -- an attribute of four bytes, and the packet
 nflog : HasLinkHeader Nflog BigEndian (2 ∷ 0 ∷ 0 ∷ 5 ∷ 8 ∷ 0 ∷ 1 ∷ 0 ∷ 8 ∷ 0 ∷ 3 ∷ 0 ∷ 6 ∷ 0 ∷ 9 ∷ 0 ∷ packet) 16 None
