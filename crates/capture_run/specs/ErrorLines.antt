@@ -1,7 +1,7 @@
 -- The lines of errors.
 use Rattle.std.specs.Prelude.{◌≡◌, List, [], ◌∷◌, ℕ, ◌++◌, ◌==◌, codes, if◌then◌else◌, Option, Some, None, MatchOption, Result, Ok, Err}
 use Rattle.std.specs.Io.KnownBytes.{Appends}
-use Rattle.std.specs.List.{concat, list_any}
+use Rattle.std.specs.List.{before_first, concat, list_any}
 use Rattle.std.specs.Str.{bytes_eq}
 use Rattle.capture_run.specs.Compressions.{compression_name, compression_of}
 use Rattle.capture_run.specs.Names.{shown_name}
@@ -33,9 +33,14 @@ filter_words =
     codes "tcp" ∷ codes "udp" ∷ codes "icmp" ∷ codes "icmp6" ∷ codes "ip" ∷ codes "ip6" ∷ codes "arp" ∷ codes "ether" ∷ codes "host" ∷ codes "net"
     ∷ codes "port" ∷ codes "portrange" ∷ codes "src" ∷ codes "dst" ∷ codes "not" ∷ codes "proto" ∷ []
 
--- the options that select packets, if the name of a capture is such a word
+-- the part of a name before its first space, whose code is 32, or the whole name
+abbrev pub first_word : List ℕ → List ℕ
+first_word name = before_first (λ byte. byte == 32) name
+
+-- the options that select packets, if the first word of the name of a capture is such a word, as in `tcp port 80`
 abbrev pub hint_of : List ℕ → List ℕ
-hint_of name = if list_any (λ word. bytes_eq word name) filter_words then codes "; filters are --host, --port and --protocol" else []
+hint_of name =
+    if list_any (λ word. bytes_eq word (first_word name)) filter_words then codes "; filters are --host, --port and --protocol" else []
 
 -- the text of the error of a capture that can't be opened: the cause, and then the hint for its name
 abbrev pub EndsInHint : List ℕ → List ℕ → Type 0

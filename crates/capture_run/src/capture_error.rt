@@ -2,7 +2,7 @@ ghost use Rattle.std.specs.Prelude.{◌≡◌, IfOk, IsOk, string_bytes};
 ghost use Rattle.std.specs.Option.{option_map};
 ghost use Rattle.capture_run.specs.Compressions.{compression_of};
 ghost use Rattle.capture_run.specs.Endings.{exit_status};
-ghost use Rattle.capture_run.specs.ErrorLines.{AreEndLines, IsErrorText, IsLineOf, IsOneLine, IsOpenErrorLine, WritesSome, hint_of};
+ghost use Rattle.capture_run.specs.ErrorLines.{AreEndLines, IsErrorText, IsLineOf, IsOneLine, IsOpenErrorLine, WritesSome, first_word, hint_of};
 ghost use Rattle.capture_run.specs.Names.{shown_name};
 
 use crate::ExitStatus;
@@ -181,7 +181,7 @@ static FILTER_WORDS: [&str; 16] = [
 const FILTER_HINT: &str = "; filters are --host, --port and --protocol";
 
 /// Writes the line of a capture that can't be opened: the names of the program and of the capture, and the text of the error. If the name
-/// is a word of a filter, the options that select packets follow.
+/// begins with a word of a filter, as `tcp port 80` does, the options that select packets follow.
 ///
 /// # Errors
 ///
@@ -200,8 +200,8 @@ pub fn write_open_error<E: Write>(
     }
 }
 
-/// The line of a capture that can't be opened: the names of the program and of the capture, and the text of the error. If the name is a
-/// word of a filter, the options that select packets follow.
+/// The line of a capture that can't be opened: the names of the program and of the capture, and the text of the error. If the name begins
+/// with a word of a filter, the options that select packets follow.
 fn open_error_line(alloc: Global, name: &str, error: &io::Error) -> Result<String, AllocError>
     ensures { IfOk result (λ line. IsOpenErrorLine name.now (string_bytes line)) }
 {
@@ -210,12 +210,22 @@ fn open_error_line(alloc: Global, name: &str, error: &io::Error) -> Result<Strin
     format!(in alloc; "capture_report: {}: {text}{hint}\n", ShownName(name))
 }
 
-/// The text for the name of a capture that is a word of a filter. It is empty for every other name.
+/// The text for the name of a capture whose first word is a word of a filter. It is empty for every other name.
 fn hint_of(name: &str) -> &'static str
     ensures { result.now ≡ hint_of name.now }
 {
-    if FILTER_WORDS.contains(&name) {
+    if FILTER_WORDS.contains(&first_word(name)) {
         return FILTER_HINT;
     }
     ""
+}
+
+/// The part of a name before its first space, or the whole name.
+fn first_word(name: &str) -> &str
+    ensures { result.now ≡ first_word name.now }
+{
+    match name.split_once(' ') {
+        Some((word, _)) => word,
+        None => name,
+    }
 }

@@ -134,7 +134,7 @@ type RunRow = (
 
 /// At most one name: there is no heading, and an error names the capture.
 #[rattlefmt::skip]
-static RUNS_OF_ONE: [RunRow; 13] = [
+static RUNS_OF_ONE: [RunRow; 15] = [
     (&[], Asked::CheckedLines, 0, LINE, ""),
     (&["-"], Asked::CheckedLines, 0, LINE, ""),
     (&["right"], Asked::OnlyObjects, 0, RIGHT_OBJECT, ""),
@@ -150,6 +150,8 @@ static RUNS_OF_ONE: [RunRow; 13] = [
     (&["\0a\\xFC"], Asked::CheckedLines, 3, "", "capture_report: a\\xFC: entity not found\n"),
     (&["tcp"], Asked::CheckedLines, 3, "", "capture_report: tcp: entity not found; filters are --host, --port and --protocol\n"),
     (&["portrange"], Asked::CheckedLines, 3, "", "capture_report: portrange: entity not found; filters are --host, --port and --protocol\n"),
+    (&["tcp port 80"], Asked::CheckedLines, 3, "", "capture_report: tcp port 80: entity not found; filters are --host, --port and --protocol\n"),
+    (&["a tcp"], Asked::CheckedLines, 3, "", "capture_report: a tcp: entity not found\n"),
     (&["version"], Asked::CheckedLines, 1, "", "capture_report: version: The capture has version 2.3, which is not read.\n"),
     (&["link"], Asked::CheckedLines, 0, "1 00:00:00.000000 length 29: link type 147\n", ""),
 ];
