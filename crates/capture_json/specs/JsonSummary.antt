@@ -4,7 +4,7 @@ use Rattle.std.specs.Net.Socket.{socket_ip, socket_port}
 use Rattle.std.specs.Net.Text.{ip_text}
 use Rattle.capture_json.specs.Members.{Member, array_of, object_of, whole_number}
 use Rattle.serde_json.specs.Data.{Data, string}
-use Rattle.capture_summary.specs.Rates.{rates_of}
+use Rattle.capture_summary.specs.Rates.{average_len, rates_of}
 use Rattle.capture_summary.specs.declared.rates.Rates.{Rates}
 use Rattle.capture_text.specs.AbsoluteTime.{absolute_text}
 use Rattle.capture_summary.specs.Conversations.{both}
@@ -94,11 +94,17 @@ span_members tables (Some span) =
     ++ (codes "duration", string (elapsed_text span.earliest span.latest))
     ∷ (duration_members span.earliest span.latest ++ rates_members (rates_of tables.packets tables.bytes span))))
 
--- the numbers of packets, bytes and conversations, and the times of the packets, if a time is known
+-- the average number of bytes of a packet, if there are packets
+abbrev pub average_members : Option ℕ → List Member
+average_members None = []
+average_members (Some bytes) = (codes "bytes_per_packet", whole_number bytes) ∷ []
+
+-- the numbers of packets, bytes and conversations, the average number of bytes, and the times of the packets, if a time is known
 abbrev pub totals_members : SummaryTables → List Member
 totals_members tables =
     (codes "packets", whole_number tables.packets) ∷ (codes "bytes", whole_number tables.bytes)
-    ∷ (codes "conversations", whole_number (length tables.flows.rows)) ∷ span_members tables tables.span
+    ∷ (average_members (average_len tables.packets tables.bytes)
+    ++ (codes "conversations", whole_number (length tables.flows.rows)) ∷ span_members tables tables.span)
 
 -- the tables of link types, protocols, checksums and refusals
 abbrev pub rows_members : SummaryTables → List Member

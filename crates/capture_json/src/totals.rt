@@ -5,7 +5,7 @@ ghost use Rattle.capture_json.specs.Tokens.{put, tokens_in, with_members};
 ghost use Rattle.serde_json.specs.Data.{string};
 ghost use Rattle.capture_text.specs.AbsoluteTime.{absolute_text};
 ghost use Rattle.capture_text.specs.Elapsed.{elapsed_text};
-ghost use Rattle.capture_json.specs.JsonSummary.{rates_members, span_members, totals_members};
+ghost use Rattle.capture_json.specs.JsonSummary.{average_members, rates_members, span_members, totals_members};
 ghost use Rattle.capture_json.specs.JsonTimes.{duration_members};
 ghost use Rattle.capture_file.specs.PacketTimes.{nanoseconds_between};
 
@@ -18,15 +18,26 @@ use capture_text::{write_absolute, write_elapsed};
 use std::alloc::AllocError;
 use std::io;
 
-/// Writes the numbers of packets, bytes and conversations. If a time is known, it also writes the times of the packets. It writes the
-/// rates per second unless the earliest and the latest time are equal.
+/// Writes the numbers of packets, bytes and conversations, and the average number of bytes of a packet. If a time is known, it also writes
+/// the times of the packets. It writes the rates per second unless the earliest and the latest time are equal.
 pub fn put_totals(line: &mut Line, room: &mut Vec<u8>, summary: &Summary) -> io::Result<()>
     ensures { OnOk result (tokens_in line.new ≡ with_members (totals_members summary.now) (tokens_in line.old)) }
 {
     line.put_number("packets", summary.packets())?;
     line.put_number("bytes", summary.bytes())?;
+    put_average(line, summary.average_len())?;
     line.put_number("conversations", summary.flows().counts().len() as u64)?;
     put_times(line, room, summary, summary.span())
+}
+
+/// Writes the average number of bytes of a packet, if there are packets.
+fn put_average(line: &mut Line, average: Option<u64>) -> Result<(), AllocError>
+    ensures { OnOk result (tokens_in line.new ≡ with_members (average_members average) (tokens_in line.old)) }
+{
+    match average {
+        Some(bytes) => line.put_number("bytes_per_packet", bytes),
+        None => Ok(()),
+    }
 }
 
 /// Writes the times of the earliest and of the latest packet and the time between them, as texts and as numbers, and the rates.

@@ -713,7 +713,7 @@ const OBJECT: &str =
 
 /// The first members of the object of the summary.
 const TOTALS: &str =
-    r#"{"type":"summary","file_type":"classic","byte_order":"big-endian","snap_length":0,"time_resolution":"10^-6 s","packets":1,"bytes":29,"conversations":1,"first_packet":"1970-01-01T00:00:05.000007Z","first_packet_seconds":5,"first_packet_nanoseconds":7000,"last_packet":"1970-01-01T00:00:05.000007Z","last_packet_seconds":5,"last_packet_nanoseconds":7000,"duration":"00:00:00.000000","duration_seconds":0,"duration_nanoseconds":0,"link_types":{"BSD_loopback":0,"#;
+    r#"{"type":"summary","file_type":"classic","byte_order":"big-endian","snap_length":0,"time_resolution":"10^-6 s","packets":1,"bytes":29,"bytes_per_packet":29,"conversations":1,"first_packet":"1970-01-01T00:00:05.000007Z","first_packet_seconds":5,"first_packet_nanoseconds":7000,"last_packet":"1970-01-01T00:00:05.000007Z","last_packet_seconds":5,"last_packet_nanoseconds":7000,"duration":"00:00:00.000000","duration_seconds":0,"duration_nanoseconds":0,"link_types":{"BSD_loopback":0,"#;
 
 /// Which lines there are, whether there is a summary, and what the report begins with.
 #[rattlefmt::skip]

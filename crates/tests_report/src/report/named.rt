@@ -313,7 +313,7 @@ static SUMMARIES: [SummaryRow; 5] = [
     (&["right", "wrong"], Asked::CheckedAll, 4, [OF_TWO, "\n", "packets 2, bytes 58, bytes a packet 29\nconversations 2\n"]),
     (&["right", "cut", "zero"], Asked::OnlySummary, 1, ["", "", "packets 2, bytes 58, bytes a packet 29\nconversations 1\n"]),
     (&["right", "a \"name\"", "wrong"], Asked::AllObjects, 3,
-     [OBJECTS, r#"{"type":"summary","packets":2,"bytes":58,"#, r#""conversations":2,"#]),
+     [OBJECTS, r#"{"type":"summary","packets":2,"bytes":58,"#, r#""bytes_per_packet":29,"conversations":2,"#]),
 ];
 
 /// Stops the test unless the run of a row begins as the row says.
