@@ -89,7 +89,7 @@ taken_result (Err error) offset place header interfaces body buffer given sectio
 taken_result (Ok None) offset place header interfaces body buffer given section old new is = (
   ap (next_by_taken offset) is.0,
   ap (λ g. reader_of section place (unless_refused (next_by_taken offset g) old new)) is.0
-  ∙ ap (λ s. reader_of s place new)
+      ∙ ap (λ s. reader_of s place new)
       (same_section section (section_of header.byte_order (interfaces_after header interfaces body)) is.1.0 is.1.1),
 )
 taken_result (Ok (Some packet)) offset place header interfaces body buffer given section old new is = (
@@ -97,7 +97,7 @@ taken_result (Ok (Some packet)) offset place header interfaces body buffer given
   ap (next_by_taken offset) is.1,
   is.2,
   ap (λ g. reader_of section place (unless_refused (next_by_taken offset g) old new)) is.1
-  ∙ ap (λ s. reader_of s place new)
+      ∙ ap (λ s. reader_of s place new)
       (same_section section (section_of header.byte_order (interfaces_after header interfaces body)) is.3.0 is.3.1),
 )
 

@@ -47,7 +47,11 @@ impl PcapngReader {
                     let mut texts = FileTexts::new();
                     note(&mut texts, header, body);
                     match SectionHeader::from_body(header.byte_order, body) {
-                        Ok(_) => Ok(PcapngReader { section, offset, texts }),
+                        Ok(_) => Ok(PcapngReader {
+                            section,
+                            offset,
+                            texts,
+                        }),
                         Err(error) => Err(PacketError::Body(error)),
                     }
                 }
