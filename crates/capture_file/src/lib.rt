@@ -1,9 +1,16 @@
 //! Capture files, read packet by packet. Nothing is allocated.
+//!
 //! A capture is a file in the classic format of libpcap (draft-ietf-opsawg-pcap), or in the newer format pcapng (draft-ietf-opsawg-pcapng).
 //! `reader` reads the packets of both formats, `classic` the records of a classic capture, and `pcapng` the blocks of a pcapng file.
+//!
 //! ```
 //! let mut capture = CaptureReader::read_header(&mut input, buffer.as_mut_slice())??;
-//! while let NextPacket::Whole(packet) = capture.next_packet(&mut input, buffer.as_mut_slice())? {
+//! for _ in 0..u64::MAX {
+//!     let packet = match capture.next_packet(&mut input, buffer.as_mut_slice())? {
+//!         NextPacket::Whole(packet) => packet,
+//!         NextPacket::TooLong(_) => continue,
+//!         NextPacket::End | NextPacket::CutOff { .. } | NextPacket::Refused(_) => break,
+//!     };
 //!     let frame = &buffer.as_slice()[packet.start..packet.start + packet.captured_len];
 //! }
 //! ```

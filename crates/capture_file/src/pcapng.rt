@@ -2,6 +2,17 @@
 //!
 //! `Blocks` iterates over the blocks of a file in memory, and `read_block` reads blocks from a stream. A section header block begins a
 //! section, whose blocks have its byte order. `BlockBody` is the content of a block. Interfaces are numbered from 0 in each section.
+//!
+//! ```
+//! for block in Blocks::new(file) {
+//!     match BlockBody::from_block(&block?, &interfaces)? {
+//!         BlockBody::SectionHeader(_) => interfaces.clear(),
+//!         BlockBody::InterfaceDescription(interface) => interfaces.push(interface)?,
+//!         BlockBody::Packet(packet) => ..
+//!         BlockBody::Other => {}
+//!     }
+//! }
+//! ```
 
 mod block;
 mod block_body;
