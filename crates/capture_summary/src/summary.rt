@@ -6,9 +6,9 @@ ghost use Rattle.capture_summary.specs.Rates.{average_len};
 ghost use Rattle.capture_summary.specs.Tables.{no_packets};
 ghost use Rattle.capture_summary.specs.declared.verdict_kind.VerdictKind.TheVariants.{Refused};
 
-use crate::protocol_rows;
 use crate::{
     CaptureInfo, Count, Flow, Flows, LinkKind, Protocol, RefusalKind, TimeSpan, VerdictKind,
+    protocol_rows,
 };
 use std::alloc::{AllocError, Global};
 use std::hash::RandomState;

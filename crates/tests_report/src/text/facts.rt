@@ -85,6 +85,7 @@ fn what_a_pcapng_file_is(rt: HostRuntime) -> Result<(), Fail> {
 
 /// The type of a section header block, and of an interface description block.
 const SECTION_HEADER: u32 = 0x0A0D_0D0A;
+
 const INTERFACE_DESCRIPTION: u32 = 1;
 
 /// The bodies of a section header block and of an interface description block, in little-endian order. The section has a comment with an
@@ -98,6 +99,7 @@ const SECTION: [u8; 52] = [
     3, 0, 5, 0, b'L', b'i', b'n', b'u', b'x', 0, 0, 0,
     4, 0, 4, 0, b'd', b'u', b'm', b'p',
 ];
+
 #[rattlefmt::skip]
 const INTERFACE: [u8; 36] = [
     1, 0, 0, 0, 0, 0, 4, 0,
@@ -108,7 +110,8 @@ const INTERFACE: [u8; 36] = [
 ];
 
 /// The lines of a section with these texts.
-const OF_TEXTS: &str = "file type pcapng, byte order little-endian, interfaces 1\napplication dump\noperating system Linux\nhardware x\\xE9\ncomment a\\x1Bb\ninterface 0, snap length 262144, time resolution 10^-6 s\ninterface 0 name eth0\ninterface 0 description LAN\ninterface 0 comment \u{E9}\n";
+const OF_TEXTS: &str =
+    "file type pcapng, byte order little-endian, interfaces 1\napplication dump\noperating system Linux\nhardware x\\xE9\ncomment a\\x1Bb\ninterface 0, snap length 262144, time resolution 10^-6 s\ninterface 0 name eth0\ninterface 0 description LAN\ninterface 0 comment \u{E9}\n";
 
 #[test]
 fn texts_of_a_pcapng_file(rt: HostRuntime) -> Result<(), Fail> {
