@@ -11,19 +11,17 @@ use Rattle.capture_file.specs.declared.pcapng.errors.BlockError.{BlockError}
 use Rattle.capture_file.specs.declared.pcapng.errors.BlockError.TheVariants.{CutOff, LastLength, Magic, SectionLength, TotalLength}
 use Rattle.capture_file.specs.declared.pcapng.read.NextBlock.{NextBlock}
 use Rattle.capture_file.specs.declared.pcapng.read.NextBlock.TheVariants as blocks
-use Rattle.capture_file.specs.declared.reader.next_packet.NextPacket.TheVariants as packets
-use Rattle.capture_file.specs.declared.reader.packet_error.PacketError.TheVariants as errors
 use Rattle.capture_file.specs.declared.reader.packet_error.PlacedPacketError.{PlacedPacketError}
 use Rattle.capture_file.specs.declared.reader.pcapng_reader.PcapngReader.{PcapngReader}
 use Rattle.capture_packet.specs.Frames.{max_packet_len}
 use Rattle.capture_run.specs.declared.parts.Parts.{Parts}
-use Rattle.capture_selection.proofs.PassingLemmas.{ends_by_read, ends_in_part, front_of, passes_long_to_error, passes_to_end}
-use Rattle.capture_selection.specs.Blocks.{IsBlockPart, IsLongBlock, IsRefusedBlock, StepsTo, blocks_of, refused_by}
-use Rattle.capture_selection.specs.Passing.{EndsBy, Format, IsEndBy, IsFront, IsReadError, IsWriteError, PassesLong, PassesTo, written_by}
+use Rattle.capture_selection.proofs.PassingLemmas.{ends_by_read, front_of, next_to_end}
+use Rattle.capture_selection.specs.Blocks.{IsBlockPart, IsLongBlock, IsRefusedBlock, StepsTo, block_place, blocks_of, refused_by}
+use Rattle.capture_selection.specs.Passing.{IsEndBy, IsFront, IsReadError, IsWriteError, PassesNext, StopsBy, written_by}
 use Rattle.capture_selection.specs.declared.counts.Counts.{Counts}
 use Rattle.capture_selection.specs.declared.outcome.Outcome.{Outcome}
 use Rattle.capture_selection.specs.declared.outcome.Outcome.TheVariants.{Excluded, Unlisted, Written}
-use Rattle.capture_selection.specs.declared.place.Place.{Place}
+use Rattle.capture_selection.specs.declared.blocks.Blocks.{Blocks}
 use Rattle.capture_selection.specs.declared.selection_error.SelectionError.{SelectionError}
 
 -- bytes that are all that is left, read to the end
@@ -58,98 +56,79 @@ refused_block options before after bytes buffer block error has_room is_next ste
   record { has_room = has_room; block = block; is_next = is_next; is_step = steps },
 )
 
--- the end by bytes that are no block
-refused_end : (options : Parts) (place : Place) (state : PcapngReader) (error : BlockError) (rest buffer : List ℕ) (still_left : Option (List ℕ))
-    (counts : Counts)
-    → place.offset ≡ state.offset → length buffer ≡ max_packet_len → (rest ≢ []) → block_refusal state.section.byte_order rest ≡ Some error
+-- the end by bytes at the place of a block that are no block
+refused_end : (options : Parts) (state : Blocks) (error : BlockError) (rest buffer : List ℕ) (still_left : Option (List ℕ)) (counts : Counts)
+    → length buffer ≡ max_packet_len → (rest ≢ []) → block_refusal state.reader.section.byte_order rest ≡ Some error
     → IsLastBlock (blocks.Refused error) still_left
-    → IsEndBy (blocks_of options) (refused_by place error) state rest still_left still_left counts
-refused_end options place state (CutOff required len) rest buffer still_left counts at has_room some refused last = ((some, refused), last, refl)
-refused_end options place state (Magic magic) rest buffer still_left counts at has_room some refused last = (
+    → IsEndBy (blocks_of options) (refused_by (block_place state) error) state rest still_left still_left counts
+refused_end options state (CutOff required len) rest buffer still_left counts has_room some refused last =
+    ((refl, refl), (some, refused), last, refl)
+refused_end options state (Magic magic) rest buffer still_left counts has_room some refused last = (
   (
-    state,
+    state.reader,
     buffer,
-    record {
-      has_room = has_room;
-      block = blocks.Refused (Magic magic);
-      is_next = (some, refused);
-      is_step = (refl, ap (λ offset. Some (packets.Refused (record { offset = offset; error = errors.Block (Magic magic) }))) at);
-    },
+    record { has_room = has_room; block = blocks.Refused (Magic magic); is_next = (some, refused); is_step = (refl, refl) },
   ),
   refl,
 )
-refused_end options place state (TotalLength total_len) rest buffer still_left counts at has_room some refused last = (
+refused_end options state (TotalLength total_len) rest buffer still_left counts has_room some refused last = (
   (
-    state,
+    state.reader,
     buffer,
-    record {
-      has_room = has_room;
-      block = blocks.Refused (TotalLength total_len);
-      is_next = (some, refused);
-      is_step = (refl, ap (λ offset. Some (packets.Refused (record { offset = offset; error = errors.Block (TotalLength total_len) }))) at);
-    },
+    record { has_room = has_room; block = blocks.Refused (TotalLength total_len); is_next = (some, refused); is_step = (refl, refl) },
   ),
   refl,
 )
-refused_end options place state (SectionLength total_len) rest buffer still_left counts at has_room some refused last = (
+refused_end options state (SectionLength total_len) rest buffer still_left counts has_room some refused last = (
   (
-    state,
+    state.reader,
     buffer,
-    record {
-      has_room = has_room;
-      block = blocks.Refused (SectionLength total_len);
-      is_next = (some, refused);
-      is_step = (refl, ap (λ offset. Some (packets.Refused (record { offset = offset; error = errors.Block (SectionLength total_len) }))) at);
-    },
+    record { has_room = has_room; block = blocks.Refused (SectionLength total_len); is_next = (some, refused); is_step = (refl, refl) },
   ),
   refl,
 )
-refused_end options place state (LastLength total_len last_len) rest buffer still_left counts at has_room some refused last = (
+refused_end options state (LastLength total_len last_len) rest buffer still_left counts has_room some refused last = (
   (
-    state,
+    state.reader,
     buffer,
-    record {
-      has_room = has_room;
-      block = blocks.Refused (LastLength total_len last_len);
-      is_next = (some, refused);
-      is_step = (refl, ap (λ offset. Some (packets.Refused (record { offset = offset; error = errors.Block (LastLength total_len last_len) }))) at);
-    },
+    record { has_room = has_room; block = blocks.Refused (LastLength total_len last_len); is_next = (some, refused); is_step = (refl, refl) },
   ),
   refl,
 )
 
 -- the error of bytes that are no block, of which these first bytes were written
-pub ends_refused : (options : Parts) (result : SelectionError) (place : Place) (state : PcapngReader) (error : BlockError)
+pub ends_refused : (options : Parts) (result : SelectionError) (state : Blocks) (error : BlockError)
     (left still_left held now_held : Option (List ℕ)) (counts : Counts) (rest front buffer : List ℕ)
-    → result ≡ refused_by place error → place.offset ≡ state.offset → length buffer ≡ max_packet_len → Consumes left still_left rest
-    → Appends held now_held front → ((front ≡ []) ⊎ (IsLongBlock state rest × IsFront front rest))
-    → IsNextBlock state.section.byte_order rest buffer (blocks.Refused error) → IsLastBlock (blocks.Refused error) still_left
-    → IsWriteError result ⊎ EndsBy (blocks_of options) result state left still_left held now_held counts counts
-ends_refused options result place state error left still_left held now_held counts rest front buffer is at has_room consumed appended is_front is_next last =
-    subst (λ given. IsWriteError given ⊎ EndsBy (blocks_of options) given state left still_left held now_held counts counts) (sym is)
-    (inr (ends_in_part (blocks_of options) (refused_by place error) state left still_left still_left held now_held counts rest front consumed appended
-    is_front (refused_end options place state error rest buffer still_left counts at has_room is_next.0 is_next.1 last)))
+    → result ≡ refused_by (block_place state) error → length buffer ≡ max_packet_len → Consumes left still_left rest
+    → Appends held now_held front → ((front ≡ []) ⊎ (IsLongBlock state.reader rest × IsFront front rest))
+    → IsNextBlock state.reader.section.byte_order rest buffer (blocks.Refused error) → IsLastBlock (blocks.Refused error) still_left
+    → IsWriteError result ⊎ (StopsBy (blocks_of options) result state left still_left held now_held counts × (counts ≡ counts))
+ends_refused options result state error left still_left held now_held counts rest front buffer is has_room consumed appended is_front is_next last =
+    subst (λ given. IsWriteError given ⊎ (StopsBy (blocks_of options) given state left still_left held now_held counts × (counts ≡ counts))) (sym is)
+    (inr (
+      record {
+        then_left = still_left;
+        rest = rest;
+        front = front;
+        consumed = consumed;
+        appended = appended;
+        is_front = is_front;
+        ends = refused_end options state error rest buffer still_left counts has_room is_next.0 is_next.1 last;
+      },
+      refl,
+    ))
 
 -- the same of bytes that were read after first bytes, and not written
-pub ends_unread : (options : Parts) (result : SelectionError) (place : Place) (state : PcapngReader) (error : BlockError)
+pub ends_unread : (options : Parts) (result : SelectionError) (state : Blocks) (error : BlockError)
     (left middle still_left held : Option (List ℕ)) (counts : Counts) (first buffer room : List ℕ)
-    → result ≡ refused_by place error → place.offset ≡ state.offset → length room ≡ max_packet_len → Consumes left middle first
-    → ReadsAfter state.section.byte_order first middle still_left buffer (blocks.Refused error)
-    → IsWriteError result ⊎ EndsBy (blocks_of options) result state left still_left held held counts counts
-ends_unread options result place state error left middle still_left held counts first buffer room is at has_room consumed reads =
-    ends_refused options result place state error left still_left held held counts (first ++ reads.bytes) [] room is at has_room
+    → result ≡ refused_by (block_place state) error → length room ≡ max_packet_len → Consumes left middle first
+    → ReadsAfter state.reader.section.byte_order first middle still_left buffer (blocks.Refused error)
+    → IsWriteError result ⊎ (StopsBy (blocks_of options) result state left still_left held held counts × (counts ≡ counts))
+ends_unread options result state error left middle still_left held counts first buffer room is has_room consumed reads =
+    ends_refused options result state error left still_left held held counts (first ++ reads.bytes) [] room is has_room
     (Consumes-trans left middle still_left first reads.bytes consumed reads.consumed) (Appends-nil held) (inl refl) reads.is_next reads.is_last
 
 -- ---- blocks for which the buffer has no room
-
--- after an error the state is not determined
-after_error : {A : Type 0} → (format : Format) (result : Result A SelectionError) (error : SelectionError) (before other after : format.State)
-    (left still_left held now_held : Option (List ℕ)) (counts now_counts : Counts)
-    → PassesTo format result before other left still_left held now_held counts now_counts → result ≡ Err error
-    → PassesTo format result before after left still_left held now_held counts now_counts
-after_error format result error before other after left still_left held now_held counts now_counts passes fails =
-    subst (λ given. PassesTo format given before after left still_left held now_held counts now_counts) (sym fails)
-    (subst (λ given. PassesTo format given before other left still_left held now_held counts now_counts) fails passes)
 
 -- the length of the block is in its first bytes
 pub long_block_front : (state : PcapngReader) (first more : List ℕ) (header : BlockHeader) → length first ≡ 12
@@ -179,22 +158,18 @@ front_before (Some Unlisted) first middle last Long is = inl refl
 front_before (Some Excluded) first middle last Long is = inl refl
 
 -- reading failed after first bytes of a block
-pub long_read_error : {A : Type 0} → (options : Parts) (result : Result A SelectionError) (error : SelectionError) (before after : PcapngReader)
+pub long_read_error : {A : Type 0} → (options : Parts) (result : Result A SelectionError) (error : SelectionError) (before after : Blocks)
     (left then_left still_left held now_held : Option (List ℕ)) (counts : Counts) (outcome : Option Outcome) (bytes : List ℕ)
-    → IsReadError error → Consumes left then_left bytes → Appends held now_held (written_by bytes outcome) → IsLongBlock before bytes
-    → result ≡ Err error → PassesTo (blocks_of options) result before after left still_left held now_held counts counts
+    → IsReadError (block_place before) error → Consumes left then_left bytes → Appends held now_held (written_by bytes outcome)
+    → IsLongBlock before.reader bytes → result ≡ Err error
+    → PassesNext (blocks_of options) result before after left still_left held now_held counts counts
 long_read_error options result error before after left then_left still_left held now_held counts outcome bytes is consumed appended long fails =
-    passes_to_end (blocks_of options) result error before after left still_left held now_held counts counts
-    (ends_in_part (blocks_of options) error before left then_left still_left held now_held counts bytes (written_by bytes outcome) consumed appended
-    (front_of outcome bytes (IsLongBlock before bytes) long)
-    (ends_by_read (blocks_of options) error before bytes then_left still_left counts is)) fails
-
--- a block for which the buffer has no room, up to an error
-pub long_error : {A : Type 0} → (format : Format) (result : Result A SelectionError) (error : SelectionError) (before after : format.State)
-    (left middle still_left held now_held : Option (List ℕ)) (counts : Counts) (outcome : Option Outcome) (first : List ℕ)
-    → ((bytes : List ℕ) → format.IsLong before (first ++ bytes)) → Consumes left middle first
-    → PassesLong outcome (Err error) first middle still_left held now_held → result ≡ Err error
-    → PassesTo format result before after left still_left held now_held counts counts
-long_error format result error before after left middle still_left held now_held counts outcome first long consumed passes fails =
-    after_error format result error before before after left still_left held now_held counts counts
-    (passes_long_to_error format result error before left middle still_left held now_held counts outcome first long consumed passes fails) fails
+    next_to_end (blocks_of options) result error before after left still_left held now_held counts (record {
+      then_left = then_left;
+      rest = bytes;
+      front = written_by bytes outcome;
+      consumed = consumed;
+      appended = appended;
+      is_front = front_of outcome bytes (IsLongBlock before.reader bytes) long;
+      ends = ends_by_read (blocks_of options) error before bytes then_left still_left counts is;
+    }) fails

@@ -7,9 +7,8 @@ use Rattle.std.specs.Io.KnownBytes.{Consumes, IsAtEnd}
 use Rattle.streams.specs.Streams.{FillsAfter}
 use Rattle.capture_file.specs.Pcapng.{is_section_header}
 use Rattle.capture_file.specs.declared.reader.open_error.OpenError.TheVariants.{Classic, Pcapng}
-use Rattle.capture_file.specs.declared.reader.pcapng_reader.PcapngReader.{PcapngReader}
 use Rattle.capture_run.specs.declared.capture_error.CaptureError.{CaptureError}
-use Rattle.capture_selection.specs.Blocks.{blocks_of}
+use Rattle.capture_selection.specs.Blocks.{PassesFile}
 use Rattle.capture_file.specs.Classic.{header_refusal}
 use Rattle.capture_file.specs.Opening.{SaysHeader}
 use Rattle.capture_file.specs.Reading.{ReadsHeader}
@@ -19,7 +18,10 @@ use Rattle.capture_run.specs.declared.capture_error.CaptureError.TheVariants.{En
 use Rattle.capture_run.specs.declared.parts.Parts.{Parts}
 use Rattle.capture_selection.specs.Captures.{RefusesBytes, SelectsBlocks, SelectsCapture, SelectsRecords}
 use Rattle.capture_selection.specs.Passing.{IsWriteError, PassesTo}
+use Rattle.capture_selection.specs.Records.{records_of}
+use Rattle.capture_selection.specs.declared.blocks.Blocks.{Blocks}
 use Rattle.capture_selection.specs.declared.counts.Counts.{Counts}
+use Rattle.capture_selection.specs.declared.records.Records.{Records}
 use Rattle.capture_selection.specs.declared.selection_error.SelectionError.{SelectionError}
 use Rattle.capture_selection.specs.declared.selection_error.SelectionError.TheVariants.{Capture, Write}
 
@@ -42,6 +44,14 @@ never : (E : Type 0) → (E → ⊥) → ⊥ ⊎ E → ⊥
 never E refuted (inl none) = none
 never E refuted (inr some) = refuted some
 
+-- records from a capture that is the same
+pub passes_from : (options : Parts) (result : Result (Unit {0}) SelectionError) (before start after : Records) (left still_left held now_held : Option (List ℕ))
+    (counts now_counts : Counts)
+    → before ≡ start → PassesTo (records_of options) result before after left still_left held now_held counts now_counts
+    → PassesTo (records_of options) result start after left still_left held now_held counts now_counts
+passes_from options result before start after left still_left held now_held counts now_counts same passes =
+    subst (λ given. PassesTo (records_of options) result given after left still_left held now_held counts now_counts) same passes
+
 -- records after the header of a capture, up to a result
 pub selects_capture : (options : Parts) (result : Result (Unit {0}) SelectionError) (left still_left held now_held : Option (List ℕ)) (counts now_counts : Counts)
     → SelectsRecords options result left still_left held now_held counts now_counts
@@ -54,9 +64,9 @@ selects_capture options (Err (Capture (Refused error))) left still_left held now
 selects_capture options (Err (Capture TooManyPackets)) left still_left held now_held counts now_counts selects = inl selects
 selects_capture options (Err (Capture Enough)) left still_left held now_held counts now_counts selects = inl selects
 selects_capture options (Err (Capture (Header error))) left still_left held now_held counts now_counts selects =
-    absurd (never _ (λ ends. ends.ends) selects.passes)
+    absurd (never _ (λ ends. ends.stops.ends) selects.passes)
 selects_capture options (Err (Capture (ReadHeader error))) left still_left held now_held counts now_counts selects =
-    absurd (never _ (λ ends. ends.ends) selects.passes)
+    absurd (never _ (λ ends. ends.stops.ends) selects.passes)
 
 at_write_error : (options : Parts) (error : SelectionError) (left still_left held now_held : Option (List ℕ)) (counts now_counts : Counts)
     → IsWriteError error → SelectsCapture options (Err error) left still_left held now_held counts now_counts
@@ -73,9 +83,9 @@ selects_to_write_error options result error left still_left held now_held counts
 
 no_blocks : (options : Parts) (error : CaptureError) (left still_left held now_held : Option (List ℕ)) (counts now_counts : Counts)
     → (error ≡ Enough → ⊥)
-    → ((before after : PcapngReader) → PassesTo {A = Unit {0}} (blocks_of options) (Err (Capture error)) before after left still_left held now_held counts now_counts → ⊥)
+    → ((start after : Blocks) → PassesFile options (Err (Capture error)) start after left still_left held now_held counts now_counts → ⊥)
     → SelectsBlocks options (Err (Capture error)) left still_left held now_held counts now_counts → ⊥
-no_blocks options error left still_left held now_held counts now_counts other none (begins, inl (before, after, start, passes)) = none before after passes
+no_blocks options error left still_left held now_held counts now_counts other none (begins, inl (start, after, is_start, passes)) = none start after passes
 no_blocks options error left still_left held now_held counts now_counts other none (begins, inr (full, nothing, is)) = other (cc is)
 
 -- blocks of a pcapng file, up to a result
@@ -89,12 +99,13 @@ selects_blocks options (Err (Capture (RecordCutOff number offset required len)))
 selects_blocks options (Err (Capture (Refused error))) left still_left held now_held counts now_counts selects = inr selects
 selects_blocks options (Err (Capture TooManyPackets)) left still_left held now_held counts now_counts selects = inr selects
 selects_blocks options (Err (Capture Enough)) left still_left held now_held counts now_counts selects = inr selects
-selects_blocks options (Err (Capture (Header error))) left still_left held now_held counts now_counts selects =
-    absurd (no_blocks options (Header error) left still_left held now_held counts now_counts (λ is. cc is)
-    (λ before after passes. never _ (λ ends. ends.ends) passes) selects)
+selects_blocks options (Err (Capture (Header (Pcapng error)))) left still_left held now_held counts now_counts selects = selects
+selects_blocks options (Err (Capture (Header (Classic error)))) left still_left held now_held counts now_counts selects =
+    absurd (no_blocks options (Header (Classic error)) left still_left held now_held counts now_counts (λ is. cc is)
+    (λ start after passes. never _ (λ ends. ends.stops.ends) passes.0) selects)
 selects_blocks options (Err (Capture (ReadHeader error))) left still_left held now_held counts now_counts selects =
     absurd (no_blocks options (ReadHeader error) left still_left held now_held counts now_counts (λ is. cc is)
-    (λ before after passes. never _ (λ ends. ends.ends) passes) selects)
+    (λ start after passes. never _ (λ ends. ends.stops.ends) passes.0) selects)
 
 -- the first bytes of an input are the type of a section header block
 pub begins_pcapng : (left : Option (List ℕ)) (bytes : List ℕ) → IfSome left (λ all. bytes ≡ take 12 all) → is_section_header bytes ≡ true

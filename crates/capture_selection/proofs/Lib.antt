@@ -1,4 +1,5 @@
 mod BlockLemmas
 pub mod CaptureLemmas
+mod FirstBlockLemmas
 pub mod PassingLemmas
 pub mod RecordLemmas

@@ -7,10 +7,11 @@ use Rattle.std.specs.Io.KnownBytes.{Appends, Consumes, IsAtEnd}
 use Rattle.std.specs.Option.{option_to_list}
 use Rattle.streams.specs.Streams.{Skips}
 use Rattle.capture_selection.specs.Outcomes.{counted}
-use Rattle.capture_selection.specs.Passing.{AreParts, Copies, CopiesUpTo, EndsBy, Format, IsEndBy, IsFront, IsReadError, IsWriteError, Part, Passes, PassesLong, PassesRest, PassesTo, outcomes_of, read_of, written_by, written_of}
+use Rattle.capture_selection.specs.Passing.{AreParts, Copies, CopiesUpTo, EndsBy, Format, IsEndBy, IsFront, IsReadError, IsWriteError, Part, Passes, PassesLong, PassesNext, PassesRest, PassesTo, StopsBy, outcomes_of, read_of, written_by, written_of}
 use Rattle.capture_selection.specs.declared.counts.Counts.{Counts}
 use Rattle.capture_selection.specs.declared.outcome.Outcome.{Outcome}
 use Rattle.capture_selection.specs.declared.outcome.Outcome.TheVariants.{Excluded, Unlisted, Written}
+use Rattle.capture_selection.specs.declared.place.Place.{Place}
 use Rattle.capture_run.specs.Limits.{IsWithin, is_full}
 use Rattle.capture_selection.specs.declared.selection_error.SelectionError.{SelectionError}
 use Rattle.capture_selection.specs.declared.selection_error.SelectionError.TheVariants.{Capture, Write}
@@ -94,21 +95,19 @@ passes_to_on format (Err error) before between after left middle still_left held
     inr (record {
       after = ends.after;
       middle = ends.middle;
-      then_left = ends.then_left;
       then_held = ends.then_held;
-      rest = ends.rest;
-      front = ends.front;
       passes = passes_on _ _ _ _ _ _ _ _ _ _ _ _ _ first ends.passes;
-      consumed = ends.consumed;
-      appended = ends.appended;
-      is_front = ends.is_front;
-      ends = ends.ends;
+      stops = ends.stops;
     })
 
--- a read that fails is an end without a further statement
+-- the same place
+pub read_error_at : (place other : Place) (error : SelectionError) → place ≡ other → IsReadError place error → IsReadError other error
+read_error_at place other error same is = subst (λ at. IsReadError at error) same is
+
+-- a read that fails at the place of a part
 pub ends_by_read : (format : Format) (error : SelectionError) (state : format.State) (rest : List ℕ) (then_left still_left : Option (List ℕ)) (counts : Counts)
-    → IsReadError error → IsEndBy format error state rest then_left still_left counts
-ends_by_read format (Capture (Read number offset error)) state rest then_left still_left counts is = tt
+    → IsReadError (format.place_of state) error → IsEndBy format error state rest then_left still_left counts
+ends_by_read format (Capture (Read number offset error)) state rest then_left still_left counts is = is
 ends_by_read format (Capture (Header error)) state rest then_left still_left counts is = absurd is
 ends_by_read format (Capture (ReadHeader error)) state rest then_left still_left counts is = absurd is
 ends_by_read format (Capture (RecordCutOff number offset required len)) state rest then_left still_left counts is = absurd is
@@ -117,78 +116,100 @@ ends_by_read format (Capture TooManyPackets) state rest then_left still_left cou
 ends_by_read format (Capture Enough) state rest then_left still_left counts is = absurd is
 ends_by_read format (Write error) state rest then_left still_left counts is = absurd is
 
--- an end after the first bytes of a part, of which these were written
-pub ends_in_part : (format : Format) (error : SelectionError) (state : format.State) (left then_left still_left held now_held : Option (List ℕ))
-    (counts : Counts) (rest front : List ℕ)
-    → Consumes left then_left rest → Appends held now_held front → ((front ≡ []) ⊎ (format.IsLong state rest × IsFront front rest))
-    → IsEndBy format error state rest then_left still_left counts → EndsBy format error state left still_left held now_held counts counts
-ends_in_part format error state left then_left still_left held now_held counts rest front consumed appended is_front ends = record {
-  after = state;
-  middle = left;
+-- an end after the first bytes of a part, of which nothing was written
+pub stops_unwritten : (format : Format) (error : SelectionError) (state : format.State) (left then_left still_left held : Option (List ℕ))
+    (counts : Counts) (rest : List ℕ)
+    → Consumes left then_left rest → IsEndBy format error state rest then_left still_left counts
+    → StopsBy format error state left still_left held held counts
+stops_unwritten format error state left then_left still_left held counts rest consumed ends = record {
   then_left = then_left;
-  then_held = held;
   rest = rest;
-  front = front;
-  passes = passes_nothing format state left held counts;
+  front = [];
   consumed = consumed;
-  appended = appended;
-  is_front = is_front;
+  appended = Appends-nil held;
+  is_front = inl refl;
   ends = ends;
 }
 
--- the same of bytes that were not written
-pub ends_unwritten : (format : Format) (error : SelectionError) (state : format.State) (left then_left still_left held : Option (List ℕ))
-    (counts : Counts) (rest : List ℕ)
-    → Consumes left then_left rest → IsEndBy format error state rest then_left still_left counts
-    → EndsBy format error state left still_left held held counts counts
-ends_unwritten format error state left then_left still_left held counts rest consumed ends =
-    ends_in_part format error state left then_left still_left held held counts rest [] consumed (Appends-nil held) (inl refl) ends
-
--- the result is this error, up to which parts were passed
-pub passes_to_end : {A : Type 0} → (format : Format) (result : Result A SelectionError) (error : SelectionError) (before after : format.State)
-    (left still_left held now_held : Option (List ℕ)) (counts now_counts : Counts)
-    → EndsBy format error before left still_left held now_held counts now_counts → result ≡ Err error
-    → PassesTo format result before after left still_left held now_held counts now_counts
-passes_to_end format result error before after left still_left held now_held counts now_counts ends fails =
-    subst (λ given. PassesTo format given before after left still_left held now_held counts now_counts) (sym fails) (inr ends)
+-- the result is this error, within a part
+pub next_to_end : {A : Type 0} → (format : Format) (result : Result A SelectionError) (error : SelectionError) (before after : format.State)
+    (left still_left held now_held : Option (List ℕ)) (counts : Counts)
+    → StopsBy format error before left still_left held now_held counts → result ≡ Err error
+    → PassesNext format result before after left still_left held now_held counts counts
+next_to_end format result error before after left still_left held now_held counts stops fails =
+    subst (λ given. PassesNext format given before after left still_left held now_held counts counts) (sym fails) (inr (stops, refl))
 
 -- writing failed
-pub passes_to_write_error : {A : Type 0} → (format : Format) (result : Result A SelectionError) (error : SelectionError) (before after : format.State)
+pub next_to_write_error : {A : Type 0} → (format : Format) (result : Result A SelectionError) (error : SelectionError) (before after : format.State)
     (left still_left held now_held : Option (List ℕ)) (counts now_counts : Counts)
-    → IsWriteError error → result ≡ Err error → PassesTo format result before after left still_left held now_held counts now_counts
-passes_to_write_error format result error before after left still_left held now_held counts now_counts failed fails =
-    subst (λ given. PassesTo format given before after left still_left held now_held counts now_counts) (sym fails) (inl failed)
+    → IsWriteError error → result ≡ Err error → PassesNext format result before after left still_left held now_held counts now_counts
+next_to_write_error format result error before after left still_left held now_held counts now_counts failed fails =
+    subst (λ given. PassesNext format given before after left still_left held now_held counts now_counts) (sym fails) (inl failed)
 
 -- reading failed, after these bytes of a part
-pub passes_to_read_error : {A : Type 0} → (format : Format) (result : Result A SelectionError) (error : SelectionError) (before after : format.State)
+pub next_to_read_error : {A : Type 0} → (format : Format) (result : Result A SelectionError) (error : SelectionError) (before after : format.State)
     (left then_left still_left held : Option (List ℕ)) (counts : Counts) (rest : List ℕ)
-    → IsReadError error → Consumes left then_left rest → result ≡ Err error
-    → PassesTo format result before after left still_left held held counts counts
-passes_to_read_error format result error before after left then_left still_left held counts rest is consumed fails =
-    passes_to_end format result error before after left still_left held held counts counts
-    (ends_unwritten format error before left then_left still_left held counts rest consumed
+    → IsReadError (format.place_of before) error → Consumes left then_left rest → result ≡ Err error
+    → PassesNext format result before after left still_left held held counts counts
+next_to_read_error format result error before after left then_left still_left held counts rest is consumed fails =
+    next_to_end format result error before after left still_left held held counts
+    (stops_unwritten format error before left then_left still_left held counts rest consumed
     (ends_by_read format error before rest then_left still_left counts is)) fails
 
--- the capture ends within the part that begins with these bytes
-pub ends_cut : (format : Format) (error : SelectionError) (number offset required len : ℕ) (state : format.State) (left still_left held now_held : Option (List ℕ))
-    (counts : Counts) (rest front : List ℕ)
-    → error ≡ Capture (RecordCutOff number offset required len) → Consumes left still_left rest → Appends held now_held front
-    → ((front ≡ []) ⊎ (format.IsLong state rest × IsFront front rest)) → format.IsCut state rest required len → IsAtEnd still_left
-    → IsWriteError error ⊎ EndsBy format error state left still_left held now_held counts counts
-ends_cut format error number offset required len state left still_left held now_held counts rest front is consumed appended is_front is_cut at_end =
-    subst (λ given. IsWriteError given ⊎ EndsBy format given state left still_left held now_held counts counts) (sym is)
-    (inr (ends_in_part format (Capture (RecordCutOff number offset required len)) state left still_left still_left held now_held counts rest front consumed
-    appended is_front (is_cut, at_end, refl)))
+-- the error of a capture that ends within the part at this place
+abbrev pub cut_at : Place → ℕ → ℕ → SelectionError
+cut_at place required len = Capture (RecordCutOff place.number place.offset required len)
 
--- parts were passed, and then others up to an error
+-- the capture ends within the part that begins with these bytes
+pub ends_cut : (format : Format) (error : SelectionError) (required len : ℕ) (state : format.State) (left still_left held now_held : Option (List ℕ))
+    (counts : Counts) (rest front : List ℕ)
+    → error ≡ cut_at (format.place_of state) required len → Consumes left still_left rest → Appends held now_held front
+    → ((front ≡ []) ⊎ (format.IsLong state rest × IsFront front rest)) → format.IsCut state rest required len → IsAtEnd still_left
+    → IsWriteError error ⊎ (StopsBy format error state left still_left held now_held counts × (counts ≡ counts))
+ends_cut format error required len state left still_left held now_held counts rest front is consumed appended is_front is_cut at_end =
+    subst (λ given. IsWriteError given ⊎ (StopsBy format given state left still_left held now_held counts × (counts ≡ counts))) (sym is)
+    (inr (
+      record {
+        then_left = still_left;
+        rest = rest;
+        front = front;
+        consumed = consumed;
+        appended = appended;
+        is_front = is_front;
+        ends = ((refl, refl), is_cut, at_end, refl);
+      },
+      refl,
+    ))
+
+-- an error within the next part, or of a write, ends the parts before it
+ends_within : (format : Format) (error : SelectionError) (before between : format.State)
+    (left middle still_left held now_held then_held : Option (List ℕ)) (counts now_counts then_counts : Counts)
+    → Passes format before between left middle held now_held counts now_counts
+    → (IsWriteError error ⊎ (StopsBy format error between middle still_left now_held then_held now_counts × (then_counts ≡ now_counts)))
+    → IsWriteError error ⊎ EndsBy format error before left still_left held then_held counts then_counts
+ends_within format error before between left middle still_left held now_held then_held counts now_counts then_counts first (inl failed) = inl failed
+ends_within format error before between left middle still_left held now_held then_held counts now_counts then_counts first (inr (stops, same)) =
+    subst (λ then_counts. IsWriteError error ⊎ EndsBy format error before left still_left held then_held counts then_counts) (sym same)
+    (inr (record { after = between; middle = middle; then_held = now_held; passes = first; stops = stops }))
+
+-- parts were passed, and then an error came within the next part
 pub passes_on_to_error : {A : Type 0} → (format : Format) (result : Result A SelectionError) (error : SelectionError) (before between after : format.State)
     (left middle still_left held now_held then_held : Option (List ℕ)) (counts now_counts then_counts : Counts)
     → Passes format before between left middle held now_held counts now_counts
-    → (IsWriteError error ⊎ EndsBy format error between middle still_left now_held then_held now_counts then_counts) → result ≡ Err error
-    → PassesTo format result before after left still_left held then_held counts then_counts
-passes_on_to_error {A} format result error before between after left middle still_left held now_held then_held counts now_counts then_counts first ends fails =
+    → (IsWriteError error ⊎ (StopsBy format error between middle still_left now_held then_held now_counts × (then_counts ≡ now_counts)))
+    → result ≡ Err error → PassesTo format result before after left still_left held then_held counts then_counts
+passes_on_to_error format result error before between after left middle still_left held now_held then_held counts now_counts then_counts first ends fails =
     subst (λ given. PassesTo format given before after left still_left held then_held counts then_counts) (sym fails)
-    (passes_to_on {A = A} format (Err error) before between after left middle still_left held now_held then_held counts now_counts then_counts first ends)
+    (ends_within format error before between left middle still_left held now_held then_held counts now_counts then_counts first ends)
+
+-- no part was passed before an error within the first part
+pub passes_to_first_error : {A : Type 0} → (format : Format) (result : Result A SelectionError) (error : SelectionError) (before after : format.State)
+    (left still_left held then_held : Option (List ℕ)) (counts then_counts : Counts)
+    → (IsWriteError error ⊎ (StopsBy format error before left still_left held then_held counts × (then_counts ≡ counts)))
+    → result ≡ Err error → PassesTo format result before after left still_left held then_held counts then_counts
+passes_to_first_error format result error before after left still_left held then_held counts then_counts ends fails =
+    passes_on_to_error format result error before before after left left still_left held held then_held counts counts then_counts
+    (passes_nothing format before left held counts) ends fails
 
 -- ---- copies
 
@@ -218,29 +239,29 @@ copies_end left middle still_left held now_held len count buffer copies consumed
 }
 
 -- a copy up to an error
-pub copies_to_error : (result : Result ℕ SelectionError) (error : SelectionError) (left middle still_left held now_held : Option (List ℕ)) (len : ℕ)
-    → IsReadError error → Copies left middle held now_held len → result ≡ Err error → CopiesUpTo result left still_left held now_held
-copies_to_error result error left middle still_left held now_held len is copies fails =
-    subst (λ given. CopiesUpTo given left still_left held now_held) (sym fails) (inr (is, len, middle, copies))
+pub copies_to_error : (place : Place) (result : Result ℕ SelectionError) (error : SelectionError) (left middle still_left held now_held : Option (List ℕ)) (len : ℕ)
+    → IsReadError place error → Copies left middle held now_held len → result ≡ Err error → CopiesUpTo place result left still_left held now_held
+copies_to_error place result error left middle still_left held now_held len is copies fails =
+    subst (λ given. CopiesUpTo place given left still_left held now_held) (sym fails) (inr (is, len, middle, copies))
 
-pub copies_to_write_error : (result : Result ℕ SelectionError) (error : SelectionError) (left still_left held now_held : Option (List ℕ))
-    → IsWriteError error → result ≡ Err error → CopiesUpTo result left still_left held now_held
-copies_to_write_error result error left still_left held now_held failed fails =
-    subst (λ given. CopiesUpTo given left still_left held now_held) (sym fails) (inl failed)
+pub copies_to_write_error : (place : Place) (result : Result ℕ SelectionError) (error : SelectionError) (left still_left held now_held : Option (List ℕ))
+    → IsWriteError error → result ≡ Err error → CopiesUpTo place result left still_left held now_held
+copies_to_write_error place result error left still_left held now_held failed fails =
+    subst (λ given. CopiesUpTo place given left still_left held now_held) (sym fails) (inl failed)
 
 -- ---- parts for which the buffer has no room
 
 -- bytes were read, and nothing is written for them
-pub passes_skipped : (outcome : Option Outcome) (result : Result ℕ SelectionError) (first : List ℕ) (left still_left held : Option (List ℕ)) (count : ℕ)
-    → ((bytes : List ℕ) → written_by bytes outcome ≡ []) → IfOk result (λ len. Skips left still_left count len) → IfErr result IsReadError
-    → PassesLong outcome result first left still_left held held
-passes_skipped outcome (Ok len) first left still_left held count none skips failed = record {
+pub passes_skipped : (place : Place) (outcome : Option Outcome) (result : Result ℕ SelectionError) (first : List ℕ) (left still_left held : Option (List ℕ)) (count : ℕ)
+    → ((bytes : List ℕ) → written_by bytes outcome ≡ []) → IfOk result (λ len. Skips left still_left count len) → IfErr result (IsReadError place)
+    → PassesLong place outcome result first left still_left held held
+passes_skipped place outcome (Ok len) first left still_left held count none skips failed = record {
   bytes = skips.bytes;
   has_len = skips.has_len;
   consumed = skips.consumed;
   appended = subst (Appends held held) (sym (none (first ++ skips.bytes))) (Appends-nil held);
 }
-passes_skipped outcome (Err error) first left still_left held count none skips failed = inr (
+passes_skipped place outcome (Err error) first left still_left held count none skips failed = inr (
   failed,
   0,
   left,
@@ -264,21 +285,21 @@ rest_copied outcome first left still_left held then_held now_held len all append
 }
 
 -- the first bytes were written, and then the bytes after them were copied
-pub passes_copied : (outcome : Option Outcome) (result : Result ℕ SelectionError) (first : List ℕ) (left still_left held then_held now_held : Option (List ℕ))
-    → ((bytes : List ℕ) → written_by bytes outcome ≡ bytes) → Appends held then_held first → CopiesUpTo result left still_left then_held now_held
-    → PassesLong outcome result first left still_left held now_held
-passes_copied outcome (Ok len) first left still_left held then_held now_held all appended copies =
+pub passes_copied : (place : Place) (outcome : Option Outcome) (result : Result ℕ SelectionError) (first : List ℕ) (left still_left held then_held now_held : Option (List ℕ))
+    → ((bytes : List ℕ) → written_by bytes outcome ≡ bytes) → Appends held then_held first → CopiesUpTo place result left still_left then_held now_held
+    → PassesLong place outcome result first left still_left held now_held
+passes_copied place outcome (Ok len) first left still_left held then_held now_held all appended copies =
     rest_copied outcome first left still_left held then_held now_held len all appended copies
-passes_copied outcome (Err error) first left still_left held then_held now_held all appended (inl failed) = inl failed
-passes_copied outcome (Err error) first left still_left held then_held now_held all appended (inr (is, len, then_left, copies)) =
+passes_copied place outcome (Err error) first left still_left held then_held now_held all appended (inl failed) = inl failed
+passes_copied place outcome (Err error) first left still_left held then_held now_held all appended (inr (is, len, then_left, copies)) =
     inr (is, len, then_left, rest_copied outcome first left then_left held then_held now_held len all appended copies)
 
 -- writing the first bytes failed
-pub passes_long_to_write_error : (outcome : Option Outcome) (result : Result ℕ SelectionError) (error : SelectionError) (first : List ℕ)
+pub passes_long_to_write_error : (place : Place) (outcome : Option Outcome) (result : Result ℕ SelectionError) (error : SelectionError) (first : List ℕ)
     (left still_left held now_held : Option (List ℕ))
-    → IsWriteError error → result ≡ Err error → PassesLong outcome result first left still_left held now_held
-passes_long_to_write_error outcome result error first left still_left held now_held failed fails =
-    subst (λ given. PassesLong outcome given first left still_left held now_held) (sym fails) (inl failed)
+    → IsWriteError error → result ≡ Err error → PassesLong place outcome result first left still_left held now_held
+passes_long_to_write_error place outcome result error first left still_left held now_held failed fails =
+    subst (λ given. PassesLong place outcome given first left still_left held now_held) (sym fails) (inl failed)
 
 -- what is written for bytes is nothing, or the bytes
 pub front_of : (outcome : Option Outcome) (bytes : List ℕ) (Long : Type 0) → Long
@@ -289,20 +310,34 @@ front_of (Some Unlisted) bytes Long is = inl refl
 front_of (Some Excluded) bytes Long is = inl refl
 
 -- a part for which the buffer has no room, up to an error
-pub passes_long_to_error : {A : Type 0} → (format : Format) (result : Result A SelectionError) (error : SelectionError) (state : format.State)
+pub next_long_to_error : {A : Type 0} → (format : Format) (result : Result A SelectionError) (error : SelectionError) (state after : format.State)
     (left middle still_left held now_held : Option (List ℕ)) (counts : Counts) (outcome : Option Outcome) (first : List ℕ)
     → ((bytes : List ℕ) → format.IsLong state (first ++ bytes)) → Consumes left middle first
-    → PassesLong outcome (Err error) first middle still_left held now_held → result ≡ Err error
-    → PassesTo format result state state left still_left held now_held counts counts
-passes_long_to_error format result error state left middle still_left held now_held counts outcome first long consumed (inl failed) fails =
-    passes_to_write_error format result error state state left still_left held now_held counts counts failed fails
-passes_long_to_error format result error state left middle still_left held now_held counts outcome first long consumed (inr (is, len, then_left, rest)) fails =
+    → PassesLong (format.place_of state) outcome (Err error) first middle still_left held now_held → result ≡ Err error
+    → PassesNext format result state after left still_left held now_held counts counts
+next_long_to_error format result error state after left middle still_left held now_held counts outcome first long consumed (inl failed) fails =
+    next_to_write_error format result error state after left still_left held now_held counts counts failed fails
+next_long_to_error format result error state after left middle still_left held now_held counts outcome first long consumed (inr (is, len, then_left, rest)) fails =
     let bytes = first ++ rest.bytes in
-    passes_to_end format result error state state left still_left held now_held counts counts
-    (ends_in_part format error state left then_left still_left held now_held counts bytes (written_by bytes outcome)
-    (Consumes-trans left middle then_left first rest.bytes consumed rest.consumed) rest.appended
-    (front_of outcome bytes (format.IsLong state bytes) (long rest.bytes))
-    (ends_by_read format error state bytes then_left still_left counts is)) fails
+    next_to_end format result error state after left still_left held now_held counts (record {
+      then_left = then_left;
+      rest = bytes;
+      front = written_by bytes outcome;
+      consumed = Consumes-trans left middle then_left first rest.bytes consumed rest.consumed;
+      appended = rest.appended;
+      is_front = front_of outcome bytes (format.IsLong state bytes) (long rest.bytes);
+      ends = ends_by_read format error state bytes then_left still_left counts is;
+    }) fails
+
+-- the same at a place that is the place of the part
+pub next_long_at : {A : Type 0} → (format : Format) (result : Result A SelectionError) (error : SelectionError) (state after : format.State)
+    (left middle still_left held now_held : Option (List ℕ)) (counts : Counts) (outcome : Option Outcome) (first : List ℕ) (place : Place)
+    → place ≡ format.place_of state → ((bytes : List ℕ) → format.IsLong state (first ++ bytes)) → Consumes left middle first
+    → PassesLong place outcome (Err error) first middle still_left held now_held → result ≡ Err error
+    → PassesNext format result state after left still_left held now_held counts counts
+next_long_at format result error state after left middle still_left held now_held counts outcome first place is_place long consumed passes fails =
+    next_long_to_error format result error state after left middle still_left held now_held counts outcome first long consumed
+    (subst (λ given. PassesLong given outcome (Err error) first middle still_left held now_held) is_place passes) fails
 
 -- nothing is written if the test fails
 pub nothing_if : (is_written : Bool) (written bytes : List ℕ) → written ≡ (if is_written then bytes else []) → is_written ≡ false → written ≡ []

@@ -1,6 +1,6 @@
--- The blocks of a pcapng file as parts (draft-ietf-opsawg-pcapng, section 3.1). The state is the report's reader: its section and its
--- place.
-use Rattle.std.specs.Prelude.{◌≡◌, ◌≢◌, ◌<◌, ℕ, List, [], length, Option, Some, None, Result, Ok, Err}
+-- The blocks of a pcapng file as parts (draft-ietf-opsawg-pcapng, section 3.1). The state is the report's reader, which has a section and
+-- an offset, and the number of the next packet.
+use Rattle.std.specs.Prelude.{◌≡◌, ◌≢◌, ◌<◌, ◌≤◌, ℕ, List, [], length, Option, Some, None, Result, Ok, Err}
 use Rattle.capture_file.specs.CapturePackets.{FilePacket, packet_in}
 use Rattle.capture_file.specs.Pcapng.{block_len, block_refusal}
 use Rattle.capture_file.specs.PcapngReading.{IsNextBlock}
@@ -11,15 +11,19 @@ use Rattle.capture_file.specs.declared.pcapng.errors.BlockError.TheVariants.{Cut
 use Rattle.capture_file.specs.declared.pcapng.read.NextBlock.{NextBlock}
 use Rattle.capture_file.specs.declared.reader.next_packet.NextPacket.{NextPacket}
 use Rattle.capture_file.specs.declared.reader.next_packet.NextPacket.TheVariants as packets
+use Rattle.capture_file.specs.declared.reader.open_error.OpenError.TheVariants.{Pcapng}
+use Rattle.capture_file.specs.declared.reader.packet_error.PacketError.{PacketError}
 use Rattle.capture_file.specs.declared.reader.packet_error.PacketError.TheVariants as errors
 use Rattle.capture_file.specs.declared.reader.packet_error.PlacedPacketError.{PlacedPacketError}
 use Rattle.capture_file.specs.declared.reader.pcapng_reader.PcapngReader.{PcapngReader}
 use Rattle.capture_packet.specs.Frames.{max_packet_len}
 use Rattle.capture_run.specs.Report.{IsPacketOf}
-use Rattle.capture_run.specs.declared.capture_error.CaptureError.TheVariants.{RecordCutOff, Refused}
+use Rattle.capture_run.specs.declared.capture_error.CaptureError.TheVariants.{Header, RecordCutOff, Refused}
 use Rattle.capture_run.specs.declared.parts.Parts.{Parts}
-use Rattle.capture_selection.specs.Outcomes.{HasOutcome}
-use Rattle.capture_selection.specs.Passing.{Format, Part}
+use Rattle.capture_selection.specs.Outcomes.{HasOutcome, one_more}
+use Rattle.capture_selection.specs.Passing.{Format, Part, PassesTo, StopsBy}
+use Rattle.capture_selection.specs.declared.blocks.Blocks.{Blocks}
+use Rattle.capture_selection.specs.declared.counts.Counts.{Counts}
 use Rattle.capture_selection.specs.declared.outcome.Outcome.{Outcome}
 use Rattle.capture_selection.specs.declared.place.Place.{Place}
 use Rattle.capture_selection.specs.declared.selection_error.SelectionError.{SelectionError}
@@ -59,22 +63,63 @@ abbrev pub IsRefusedBlock : PcapngReader → List ℕ → PlacedPacketError → 
 IsRefusedBlock state bytes error =
     (after : PcapngReader) × (buffer : List ℕ) × StepsOver state bytes after buffer (Some (packets.Refused error))
 
+-- the number of the next packet after a block with this outcome, or without a packet
+abbrev pub number_after : ℕ → Option Outcome → ℕ
+number_after number None = number
+number_after number (Some outcome) = one_more number
+
+-- the place of the next block
+abbrev pub block_place : Blocks → Place
+block_place blocks = record { number = blocks.number; offset = blocks.reader.offset }
+
 -- pcapng files, with these options
 abbrev pub blocks_of : Parts → Format
 blocks_of options = record {
-  State = PcapngReader;
-  IsPart = IsBlockPart options;
-  IsLong = IsLongBlock;
-  IsCut = IsCutBlock;
-  IsRefused = IsRefusedBlock;
+  State = Blocks;
+  place_of = block_place;
+  IsPart = λ before part after. IsBlockPart options before.reader part after.reader × (after.number ≡ number_after before.number part.outcome);
+  IsLong = λ blocks. IsLongBlock blocks.reader;
+  IsCut = λ blocks. IsCutBlock blocks.reader;
+  IsRefused = λ blocks. IsRefusedBlock blocks.reader;
   limit = options.limit;
 }
 
--- the reader at the start of a file; the section header block states its byte order
-pub record IsFileStart (reader : PcapngReader) : Type 0 where
-  pub byte_order : reader.section.byte_order ≡ BigEndian
-  pub interfaces : reader.section.interfaces.items ≡ []
-  pub offset : reader.offset ≡ 0
+-- the start of a file; the section header block states its byte order
+pub record IsFileStart (blocks : Blocks) : Type 0 where
+  pub byte_order : blocks.reader.section.byte_order ≡ BigEndian
+  pub interfaces : blocks.reader.section.interfaces.items ≡ []
+  pub offset : blocks.reader.offset ≡ 0
+  pub number : blocks.number ≡ 1
+
+-- ---- the first block
+
+-- the error of the first block of a file as the error of the beginning of the file, as the report has it
+abbrev pub at_beginning : SelectionError → SelectionError
+at_beginning (Capture (RecordCutOff number offset required len)) = Capture (Header (Pcapng (errors.Block (CutOff required len))))
+at_beginning (Capture (Refused error)) = Capture (Header (Pcapng error.error))
+at_beginning error = error
+
+-- the first block of a file is rejected, by an error that has this form as the error of the beginning; no packet is counted
+pub record RefusesFirst (options : Parts) (start : Blocks) (error : PacketError) (left still_left held now_held : Option (List ℕ))
+    (counts now_counts : Counts) : Type 0 where
+  pub given : SelectionError
+  pub is : at_beginning given ≡ Capture (Header (Pcapng error))
+  pub stops : StopsBy (blocks_of options) given start left still_left held now_held counts
+  pub same : now_counts ≡ counts
+
+-- an error that rejects a block is not at the start of the file
+abbrev pub IsPastFirst : {A : Type 0} → Result A SelectionError → Type 0
+IsPastFirst (Err (Capture (RecordCutOff number offset required len))) = 1 ≤ offset
+IsPastFirst (Err (Capture (Refused error))) = 1 ≤ error.offset
+IsPastFirst other = Unit {0}
+
+-- what was passed of a file from its start up to a result; if its first block is rejected, the error is that of the beginning
+abbrev pub PassesFile : Parts → Result (Unit {0}) SelectionError → Blocks → Blocks → Option (List ℕ) → Option (List ℕ) → Option (List ℕ)
+    → Option (List ℕ) → Counts → Counts → Type 0
+PassesFile options (Err (Capture (Header (Pcapng error)))) start after left still_left held now_held counts now_counts =
+    RefusesFirst options start error left still_left held now_held counts now_counts
+PassesFile options result start after left still_left held now_held counts now_counts =
+    PassesTo (blocks_of options) result start after left still_left held now_held counts now_counts × IsPastFirst result
 
 -- ---- results
 

@@ -11,10 +11,11 @@ use Rattle.capture_run.specs.declared.capture_error.CaptureError.TheVariants.{En
 use Rattle.capture_run.specs.Limits.{is_full}
 use Rattle.capture_run.specs.declared.parts.Parts.{Parts}
 use Rattle.capture_file.specs.Pcapng.{is_section_header}
-use Rattle.capture_file.specs.declared.reader.pcapng_reader.PcapngReader.{PcapngReader}
-use Rattle.capture_selection.specs.Blocks.{IsFileStart, blocks_of}
+use Rattle.capture_selection.specs.Blocks.{IsFileStart, PassesFile}
 use Rattle.capture_selection.specs.Passing.{PassesTo}
-use Rattle.capture_selection.specs.Records.{records_of}
+use Rattle.capture_selection.specs.Records.{first_records, records_of}
+use Rattle.capture_selection.specs.declared.blocks.Blocks.{Blocks}
+use Rattle.capture_selection.specs.declared.records.Records.{Records}
 use Rattle.capture_selection.specs.declared.counts.Counts.{Counts}
 use Rattle.capture_selection.specs.declared.selection_error.SelectionError.{SelectionError}
 use Rattle.capture_selection.specs.declared.selection_error.SelectionError.TheVariants.{Capture, Write}
@@ -29,7 +30,8 @@ pub record SelectsRecords (options : Parts) (result : Result (Unit {0}) Selectio
   pub then_held : Option (List ℕ)
   pub consumed : Consumes left middle bytes
   pub appended : Appends held then_held bytes
-  pub passes : PassesTo (records_of options) result header header middle still_left then_held now_held counts now_counts
+  pub after : Records
+  pub passes : PassesTo (records_of options) result (first_records header) after middle still_left then_held now_held counts now_counts
 
 -- nothing was written, and no packet was counted
 abbrev pub SelectsNothing : Option (List ℕ) → Option (List ℕ) → Counts → Counts → Type 0
@@ -41,8 +43,8 @@ abbrev pub SelectsBlocks : Parts → Result (Unit {0}) SelectionError → Option
     → Counts → Counts → Type 0
 SelectsBlocks options result left still_left held now_held counts now_counts =
     IfSome left (λ all. is_section_header (take 12 all) ≡ true)
-    × (((before : PcapngReader) × (after : PcapngReader) × IsFileStart before
-    × PassesTo (blocks_of options) result before after left still_left held now_held counts now_counts)
+    × (((start : Blocks) × (after : Blocks) × IsFileStart start
+    × PassesFile options result start after left still_left held now_held counts now_counts)
     ⊎ ((is_full options.limit counts.chosen ≡ true) × SelectsNothing held now_held counts now_counts × (result ≡ Err (Capture Enough))))
 
 -- this error rejects the first bytes of a capture; if reading failed, it states nothing
@@ -57,7 +59,8 @@ abbrev pub SelectsCapture : Parts → Result (Unit {0}) SelectionError → Optio
     → Counts → Counts → Type 0
 SelectsCapture options (Err (Capture (Header (Classic error)))) left still_left held now_held counts now_counts =
     RefusesHeader left still_left error × SelectsNothing held now_held counts now_counts
-SelectsCapture options (Err (Capture (Header (Pcapng error)))) left still_left held now_held counts now_counts = ⊥
+SelectsCapture options (Err (Capture (Header (Pcapng error)))) left still_left held now_held counts now_counts =
+    SelectsBlocks options (Err (Capture (Header (Pcapng error)))) left still_left held now_held counts now_counts
 SelectsCapture options (Err (Capture (ReadHeader error))) left still_left held now_held counts now_counts =
     SelectsNothing held now_held counts now_counts
 SelectsCapture options (Err (Write error)) left still_left held now_held counts now_counts = ⊤

@@ -9,6 +9,7 @@ use Rattle.capture_selection.specs.Outcomes.{counted}
 use Rattle.capture_selection.specs.declared.counts.Counts.{Counts}
 use Rattle.capture_selection.specs.declared.outcome.Outcome.{Outcome}
 use Rattle.capture_selection.specs.declared.outcome.Outcome.TheVariants.{Excluded, Unlisted, Written}
+use Rattle.capture_selection.specs.declared.place.Place.{Place}
 use Rattle.capture_selection.specs.declared.selection_error.SelectionError.{SelectionError}
 use Rattle.capture_selection.specs.declared.selection_error.SelectionError.TheVariants.{Capture, Write}
 
@@ -40,6 +41,8 @@ outcomes_of parts = flat_map (λ part. option_to_list part.outcome) parts
 pub record Format : Type 1 where
   -- what the parts before determine about the next part
   pub State : Type 0
+  -- the place of the next part: the number of the next packet, and the number of bytes before the part
+  pub place_of : State → Place
   -- the part is a record or block, and its outcome is right
   pub IsPart : State → Part → State → Type 0
   -- these first bytes belong to a packet for which the buffer has no room
@@ -68,29 +71,33 @@ pub record Passes (format : Format) (before after : format.State) (left still_le
 
 -- ---- errors
 
--- reading failed
-abbrev pub IsReadError : SelectionError → Type 0
-IsReadError (Capture (Read number offset error)) = ⊤
-IsReadError (Capture (Header error)) = ⊥
-IsReadError (Capture (ReadHeader error)) = ⊥
-IsReadError (Capture (RecordCutOff number offset required len)) = ⊥
-IsReadError (Capture (Refused error)) = ⊥
-IsReadError (Capture TooManyPackets) = ⊥
-IsReadError (Capture Enough) = ⊥
-IsReadError (Write error) = ⊥
+-- an error with this number and offset is at this place
+abbrev pub IsAt : Place → ℕ → ℕ → Type 0
+IsAt place number offset = (number ≡ place.number) × (offset ≡ place.offset)
+
+-- reading failed at this place
+abbrev pub IsReadError : Place → SelectionError → Type 0
+IsReadError place (Capture (Read number offset error)) = IsAt place number offset
+IsReadError place (Capture (Header error)) = ⊥
+IsReadError place (Capture (ReadHeader error)) = ⊥
+IsReadError place (Capture (RecordCutOff number offset required len)) = ⊥
+IsReadError place (Capture (Refused error)) = ⊥
+IsReadError place (Capture TooManyPackets) = ⊥
+IsReadError place (Capture Enough) = ⊥
+IsReadError place (Write error) = ⊥
 
 -- writing failed
 abbrev pub IsWriteError : SelectionError → Type 0
 IsWriteError (Write error) = ⊤
 IsWriteError (Capture error) = ⊥
 
--- An error after parts and the first bytes of another part, which are `rest`. `then_left` is what an input has left after them, and
--- `still_left` what it has left at the end. They differ only if reading failed.
+-- An error in a part with these first bytes, which are `rest`. `then_left` is what an input has left after them, and `still_left` what it
+-- has left at the end. They differ only if reading failed. An error that contains a place contains the place of the part.
 abbrev pub IsEndBy : (format : Format) → SelectionError → format.State → List ℕ → Option (List ℕ) → Option (List ℕ) → Counts → Type 0
 IsEndBy format (Capture (RecordCutOff number offset required len)) state rest then_left still_left counts =
-    format.IsCut state rest required len × IsAtEnd still_left × (then_left ≡ still_left)
+    IsAt (format.place_of state) number offset × format.IsCut state rest required len × IsAtEnd still_left × (then_left ≡ still_left)
 IsEndBy format (Capture (Refused error)) state rest then_left still_left counts = format.IsRefused state rest error × (then_left ≡ still_left)
-IsEndBy format (Capture (Read number offset error)) state rest then_left still_left counts = ⊤
+IsEndBy format (Capture (Read number offset error)) state rest then_left still_left counts = IsAt (format.place_of state) number offset
 IsEndBy format (Capture Enough) state rest then_left still_left counts =
     (rest ≡ []) × (then_left ≡ still_left) × (is_full format.limit counts.chosen ≡ true)
 IsEndBy format (Capture TooManyPackets) state rest then_left still_left counts = (rest ≡ []) × (then_left ≡ still_left)
@@ -102,21 +109,26 @@ IsEndBy format (Write error) state rest then_left still_left counts = ⊥
 abbrev pub IsFront : List ℕ → List ℕ → Type 0
 IsFront front bytes = (more : List ℕ) × (bytes ≡ front ++ more)
 
--- Parts were passed up to an error, and then the first bytes of another part were read. Nothing was written for this part, unless the
--- buffer has no room for its packet: then first bytes of it may have been written.
+-- The first bytes of a part were read up to an error. Nothing was written for this part, unless the buffer has no room for its packet: then
+-- first bytes of it may have been written.
+pub record StopsBy (format : Format) (error : SelectionError) (state : format.State) (left still_left held now_held : Option (List ℕ))
+    (counts : Counts) : Type 0 where
+  pub then_left : Option (List ℕ)
+  pub rest : List ℕ
+  pub front : List ℕ
+  pub consumed : Consumes left then_left rest
+  pub appended : Appends held now_held front
+  pub is_front : (front ≡ []) ⊎ (format.IsLong state rest × IsFront front rest)
+  pub ends : IsEndBy format error state rest then_left still_left counts
+
+-- parts were passed, and then the first bytes of another part were read up to an error
 pub record EndsBy (format : Format) (error : SelectionError) (before : format.State) (left still_left held now_held : Option (List ℕ))
     (counts now_counts : Counts) : Type 0 where
   pub after : format.State
   pub middle : Option (List ℕ)
-  pub then_left : Option (List ℕ)
   pub then_held : Option (List ℕ)
-  pub rest : List ℕ
-  pub front : List ℕ
   pub passes : Passes format before after left middle held then_held counts now_counts
-  pub consumed : Consumes middle then_left rest
-  pub appended : Appends then_held now_held front
-  pub is_front : (front ≡ []) ⊎ (format.IsLong after rest × IsFront front rest)
-  pub ends : IsEndBy format error after rest then_left still_left now_counts
+  pub stops : StopsBy format error after middle still_left then_held now_held now_counts
 
 -- what was passed up to a result; after a write that failed nothing is known
 abbrev pub PassesTo : {A : Type 0} → (format : Format) → Result A SelectionError → format.State → format.State → Option (List ℕ) → Option (List ℕ)
@@ -125,6 +137,14 @@ PassesTo format (Ok given) before after left still_left held now_held counts now
     Passes format before after left still_left held now_held counts now_counts
 PassesTo format (Err error) before after left still_left held now_held counts now_counts =
     IsWriteError error ⊎ EndsBy format error before left still_left held now_held counts now_counts
+
+-- the same of the next part, if there is one: after an error no part was passed
+abbrev pub PassesNext : {A : Type 0} → (format : Format) → Result A SelectionError → format.State → format.State → Option (List ℕ) → Option (List ℕ)
+    → Option (List ℕ) → Option (List ℕ) → Counts → Counts → Type 0
+PassesNext format (Ok given) before after left still_left held now_held counts now_counts =
+    Passes format before after left still_left held now_held counts now_counts
+PassesNext format (Err error) before after left still_left held now_held counts now_counts =
+    IsWriteError error ⊎ (StopsBy format error before left still_left held now_held counts × (now_counts ≡ counts))
 
 -- ---- bytes that are copied by pieces
 
@@ -135,11 +155,11 @@ pub record Copies (left still_left held now_held : Option (List ℕ)) (len : ℕ
   pub consumed : Consumes left still_left bytes
   pub appended : Appends held now_held bytes
 
--- as many bytes were copied as were counted, or some up to an error
-abbrev pub CopiesUpTo : Result ℕ SelectionError → Option (List ℕ) → Option (List ℕ) → Option (List ℕ) → Option (List ℕ) → Type 0
-CopiesUpTo (Ok len) left still_left held now_held = Copies left still_left held now_held len
-CopiesUpTo (Err error) left still_left held now_held =
-    IsWriteError error ⊎ (IsReadError error × (len : ℕ) × (then_left : Option (List ℕ)) × Copies left then_left held now_held len)
+-- as many bytes of the part at this place were copied as were counted, or some up to an error
+abbrev pub CopiesUpTo : Place → Result ℕ SelectionError → Option (List ℕ) → Option (List ℕ) → Option (List ℕ) → Option (List ℕ) → Type 0
+CopiesUpTo place (Ok len) left still_left held now_held = Copies left still_left held now_held len
+CopiesUpTo place (Err error) left still_left held now_held =
+    IsWriteError error ⊎ (IsReadError place error × (len : ℕ) × (then_left : Option (List ℕ)) × Copies left then_left held now_held len)
 
 -- these bytes were written before, and the bytes that are read after them belong to a packet with this outcome
 pub record PassesRest (outcome : Option Outcome) (first : List ℕ) (left still_left held now_held : Option (List ℕ)) (len : ℕ) : Type 0 where
@@ -148,8 +168,8 @@ pub record PassesRest (outcome : Option Outcome) (first : List ℕ) (left still_
   pub consumed : Consumes left still_left bytes
   pub appended : Appends held now_held (written_by (first ++ bytes) outcome)
 
--- the same up to the end of the packet or of the input, or up to an error
-abbrev pub PassesLong : Option Outcome → Result ℕ SelectionError → List ℕ → Option (List ℕ) → Option (List ℕ) → Option (List ℕ) → Option (List ℕ) → Type 0
-PassesLong outcome (Ok len) first left still_left held now_held = PassesRest outcome first left still_left held now_held len
-PassesLong outcome (Err error) first left still_left held now_held =
-    IsWriteError error ⊎ (IsReadError error × (len : ℕ) × (then_left : Option (List ℕ)) × PassesRest outcome first left then_left held now_held len)
+-- the same of the part at this place, up to the end of its packet or of the input, or up to an error
+abbrev pub PassesLong : Place → Option Outcome → Result ℕ SelectionError → List ℕ → Option (List ℕ) → Option (List ℕ) → Option (List ℕ) → Option (List ℕ) → Type 0
+PassesLong place outcome (Ok len) first left still_left held now_held = PassesRest outcome first left still_left held now_held len
+PassesLong place outcome (Err error) first left still_left held now_held =
+    IsWriteError error ⊎ (IsReadError place error × (len : ℕ) × (then_left : Option (List ℕ)) × PassesRest outcome first left then_left held now_held len)

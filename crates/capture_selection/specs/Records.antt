@@ -1,5 +1,5 @@
 -- The records of a classic capture as parts (draft-ietf-opsawg-pcap, section 5).
-use Rattle.std.specs.Prelude.{◌≡◌, ◌≢◌, ◌<◌, ℕ, List, [], length}
+use Rattle.std.specs.Prelude.{◌≡◌, ◌≢◌, ◌<◌, ◌+◌, ◌-◌, ◌^◌, ℕ, min, List, [], length}
 use Rattle.capture_file.specs.CapturePackets.{record_packet}
 use Rattle.capture_file.specs.Classic.{IsPartial, IsRecord, number_at}
 use Rattle.capture_file.specs.Reading.{required_len}
@@ -7,8 +7,10 @@ use Rattle.capture_file.specs.declared.classic.capture_header.CaptureHeader.{Cap
 use Rattle.capture_packet.specs.Frames.{max_packet_len}
 use Rattle.capture_run.specs.Report.{IsPacketOf}
 use Rattle.capture_run.specs.declared.parts.Parts.{Parts}
-use Rattle.capture_selection.specs.Outcomes.{HasOutcome}
+use Rattle.capture_selection.specs.Outcomes.{HasOutcome, one_more}
 use Rattle.capture_selection.specs.Passing.{Format, Part}
+use Rattle.capture_selection.specs.declared.place.Place.{Place}
+use Rattle.capture_selection.specs.declared.records.Records.{Records}
 
 -- a record of this capture, with the outcome of its packet, which is read as the report reads it
 pub record IsRecordPart (options : Parts) (capture : CaptureHeader) (part : Part) : Type 0 where
@@ -24,13 +26,26 @@ abbrev pub IsCutRecord : CaptureHeader → List ℕ → ℕ → ℕ → Type 0
 IsCutRecord capture bytes required len =
     (bytes ≢ []) × IsPartial capture.byte_order bytes × (required ≡ required_len capture.byte_order bytes) × (len ≡ length bytes)
 
--- classic captures, with these options; the header of the capture is the state, and no record is rejected
+-- the place after a record with this length: the number of a packet and the number of bytes are at most 2^64 - 1
+abbrev pub place_after : Place → ℕ → Place
+place_after place len = record { number = one_more place.number; offset = min (place.offset + len) (2 ^ 64 - 1) }
+
+-- the capture after a record with this length
+abbrev pub records_after : Records → ℕ → Records
+records_after records len = record { header = records.header; place = place_after records.place len }
+
+-- the capture after its header: its first record begins at byte 24
+abbrev pub first_records : CaptureHeader → Records
+first_records header = record { header = header; place = record { number = 1; offset = 24 } }
+
+-- classic captures, with these options; no record is rejected
 abbrev pub records_of : Parts → Format
 records_of options = record {
-  State = CaptureHeader;
-  IsPart = λ before part after. (after ≡ before) × IsRecordPart options before part;
-  IsLong = IsLongRecord;
-  IsCut = IsCutRecord;
-  IsRefused = λ capture bytes error. ⊥;
+  State = Records;
+  place_of = λ records. records.place;
+  IsPart = λ before part after. (after ≡ records_after before (length part.bytes)) × IsRecordPart options before.header part;
+  IsLong = λ records. IsLongRecord records.header;
+  IsCut = λ records. IsCutRecord records.header;
+  IsRefused = λ records bytes error. ⊥;
   limit = options.limit;
 }

@@ -5,18 +5,20 @@ ghost use Rattle.std.specs.Io.KnownBytes.{Consumes, IsAtEnd};
 ghost use Rattle.capture_file.specs.PcapngReading.{AreFirst, BeginsBlock};
 ghost use Rattle.capture_file.specs.declared.pcapng.read.NextBlock.TheVariants.{TooLong, Whole};
 ghost use Rattle.capture_packet.specs.Frames.{max_packet_len};
-ghost use Rattle.capture_selection.specs.Blocks.{StepsTo, blocks_of};
+ghost use Rattle.capture_selection.specs.Blocks.{IsFileStart, IsPastFirst, PassesFile, StepsTo, block_place, blocks_of, number_after};
 ghost use Rattle.capture_run.specs.Limits.{IsWithin, is_full};
-ghost use Rattle.capture_selection.specs.Passing.{PassesTo};
+ghost use Rattle.capture_selection.specs.Passing.{PassesNext, PassesTo};
 ghost use Rattle.capture_selection.specs.declared.outcome.Outcome.{Outcome};
 
 use crate::place::Place;
 use crate::transfer::{Buffer, pass_long, read_after, read_into, write_part};
 use crate::{Counts, Outcome, SelectionError, outcome_of};
+use capture_file::ByteOrder;
 use capture_file::pcapng::{Block, BlockError, BlockHeader, MIN_BLOCK_LEN, SECTION_HEADER};
-use capture_file::reader::{PacketError, PcapngReader, PlacedPacketError};
+use capture_file::reader::{PacketError, PcapngReader, PlacedPacketError, Section};
 use capture_packet::MAX_PACKET_LEN;
 use capture_run::{CaptureError, Parts, packet_in_frame, packet_without_room};
+use capture_texts::FileTexts;
 use std::io::{Read, Write};
 
 /// The length of the last total length of a block, in bytes (section 3.1).
@@ -32,51 +34,95 @@ const SIMPLE_PACKET: u32 = 3;
 
 const ENHANCED_PACKET: u32 = 6;
 
+/// A pcapng file after some of its blocks.
+#[derive(Drop)]
+pub(crate) struct Blocks {
+    /// The section, and the start of the next block.
+    pub reader: PcapngReader,
+    /// The number of the next packet. The first packet of a file is number 1.
+    pub number: u64,
+}
+
+impl Blocks {
+    /// The start of a file. Its section header block states the byte order.
+    pub fn start() -> Blocks
+        ensures { IsFileStart result }
+    {
+        Blocks {
+            reader: PcapngReader {
+                section: Section::new(ByteOrder::BigEndian),
+                offset: 0,
+                texts: FileTexts::new(),
+            },
+            number: 1,
+        }
+    }
+
+    /// The place of the next block.
+    fn place(&self) -> Place
+        ensures { result ≡ block_place self.now }
+    {
+        Place {
+            number: self.number,
+            offset: self.reader.offset,
+        }
+    }
+}
+
+/// The number of the next packet after a block with this outcome, or without a packet.
+fn number_after(number: u64, outcome: Option<Outcome>) -> u64
+    ensures { result ≡ number_after number outcome }
+{
+    match outcome {
+        Some(_) => number.saturating_add(1),
+        None => number,
+    }
+}
+
 /// Writes the blocks of a pcapng file that begins with these bytes, without the blocks of packets that have no line.
 pub(crate) fn select_blocks<R: Read, W: Write>(
     input: &mut R,
     output: &mut W,
     buffer: &mut Buffer,
     begin: &[u8],
-    file: &mut PcapngReader,
+    file: &mut Blocks,
     parts: &Parts,
     counts: &mut Counts,
 ) -> Result<(), SelectionError>
     requires begin { AreFirst begin.now (R.remaining input.old) }
     requires some { 1 ≤ length begin.now }
     requires below { is_full parts.now.limit counts.old.chosen ≡ false }
-    ensures passes { (left : Option (List ℕ)) → Consumes left (R.remaining input.old) begin.now → PassesTo (blocks_of parts.now) result
+    ensures passes { (left : Option (List ℕ)) → Consumes left (R.remaining input.old) begin.now → PassesFile parts.now result
         file.old file.new left (R.remaining input.new) (W.contents output.old) (W.contents output.new) counts.old counts.new }
     ensures ends { OnOk result (IsAtEnd (R.remaining input.new)) }
     ensures within { IsWithin parts.now.limit counts.new.chosen }
 {
-    let read_before = counts.read;
-    select_block(input, output, buffer, begin, file, 1, parts, counts)?;
-    select_others(input, output, buffer, file, read_before, parts, counts)
+    match select_block(input, output, buffer, begin, file, parts, counts) {
+        Ok(()) => select_others(input, output, buffer, file, parts, counts),
+        Err(error) => Err(error.at_beginning()),
+    }
 }
 
-/// Writes the blocks of a pcapng file after its first block, without the blocks of packets that have no line. `read_before` is the number
-/// of packets read before the file.
+/// Writes the blocks of a pcapng file after its first block, without the blocks of packets that have no line.
 fn select_others<R: Read, W: Write>(
     input: &mut R,
     output: &mut W,
     buffer: &mut Buffer,
-    file: &mut PcapngReader,
-    read_before: u64,
+    file: &mut Blocks,
     parts: &Parts,
     counts: &mut Counts,
 ) -> Result<(), SelectionError>
     ensures passes { PassesTo (blocks_of parts.now) result file.old file.new (R.remaining input.old) (R.remaining input.new)
         (W.contents output.old) (W.contents output.new) counts.old counts.new }
     ensures ends { OnOk result (IsAtEnd (R.remaining input.new)) }
+    ensures past { 1 ≤ file.old.reader.offset → IsPastFirst result }
     ensures within { IsWithin parts.now.limit counts.old.chosen → IsWithin parts.now.limit counts.new.chosen }
 {
     for _block in 0..u64::MAX {
         if counts.is_full(parts.limit) {
             return Err(SelectionError::Capture(CaptureError::Enough));
         }
-        let number = counts.read.saturating_sub(read_before).saturating_add(1);
-        let is_block = select_next(input, output, buffer, file, number, parts, counts)?;
+        let is_block = select_next(input, output, buffer, file, parts, counts)?;
         if !is_block {
             return Ok(());
         }
@@ -89,35 +135,21 @@ fn select_next<R: Read, W: Write>(
     input: &mut R,
     output: &mut W,
     buffer: &mut Buffer,
-    file: &mut PcapngReader,
-    number: u64,
+    file: &mut Blocks,
     parts: &Parts,
     counts: &mut Counts,
 ) -> Result<bool, SelectionError>
-    ensures passes { PassesTo (blocks_of parts.now) result file.old file.new (R.remaining input.old) (R.remaining input.new)
+    ensures passes { PassesNext (blocks_of parts.now) result file.old file.new (R.remaining input.old) (R.remaining input.new)
         (W.contents output.old) (W.contents output.new) counts.old counts.new }
     ensures ends { result ≡ Ok false → IsAtEnd (R.remaining input.new) }
     ensures one { counts.new.chosen ≤ counts.old.chosen + 1 }
 {
-    let place = Place {
-        number,
-        offset: file.offset,
-    };
     let mut first = [0u8; MIN_BLOCK_LEN];
-    let len = read_into(input, &mut first, place)?;
+    let len = read_into(input, &mut first, file.place())?;
     if len == 0 {
         return Ok(false);
     }
-    select_block(
-        input,
-        output,
-        buffer,
-        &first[..len],
-        file,
-        number,
-        parts,
-        counts,
-    )?;
+    select_block(input, output, buffer, &first[..len], file, parts, counts)?;
     Ok(true)
 }
 
@@ -127,33 +159,25 @@ fn select_block<R: Read, W: Write>(
     output: &mut W,
     buffer: &mut Buffer,
     first: &[u8],
-    file: &mut PcapngReader,
-    number: u64,
+    file: &mut Blocks,
     parts: &Parts,
     counts: &mut Counts,
 ) -> Result<(), SelectionError>
     requires first { AreFirst first.now (R.remaining input.old) }
     requires some { 1 ≤ length first.now }
-    ensures passes { (left : Option (List ℕ)) → Consumes left (R.remaining input.old) first.now → PassesTo (blocks_of parts.now) result
+    ensures passes { (left : Option (List ℕ)) → Consumes left (R.remaining input.old) first.now → PassesNext (blocks_of parts.now) result
         file.old file.new left (R.remaining input.new) (W.contents output.old) (W.contents output.new) counts.old counts.new }
+    ensures begun { OnOk result (1 ≤ file.new.reader.offset) }
     ensures one { counts.new.chosen ≤ counts.old.chosen + 1 }
 {
-    let place = Place {
-        number,
-        offset: file.offset,
-    };
-    let header = match BlockHeader::from_slice(file.section.byte_order, first) {
+    let header = match BlockHeader::from_slice(file.reader.section.byte_order, first) {
         Ok(header) => header,
-        Err(error) => return Err(place.refused(error)),
+        Err(error) => return Err(file.place().refused(error)),
     };
     if header.total_len as usize > MAX_PACKET_LEN {
-        select_long_block(
-            input, output, buffer, first, &header, file, place, parts, counts,
-        )
+        select_long_block(input, output, buffer, first, &header, file, parts, counts)
     } else {
-        select_kept_block(
-            input, output, buffer, first, &header, file, place, parts, counts,
-        )
+        select_kept_block(input, output, buffer, first, &header, file, parts, counts)
     }
 }
 
@@ -164,29 +188,30 @@ fn select_kept_block<R: Read, W: Write>(
     buffer: &mut Buffer,
     first: &[u8],
     header: &BlockHeader,
-    file: &mut PcapngReader,
-    place: Place,
+    file: &mut Blocks,
     parts: &Parts,
     counts: &mut Counts,
 ) -> Result<(), SelectionError>
-    requires header { BeginsBlock file.old.section.byte_order first.now header.now }
+    requires header { BeginsBlock file.old.reader.section.byte_order first.now header.now }
     requires room { header.now.total_len ≤ max_packet_len }
-    requires place { place.offset ≡ file.old.offset }
-    ensures passes { (left : Option (List ℕ)) → Consumes left (R.remaining input.old) first.now → PassesTo (blocks_of parts.now) result
+    ensures passes { (left : Option (List ℕ)) → Consumes left (R.remaining input.old) first.now → PassesNext (blocks_of parts.now) result
         file.old file.new left (R.remaining input.new) (W.contents output.old) (W.contents output.new) counts.old counts.new }
+    ensures begun { OnOk result (1 ≤ file.new.reader.offset) }
     ensures one { counts.new.chosen ≤ counts.old.chosen + 1 }
 {
     let total_len = header.total_len as usize;
+    let place = file.place();
     let len = read_after(input, first, &mut buffer[..total_len], place)?;
-    if let Err(error) = Block::from_slice(file.section.byte_order, &buffer[..len]) {
+    if let Err(error) = Block::from_slice(file.reader.section.byte_order, &buffer[..len]) {
         return Err(place.refused(error));
     }
-    let outcome = match taken_outcome(buffer, header, file, parts) {
+    let outcome = match taken_outcome(buffer, header, &mut file.reader, parts) {
         Ok(outcome) => outcome,
         Err(error) => return Err(SelectionError::Capture(CaptureError::Refused(error))),
     };
     write_part(output, &[], &buffer[..total_len], outcome)?;
     counts.add_if(outcome);
+    file.number = number_after(file.number, outcome);
     Ok(())
 }
 
@@ -260,19 +285,19 @@ fn select_long_block<R: Read, W: Write>(
     buffer: &mut Buffer,
     first: &[u8],
     header: &BlockHeader,
-    file: &mut PcapngReader,
-    place: Place,
+    file: &mut Blocks,
     parts: &Parts,
     counts: &mut Counts,
 ) -> Result<(), SelectionError>
-    requires header { BeginsBlock file.old.section.byte_order first.now header.now }
+    requires header { BeginsBlock file.old.reader.section.byte_order first.now header.now }
     requires room { max_packet_len < header.now.total_len }
-    requires place { place.offset ≡ file.old.offset }
-    ensures passes { (left : Option (List ℕ)) → Consumes left (R.remaining input.old) first.now → PassesTo (blocks_of parts.now) result
+    ensures passes { (left : Option (List ℕ)) → Consumes left (R.remaining input.old) first.now → PassesNext (blocks_of parts.now) result
         file.old file.new left (R.remaining input.new) (W.contents output.old) (W.contents output.new) counts.old counts.new }
+    ensures begun { OnOk result (1 ≤ file.new.reader.offset) }
     ensures one { counts.new.chosen ≤ counts.old.chosen + 1 }
 {
-    let stepped = long_outcome(header, file, parts);
+    let place = file.place();
+    let stepped = long_outcome(header, &mut file.reader, parts);
     let outcome = kept_outcome(&stepped);
     let required_len = header.total_len as usize;
     let middle_len = required_len - MIN_BLOCK_LEN - LAST_LEN;
@@ -297,5 +322,6 @@ fn select_long_block<R: Read, W: Write>(
     }
     write_part(output, &[], &last, outcome)?;
     counts.add_if(outcome);
+    file.number = number_after(file.number, outcome);
     Ok(())
 }

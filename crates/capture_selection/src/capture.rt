@@ -8,16 +8,15 @@ ghost use Rattle.capture_file.specs.PcapngReading.{AreFirst};
 ghost use Rattle.capture_run.specs.Limits.{IsWithin};
 ghost use Rattle.capture_selection.specs.Captures.{RefusesBytes, SelectsCapture};
 
-use crate::blocks::select_blocks;
-use crate::records::select_records;
+use crate::blocks::{Blocks, select_blocks};
+use crate::records::{Records, select_records};
 use crate::transfer::{Buffer, write};
 use crate::{Counts, SelectionError};
 use capture_file::ByteOrder;
 use capture_file::classic::{CaptureHeader, read_capture_header};
 use capture_file::pcapng::{MIN_BLOCK_LEN, SECTION_HEADER};
-use capture_file::reader::{OpenError, PcapngReader, Section};
+use capture_file::reader::OpenError;
 use capture_run::{CaptureError, Parts};
-use capture_texts::FileTexts;
 use std::io::{Read, Write};
 use streams::{fill, fill_after};
 
@@ -33,7 +32,8 @@ use streams::{fill, fill_after};
 ///
 /// `Capture` states why the capture is rejected, or where it can't be read further, and `Enough` if the requested number of packets is
 /// reached. What was written before is a whole capture, unless the buffer has no room for the last record or block. If the header of a
-/// classic capture is rejected, nothing is written. `Write` is the error of the first write that fails.
+/// classic capture is rejected, nothing is written. If the first block of a pcapng file is rejected, the error is `Header`, as in the
+/// report. An error within a later record or block contains its place. `Write` is the error of the first write that fails.
 pub fn write_selected<R: Read, W: Write>(
     input: &mut R,
     output: &mut W,
@@ -58,12 +58,7 @@ pub fn write_selected<R: Read, W: Write>(
     if counts.is_full(parts.limit) {
         return Err(SelectionError::Capture(CaptureError::Enough));
     }
-    // The section header block states its byte order.
-    let mut file = PcapngReader {
-        section: Section::new(ByteOrder::BigEndian),
-        offset: 0,
-        texts: FileTexts::new(),
-    };
+    let mut file = Blocks::start();
     select_blocks(input, output, buffer, begin, &mut file, parts, counts)
 }
 
@@ -103,7 +98,8 @@ fn select_capture<R: Read, W: Write>(
         Err(error) => return Err(SelectionError::Capture(error)),
     };
     write(output, &first)?;
-    select_records(input, output, buffer, &header, parts, counts)
+    let mut records = Records::after(header);
+    select_records(input, output, buffer, &mut records, parts, counts)
 }
 
 /// The header of a classic capture in its first 24 bytes. There are fewer bytes at the end of the input.

@@ -22,7 +22,7 @@ pub(crate) struct Place {
 impl Place {
     /// The error if reading fails at this place.
     pub fn read_error(self, error: io::Error) -> SelectionError
-        ensures { IsReadError result }
+        ensures { IsReadError self result }
     {
         let Place { number, offset } = self;
         SelectionError::Capture(CaptureError::Read {

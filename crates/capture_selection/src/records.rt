@@ -1,12 +1,12 @@
 //! The records of a classic capture (draft-ietf-opsawg-pcap, section 5).
 
-ghost use Rattle.std.specs.Prelude.{◌≡◌, ◌<◌, ◌≤◌, ◌+◌, ℕ, List, None, OnOk, Ok, Option};
+ghost use Rattle.std.specs.Prelude.{◌≡◌, ◌<◌, ◌≤◌, ◌+◌, ℕ, List, OnOk, Ok, Option, false};
 ghost use Rattle.std.specs.Io.KnownBytes.{Consumes, IsAtEnd};
 ghost use Rattle.capture_file.specs.Classic.{record_header};
 ghost use Rattle.capture_run.specs.Limits.{IsWithin};
 ghost use Rattle.capture_packet.specs.Frames.{max_packet_len};
-ghost use Rattle.capture_selection.specs.Passing.{PassesTo};
-ghost use Rattle.capture_selection.specs.Records.{records_of};
+ghost use Rattle.capture_selection.specs.Passing.{PassesNext, PassesTo};
+ghost use Rattle.capture_selection.specs.Records.{first_records, records_after, records_of};
 
 use crate::place::Place;
 use crate::transfer::{Buffer, pass_long, read_into, write_part};
@@ -17,142 +17,164 @@ use capture_packet::MAX_PACKET_LEN;
 use capture_run::{CaptureError, Parts, packet_in_frame, packet_without_room};
 use std::io::{Read, Write};
 
-/// Writes the records after the header of a classic capture whose packets have a line.
+/// A classic capture after some of its records.
+#[derive(Drop)]
+pub(crate) struct Records {
+    /// The header of the capture.
+    pub header: CaptureHeader,
+    /// The place of the next record.
+    pub place: Place,
+}
+
+impl Records {
+    /// The capture after this header, before its first record.
+    pub fn after(header: CaptureHeader) -> Records
+        ensures { result ≡ first_records header }
+    {
+        Records {
+            header,
+            place: Place {
+                number: 1,
+                offset: CaptureHeader::LEN as u64,
+            },
+        }
+    }
+
+    /// Goes on to the place after a record with this header.
+    fn pass(&mut self, header: &RecordHeader)
+        ensures { self.new ≡ records_after self.old (16 + header.now.captured_len) }
+    {
+        let len = RecordHeader::LEN as u64 + u64::from(header.captured_len);
+        self.place.number = self.place.number.saturating_add(1);
+        self.place.offset = self.place.offset.saturating_add(len);
+    }
+}
+
+/// Writes the records of a classic capture whose packets have a line.
 pub(crate) fn select_records<R: Read, W: Write>(
     input: &mut R,
     output: &mut W,
     buffer: &mut Buffer,
-    capture: &CaptureHeader,
+    records: &mut Records,
     parts: &Parts,
     counts: &mut Counts,
 ) -> Result<(), SelectionError>
-    ensures passes { PassesTo (records_of parts.now) result capture.now capture.now (R.remaining input.old) (R.remaining input.new)
+    ensures passes { PassesTo (records_of parts.now) result records.old records.new (R.remaining input.old) (R.remaining input.new)
         (W.contents output.old) (W.contents output.new) counts.old counts.new }
     ensures ends { OnOk result (IsAtEnd (R.remaining input.new)) }
     ensures within { IsWithin parts.now.limit counts.old.chosen → IsWithin parts.now.limit counts.new.chosen }
 {
-    let mut offset = CaptureHeader::LEN as u64;
-    for number in 1..u64::MAX {
+    for _record in 1..u64::MAX {
         if counts.is_full(parts.limit) {
             return Err(SelectionError::Capture(CaptureError::Enough));
         }
-        let place = Place { number, offset };
-        match select_record(input, output, buffer, capture, parts, place, counts)? {
-            Some(len) => offset = offset.saturating_add(len),
-            None => return Ok(()),
+        let is_record = select_record(input, output, buffer, records, parts, counts)?;
+        if !is_record {
+            return Ok(());
         }
     }
     Err(SelectionError::Capture(CaptureError::TooManyPackets))
 }
 
-/// Reads the next record, writes it if its packet has a line, and returns its length. `None` at the end of the capture.
+/// Reads the next record, and writes it if its packet has a line. Returns whether there is a record.
 fn select_record<R: Read, W: Write>(
     input: &mut R,
     output: &mut W,
     buffer: &mut Buffer,
-    capture: &CaptureHeader,
+    records: &mut Records,
     parts: &Parts,
-    place: Place,
     counts: &mut Counts,
-) -> Result<Option<u64>, SelectionError>
-    ensures passes { PassesTo (records_of parts.now) result capture.now capture.now (R.remaining input.old) (R.remaining input.new)
+) -> Result<bool, SelectionError>
+    ensures passes { PassesNext (records_of parts.now) result records.old records.new (R.remaining input.old) (R.remaining input.new)
         (W.contents output.old) (W.contents output.new) counts.old counts.new }
-    ensures ends { result ≡ Ok None → IsAtEnd (R.remaining input.new) }
+    ensures ends { result ≡ Ok false → IsAtEnd (R.remaining input.new) }
     ensures one { counts.new.chosen ≤ counts.old.chosen + 1 }
 {
     let mut first = [0u8; RecordHeader::LEN];
-    let len = read_into(input, &mut first, place)?;
+    let len = read_into(input, &mut first, records.place)?;
     if len == 0 {
-        return Ok(None);
+        return Ok(false);
     }
     if len < RecordHeader::LEN {
-        return Err(place.cut_off(RecordHeader::LEN, len));
+        return Err(records.place.cut_off(RecordHeader::LEN, len));
     }
-    let header = RecordHeader::from_bytes(capture.byte_order, &first);
-    let len = select_headed(input, output, buffer, capture, &first, parts, place, counts)?;
-    Ok(Some(len))
+    select_headed(input, output, buffer, records, &first, parts, counts)?;
+    Ok(true)
 }
 
-/// Reads the captured bytes of a record after its header, writes the record if its packet has a line, and returns its length.
+/// Reads the captured bytes of a record after its header, and writes the record if its packet has a line.
 fn select_headed<R: Read, W: Write>(
     input: &mut R,
     output: &mut W,
     buffer: &mut Buffer,
-    capture: &CaptureHeader,
+    records: &mut Records,
     first: &[u8; RecordHeader::LEN],
     parts: &Parts,
-    place: Place,
     counts: &mut Counts,
-) -> Result<u64, SelectionError>
-    ensures passes { (left : Option (List ℕ)) → Consumes left (R.remaining input.old) first.now → PassesTo (records_of parts.now) result
-        capture.now capture.now left (R.remaining input.new) (W.contents output.old) (W.contents output.new) counts.old counts.new }
+) -> Result<(), SelectionError>
+    ensures passes { (left : Option (List ℕ)) → Consumes left (R.remaining input.old) first.now → PassesNext (records_of parts.now) result
+        records.old records.new left (R.remaining input.new) (W.contents output.old) (W.contents output.new) counts.old counts.new }
     ensures one { counts.new.chosen ≤ counts.old.chosen + 1 }
 {
-    let header = RecordHeader::from_bytes(capture.byte_order, first);
+    let header = RecordHeader::from_bytes(records.header.byte_order, first);
     if header.captured_len as usize > MAX_PACKET_LEN {
         select_long(
-            input, output, buffer, capture, first, &header, parts, place, counts,
+            input, output, buffer, records, first, &header, parts, counts,
         )
     } else {
         select_kept(
-            input, output, buffer, capture, first, &header, parts, place, counts,
+            input, output, buffer, records, first, &header, parts, counts,
         )
     }
 }
 
-/// The length of a record with this header.
-fn record_len(header: &RecordHeader) -> u64 {
-    RecordHeader::LEN as u64 + u64::from(header.captured_len)
-}
-
-/// Reads the captured bytes of a record into the buffer, writes the record if its packet has a line, and returns its length.
+/// Reads the captured bytes of a record into the buffer, and writes the record if its packet has a line.
 fn select_kept<R: Read, W: Write>(
     input: &mut R,
     output: &mut W,
     buffer: &mut Buffer,
-    capture: &CaptureHeader,
+    records: &mut Records,
     first: &[u8; RecordHeader::LEN],
     header: &RecordHeader,
     parts: &Parts,
-    place: Place,
     counts: &mut Counts,
-) -> Result<u64, SelectionError>
-    requires header { header.now ≡ record_header capture.now.byte_order first.now }
+) -> Result<(), SelectionError>
+    requires header { header.now ≡ record_header records.old.header.byte_order first.now }
     requires room { header.now.captured_len ≤ max_packet_len }
-    ensures passes { (left : Option (List ℕ)) → Consumes left (R.remaining input.old) first.now → PassesTo (records_of parts.now) result
-        capture.now capture.now left (R.remaining input.new) (W.contents output.old) (W.contents output.new) counts.old counts.new }
+    ensures passes { (left : Option (List ℕ)) → Consumes left (R.remaining input.old) first.now → PassesNext (records_of parts.now) result
+        records.old records.new left (R.remaining input.new) (W.contents output.old) (W.contents output.new) counts.old counts.new }
     ensures one { counts.new.chosen ≤ counts.old.chosen + 1 }
 {
     let frame = &mut buffer[..header.captured_len as usize];
-    let len = read_into(input, frame, place)?;
+    let len = read_into(input, frame, records.place)?;
     if len < frame.len() {
         let required_len = RecordHeader::LEN + frame.len();
-        return Err(place.cut_off(required_len, RecordHeader::LEN + len));
+        return Err(records.place.cut_off(required_len, RecordHeader::LEN + len));
     }
-    let packet = packet_in_frame(&CapturedPacket::from_record(*capture, *header), frame);
+    let packet = packet_in_frame(&CapturedPacket::from_record(records.header, *header), frame);
     let outcome = outcome_of(parts, &packet);
     write_part(output, first, frame, Some(outcome))?;
     counts.add(outcome);
-    Ok(record_len(header))
+    records.pass(header);
+    Ok(())
 }
 
-/// Reads the captured bytes of a record, for which the buffer has no room, and writes the record if its packet has a line. Returns the
-/// length of the record. If the capture ends within the record, the bytes before the end may have been written.
+/// Reads the captured bytes of a record, for which the buffer has no room, and writes the record if its packet has a line. If the capture
+/// ends within the record, the bytes before the end may have been written.
 fn select_long<R: Read, W: Write>(
     input: &mut R,
     output: &mut W,
     buffer: &mut Buffer,
-    capture: &CaptureHeader,
+    records: &mut Records,
     first: &[u8; RecordHeader::LEN],
     header: &RecordHeader,
     parts: &Parts,
-    place: Place,
     counts: &mut Counts,
-) -> Result<u64, SelectionError>
-    requires header { header.now ≡ record_header capture.now.byte_order first.now }
+) -> Result<(), SelectionError>
+    requires header { header.now ≡ record_header records.old.header.byte_order first.now }
     requires room { max_packet_len < header.now.captured_len }
-    ensures passes { (left : Option (List ℕ)) → Consumes left (R.remaining input.old) first.now → PassesTo (records_of parts.now) result
-        capture.now capture.now left (R.remaining input.new) (W.contents output.old) (W.contents output.new) counts.old counts.new }
+    ensures passes { (left : Option (List ℕ)) → Consumes left (R.remaining input.old) first.now → PassesNext (records_of parts.now) result
+        records.old records.new left (R.remaining input.new) (W.contents output.old) (W.contents output.new) counts.old counts.new }
     ensures one { counts.new.chosen ≤ counts.old.chosen + 1 }
 {
     let outcome = outcome_of(parts, &packet_without_room(header.captured_len));
@@ -164,12 +186,13 @@ fn select_long<R: Read, W: Write>(
         first,
         captured_len,
         Some(outcome),
-        place,
+        records.place,
     )?;
     if len < captured_len {
         let required_len = RecordHeader::LEN + captured_len;
-        return Err(place.cut_off(required_len, RecordHeader::LEN + len));
+        return Err(records.place.cut_off(required_len, RecordHeader::LEN + len));
     }
     counts.add(outcome);
-    Ok(record_len(header))
+    records.pass(header);
+    Ok(())
 }

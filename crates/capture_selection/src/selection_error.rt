@@ -1,3 +1,11 @@
+ghost use Rattle.std.specs.Prelude.{◌≡◌};
+ghost use Rattle.capture_file.specs.declared.reader.open_error.OpenError.TheVariants.{Pcapng};
+ghost use Rattle.capture_run.specs.declared.capture_error.CaptureError.TheVariants.{Header};
+ghost use Rattle.capture_selection.specs.Blocks.{at_beginning};
+ghost use Rattle.capture_selection.specs.declared.selection_error.SelectionError.TheVariants.{Capture};
+
+use capture_file::pcapng::BlockError;
+use capture_file::reader::{OpenError, PacketError};
 use capture_run::CaptureError;
 use std::io;
 use thiserror::Error;
@@ -11,4 +19,30 @@ pub enum SelectionError {
     /// Writing failed.
     #[error(transparent)]
     Write(io::Error),
+}
+
+impl SelectionError {
+    /// The error of the first block of a pcapng file, as the report has it: the block is the beginning of the capture.
+    pub(crate) fn at_beginning(self) -> SelectionError
+        ensures { result ≡ at_beginning self }
+    {
+        match self {
+            SelectionError::Capture(
+                CaptureError::RecordCutOff {
+                    required_len,
+                    len,
+                    ..
+                },
+            ) => rejected(PacketError::Block(BlockError::CutOff { required_len, len })),
+            SelectionError::Capture(CaptureError::Refused(refused)) => rejected(refused.error),
+            error => error,
+        }
+    }
+}
+
+/// The error of a pcapng file whose first block is rejected.
+fn rejected(error: PacketError) -> SelectionError
+    ensures { result ≡ Capture (Header (Pcapng error)) }
+{
+    SelectionError::Capture(CaptureError::Header(OpenError::Pcapng(error)))
 }

@@ -23,7 +23,7 @@ pub(crate) fn read_into<R: Read>(
     ensures len { IfOk result (λ len. len ≤ length buffer.new) }
     ensures consumed { IfOk result (λ len. Consumes (R.remaining input.old) (R.remaining input.new) (take len buffer.new)) }
     ensures end { IfOk result (λ len. len < length buffer.new → IsAtEnd (R.remaining input.new)) }
-    ensures failed { IfErr result IsReadError }
+    ensures failed { IfErr result (IsReadError place) }
 {
     match fill(input, buffer) {
         Ok(len) => Ok(len),
@@ -41,7 +41,7 @@ pub(crate) fn read_after<R: Read>(
     requires { length first.now ≤ length buffer.old }
     ensures fills { IfOk result (FillsAfter first.now (R.remaining input.old) (R.remaining input.new) buffer.new) }
     ensures within { IfOk result (λ len. len ≤ length buffer.new) }
-    ensures failed { IfErr result IsReadError }
+    ensures failed { IfErr result (IsReadError place) }
 {
     match fill_after(input, first, buffer) {
         Ok(len) => Ok(len),
@@ -63,7 +63,7 @@ pub(crate) fn write<W: Write>(output: &mut W, bytes: &[u8]) -> Result<(), Select
 /// Skips `count` bytes, or all bytes up to the end of input if there are fewer, and returns the number of bytes skipped.
 fn pass_over<R: Read>(input: &mut R, count: usize, place: Place) -> Result<usize, SelectionError>
     ensures skips { IfOk result (λ len. Skips (R.remaining input.old) (R.remaining input.new) count len) }
-    ensures failed { IfErr result IsReadError }
+    ensures failed { IfErr result (IsReadError place) }
 {
     match skip(input, count) {
         Ok(len) => Ok(len),
@@ -79,7 +79,7 @@ fn copy<R: Read, W: Write>(
     count: usize,
     place: Place,
 ) -> Result<usize, SelectionError>
-    ensures copies { CopiesUpTo result (R.remaining input.old) (R.remaining input.new) (W.contents output.old) (W.contents output.new) }
+    ensures copies { CopiesUpTo place result (R.remaining input.old) (R.remaining input.new) (W.contents output.old) (W.contents output.new) }
     ensures within { IfOk result (λ len. len ≤ count) }
     ensures end { IfOk result (λ len. len < count → IsAtEnd (R.remaining input.new)) }
 {
@@ -137,7 +137,7 @@ pub(crate) fn pass_long<R: Read, W: Write>(
 ) -> Result<usize, SelectionError>
     ensures within { IfOk result (λ len. len ≤ count) }
     ensures end { IfOk result (λ len. len < count → IsAtEnd (R.remaining input.new)) }
-    ensures passes { PassesLong outcome result first.now (R.remaining input.old) (R.remaining input.new)
+    ensures passes { PassesLong place outcome result first.now (R.remaining input.old) (R.remaining input.new)
         (W.contents output.old) (W.contents output.new) }
 {
     if !is_written(outcome) {

@@ -7,7 +7,7 @@ use super::{
 };
 use crate::expect::{expect_equal, expect_ok};
 use capture_packet::MAX_PACKET_LEN;
-use capture_run::{Choice, ExitStatus, Lines, Parts};
+use capture_run::{CaptureError, Choice, ExitStatus, Lines, Parts};
 use capture_selection::{Counts, SelectionError, write_selected};
 use capture_summary::MAX_CHOSEN;
 use std::alloc::Global;
@@ -15,11 +15,21 @@ use std::io;
 use std::io::{Read, Write};
 use std::test::Fail;
 
-/// What a selection wrote, its counts, and its exit status. An error of the writer has none.
+/// The counts of a selection, its exit status, and the place in its error. An error of the writer has no status.
 #[derive(Drop)]
 struct Selected {
     status: Option<ExitStatus>,
     counts: Counts,
+    place: Option<(u64, u64)>,
+}
+
+/// The number of the packet and the offset in an error, if it contains them.
+fn place_in(error: &CaptureError) -> Option<(u64, u64)> {
+    match error {
+        CaptureError::RecordCutOff { number, offset, .. } => Some((*number, *offset)),
+        CaptureError::Read { number, offset, .. } => Some((*number, *offset)),
+        _ => None,
+    }
 }
 
 /// Selects packets of a capture.
@@ -31,15 +41,19 @@ fn select<R: Read, W: Write>(
 ) -> io::Result<Selected> {
     let mut bytes = vec![in alloc; 0u8; MAX_PACKET_LEN]?;
     let mut counts = Counts::NONE;
-    let status = match bytes.as_mut_slice().as_mut_array() {
+    let (status, place) = match bytes.as_mut_slice().as_mut_array() {
         Some(buffer) => match write_selected(input, output, buffer, parts, &mut counts) {
-            Ok(()) => Some(ExitStatus::Success),
-            Err(SelectionError::Capture(error)) => Some(error.status()),
-            Err(SelectionError::Write(_)) => None,
+            Ok(()) => (Some(ExitStatus::Success), None),
+            Err(SelectionError::Capture(error)) => (Some(error.status()), place_in(&error)),
+            Err(SelectionError::Write(_)) => (None, None),
         },
-        None => None,
+        None => (None, None),
     };
-    Ok(Selected { status, counts })
+    Ok(Selected {
+        status,
+        counts,
+        place,
+    })
 }
 
 /// The options that select packets of this port, if there is one.
@@ -108,18 +122,18 @@ fn cut_captures_are_selected(rt: HostRuntime) -> Result<(), Fail> {
         let mut input = first_bytes(&whole, cut);
         let mut output = Vec::new(rt.alloc());
         let selected = select(rt.alloc(), &mut input, &mut output, &parts)?;
-        let (status, len, read) = match cut {
-            0..24 => (ExitStatus::NoCapture, 0, 0),
-            24 => (ExitStatus::Success, 24, 0),
-            25..69 => (ExitStatus::Unfinished, 24, 0),
-            69 => (ExitStatus::Success, 69, 1),
-            _ => (ExitStatus::Unfinished, 69, 1),
+        let (status, len, read, place) = match cut {
+            0..24 => (ExitStatus::NoCapture, 0, 0, None),
+            24 => (ExitStatus::Success, 24, 0, None),
+            25..69 => (ExitStatus::Unfinished, 24, 0, Some((1, 24))),
+            69 => (ExitStatus::Success, 69, 1, None),
+            _ => (ExitStatus::Unfinished, 69, 1, Some((2, 69))),
         };
         expect_equal(&rt, &output.as_slice(), &first_bytes(&whole, len));
         expect_equal(
             &rt,
-            &(cut, selected.status, selected.counts.read),
-            &(cut, Some(status), read),
+            &(cut, selected.status, selected.counts.read, selected.place),
+            &(cut, Some(status), read, place),
         );
     }
     Ok(())
@@ -180,16 +194,16 @@ fn read_faults_end_a_selection(rt: HostRuntime) -> Result<(), Fail> {
         };
         let mut output = Vec::new(rt.alloc());
         let selected = select(rt.alloc(), &mut input, &mut output, &parts)?;
-        let len = match reads {
-            0..24 => 0,
-            24..69 => 24,
-            69..114 => 69,
-            _ => 114,
+        let (len, place) = match reads {
+            0..24 => (0, None),
+            24..69 => (24, Some((1, 24))),
+            69..114 => (69, Some((2, 69))),
+            _ => (114, Some((3, 114))),
         };
         expect_equal(
             &rt,
-            &(reads, selected.status),
-            &(reads, Some(ExitStatus::Failed)),
+            &(reads, selected.status, selected.place),
+            &(reads, Some(ExitStatus::Failed), place),
         );
         expect_equal(&rt, &output.as_slice(), &first_bytes(&whole, len));
     }
@@ -241,15 +255,19 @@ fn cut_pcapng_files_are_selected(rt: HostRuntime) -> Result<(), Fail> {
         let mut input = first_bytes(&whole, cut);
         let mut output = Vec::new(rt.alloc());
         let selected = select(rt.alloc(), &mut input, &mut output, &parts)?;
-        let (status, len) = match cut {
-            4..28 => (ExitStatus::Unfinished, 0),
-            28 => (ExitStatus::Success, 28),
-            29..48 => (ExitStatus::Unfinished, 28),
-            48 => (ExitStatus::Success, 48),
-            _ => (ExitStatus::Unfinished, 48),
+        let (status, len, place) = match cut {
+            4..28 => (ExitStatus::NoCapture, 0, None),
+            28 => (ExitStatus::Success, 28, None),
+            29..48 => (ExitStatus::Unfinished, 28, Some((1, 28))),
+            48 => (ExitStatus::Success, 48, None),
+            _ => (ExitStatus::Unfinished, 48, Some((1, 48))),
         };
         expect_equal(&rt, &output.as_slice(), &first_bytes(&whole, len));
-        expect_equal(&rt, &(cut, selected.status), &(cut, Some(status)));
+        expect_equal(
+            &rt,
+            &(cut, selected.status, selected.place),
+            &(cut, Some(status), place),
+        );
     }
     Ok(())
 }

@@ -1,7 +1,14 @@
+use Rattle.capture_selection.proofs.FirstBlockLemmas.{file_passes, file_refused}
 use Rattle.capture_selection.proofs.PassingLemmas.{passes_to_on}
 use Rattle.capture_selection.proofs.blocks.select_blocks.Goals as goal
 
-pub returns-clause-passes : goal.returns-clause-passes
-returns-clause-passes g c =
+pub returns-in-Ok-clause-passes : goal.returns-in-Ok-clause-passes
+returns-in-Ok-clause-passes g c =
     λ left consumed.
-    passes_to_on _ c.select_others.result _ _ _ _ _ _ _ _ _ _ _ _ (c.in_ok-select_block.ensures.passes left consumed) c.select_others.ensures.passes
+    file_passes _ c.select_others.result _ _ _ _ _ _ _ _
+    (passes_to_on _ c.select_others.result _ _ _ _ _ _ _ _ _ _ _ _ (c.in-Ok.ensures.passes left consumed) c.select_others.ensures.passes)
+    (c.select_others.ensures.past c.in-Ok.ensures.begun)
+
+pub returns-in-Err-clause-passes : goal.returns-in-Err-clause-passes
+returns-in-Err-clause-passes g c =
+    λ left consumed. file_refused _ c.in-Err.error _ _ _ _ _ _ _ _ _ c.at_beginning.ensures (c.in-Err.ensures.passes left consumed)

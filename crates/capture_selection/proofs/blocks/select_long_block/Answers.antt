@@ -6,17 +6,19 @@ use Rattle.capture_file.proofs.ReaderLemmas.{full}
 use Rattle.capture_file.specs.declared.pcapng.errors.BlockError.TheVariants.{CutOff, LastLength}
 use Rattle.capture_file.specs.declared.pcapng.read.NextBlock.TheVariants.{Refused, TooLong}
 use Rattle.capture_packet.specs.Frames.{max_packet_len}
-use Rattle.capture_selection.proofs.BlockLemmas.{alone, block_part, ends_refused, front_before, long_block_front, long_error, long_read_error, next_of, refused_block, written_append}
-use Rattle.capture_selection.proofs.PassingLemmas.{ends_in_part, front_of, passes_part}
-use Rattle.capture_selection.specs.Blocks.{IsLongBlock, StepsTo, blocks_of}
+use Rattle.capture_selection.proofs.BlockLemmas.{alone, block_part, ends_refused, front_before, long_block_front, long_read_error, next_of, refused_block, written_append}
+use Rattle.capture_selection.proofs.FirstBlockLemmas.{begun_past}
+use Rattle.capture_selection.proofs.PassingLemmas.{cut_at, front_of, next_long_at, passes_part, read_error_at}
+use Rattle.capture_selection.specs.Blocks.{IsLongBlock, StepsTo, blocks_of, refused_by}
 use Rattle.capture_selection.specs.Passing.{written_by}
 use Rattle.capture_selection.proofs.blocks.select_long_block.Goals as goal
 
 pub returns-in_err-len-clause-passes : goal.returns-in_err-len-clause-passes
 returns-in_err-len-clause-passes g c =
     λ left consumed.
-    long_error (blocks_of c.args.parts.now) _ _ c.args.file.now c.long_outcome-stepped.new.file left _ _ _ _ _ _ c.args.first.now
-    (λ bytes. long_block_front c.args.file.now c.args.first.now bytes c.args.header.now c.requires.header.has_len c.requires.header.is_header c.requires.room)
+    next_long_at (blocks_of c.args.parts.now) _ _ c.args.file.now _ left _ _ _ _ _ _ c.args.first.now _ c.place-place.ensures
+    (λ bytes. long_block_front c.args.file.now.reader c.args.first.now bytes c.args.header.now c.requires.header.has_len c.requires.header.is_header
+    c.requires.room)
     consumed c.in_err-len.ensures.passes (search rules)
 
 pub returns-then-len-middle_len-clause-passes : goal.returns-then-len-middle_len-clause-passes
@@ -27,13 +29,13 @@ returns-then-len-middle_len-clause-passes g c =
     let middle = c.in_ok-len.ensures.passes in
     let outcome = c.kept_outcome-outcome.result in
     let len = 12 + c.in_ok-len.len in
-    let section = c.args.file.now.section.byte_order in
+    let section = c.args.file.now.reader.section.byte_order in
     let has_room : length c.args.buffer.now ≡ max_packet_len = search rules in
-    let long = long_block_front c.args.file.now first middle.bytes header c.requires.header.has_len c.requires.header.is_header c.requires.room in
-    ends_refused _ _ c.args.place c.args.file.now (CutOff header.total_len len) left _ _ _ _ (first ++ middle.bytes)
-    (written_by (first ++ middle.bytes) outcome) c.args.buffer.now c.cut_off.ensures c.requires.place has_room
+    let long = long_block_front c.args.file.now.reader first middle.bytes header c.requires.header.has_len c.requires.header.is_header c.requires.room in
+    ends_refused _ _ c.args.file.now (CutOff header.total_len len) left _ _ _ _ (first ++ middle.bytes)
+    (written_by (first ++ middle.bytes) outcome) c.args.buffer.now (c.cut_off.ensures ∙ ap (λ place. cut_at place header.total_len len) c.place-place.ensures) has_room
     (Consumes-trans _ _ _ first middle.bytes consumed middle.consumed) middle.appended
-    (front_of outcome (first ++ middle.bytes) (IsLongBlock c.args.file.now (first ++ middle.bytes)) long)
+    (front_of outcome (first ++ middle.bytes) (IsLongBlock c.args.file.now.reader (first ++ middle.bytes)) long)
     (next_of section first middle.bytes c.args.buffer.now (Refused (CutOff header.total_len len))
     (cut_off_after section first middle.bytes (Some middle.bytes) (Some []) c.args.buffer.now header len (omega (arith, c.requires.header.has_len))
     c.requires.header.accepted c.requires.header.is_header (alone middle.bytes)
@@ -46,9 +48,9 @@ returns-in_err-len-2-clause-passes g c =
     λ left consumed.
     let first = c.args.first.now in
     let middle = c.in_ok-len.ensures.passes in
-    long_read_error c.args.parts.now _ _ c.args.file.now c.long_outcome-stepped.new.file left _ _ _ _ _ c.kept_outcome-outcome.result (first ++ middle.bytes)
-    c.in_err-len-2.ensures.failed (Consumes-trans _ _ _ first middle.bytes consumed middle.consumed) middle.appended
-    (long_block_front c.args.file.now first middle.bytes c.args.header.now c.requires.header.has_len c.requires.header.is_header c.requires.room)
+    long_read_error c.args.parts.now _ _ c.args.file.now _ left _ _ _ _ _ c.kept_outcome-outcome.result (first ++ middle.bytes)
+    (read_error_at _ _ _ c.place-place.ensures c.in_err-len-2.ensures.failed) (Consumes-trans _ _ _ first middle.bytes consumed middle.consumed) middle.appended
+    (long_block_front c.args.file.now.reader first middle.bytes c.args.header.now c.requires.header.has_len c.requires.header.is_header c.requires.room)
     (search rules)
 
 pub returns-then-len-lt-LAST_LEN-clause-passes : goal.returns-then-len-lt-LAST_LEN-clause-passes
@@ -63,14 +65,14 @@ returns-then-len-lt-LAST_LEN-clause-passes g c =
     let last_len : length last ≡ count = length-take-le count c.read_into.new.buffer c.in_ok-len-2.ensures.len in
     let four : length c.read_into.new.buffer ≡ 4 = omega (arith, c.read_into.auto.buffer) in
     let len = 12 + (header.total_len - 12 - 4) + count in
-    let section = c.args.file.now.section.byte_order in
+    let section = c.args.file.now.reader.section.byte_order in
     let has_room : length c.args.buffer.now ≡ max_packet_len = search rules in
-    let long = long_block_front c.args.file.now first (middle.bytes ++ last) header c.requires.header.has_len c.requires.header.is_header c.requires.room in
-    ends_refused _ _ c.args.place c.args.file.now (CutOff header.total_len len) left _ _ _ _ (first ++ (middle.bytes ++ last))
-    (written_by (first ++ middle.bytes) outcome) c.args.buffer.now c.cut_off-then-len-lt-LAST_LEN.ensures c.requires.place has_room
+    let long = long_block_front c.args.file.now.reader first (middle.bytes ++ last) header c.requires.header.has_len c.requires.header.is_header c.requires.room in
+    ends_refused _ _ c.args.file.now (CutOff header.total_len len) left _ _ _ _ (first ++ (middle.bytes ++ last))
+    (written_by (first ++ middle.bytes) outcome) c.args.buffer.now (c.cut_off-then-len-lt-LAST_LEN.ensures ∙ ap (λ place. cut_at place header.total_len len) c.place-place.ensures) has_room
     (Consumes-trans _ _ _ first (middle.bytes ++ last) consumed
     (Consumes-trans _ _ _ middle.bytes last middle.consumed c.in_ok-len-2.ensures.consumed)) middle.appended
-    (front_before outcome first middle.bytes last (IsLongBlock c.args.file.now (first ++ (middle.bytes ++ last))) long)
+    (front_before outcome first middle.bytes last (IsLongBlock c.args.file.now.reader (first ++ (middle.bytes ++ last))) long)
     (next_of section first (middle.bytes ++ last) c.args.buffer.now (Refused (CutOff header.total_len len))
     (cut_off_after section first (middle.bytes ++ last) (Some (middle.bytes ++ last)) (Some []) c.args.buffer.now header len
     (omega (arith, c.requires.header.has_len))
@@ -89,14 +91,14 @@ returns-then-last_len-header-clause-passes g c =
     let last : List ℕ = c.read_into.new.buffer in
     let four : length last ≡ 4 = omega (arith, c.read_into.auto.buffer) in
     let number = c.number-last_len.result in
-    let section = c.args.file.now.section.byte_order in
+    let section = c.args.file.now.reader.section.byte_order in
     let has_room : length c.args.buffer.now ≡ max_packet_len = search rules in
-    let long = long_block_front c.args.file.now first (middle.bytes ++ last) header c.requires.header.has_len c.requires.header.is_header c.requires.room in
+    let long = long_block_front c.args.file.now.reader first (middle.bytes ++ last) header c.requires.header.has_len c.requires.header.is_header c.requires.room in
     let read_last = full _ _ last c.in_ok-len-2.len (omega (arith, four, c.if-len-lt-LAST_LEN.false)) c.in_ok-len-2.ensures.consumed in
-    ends_refused _ _ c.args.place c.args.file.now (LastLength header.total_len number) left _ _ _ _ (first ++ (middle.bytes ++ last))
-    (written_by (first ++ middle.bytes) outcome) c.args.buffer.now c.refused.ensures c.requires.place has_room
+    ends_refused _ _ c.args.file.now (LastLength header.total_len number) left _ _ _ _ (first ++ (middle.bytes ++ last))
+    (written_by (first ++ middle.bytes) outcome) c.args.buffer.now (c.refused.ensures ∙ ap (λ place. refused_by place (LastLength header.total_len number)) c.place-place.ensures) has_room
     (Consumes-trans _ _ _ first (middle.bytes ++ last) consumed (Consumes-trans _ _ _ middle.bytes last middle.consumed read_last)) middle.appended
-    (front_before outcome first middle.bytes last (IsLongBlock c.args.file.now (first ++ (middle.bytes ++ last))) long)
+    (front_before outcome first middle.bytes last (IsLongBlock c.args.file.now.reader (first ++ (middle.bytes ++ last))) long)
     (next_of section first (middle.bytes ++ last) c.args.buffer.now (Refused (LastLength header.total_len number))
     (differs_after section first middle.bytes last (Some (middle.bytes ++ last)) (Some []) c.args.buffer.now header number
     (omega (arith, c.requires.header.has_len)) c.requires.header.accepted c.requires.header.is_header (alone (middle.bytes ++ last)) four
@@ -113,24 +115,33 @@ returns-in-Err-clause-passes g c =
     let outcome = c.kept_outcome-outcome.result in
     let last : List ℕ = c.read_into.new.buffer in
     let four : length last ≡ 4 = omega (arith, c.read_into.auto.buffer) in
-    let section = c.args.file.now.section.byte_order in
+    let section = c.args.file.now.reader.section.byte_order in
     let has_room : length c.args.buffer.now ≡ max_packet_len = search rules in
-    let long = long_block_front c.args.file.now first (middle.bytes ++ last) header c.requires.header.has_len c.requires.header.is_header c.requires.room in
+    let long = long_block_front c.args.file.now.reader first (middle.bytes ++ last) header c.requires.header.has_len c.requires.header.is_header c.requires.room in
     let read_last = full _ _ last c.in_ok-len-2.len (omega (arith, four, c.if-len-lt-LAST_LEN.false)) c.in_ok-len-2.ensures.consumed in
     let is_next = next_of section first (middle.bytes ++ last) c.args.buffer.now (TooLong header)
     (passed_over section first middle.bytes last (Some (middle.bytes ++ last)) (Some []) c.args.buffer.now header c.number-last_len.result
     (omega (arith, c.requires.header.has_len)) c.requires.header.accepted c.requires.header.is_header (alone (middle.bytes ++ last)) four
     (omega (arith, c.requires.header.has_len, middle.has_len, c.in_ok-len.ensures.within, c.if-len-middle_len.false, c.requires.room, length-append first middle.bytes))
     c.number-last_len.ensures (omega (arith, c.if-last_len-header.false)) (omega (arith, has_room, c.requires.room))) in
-    let steps = subst (StepsTo c.args.parts.now c.args.file.now c.args.buffer.now (TooLong header) c.long_outcome-stepped.new.file) c.in-Err.is
+    let steps = subst (StepsTo c.args.parts.now c.args.file.now.reader c.args.buffer.now (TooLong header) c.long_outcome-stepped.new.file) c.in-Err.is
     (c.long_outcome-stepped.ensures.steps c.args.buffer.now) in
-    inr (ends_in_part _ _ _ left _ _ _ _ _ (first ++ (middle.bytes ++ last)) (written_by (first ++ middle.bytes) outcome)
-    (Consumes-trans _ _ _ first (middle.bytes ++ last) consumed (Consumes-trans _ _ _ middle.bytes last middle.consumed read_last)) middle.appended
-    (front_before outcome first middle.bytes last (IsLongBlock c.args.file.now (first ++ (middle.bytes ++ last))) long) (
-      refused_block c.args.parts.now c.args.file.now c.long_outcome-stepped.new.file (first ++ (middle.bytes ++ last)) c.args.buffer.now (TooLong header)
-          c.in-Err.error has_room is_next steps,
+    inr (
+      record {
+        then_left = _;
+        rest = first ++ (middle.bytes ++ last);
+        front = written_by (first ++ middle.bytes) outcome;
+        consumed = Consumes-trans _ _ _ first (middle.bytes ++ last) consumed (Consumes-trans _ _ _ middle.bytes last middle.consumed read_last);
+        appended = middle.appended;
+        is_front = front_before outcome first middle.bytes last (IsLongBlock c.args.file.now.reader (first ++ (middle.bytes ++ last))) long;
+        ends = (
+          refused_block c.args.parts.now c.args.file.now.reader c.long_outcome-stepped.new.file (first ++ (middle.bytes ++ last)) c.args.buffer.now
+              (TooLong header) c.in-Err.error has_room is_next steps,
+          refl,
+        );
+      },
       refl,
-    ))
+    )
 
 pub returns-clause-passes : goal.returns-clause-passes
 returns-clause-passes g c =
@@ -141,7 +152,7 @@ returns-clause-passes g c =
     let outcome = c.kept_outcome-outcome.result in
     let last : List ℕ = c.read_into.new.buffer in
     let four : length last ≡ 4 = omega (arith, c.read_into.auto.buffer) in
-    let section = c.args.file.now.section.byte_order in
+    let section = c.args.file.now.reader.section.byte_order in
     let has_room : length c.args.buffer.now ≡ max_packet_len = search rules in
     let read_last = full _ _ last c.in_ok-len-2.len (omega (arith, four, c.if-len-lt-LAST_LEN.false)) c.in_ok-len-2.ensures.consumed in
     let is_next = next_of section first (middle.bytes ++ last) c.args.buffer.now (TooLong header)
@@ -150,12 +161,22 @@ returns-clause-passes g c =
     (omega (arith, c.requires.header.has_len, middle.has_len, c.in_ok-len.ensures.within, c.if-len-middle_len.false, c.requires.room, length-append first middle.bytes))
     c.number-last_len.ensures (omega (arith, c.if-last_len-header.false)) (omega (arith, has_room, c.requires.room))) in
     let stepped : c.long_outcome-stepped.result ≡ Ok outcome = c.in_default.is ∙ ap Ok (sym (c.kept_outcome-outcome.ensures c.in_default.field-0 c.in_default.is)) in
-    let steps = subst (StepsTo c.args.parts.now c.args.file.now c.args.buffer.now (TooLong header) c.long_outcome-stepped.new.file) stepped
+    let steps = subst (StepsTo c.args.parts.now c.args.file.now.reader c.args.buffer.now (TooLong header) c.long_outcome-stepped.new.file) stepped
     (c.long_outcome-stepped.ensures.steps c.args.buffer.now) in
-    passes_part _ _ _ left _ _ _ _ _ (record { bytes = first ++ (middle.bytes ++ last); outcome = outcome })
-    (block_part c.args.parts.now c.args.file.now c.long_outcome-stepped.new.file (first ++ (middle.bytes ++ last)) c.args.buffer.now (TooLong header)
-    outcome has_room is_next steps)
+    passes_part _ _ _ left _ _ _ _ _ (record { bytes = first ++ (middle.bytes ++ last); outcome = outcome }) (
+      block_part c.args.parts.now c.args.file.now.reader c.long_outcome-stepped.new.file (first ++ (middle.bytes ++ last)) c.args.buffer.now (TooLong header)
+          outcome has_room is_next steps,
+      c.number_after-file.ensures,
+    )
     (Consumes-trans _ _ _ first (middle.bytes ++ last) consumed (Consumes-trans _ _ _ middle.bytes last middle.consumed read_last))
     (subst (Appends (g.W.Write.contents c.args.output.now) (g.W.Write.contents c.write_part.new.output)) (sym (written_append outcome first middle.bytes last))
     (Appends-trans _ _ _ (written_by (first ++ middle.bytes) outcome) (written_by last outcome) middle.appended c.in_ok-write_part.ensures.appends))
     c.add_if.ensures.counted
+
+pub returns-clause-begun : goal.returns-clause-begun
+returns-clause-begun g c =
+    let outcome = c.kept_outcome-outcome.result in
+    let stepped : c.long_outcome-stepped.result ≡ Ok outcome = c.in_default.is ∙ ap Ok (sym (c.kept_outcome-outcome.ensures c.in_default.field-0 c.in_default.is)) in
+    let steps = subst (StepsTo c.args.parts.now c.args.file.now.reader c.args.buffer.now (TooLong c.args.header.now) c.long_outcome-stepped.new.file) stepped
+    (c.long_outcome-stepped.ensures.steps c.args.buffer.now) in
+    begun_past _ _ _ c.requires.header.len.0 steps.1.0

@@ -3,7 +3,7 @@ use Rattle.std.proofs.lemmas.List.{take_all}
 use Rattle.std.specs.Io.KnownBytes.{Consumes}
 use Rattle.capture_file.proofs.ReaderLemmas.{fills_whole}
 use Rattle.capture_file.specs.Opening.{SaysHeader}
-use Rattle.capture_selection.proofs.CaptureLemmas.{all_consumed, refuses_capture, selects_capture, selects_to_write_error}
+use Rattle.capture_selection.proofs.CaptureLemmas.{all_consumed, passes_from, refuses_capture, selects_capture, selects_to_write_error}
 use Rattle.capture_selection.proofs.capture.select_capture.Goals as goal
 
 pub returns-in-Err-header_in-clause-selects : goal.returns-in-Err-header_in-clause-selects
@@ -32,5 +32,6 @@ returns-clause-selects g c =
       then_held = _;
       consumed = subst (Consumes left (g.R.Read.remaining c.fill_after.new.input)) whole (all_consumed left _ _ c.args.begin.now first len consumed fills);
       appended = c.in_ok-write.ensures.appends;
-      passes = c.select_records.ensures.passes;
+      after = _;
+      passes = passes_from _ _ _ _ _ _ _ _ _ _ _ c.after-records.ensures c.select_records.ensures.passes;
     })

@@ -1,4 +1,4 @@
-use Rattle.std.proofs.Common.{inl, inr, refl, rules, sym, ◌∙◌}
+use Rattle.std.proofs.Common.{inl, inr, refl, sym, ◌∙◌}
 use Rattle.capture_selection.proofs.CaptureLemmas.{begins_pcapng, selects_blocks}
 use Rattle.capture_selection.proofs.capture.write_selected.Goals as goal
 
@@ -17,7 +17,7 @@ returns-clause-selects g c = selects_blocks _ _ _ _ _ _ _ _ (
   inl (
     _,
     _,
-    record { byte_order = search rules; interfaces = search rules; offset = search rules },
+    c.start-file.ensures,
     c.select_blocks.ensures.passes _ c.in-Ok.ensures.consumed,
   ),
 )

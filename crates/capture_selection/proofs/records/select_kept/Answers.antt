@@ -1,17 +1,18 @@
-use Rattle.std.proofs.Common.{◌++◌, Some, ap, arith, inl, length-take, length-take-le, refl, rules, subst, take, []}
+use Rattle.std.proofs.Common.{◌≡◌, ◌+◌, ◌++◌, ◌∙◌, Some, ap, arith, inl, length, length-append, length-take, length-take-le, refl, rules, subst, sym, take, []}
 use Rattle.std.proofs.KnownBytes.{Appends-nil, Consumes-trans}
 use Rattle.capture_file.proofs.ReaderLemmas.{full}
 use Rattle.capture_file.specs.CapturePackets.{kept}
 use Rattle.capture_file.specs.Packets.{packet_of_record}
 use Rattle.capture_packet.specs.Frames.{max_packet_len}
 use Rattle.capture_run.specs.Report.{IsPacketOf}
-use Rattle.capture_selection.proofs.PassingLemmas.{ends_cut, passes_part, passes_to_read_error}
+use Rattle.capture_selection.proofs.PassingLemmas.{ends_cut, next_to_read_error, passes_part}
 use Rattle.capture_selection.proofs.RecordLemmas.{cut_captured, record_packet_kept, record_part}
+use Rattle.capture_selection.specs.Records.{records_after}
 use Rattle.capture_selection.proofs.records.select_kept.Goals as goal
 
 pub returns-in_err-len-clause-passes : goal.returns-in_err-len-clause-passes
 returns-in_err-len-clause-passes g c =
-    λ left consumed. passes_to_read_error _ _ _ _ _ _ _ _ _ _ _ c.in_err-len.ensures.failed consumed (search rules)
+    λ left consumed. next_to_read_error _ _ _ _ _ _ _ _ _ _ _ c.in_err-len.ensures.failed consumed (search rules)
 
 pub returns-then-len-frame-clause-passes : goal.returns-then-len-frame-clause-passes
 returns-then-len-frame-clause-passes g c =
@@ -22,9 +23,9 @@ returns-then-len-frame-clause-passes g c =
     let captured_len = ap (λ header. header.captured_len) c.requires.header in
     let room = length-take c.args.header.now.captured_len c.args.buffer.now in
     let taken = length-take-le len frame c.in_ok-len.ensures.len in
-    ends_cut _ _ _ _ _ _ _ left _ _ _ _ (first ++ take len frame) [] c.cut_off.ensures
+    ends_cut _ _ _ _ _ left _ _ _ _ (first ++ take len frame) [] c.cut_off.ensures
     (Consumes-trans _ _ _ first (take len frame) consumed c.in_ok-len.ensures.consumed) (Appends-nil _) (inl refl)
-    (cut_captured c.args.capture.now first (take len frame) _ _ (search rules)
+    (cut_captured c.args.records.now.header first (take len frame) _ _ (search rules)
     (omega (arith, taken, captured_len, room, c.read_into.auto.buffer, c.requires.room, c.if-len-frame.true))
     (omega (arith, captured_len, room, c.read_into.auto.buffer, c.requires.room))
     (omega (arith, taken)))
@@ -33,7 +34,7 @@ returns-then-len-frame-clause-passes g c =
 pub returns-clause-passes : goal.returns-clause-passes
 returns-clause-passes g c =
     λ left consumed.
-    let capture = c.args.capture.now in
+    let capture = c.args.records.now.header in
     let first = c.args.first.now in
     let frame = c.read_into.new.buffer in
     let packet = c.packet_in_frame-packet.result in
@@ -42,8 +43,11 @@ returns-clause-passes g c =
     let room = length-take c.args.header.now.captured_len c.args.buffer.now in
     let is_packet = subst (λ header. IsPacketOf (kept (packet_of_record capture header) frame) packet) c.requires.header
     (subst (λ captured. IsPacketOf (kept captured frame) packet) c.from_record.ensures c.packet_in_frame-packet.ensures) in
+    let sixteen : length first ≡ 16 = search rules in
+    let whole : length (first ++ frame) ≡ 16 + c.args.header.now.captured_len =
+    omega (arith, length-append first frame, sixteen, room, c.read_into.auto.buffer, c.requires.room) in
     passes_part _ _ _ left _ _ _ _ _ (record { bytes = first ++ frame; outcome = Some outcome }) (
-      refl,
+      c.pass.ensures ∙ ap (records_after c.args.records.now) (sym whole),
       record_part c.args.parts.now capture first frame _ packet outcome (search rules)
           (omega (arith, captured_len, room, c.read_into.auto.buffer, c.requires.room))
           (record_packet_kept max_packet_len capture first frame (search rules) (omega (arith, captured_len, c.requires.room)))

@@ -1,21 +1,21 @@
-use Rattle.std.proofs.Common.{◌++◌, Some, ap, arith, refl, rules, subst}
+use Rattle.std.proofs.Common.{◌≡◌, ◌+◌, ◌++◌, ◌∙◌, Some, ap, arith, length, length-append, rules, subst, sym}
 use Rattle.std.proofs.KnownBytes.{Consumes-trans}
 use Rattle.capture_file.specs.CapturePackets.{too_long}
 use Rattle.capture_file.specs.Packets.{long_record}
 use Rattle.capture_packet.specs.Frames.{max_packet_len}
 use Rattle.capture_run.specs.Report.{IsPacketOf}
-use Rattle.capture_selection.proofs.PassingLemmas.{ends_cut, front_of, passes_long_to_error, passes_part}
+use Rattle.capture_selection.proofs.PassingLemmas.{ends_cut, front_of, next_long_to_error, passes_part}
 use Rattle.capture_selection.proofs.RecordLemmas.{cut_captured, long_record_front, record_packet_long, record_part}
 use Rattle.capture_selection.specs.Passing.{written_by}
-use Rattle.capture_selection.specs.Records.{IsLongRecord}
+use Rattle.capture_selection.specs.Records.{IsLongRecord, records_after}
 use Rattle.capture_selection.proofs.records.select_long.Goals as goal
 
 pub returns-in_err-len-clause-passes : goal.returns-in_err-len-clause-passes
 returns-in_err-len-clause-passes g c =
     λ left consumed.
     let captured_len = ap (λ header. header.captured_len) c.requires.header in
-    passes_long_to_error _ _ _ _ left _ _ _ _ _ _ c.args.first.now
-    (λ bytes. long_record_front c.args.capture.now c.args.first.now bytes (search rules) (omega (arith, captured_len, c.requires.room)))
+    next_long_to_error _ _ _ _ _ left _ _ _ _ _ _ c.args.first.now
+    (λ bytes. long_record_front c.args.records.now.header c.args.first.now bytes (search rules) (omega (arith, captured_len, c.requires.room)))
     consumed c.in_err-len.ensures.passes (search rules)
 
 pub returns-then-len-captured_len-clause-passes : goal.returns-then-len-captured_len-clause-passes
@@ -25,11 +25,11 @@ returns-then-len-captured_len-clause-passes g c =
     let rest = c.in_ok-len.ensures.passes in
     let outcome = Some c.outcome_of-outcome.result in
     let captured_len = ap (λ header. header.captured_len) c.requires.header in
-    let long = long_record_front c.args.capture.now first rest.bytes (search rules) (omega (arith, captured_len, c.requires.room)) in
-    ends_cut _ _ _ _ _ _ _ left _ _ _ _ (first ++ rest.bytes) (written_by (first ++ rest.bytes) outcome) c.cut_off.ensures
+    let long = long_record_front c.args.records.now.header first rest.bytes (search rules) (omega (arith, captured_len, c.requires.room)) in
+    ends_cut _ _ _ _ _ left _ _ _ _ (first ++ rest.bytes) (written_by (first ++ rest.bytes) outcome) c.cut_off.ensures
     (Consumes-trans _ _ _ first rest.bytes consumed rest.consumed) rest.appended
-    (front_of outcome (first ++ rest.bytes) (IsLongRecord c.args.capture.now (first ++ rest.bytes)) long)
-    (cut_captured c.args.capture.now first rest.bytes _ _ (search rules)
+    (front_of outcome (first ++ rest.bytes) (IsLongRecord c.args.records.now.header (first ++ rest.bytes)) long)
+    (cut_captured c.args.records.now.header first rest.bytes _ _ (search rules)
     (omega (arith, rest.has_len, captured_len, c.if-len-captured_len.true))
     (omega (arith, captured_len))
     (omega (arith, rest.has_len)))
@@ -38,14 +38,17 @@ returns-then-len-captured_len-clause-passes g c =
 pub returns-clause-passes : goal.returns-clause-passes
 returns-clause-passes g c =
     λ left consumed.
-    let capture = c.args.capture.now in
+    let capture = c.args.records.now.header in
     let first = c.args.first.now in
     let rest = c.in_ok-len.ensures.passes in
     let packet = c.packet_without_room.result in
     let outcome = c.outcome_of-outcome.result in
     let captured_len = ap (λ header. header.captured_len) c.requires.header in
+    let sixteen : length first ≡ 16 = search rules in
+    let whole : length (first ++ rest.bytes) ≡ 16 + c.args.header.now.captured_len =
+    omega (arith, length-append first rest.bytes, sixteen, rest.has_len, c.in_ok-len.ensures.within, c.if-len-captured_len.false) in
     passes_part _ _ _ left _ _ _ _ _ (record { bytes = first ++ rest.bytes; outcome = Some outcome }) (
-      refl,
+      c.pass.ensures ∙ ap (records_after c.args.records.now) (sym whole),
       record_part c.args.parts.now capture first rest.bytes _ packet outcome (search rules)
           (omega (arith, rest.has_len, captured_len, c.in_ok-len.ensures.within, c.if-len-captured_len.false))
           (record_packet_long max_packet_len capture first rest.bytes (search rules) (omega (arith, captured_len, c.requires.room)))

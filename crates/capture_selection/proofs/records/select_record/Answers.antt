@@ -1,17 +1,17 @@
 use Rattle.std.proofs.Common.{[], arith, inl, refl, rules, take}
 use Rattle.std.proofs.KnownBytes.{Appends-nil, Consumes-nil}
-use Rattle.capture_selection.proofs.PassingLemmas.{ends_cut, passes_to_read_error}
+use Rattle.capture_selection.proofs.PassingLemmas.{ends_cut, next_to_read_error}
 use Rattle.capture_selection.proofs.RecordLemmas.{cut_header}
 use Rattle.capture_selection.proofs.records.select_record.Goals as goal
 
 pub returns-in_err-len-clause-passes : goal.returns-in_err-len-clause-passes
 returns-in_err-len-clause-passes g c =
-    passes_to_read_error _ _ _ _ _ _ _ _ _ _ [] c.in_err-len.ensures.failed (Consumes-nil _) (search rules)
+    next_to_read_error _ _ _ _ _ _ _ _ _ _ [] c.in_err-len.ensures.failed (Consumes-nil _) (search rules)
 
 pub returns-then-len-lt-LEN-clause-passes : goal.returns-then-len-lt-LEN-clause-passes
 returns-then-len-lt-LEN-clause-passes g c =
     let first = c.read_into.new.buffer in
     let len = c.in_ok-len.len in
-    ends_cut _ _ _ _ _ _ _ _ _ _ _ _ (take len first) [] c.cut_off.ensures c.in_ok-len.ensures.consumed (Appends-nil _) (inl refl)
-    (cut_header c.args.capture.now first len (search rules) (λ none. search rules) (omega (arith, c.if-len-lt-LEN.true)))
+    ends_cut _ _ _ _ _ _ _ _ _ _ (take len first) [] c.cut_off.ensures c.in_ok-len.ensures.consumed (Appends-nil _) (inl refl)
+    (cut_header c.args.records.now.header first len (search rules) (λ none. search rules) (omega (arith, c.if-len-lt-LEN.true)))
     (c.in_ok-len.ensures.end (search rules))

@@ -4,9 +4,9 @@ use Rattle.capture_selection.specs.Records.{records_of}
 use Rattle.capture_selection.proofs.records.select_records.Given as goal
 
 -- the records read so far were passed, and no more packets are chosen than requested
-abbrev pub invariant-loop-number : goal.invariant-loop-number
-invariant-loop-number g l = record {
-  passes : Passes (records_of l.parts) l.capture l.capture (g.R.Read.remaining l.initial.input) (g.R.Read.remaining l.input)
+abbrev pub invariant-loop-record : goal.invariant-loop-record
+invariant-loop-record g l = record {
+  passes : Passes (records_of l.parts) l.initial.records l.records (g.R.Read.remaining l.initial.input) (g.R.Read.remaining l.input)
       (g.W.Write.contents l.initial.output) (g.W.Write.contents l.output) l.initial.counts l.counts;
   within : IsWithin l.parts.limit l.initial.counts.chosen → IsWithin l.parts.limit l.counts.chosen;
 }
