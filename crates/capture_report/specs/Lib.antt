@@ -4,5 +4,7 @@ pub mod CommandLine
 pub mod Failures
 pub mod Inputs
 pub mod Options
+pub mod Outputs
 pub mod Progress
+pub mod Rejections
 pub mod Words

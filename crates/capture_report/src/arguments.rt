@@ -1,10 +1,12 @@
 //! The arguments of the program.
 
-ghost use Rattle.std.specs.Prelude.{◌≡◌, ◌⊎◌, Bool, IfErr, IfOk, None, Some, codes, false, if◌then◌else◌, map, string_bytes};
+ghost use Rattle.std.specs.Prelude.{◌≡◌, ◌⊎◌, Bool, IfErr, IfOk, None, Some, codes, false, if◌then◌else◌, map, option_map, string_bytes};
 ghost use Rattle.clap.specs.Words.{IsPlainArg, app_of, kind_of, rule_of};
 ghost use Rattle.clap.specs.declared.error.kind.ErrorKind.TheVariants as ErrorKind;
 ghost use Rattle.capture_report.specs.Arguments.{HasFlag, HasNumberOr};
 ghost use Rattle.capture_report.specs.Options.{IsOptionsOf, IsRefusedBy, names_of};
+ghost use Rattle.capture_report.specs.Outputs.{fault_of};
+ghost use Rattle.capture_report.specs.Rejections.{AreRejectedBy};
 ghost use Rattle.capture_report.specs.CommandLine.{AreRequestedBy, IsCommandLine, bare_command, choice_rules, conflicting, count_rule, end_rules, file_rule, file_rules, flag_rule, form_rules, line_buffered_rule, line_rules, numeric_rule, output_rules, protocol_names, read_rule, repeated, top_rule, value_rule, verbose_rule, with_rules, write_rule};
 ghost use Rattle.capture_summary.specs.Ranking.{default_top};
 ghost use Rattle.capture_text.specs.TimeText.{times_by};
@@ -57,7 +59,9 @@ pub struct Options<'a> {
 /// An unknown argument is named in the text of the error, whose exit status is 2. A request for help or for the version is also an error.
 /// Its text goes to standard output, and its exit status is 0.
 pub fn requested_options<'a>(alloc: Global, words: &'a [String]) -> Result<Options<'a>, Error>
-    ensures { IfOk result (AreRequestedBy (map (λ word. string_bytes word) words.now)) }
+    ensures options { IfOk result (AreRequestedBy (map (λ word. string_bytes word) words.now)) }
+    ensures writable { IfOk result (λ options. fault_of options ≡ None) }
+    ensures rejected { IfErr result (AreRejectedBy (map (λ word. string_bytes word) words.now)) }
 {
     let options = given_options(alloc, words)?;
     match output_fault(&options) {
@@ -68,7 +72,8 @@ pub fn requested_options<'a>(alloc: Global, words: &'a [String]) -> Result<Optio
 
 /// The options in the arguments, whether the requested file can be written or not.
 fn given_options<'a>(alloc: Global, words: &'a [String]) -> Result<Options<'a>, Error>
-    ensures { IfOk result (AreRequestedBy (map (λ word. string_bytes word) words.now)) }
+    ensures options { IfOk result (AreRequestedBy (map (λ word. string_bytes word) words.now)) }
+    ensures rejected { IfErr result (AreRejectedBy (map (λ word. string_bytes word) words.now)) }
 {
     let matches = command(alloc)?.try_get_matches_from(words)?;
     match options_of(alloc, &matches) {
@@ -200,7 +205,9 @@ fn invalid_choice(alloc: Global, error: ChoiceError<'_>) -> Result<Error, Error>
 
 /// Why the packets of the captures can't be written to the requested file, if they can't: there are several captures, or the file is the
 /// capture.
-fn output_fault(options: &Options<'_>) -> Option<&'static str> {
+fn output_fault(options: &Options<'_>) -> Option<&'static str>
+    ensures { option_map (λ text. text.now) result ≡ fault_of options.now }
+{
     let name = options.write?;
     match options.files.as_slice() {
         [] => None,

@@ -1,10 +1,11 @@
 //! The source of captures.
 
-ghost use Rattle.std.specs.Prelude.{◌≡◌, IfOk};
-ghost use Rattle.capture_report.specs.Inputs.{IsFileLen, IsRequestedBy, is_escaped};
+ghost use Rattle.std.specs.Prelude.{◌≡◌, IfOk, IsTrue};
+ghost use Rattle.capture_report.specs.Inputs.{IsFile, IsFileLen, IsRequestedBy, is_escaped};
+ghost use Rattle.capture_report.specs.Outputs.{is_same_file};
 
 use capture_run::STANDARD_INPUT;
-use std::fs::File;
+use std::fs::{File, Metadata};
 use std::io::{ErrorKind, Read, Stdin};
 use std::os::unix::fs::MetadataExt;
 use std::{fs, io};
@@ -53,15 +54,47 @@ impl Input {
         }
     }
 
-    /// Whether this input is the file with this name, by the numbers of the device and of the file.
-    pub fn is_named(&self, rt: &HostRuntime, name: &str) -> bool {
+    /// Whether this input is the file with this name, by the numbers of the device and of the file. Standard input is no such file.
+    pub fn is_named(&self, rt: &HostRuntime, name: &str) -> bool
+        ensures { IsTrue result → IsFile self.now }
+    {
         let Input::File(file) = self else {
             return false;
         };
-        match (file.metadata(), fs::metadata(rt, name)) {
-            (Ok(this), Ok(other)) => this.dev() == other.dev() && this.ino() == other.ino(),
-            _ => false,
-        }
+        is_same_file(
+            FileId::of(file.metadata()),
+            FileId::of(fs::metadata(rt, name)),
+        )
+    }
+}
+
+/// The numbers by which the system names a file.
+#[derive(Clone, Copy)]
+pub struct FileId {
+    /// The number of the device that has the file.
+    pub device: u64,
+    /// The number of the file on the device.
+    pub number: u64,
+}
+
+impl FileId {
+    /// The numbers in what the system tells about a file. `None` if it tells nothing.
+    fn of(told: io::Result<Metadata>) -> Option<FileId> {
+        let metadata = told.ok()?;
+        Some(FileId {
+            device: metadata.dev(),
+            number: metadata.ino(),
+        })
+    }
+}
+
+/// Whether two files are the same file. A file without numbers is no other file.
+fn is_same_file(file: Option<FileId>, other: Option<FileId>) -> bool
+    ensures { result ≡ is_same_file file other }
+{
+    match (file, other) {
+        (Some(file), Some(other)) => file.device == other.device && file.number == other.number,
+        _ => false,
     }
 }
 

@@ -10,10 +10,13 @@
 //! ```
 #![tactic(auto)]
 
-ghost use Rattle.std.specs.Prelude.{◌≡◌, ◌-◌, ◌^◌, IsTrue};
+ghost use Rattle.std.specs.Prelude.{◌≡◌, ◌-◌, ◌^◌, IfOk, IsTrue, Ok};
 ghost use Rattle.std.specs.IoError.{error_kind};
+ghost use Rattle.clap.specs.Words.{kind_of};
 ghost use Rattle.capture_report.specs.Failures.{failure_number, write_failure_number};
+ghost use Rattle.capture_report.specs.Outputs.{WritesSelection, written_status};
 ghost use Rattle.capture_report.specs.Progress.{inner_of, next_of};
+ghost use Rattle.capture_report.specs.Rejections.{answer_number};
 
 mod arguments;
 mod chosen;
@@ -32,7 +35,7 @@ use progress::{Progress, is_shown};
 use std::fs::File;
 use std::hash::RandomState;
 use std::io;
-use std::io::{BufReader, BufWriter, ErrorKind, IsTerminal, LineWriter, Write};
+use std::io::{BufReader, BufWriter, ErrorKind, IsTerminal, LineWriter, Read, Write};
 use std::process::ExitCode;
 use streams::new_buffer;
 use words::{OwnArguments, words_of};
@@ -85,7 +88,9 @@ fn status(rt: &HostRuntime) -> io::Result<u8> {
 }
 
 /// Writes the error in the arguments, or the text that they request, and returns the exit status.
-fn answer(rt: &HostRuntime, error: clap::Error) -> io::Result<u8> {
+fn answer(rt: &HostRuntime, error: clap::Error) -> io::Result<u8>
+    ensures { IfOk result (λ status. status ≡ answer_number (kind_of error)) }
+{
     error.print(rt)?;
     Ok(error.exit_code() as u8)
 }
@@ -139,7 +144,9 @@ fn write_to(rt: &HostRuntime, options: &Options<'_>, name: &str) -> io::Result<u
 }
 
 /// Writes the error of a file that can't be opened or created, and returns the exit status.
-fn unopened(rt: &HostRuntime, name: &str, error: &io::Error) -> io::Result<u8> {
+fn unopened(rt: &HostRuntime, name: &str, error: &io::Error) -> io::Result<u8>
+    ensures { result ≡ Ok 3 }
+{
     // If writing to standard error fails, the exit status still reports the failure.
     let _ = write_open_error(&mut rt.stderr(), rt.alloc(), name, error);
     Ok(ExitStatus::Failed.number())
@@ -157,8 +164,24 @@ fn write_packets<W: Write + Drop>(
     let mut output = BufWriter::with_capacity(rt.alloc(), BUFFER_LEN, output)?;
     let mut bytes = new_buffer(rt.alloc(), MAX_PACKET_LEN)?;
     let buffer = bytes.as_mut_slice().as_mut_array().unwrap();
+    write_selection(rt, parts, name, &mut input, &mut output, buffer)
+}
+
+/// Writes the packets of a capture with this name, if it has one, to the output, and then their numbers to standard error. Returns the exit
+/// status.
+fn write_selection<R: Read, W: Write>(
+    rt: &HostRuntime,
+    parts: &Parts,
+    name: Option<&str>,
+    input: &mut R,
+    output: &mut W,
+    buffer: &mut [u8; MAX_PACKET_LEN],
+) -> io::Result<u8>
+    ensures { IfOk result (WritesSelection parts.now (R.remaining input.old) (R.remaining input.new) (W.contents output.old)
+        (W.contents output.new)) }
+{
     let mut counts = Counts::NONE;
-    let ended = write_selected(&mut input, &mut output, buffer, parts, &mut counts);
+    let ended = write_selected(input, output, buffer, parts, &mut counts);
     // What was written before an error is part of the output.
     let flushed = output.flush();
     let status = written_status(rt, name, ended)?;
@@ -176,7 +199,9 @@ fn written_status(
     rt: &HostRuntime,
     name: Option<&str>,
     ended: Result<(), SelectionError>,
-) -> io::Result<ExitStatus> {
+) -> io::Result<ExitStatus>
+    ensures { result ≡ written_status ended }
+{
     match ended {
         Ok(()) | Err(SelectionError::Capture(CaptureError::Enough)) => Ok(ExitStatus::Success),
         Err(SelectionError::Capture(error)) => {

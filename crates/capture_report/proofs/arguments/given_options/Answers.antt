@@ -1,12 +1,28 @@
-use Rattle.std.proofs.Common.{map, string_bytes}
+use Rattle.std.proofs.Common.{inl, inr, map, rules, string_bytes, subst}
 use Rattle.clap.specs.Words.{app_of}
-use Rattle.capture_report.proofs.CommandLemmas.{matches_of_command_line}
+use Rattle.capture_report.specs.Options.{IsRefusedBy}
+use Rattle.capture_report.proofs.CommandLemmas.{matches_of_command_line, no_match}
 use Rattle.capture_report.proofs.arguments.given_options.Goals as goal
 
 -- the matches of the words, and the options in them
-pub returns-in-Ok : goal.returns-in-Ok
-returns-in-Ok c =
+pub returns-in-Ok-clause-options : goal.returns-in-Ok-clause-options
+returns-in-Ok-clause-options c =
     let words = map (λ word. string_bytes word) c.args.words.now in
     let line = c.in_ok-command.ensures.options in
     let found = matches_of_command_line (app_of c.in_ok-command.field-0) words _ line c.in_ok-matches.ensures.matches in
     (c.in_ok-matches.matches, found, c.in-Ok.ensures.options)
+
+-- clap rejects the words
+pub returns-in_err-matches-clause-rejected : goal.returns-in_err-matches-clause-rejected
+returns-in_err-matches-clause-rejected c =
+    no_match (app_of c.in_ok-command.field-0) (map (λ word. string_bytes word) c.args.words.now) c.in_err-matches.field-0.0 _ c.in_ok-command.ensures.options
+    c.in_err-matches.ensures.passes (search rules)
+
+-- the matches contain no choice
+pub returns-in-Err-Choice-clause-rejected : goal.returns-in-Err-Choice-clause-rejected
+returns-in-Err-Choice-clause-rejected c =
+    let words = map (λ word. string_bytes word) c.args.words.now in
+    let line = c.in_ok-command.ensures.options in
+    let found = matches_of_command_line (app_of c.in_ok-command.field-0) words _ line c.in_ok-matches.ensures.matches in
+    let refusal = subst (IsRefusedBy c.in_ok-matches.matches) c.in-Err-Choice.field-0-is c.in-Err-Choice.ensures.refusal in
+    inr (inr (inl (c.in_ok-invalid_choice-in-Err-Choice.ensures.kind, (c.in_ok-matches.matches, c.in-Err-Choice.error, found, refusal))))

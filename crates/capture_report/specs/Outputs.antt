@@ -1,0 +1,65 @@
+-- The file to which the packets of a capture are written instead of a report.
+use Rattle.std.specs.Prelude.{◌≡◌, ℕ, ◌==◌, ◌&&◌, not, Bool, false, if◌then◌else◌, List, [], ◌∷◌, codes, map, Option, Some, None, Result, Ok, Err}
+use Rattle.std.specs.Io.KnownBytes.{Keeps}
+use Rattle.std.specs.Option.{option_map}
+use Rattle.std.specs.Str.{bytes_eq}
+use Rattle.std.specs.declared.io.Error.{Error}
+use Rattle.capture_run.specs.Endings.{exit_status}
+use Rattle.capture_run.specs.declared.exit_status.ExitStatus.{ExitStatus}
+use Rattle.capture_run.specs.declared.exit_status.ExitStatus.TheVariants as statuses
+use Rattle.capture_run.specs.ExitStatuses.{exit_number}
+use Rattle.capture_run.specs.declared.parts.Parts.{Parts}
+use Rattle.capture_selection.specs.Captures.{SelectsCapture}
+use Rattle.capture_selection.specs.declared.counts.Counts.{Counts}
+use Rattle.capture_selection.specs.declared.selection_error.SelectionError.{SelectionError}
+use Rattle.capture_selection.specs.declared.selection_error.SelectionError.TheVariants.{Capture, Write}
+use Rattle.capture_report.specs.declared.arguments.Options.{Options}
+use Rattle.capture_report.specs.declared.input.FileId.{FileId}
+
+-- ---- what is rejected
+
+-- the text if the file to write is the capture
+abbrev pub is_capture_text : List ℕ
+is_capture_text = codes "the FILE of '--write <FILE>' is the capture"
+
+-- Why the packets of these captures can't be written to the file with this name, if they can't: the file is the capture, or there are
+-- several captures. `-` names standard input as a capture, and standard output as a file.
+abbrev pub output_fault : Option (List ℕ) → List (List ℕ) → Option (List ℕ)
+output_fault None captures = None
+output_fault (Some name) [] = None
+output_fault (Some name) (capture ∷ []) =
+    if bytes_eq capture name && not (bytes_eq name (codes "-")) then Some is_capture_text else None
+output_fault (Some name) (capture ∷ (other ∷ captures)) = Some (codes "'--write <FILE>' is used with more than one capture")
+
+-- the same for the file and the captures that these options name
+abbrev pub fault_of : Options → Option (List ℕ)
+fault_of options = output_fault (option_map (λ name. name.now) options.write) (map (λ name. name.now) options.files.items)
+
+-- two files are the same file if the numbers of both are known, and are equal
+abbrev pub is_same_file : Option FileId → Option FileId → Bool
+is_same_file (Some file) (Some other) = file.device == other.device && file.number == other.number
+is_same_file file other = false
+
+-- ---- exit statuses
+
+-- The end of a run that wrote the packets of a capture: the exit status that a report of the capture has, or the error of a write.
+abbrev pub written_status : Result (Unit {0}) SelectionError → Result ExitStatus Error
+written_status (Ok done) = Ok statuses.Success
+written_status (Err (Capture error)) = Ok (exit_status error)
+written_status (Err (Write error)) = Err error
+
+-- no packet
+abbrev pub no_counts : Counts
+no_counts = record { read = 0; chosen = 0; written = 0 }
+
+-- The packets of a capture that have a line in the report with these options were written, up to the end of the capture or an error, and
+-- then the output was flushed. This is the exit status.
+pub record WritesSelection (options : Parts) (left still_left held now_held : Option (List ℕ)) (status : ℕ) : Type 0 where
+  pub ended : Result (Unit {0}) SelectionError
+  pub counts : Counts
+  pub then_held : Option (List ℕ)
+  pub selects : SelectsCapture options ended left still_left held then_held no_counts counts
+  pub flushed : Keeps then_held now_held
+  pub given : ExitStatus
+  pub ends : written_status ended ≡ Ok given
+  pub numbered : status ≡ exit_number given

@@ -1,0 +1,38 @@
+-- Why the words of a command line are rejected. The first word is the name of the program.
+use Rattle.std.specs.Prelude.{◌≡◌, ◌≢◌, ◌⊎◌, ℕ, false, List, None}
+use Rattle.clap.specs.Words.{App, Text, kind_of, takes}
+use Rattle.clap.specs.declared.error.Error.{Error}
+use Rattle.clap.specs.declared.error.kind.ErrorKind.{ErrorKind}
+use Rattle.clap.specs.declared.error.kind.ErrorKind.TheVariants.{ArgumentConflict, DisplayHelp, DisplayVersion, OutOfMemory, ValueValidation}
+use Rattle.clap.specs.declared.parser.matches.ArgMatches.{ArgMatches}
+use Rattle.capture_report.specs.Chosen.{IsRefusal}
+use Rattle.capture_report.specs.CommandLine.{AreMatchesOf, AreRequestedBy, IsCommandLine}
+use Rattle.capture_report.specs.Outputs.{fault_of}
+use Rattle.capture_report.specs.declared.arguments.Options.{Options}
+use Rattle.capture_report.specs.declared.chosen.ChoiceError.{ChoiceError}
+
+-- the words don't fit the command line, or they request help or the version
+abbrev pub AreNoMatch : List Text → Type 0
+AreNoMatch words = (app : App) × IsCommandLine app × (takes app words ≡ false)
+
+-- the words contain no choice of packets
+abbrev pub HaveNoChoice : List Text → Type 0
+HaveNoChoice words = (matches : ArgMatches) × (error : ChoiceError) × AreMatchesOf words matches × IsRefusal matches error
+
+-- the packets can't be written to the file that the words name
+abbrev pub HaveNoOutput : List Text → Type 0
+HaveNoOutput words = (options : Options) × AreRequestedBy words options × (fault_of options ≢ None)
+
+-- these words are rejected by an error for one of these reasons, or no memory is left
+abbrev pub AreRejectedBy : List Text → Error → Type 0
+AreRejectedBy words error =
+    (kind_of error ≡ OutOfMemory)
+    ⊎ (AreNoMatch words
+    ⊎ (((kind_of error ≡ ValueValidation) × HaveNoChoice words)
+    ⊎ ((kind_of error ≡ ArgumentConflict) × HaveNoOutput words)))
+
+-- the exit status after the text of such an error: 0 for help and for the version, and 2 for every other error
+abbrev pub answer_number : ErrorKind → ℕ
+answer_number DisplayHelp = 0
+answer_number DisplayVersion = 0
+answer_number kind = 2
