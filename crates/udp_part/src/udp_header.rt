@@ -462,7 +462,7 @@ impl UdpHeader {
 // refusal takes 2.7 instead of 1.7 (27 Nov 2026).
 #[cold]
 #[inline(never)]
-fn header_cut_off(len: usize) -> LenError
+pub(crate) fn header_cut_off(len: usize) -> LenError
     ensures { result ≡ specs.wrong_length Layer.UdpHeader 8 len }
 {
     wrong_length(Layer::UdpHeader, UdpHeader::LEN, len)

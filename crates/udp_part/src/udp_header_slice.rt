@@ -1,6 +1,6 @@
 use crate::UdpHeader;
-use net_base::err::{Layer, LenError};
-use net_base::wrong_length;
+use crate::udp_header::header_cut_off;
+use net_base::err::LenError;
 use std::marker::Model;
 
 /// The eight bytes of a UDP header (RFC 768).
@@ -44,7 +44,7 @@ impl<'a> UdpHeaderSlice<'a> {
         ensures kept { IfOk result (λ header. header ≡ take layout.header_len slice.now) }
     {
         if slice.len() < UdpHeader::LEN {
-            return Err(wrong_length(Layer::UdpHeader, UdpHeader::LEN, slice.len()));
+            return Err(header_cut_off(slice.len()));
         }
         Ok(UdpHeaderSlice {
             slice: &slice[..UdpHeader::LEN],
