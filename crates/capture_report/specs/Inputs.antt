@@ -13,7 +13,7 @@ abbrev pub IsRequestedBy : List ℕ → Input → Type 0
 IsRequestedBy name (Standard stdin) = name ≡ codes "-"
 IsRequestedBy name (File file) = (name ≢ codes "-") × (is_escaped name ≡ false)
 
--- only a file has a length: that of standard input is 0
+-- only a file has a length; the length of standard input is 0
 abbrev pub IsFileLen : Input → ℕ → Type 0
 IsFileLen (Standard stdin) len = len ≡ 0
 IsFileLen (File file) len = Unit {0}

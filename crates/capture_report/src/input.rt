@@ -68,7 +68,7 @@ impl Input {
     }
 }
 
-/// The numbers by which the system names a file.
+/// The device and the number of a file, by which the system tells files apart.
 #[derive(Clone, Copy)]
 pub struct FileId {
     /// The number of the device that has the file.

@@ -3,7 +3,7 @@ use Rattle.std.proofs.lemmas.Result.{IfOk-weaker}
 use Rattle.capture_run.specs.ErrorLines.{hint_of}
 use Rattle.capture_run.proofs.capture_error.open_error_line.Goals as goal
 
--- the text is that of the error, and then the hint
+-- the text of the error, and then the hint
 pub returns : goal.returns
 returns c =
     let cause = string_bytes c.in_ok-text.text in
