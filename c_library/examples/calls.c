@@ -1108,6 +1108,15 @@ static void texts(void)
 #define REFUSED_TO(call, wanted) EXPECT((call) == (wanted) && (told == NULL || error.status == (wanted)))
 #define FILLED_TO(call, wanted) (memset(&error, 0x77, sizeof error), EXPECT((call) == (wanted) && (told == NULL || error_is_only(wanted))))
 
+/* The six checksum calls that UDP and TCP each have, without bytes. */
+#define NO_CHECKSUM_OF(protocol)                                                                                                  \
+    REFUSED_TO(etherparse_##protocol##_checksum_ipv4(NULL, 0, source4, destination4, &checksum, told), ETHERPARSE_STATUS_LENGTH); \
+    REFUSED_TO(etherparse_##protocol##_checksum_ipv6(NULL, 0, source6, destination6, &checksum, told), ETHERPARSE_STATUS_LENGTH); \
+    REFUSED_TO(etherparse_##protocol##_checksum_store_ipv4(NULL, 0, source4, destination4, told), ETHERPARSE_STATUS_LENGTH);      \
+    REFUSED_TO(etherparse_##protocol##_checksum_store_ipv6(NULL, 0, source6, destination6, told), ETHERPARSE_STATUS_LENGTH);      \
+    REFUSED_TO(etherparse_##protocol##_checksum_test_ipv4(NULL, 0, source4, destination4, told), ETHERPARSE_STATUS_LENGTH);       \
+    REFUSED_TO(etherparse_##protocol##_checksum_test_ipv6(NULL, 0, source6, destination6, told), ETHERPARSE_STATUS_LENGTH)
+
 /* Each pointer that has a number beside it, as NULL with 0; and each call with this error, or without one. */
 static void nulls(etherparse_error *told)
 {
@@ -1140,21 +1149,11 @@ static void nulls(etherparse_error *told)
     REFUSED_TO(etherparse_udp_packet_read(NULL, 0, &udp_packet, told), ETHERPARSE_STATUS_LENGTH);
     REFUSED_TO(etherparse_udp_packet_read_lax(NULL, 0, &udp_packet, told), ETHERPARSE_STATUS_LENGTH);
     REFUSED_TO(etherparse_udp_header_write(&udp_header, NULL, 0, &written, told), ETHERPARSE_STATUS_BUFFER_TOO_SMALL);
-    REFUSED_TO(etherparse_udp_checksum_ipv4(NULL, 0, source4, destination4, &checksum, told), ETHERPARSE_STATUS_LENGTH);
-    REFUSED_TO(etherparse_udp_checksum_ipv6(NULL, 0, source6, destination6, &checksum, told), ETHERPARSE_STATUS_LENGTH);
-    REFUSED_TO(etherparse_udp_checksum_store_ipv4(NULL, 0, source4, destination4, told), ETHERPARSE_STATUS_LENGTH);
-    REFUSED_TO(etherparse_udp_checksum_store_ipv6(NULL, 0, source6, destination6, told), ETHERPARSE_STATUS_LENGTH);
-    REFUSED_TO(etherparse_udp_checksum_test_ipv4(NULL, 0, source4, destination4, told), ETHERPARSE_STATUS_LENGTH);
-    REFUSED_TO(etherparse_udp_checksum_test_ipv6(NULL, 0, source6, destination6, told), ETHERPARSE_STATUS_LENGTH);
+    NO_CHECKSUM_OF(udp);
     REFUSED_TO(etherparse_tcp_packet_read(NULL, 0, &tcp_packet, told), ETHERPARSE_STATUS_LENGTH);
     REFUSED_TO(etherparse_tcp_header_write(&tcp_header, NULL, 0, NULL, 0, &written, told), ETHERPARSE_STATUS_BUFFER_TOO_SMALL);
     REFUSED_TO(etherparse_tcp_header_store(&tcp_header, NULL, 0, told), ETHERPARSE_STATUS_LENGTH);
-    REFUSED_TO(etherparse_tcp_checksum_ipv4(NULL, 0, source4, destination4, &checksum, told), ETHERPARSE_STATUS_LENGTH);
-    REFUSED_TO(etherparse_tcp_checksum_ipv6(NULL, 0, source6, destination6, &checksum, told), ETHERPARSE_STATUS_LENGTH);
-    REFUSED_TO(etherparse_tcp_checksum_store_ipv4(NULL, 0, source4, destination4, told), ETHERPARSE_STATUS_LENGTH);
-    REFUSED_TO(etherparse_tcp_checksum_store_ipv6(NULL, 0, source6, destination6, told), ETHERPARSE_STATUS_LENGTH);
-    REFUSED_TO(etherparse_tcp_checksum_test_ipv4(NULL, 0, source4, destination4, told), ETHERPARSE_STATUS_LENGTH);
-    REFUSED_TO(etherparse_tcp_checksum_test_ipv6(NULL, 0, source6, destination6, told), ETHERPARSE_STATUS_LENGTH);
+    NO_CHECKSUM_OF(tcp);
     FILLED_TO(etherparse_tcp_option_next(NULL, 0, &place, &option, told), ETHERPARSE_STATUS_OPTIONS_END);
     FILLED_TO(etherparse_tcp_raw_option_next(NULL, 0, &place, &raw_option, told), ETHERPARSE_STATUS_OPTIONS_END);
     REFUSED_TO(etherparse_icmpv4_packet_read(NULL, 0, &icmpv4_packet, told), ETHERPARSE_STATUS_LENGTH);
