@@ -1104,9 +1104,10 @@ static void texts(void)
     EXPECT(etherparse_error_text(&error, text, sizeof text) == strlen(text) && text[0] != 0);
 }
 
-/* The same where `told` is &error or NULL. */
-#define REFUSED_TO(call, wanted) EXPECT((call) == (wanted) && (told == NULL || error.status == (wanted)))
-#define FILLED_TO(call, wanted) (memset(&error, 0x77, sizeof error), EXPECT((call) == (wanted) && (told == NULL || error_is_only(wanted))))
+/* The same where `told` is &error or NULL, whatever the error contained before. */
+#define ANSWERS_TO(call, wanted, filled) (memset(&error, 0x77, sizeof error), EXPECT((call) == (wanted) && (told == NULL || (filled))))
+#define REFUSED_TO(call, wanted) ANSWERS_TO(call, wanted, error.status == (wanted))
+#define FILLED_TO(call, wanted) ANSWERS_TO(call, wanted, error_is_only(wanted))
 
 /* The six checksum calls that UDP and TCP each have, without bytes. */
 #define NO_CHECKSUM_OF(protocol)                                                                                                  \
