@@ -23,8 +23,8 @@ use Rattle.capture_file.specs.PcapngBodies.{section_header_refusal}
 use Rattle.capture_file.specs.PcapngBody.{body_refusal, section_header_type}
 use Rattle.capture_file.specs.PcapngReading.{ReadsNextBlock}
 use Rattle.capture_file.specs.PcapngSteps.{ReadsPacket, ReadsStep, is_description, is_packet, next_by_taken, next_by_too_long, offset_after, refused_at}
-use Rattle.capture_file.specs.declared.byte_order.ByteOrder.{ByteOrder}
-use Rattle.capture_file.specs.declared.byte_order.ByteOrder.TheVariants.{BigEndian}
+use Rattle.capture_texts.specs.declared.byte_order.ByteOrder.{ByteOrder}
+use Rattle.capture_texts.specs.declared.byte_order.ByteOrder.TheVariants.{BigEndian}
 use Rattle.capture_file.specs.declared.pcapng.block.BlockHeader.{BlockHeader}
 use Rattle.capture_file.specs.declared.pcapng.errors.BlockError.{BlockError}
 use Rattle.capture_file.specs.declared.pcapng.errors.BodyError.{BodyError}

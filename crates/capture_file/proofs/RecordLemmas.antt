@@ -2,8 +2,9 @@
 use Rattle.std.proofs.Common.{◌≡◌, ℕ, zero, suc, ◌+◌, ◌≤◌, List, ◌++◌, arith, length, take, refl, sym, ap, ◌∙◌, length-append}
 use Rattle.std.proofs.lemmas.List.{append_cancel_left, get_or_append_left, take_at}
 use Rattle.net_base.specs.Bytes.{be_number}
-use Rattle.capture_file.specs.Classic.{le_number, number_at, record_header, record_len, IsPartial, IsRecord}
-use Rattle.capture_file.specs.declared.byte_order.ByteOrder.{ByteOrder}
+use Rattle.capture_file.specs.Classic.{record_header, record_len, IsPartial, IsRecord}
+use Rattle.capture_texts.specs.Numbers.{le_number, number_at}
+use Rattle.capture_texts.specs.declared.byte_order.ByteOrder.{ByteOrder}
 
 -- a number in the first bytes is the same number in all bytes
 pub be_number_front : (count : ℕ) (first more : List ℕ) (from : ℕ) → from + count ≤ length first

@@ -1,7 +1,7 @@
 -- The texts of a pcapng file, block by block (draft-ietf-opsawg-pcapng, sections 3.5, 4.1 and 4.2).
 use Rattle.std.specs.Prelude.{ℕ, ◌-◌, Bool, true, false, List, slice_range, Option, Some}
-use Rattle.capture_file.specs.declared.byte_order.ByteOrder.{ByteOrder}
-use Rattle.capture_file.specs.declared.byte_order.ByteOrder.TheVariants.{BigEndian, LittleEndian}
+use Rattle.capture_texts.specs.declared.byte_order.ByteOrder.{ByteOrder}
+use Rattle.capture_texts.specs.declared.byte_order.ByteOrder.TheVariants.{BigEndian, LittleEndian}
 use Rattle.capture_file.specs.declared.pcapng.block.BlockHeader.{BlockHeader}
 use Rattle.capture_file.specs.declared.pcapng.read.NextBlock.{NextBlock}
 use Rattle.capture_file.specs.declared.pcapng.read.NextBlock.TheVariants.{Whole}

@@ -1,12 +1,13 @@
 -- The classic format of a capture file (draft-ietf-opsawg-pcap, sections 4 and 5): its header, its records, and its division into records.
-use Rattle.std.specs.Prelude.{◌≡◌, ℕ, zero, suc, ◌+◌, ◌*◌, ◌%◌, ◌^◌, ◌<◌, ◌≤◌, ◌==◌, ◌||◌, ◌&&◌, ◌⊎◌, not, nat_le, nat_lt, ok_or, Bool, if◌then◌else◌, Result, List, [], ◌∷◌, ◌++◌, length, take, slice_index, Option, Some, None, is_none}
+use Rattle.std.specs.Prelude.{◌≡◌, ℕ, ◌+◌, ◌%◌, ◌<◌, ◌≤◌, ◌==◌, ◌||◌, ◌&&◌, ◌⊎◌, not, nat_le, nat_lt, ok_or, Bool, if◌then◌else◌, Result, List, [], ◌∷◌, ◌++◌, length, take, Option, Some, None, is_none}
 use Rattle.std.specs.List.{AllByRecursion, concat}
 use Rattle.std.specs.Option.{option_map, option_or}
 use Rattle.std.specs.Map.{lookup}
 use Rattle.net_base.specs.Bytes.{be_number}
 use Rattle.net_base.specs.Refusals.{first_of, refused_if}
-use Rattle.capture_file.specs.declared.byte_order.ByteOrder.{ByteOrder}
-use Rattle.capture_file.specs.declared.byte_order.ByteOrder.TheVariants.{BigEndian, LittleEndian}
+use Rattle.capture_texts.specs.declared.byte_order.ByteOrder.{ByteOrder}
+use Rattle.capture_texts.specs.declared.byte_order.ByteOrder.TheVariants.{BigEndian, LittleEndian}
+use Rattle.capture_texts.specs.Numbers.{number_at, short_at}
 use Rattle.capture_file.specs.declared.classic.capture_header.CaptureHeader.{CaptureHeader}
 use Rattle.capture_file.specs.declared.classic.capture_header_error.CaptureHeaderError.{CaptureHeaderError}
 use Rattle.capture_file.specs.declared.classic.capture_header_error.CaptureHeaderError.TheVariants.{CutOff, Magic, Modified, Pcapng, Version}
@@ -15,28 +16,6 @@ use Rattle.capture_file.specs.declared.link_type.LinkType.TheVariants.{Avs, BsdL
 use Rattle.capture_file.specs.declared.classic.record_header.RecordHeader.{RecordHeader}
 use Rattle.capture_file.specs.declared.classic.record_header.Resolution.{Resolution}
 use Rattle.capture_file.specs.declared.classic.record_header.Resolution.TheVariants.{Microseconds, Nanoseconds}
-
--- ---- numbers
-
--- the little-endian number in the `count` bytes from place `from` on
-abbrev pub le_number : List ℕ → ℕ → ℕ → ℕ
-le_number bytes from zero = 0
-le_number bytes from (suc count) = le_number bytes from count + slice_index bytes (from + count) * 256 ^ count
-
--- the number in the four bytes from a place on, in a byte order
-abbrev pub number_at : ByteOrder → List ℕ → ℕ → ℕ
-number_at BigEndian bytes place = be_number bytes place 4
-number_at LittleEndian bytes place = le_number bytes place 4
-
--- the number in the two bytes from a place on
-abbrev pub short_at : ByteOrder → List ℕ → ℕ → ℕ
-short_at BigEndian bytes place = be_number bytes place 2
-short_at LittleEndian bytes place = le_number bytes place 2
-
--- the number in the eight bytes from a place on
-abbrev pub long_at : ByteOrder → List ℕ → ℕ → ℕ
-long_at BigEndian bytes place = be_number bytes place 8
-long_at LittleEndian bytes place = le_number bytes place 8
 
 -- ---- the header of a capture (section 4)
 

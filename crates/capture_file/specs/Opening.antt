@@ -9,7 +9,7 @@ use Rattle.capture_file.specs.Pcapng.{is_section_header}
 use Rattle.capture_file.specs.PcapngBodies.{section_header_refusal}
 use Rattle.capture_file.specs.PcapngReading.{ReadsAfter, ReadsNextBlock}
 use Rattle.capture_file.specs.Reading.{ReadsHeader}
-use Rattle.capture_file.specs.declared.byte_order.ByteOrder.TheVariants.{BigEndian}
+use Rattle.capture_texts.specs.declared.byte_order.ByteOrder.TheVariants.{BigEndian}
 use Rattle.capture_file.specs.declared.classic.capture_header.CaptureHeader.{CaptureHeader}
 use Rattle.capture_file.specs.declared.classic.capture_header_error.CaptureHeaderError.{CaptureHeaderError}
 use Rattle.capture_file.specs.declared.classic.capture_header_error.CaptureHeaderError.TheVariants as header_errors

@@ -2,9 +2,9 @@
 use Rattle.std.specs.Prelude.{ℕ, ◌-◌, ◌^◌, ◌==◌, not, nat_lt, if◌then◌else◌, ℤ, pos, List, [], ◌∷◌, drop, length, slice_index, Option, Some, None}
 use Rattle.std.specs.Int.{cast_signed, w64}
 use Rattle.net_base.specs.Refusals.{first_of, refused_if}
-use Rattle.capture_file.specs.Classic.{long_at, number_at, short_at}
+use Rattle.capture_texts.specs.Numbers.{long_at, number_at, short_at}
 use Rattle.capture_file.specs.PcapngOptions.{option_with}
-use Rattle.capture_file.specs.declared.byte_order.ByteOrder.{ByteOrder}
+use Rattle.capture_texts.specs.declared.byte_order.ByteOrder.{ByteOrder}
 use Rattle.capture_file.specs.declared.pcapng.errors.BodyError.{BodyError}
 use Rattle.capture_file.specs.declared.pcapng.errors.BodyError.TheVariants.{CutOff, Version}
 use Rattle.capture_file.specs.declared.pcapng.interface_description.InterfaceDescription.{InterfaceDescription}

@@ -1,6 +1,6 @@
 -- The body of a block of a pcapng file, by the type of the block (draft-ietf-opsawg-pcapng, section 4 and appendix A).
 use Rattle.std.specs.Prelude.{◌≡◌, ◌≢◌, ◌⊎◌, ℕ, ◌==◌, if◌then◌else◌, List, length, Option, None}
-use Rattle.capture_file.specs.Classic.{number_at, short_at}
+use Rattle.capture_texts.specs.Numbers.{number_at, short_at}
 use Rattle.capture_file.specs.PcapngBodies.{interface_description, interface_refusal, section_header, section_header_refusal}
 use Rattle.capture_file.specs.PcapngPackets.{IsSimplePacket, IsTimedPacket, simple_refusal, timed_refusal}
 use Rattle.capture_file.specs.declared.pcapng.block_body.BlockBody.{BlockBody}

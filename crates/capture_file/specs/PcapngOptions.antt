@@ -2,8 +2,8 @@
 use Rattle.std.specs.Prelude.{ℕ, ◌+◌, ◌*◌, ◌/◌, ◌==◌, Bool, ◌&&◌, ◌||◌, nat_lt, if◌then◌else◌, List, length, take, Option, Some, None}
 use Rattle.std.specs.List.{find}
 use Rattle.ip_part.specs.Options.{options_of}
-use Rattle.capture_file.specs.Classic.{short_at}
-use Rattle.capture_file.specs.declared.byte_order.ByteOrder.{ByteOrder}
+use Rattle.capture_texts.specs.Numbers.{short_at}
+use Rattle.capture_texts.specs.declared.byte_order.ByteOrder.{ByteOrder}
 
 -- the length of an option with a value of this length: its code, the length of the value, and the value padded to four bytes
 abbrev pub option_len : ℕ → ℕ

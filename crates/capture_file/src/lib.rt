@@ -16,13 +16,12 @@
 //! ```
 #![tactic(auto)]
 
-mod byte_order;
 pub mod classic;
 mod link_type;
 mod packet_time;
 pub mod pcapng;
 pub mod reader;
 
-pub use byte_order::ByteOrder;
+pub use capture_texts::ByteOrder;
 pub use link_type::LinkType;
 pub use packet_time::{NANOSECONDS_PER_SECOND, PacketTime, nanoseconds_of};

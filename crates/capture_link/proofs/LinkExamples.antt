@@ -1,6 +1,6 @@
 -- Worked examples of link headers: a frame of each link type, and stacks of MPLS labels. A wrong definition fails here before any code.
 use Rattle.std.proofs.Common.{◌≡◌, ◌<◌, ◌≤◌, ℕ, zero, suc, false, List, [], ◌∷◌, ◌++◌, Option, Some, None, Ok, arith, inl, inr, length, refl, replicate}
-use Rattle.capture_file.specs.declared.byte_order.ByteOrder.TheVariants.{BigEndian, LittleEndian}
+use Rattle.capture_texts.specs.declared.byte_order.ByteOrder.TheVariants.{BigEndian, LittleEndian}
 use Rattle.capture_file.specs.declared.link_type.LinkType.TheVariants.{Avs, BsdLoopback, CiscoHdlc, Ethernet, FrameRelay, Ieee80211, InfiniBand, Ipnet, LinuxCooked, LinuxCooked2, Nflog, OpenBsdLoopback, Pflog, Pktap, Ppi, Ppp, PppHdlc, PppOverEthernet, Prism, Radiotap, RawIp}
 use Rattle.capture_link.specs.Link.{HasEtherHeader, HasLinkHeader, NeedsLinkHeader, after_tags, ether_type_after, is_vlan_tag, tagged_len}
 use Rattle.capture_link.specs.declared.network_protocol.NetworkProtocol.{NetworkProtocol}

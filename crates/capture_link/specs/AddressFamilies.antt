@@ -1,9 +1,9 @@
 -- Headers with an address family.
 use Rattle.std.specs.Prelude.{ℕ, ◌+◌, ◌==◌, ◌||◌, Bool, if◌then◌else◌, List, Option, Some, None, Result, Ok}
-use Rattle.capture_file.specs.Classic.{number_at}
+use Rattle.capture_texts.specs.Numbers.{number_at}
 use Rattle.capture_link.specs.LinkHeaders.{with_bytes}
-use Rattle.capture_file.specs.declared.byte_order.ByteOrder.{ByteOrder}
-use Rattle.capture_file.specs.declared.byte_order.ByteOrder.TheVariants.{BigEndian, LittleEndian}
+use Rattle.capture_texts.specs.declared.byte_order.ByteOrder.{ByteOrder}
+use Rattle.capture_texts.specs.declared.byte_order.ByteOrder.TheVariants.{BigEndian, LittleEndian}
 use Rattle.capture_link.specs.declared.link.LinkHeaderCutOff.{LinkHeaderCutOff}
 use Rattle.capture_link.specs.declared.link.header.FirstHeader.{FirstHeader}
 use Rattle.capture_link.specs.declared.link.header.FirstHeader.TheVariants.{Whole}

@@ -1,10 +1,10 @@
 -- IEEE 802.11 frames, and the radiotap header that a capture may contain before them.
 use Rattle.std.specs.Prelude.{ℕ, ◌+◌, ◌==◌, ◌&&◌, Bool, not, nat_le, if◌then◌else◌, bit_and, List, slice_index, Some, Result, Ok}
 use Rattle.net_base.specs.Bytes.{be_number, flag}
-use Rattle.capture_file.specs.Classic.{short_at}
+use Rattle.capture_texts.specs.Numbers.{short_at}
 use Rattle.capture_link.specs.LinkHeaders.{with_bytes}
 use Rattle.capture_link.specs.Llc.{llc_at}
-use Rattle.capture_file.specs.declared.byte_order.ByteOrder.TheVariants.{LittleEndian}
+use Rattle.capture_texts.specs.declared.byte_order.ByteOrder.TheVariants.{LittleEndian}
 use Rattle.capture_link.specs.declared.link.LinkHeaderCutOff.{LinkHeaderCutOff}
 use Rattle.capture_link.specs.declared.link.header.FirstHeader.{FirstHeader}
 use Rattle.capture_link.specs.declared.link.header.FirstHeader.TheVariants.{Whole}

@@ -1,10 +1,10 @@
 -- Packets that the packet filter of Linux logged (LINKTYPE_NFLOG, in the registry of link types of tcpdump.org).
 use Rattle.std.specs.Prelude.{ℕ, zero, suc, ◌+◌, ◌≤◌, ◌==◌, ◌||◌, Bool, nat_lt, if◌then◌else◌, List, length, slice_index, Option, Some, None, Result, Ok, Err}
-use Rattle.capture_file.specs.Classic.{short_at}
+use Rattle.capture_texts.specs.Numbers.{short_at}
 use Rattle.capture_link.specs.LinkHeaders.{Fits, unread, with_bytes}
 use Rattle.capture_link.specs.Metadata.{padded, with_family}
-use Rattle.capture_file.specs.declared.byte_order.ByteOrder.{ByteOrder}
-use Rattle.capture_file.specs.declared.byte_order.ByteOrder.TheVariants.{BigEndian, LittleEndian}
+use Rattle.capture_texts.specs.declared.byte_order.ByteOrder.{ByteOrder}
+use Rattle.capture_texts.specs.declared.byte_order.ByteOrder.TheVariants.{BigEndian, LittleEndian}
 use Rattle.capture_link.specs.declared.link.LinkHeaderCutOff.{LinkHeaderCutOff}
 use Rattle.capture_link.specs.declared.link.header.FirstHeader.{FirstHeader}
 use Rattle.capture_link.specs.declared.link.nflog.Attribute.{Attribute}

@@ -4,9 +4,10 @@ use Rattle.std.proofs.lemmas.Bool.Decides.{nat_tests}
 use Rattle.std.proofs.lemmas.List.{drop_at}
 use Rattle.capture_file.proofs.RecordLemmas.{number_at_front, record_header_front, record_len_front}
 use Rattle.capture_file.specs.CapturePackets.{FilePacket, kept, record_packet, too_long}
-use Rattle.capture_file.specs.Classic.{IsRecord, number_at, record_header}
+use Rattle.capture_file.specs.Classic.{IsRecord, record_header}
+use Rattle.capture_texts.specs.Numbers.{number_at}
 use Rattle.capture_file.specs.Packets.{long_record, packet_of_record}
-use Rattle.capture_file.specs.declared.byte_order.ByteOrder.{ByteOrder}
+use Rattle.capture_texts.specs.declared.byte_order.ByteOrder.{ByteOrder}
 use Rattle.capture_file.specs.declared.classic.capture_header.CaptureHeader.{CaptureHeader}
 use Rattle.capture_packet.specs.Frames.{max_packet_len}
 use Rattle.capture_packet.specs.declared.packet.Packet.{Packet}

@@ -5,7 +5,7 @@ use Rattle.capture_file.specs.CapturePackets.{FilePacket, packet_in}
 use Rattle.capture_file.specs.Pcapng.{block_len, block_refusal}
 use Rattle.capture_file.specs.PcapngReading.{IsNextBlock}
 use Rattle.capture_file.specs.PcapngSteps.{IsStep}
-use Rattle.capture_file.specs.declared.byte_order.ByteOrder.TheVariants.{BigEndian}
+use Rattle.capture_texts.specs.declared.byte_order.ByteOrder.TheVariants.{BigEndian}
 use Rattle.capture_file.specs.declared.pcapng.errors.BlockError.{BlockError}
 use Rattle.capture_file.specs.declared.pcapng.errors.BlockError.TheVariants.{CutOff}
 use Rattle.capture_file.specs.declared.pcapng.read.NextBlock.{NextBlock}

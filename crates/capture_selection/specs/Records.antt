@@ -1,7 +1,8 @@
 -- The records of a classic capture as parts (draft-ietf-opsawg-pcap, section 5).
 use Rattle.std.specs.Prelude.{◌≡◌, ◌≢◌, ◌<◌, ◌+◌, ◌-◌, ◌^◌, ℕ, min, List, [], length}
 use Rattle.capture_file.specs.CapturePackets.{record_packet}
-use Rattle.capture_file.specs.Classic.{IsPartial, IsRecord, number_at}
+use Rattle.capture_file.specs.Classic.{IsPartial, IsRecord}
+use Rattle.capture_texts.specs.Numbers.{number_at}
 use Rattle.capture_file.specs.Reading.{required_len}
 use Rattle.capture_file.specs.declared.classic.capture_header.CaptureHeader.{CaptureHeader}
 use Rattle.capture_packet.specs.Frames.{max_packet_len}

@@ -9,10 +9,12 @@
 //! ```
 #![tactic(auto)]
 
+mod byte_order;
 mod file_texts;
 mod kept_text;
 mod options;
 
+pub use byte_order::ByteOrder;
 pub use file_texts::{FileTexts, InterfaceTexts, MAX_INTERFACES};
 pub use kept_text::{KeptText, MAX_TEXT_LEN};
 pub use options::option_value;

@@ -3,7 +3,7 @@ use Rattle.std.proofs.Common.{◌≡◌, ◌≤◌, ◌+◌, ◌-◌, ◌++◌, 
 use Rattle.std.proofs.lemmas.List.{append-nil, drop-take, drop_all, take-append-drop, take-take}
 use Rattle.std.specs.List.{slice_range}
 use borrow.Rule.Slice.PartMut.{Post-is, post_of, put_mid}
-use Rattle.capture_file.specs.declared.byte_order.ByteOrder.{ByteOrder}
+use Rattle.capture_texts.specs.declared.byte_order.ByteOrder.{ByteOrder}
 use Rattle.capture_file.specs.declared.link_type.LinkType.{LinkType}
 use Rattle.capture_packet.specs.Contents.{ports_in}
 use Rattle.capture_link.specs.Link.{HasLinkHeader}

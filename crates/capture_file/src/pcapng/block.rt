@@ -4,7 +4,7 @@ ghost use Rattle.std.specs.Iterator.{UpTo, at_most};
 ghost use Rattle.std.specs.Iterator.Runs.{EachRunFrom};
 ghost use Rattle.std.specs.Iterator.SizeHint.{IsWithinCount};
 ghost use Rattle.capture_file.specs.PcapngBlocks.{AreItems, GivesBlock, UnreadFile};
-ghost use Rattle.capture_file.specs.declared.byte_order.ByteOrder.TheVariants.{BigEndian};
+ghost use Rattle.capture_texts.specs.declared.byte_order.ByteOrder.TheVariants.{BigEndian};
 ghost use Rattle.capture_file.specs.Pcapng as specs;
 
 use crate::ByteOrder;

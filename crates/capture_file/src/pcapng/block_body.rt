@@ -3,7 +3,7 @@ ghost use Rattle.net_base.specs.Refusals.{RefusesExactly};
 ghost use Rattle.capture_file.specs.PcapngBody.{IsBody, body_refusal};
 ghost use Rattle.capture_file.specs.Sections.{IsBodyWithin, IsInterfaceThere};
 ghost use Rattle.capture_file.specs.PcapngBodies.{section_header, section_header_refusal};
-ghost use Rattle.capture_file.specs.Classic.{number_at, short_at};
+ghost use Rattle.capture_texts.specs.Numbers.{number_at, short_at};
 ghost use Rattle.capture_file.specs.PcapngPackets.{IsSimplePacket, IsTimedPacket, captured_refusal, simple_refusal, timed_refusal};
 
 use crate::ByteOrder;

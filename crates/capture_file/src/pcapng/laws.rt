@@ -3,7 +3,7 @@ ghost use Rattle.std.specs.Prelude.{◌≡◌, ◌++◌, ℕ, List, None, take};
 ghost use Rattle.capture_file.specs.Classic.{AreBeforeCut};
 ghost use Rattle.capture_file.specs.Laws.{AreUnique, Exist, RemainAtCut};
 ghost use Rattle.capture_file.specs.Pcapng.{IsBlock, IsBlockReading, block_len, block_refusal};
-ghost use Rattle.capture_file.specs.declared.byte_order.ByteOrder.{ByteOrder};
+ghost use Rattle.capture_texts.specs.declared.byte_order.ByteOrder.{ByteOrder};
 
 /// Accepted bytes begin with a block. Bytes that begin with a block are accepted, whatever follows it.
 pub fn accepted_blocks()

@@ -1,7 +1,7 @@
 ghost use Rattle.std.specs.Prelude.{◌≡◌, ◌+◌, ◌≤◌, ◌<◌, MatchResult, length};
 ghost use Rattle.net_base.specs.Bytes.{be_number};
-ghost use Rattle.capture_file.specs.Classic as specs;
-ghost use Rattle.capture_file.specs.declared.byte_order.ByteOrder.TheVariants.{LittleEndian};
+ghost use Rattle.capture_texts.specs.Numbers as specs;
+ghost use Rattle.capture_texts.specs.declared.byte_order.ByteOrder.TheVariants.{LittleEndian};
 ghost use Rattle.capture_link.specs.LinkHeaders.{cut_off, unread};
 
 use crate::NetworkProtocol;

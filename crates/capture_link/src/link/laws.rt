@@ -1,7 +1,7 @@
 //! Laws of link headers. Each law is the contract of a function that does nothing, so that it is checked together with the calls.
 ghost use Rattle.std.specs.Prelude.{◌≡◌, ℕ, List, Option};
 ghost use Rattle.capture_link.specs.Link.{HasLinkHeader, NeedsLinkHeader};
-ghost use Rattle.capture_file.specs.declared.byte_order.ByteOrder.{ByteOrder};
+ghost use Rattle.capture_texts.specs.declared.byte_order.ByteOrder.{ByteOrder};
 ghost use Rattle.capture_file.specs.declared.link_type.LinkType.{LinkType};
 ghost use Rattle.capture_link.specs.declared.network_protocol.NetworkProtocol.{NetworkProtocol};
 

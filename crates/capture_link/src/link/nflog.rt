@@ -1,7 +1,7 @@
 //! Packets that the packet filter of Linux logged (LINKTYPE_NFLOG).
 
 ghost use Rattle.std.specs.Prelude.{◌≡◌, ◌+◌, ◌≤◌, ◌<◌, IfErr, IfOk, length};
-ghost use Rattle.capture_file.specs.Classic as numbers;
+ghost use Rattle.capture_texts.specs.Numbers as numbers;
 ghost use Rattle.capture_link.specs.LinkHeaders.{Fits};
 ghost use Rattle.capture_link.specs.Nflog as specs;
 ghost use Rattle.capture_link.specs.Nflog.{IsWithin};

@@ -1,5 +1,5 @@
 ghost use Rattle.std.specs.Prelude.{◌≡◌, ◌+◌, ◌≤◌, length};
-ghost use Rattle.capture_file.specs.Classic.{long_at, number_at, short_at};
+ghost use Rattle.capture_texts.specs.Numbers.{long_at, number_at, short_at};
 
 /// The byte order of the numbers in a capture, which is the order of the machine that wrote it.
 #[derive(Clone, Copy, Debug, PartialEq, Eq)]
@@ -22,7 +22,7 @@ impl ByteOrder {
     }
 
     /// The number in the four bytes from a place on, in this order.
-    pub(crate) fn number_in(self, bytes: &[u8], place: usize) -> u32
+    pub fn number_in(self, bytes: &[u8], place: usize) -> u32
         requires { place + 4 ≤ length bytes.now }
         ensures { result ≡ number_at self bytes.now place }
     {
@@ -30,7 +30,7 @@ impl ByteOrder {
     }
 
     /// The number in the two bytes from a place on, in this order.
-    pub(crate) fn short_in(self, bytes: &[u8], place: usize) -> u16
+    pub fn short_in(self, bytes: &[u8], place: usize) -> u16
         requires { place + 2 ≤ length bytes.now }
         ensures { result ≡ short_at self bytes.now place }
     {
@@ -42,7 +42,7 @@ impl ByteOrder {
     }
 
     /// The number in the eight bytes from a place on, in this order.
-    pub(crate) fn long_in(self, bytes: &[u8], place: usize) -> u64
+    pub fn long_in(self, bytes: &[u8], place: usize) -> u64
         requires { place + 8 ≤ length bytes.now }
         ensures { result ≡ long_at self bytes.now place }
     {
