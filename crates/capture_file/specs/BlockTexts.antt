@@ -1,7 +1,5 @@
 -- The texts of a pcapng file, block by block (draft-ietf-opsawg-pcapng, sections 3.5, 4.1 and 4.2).
-use Rattle.std.specs.Prelude.{ℕ, ◌-◌, Bool, true, false, List, slice_range, Option, Some}
-use Rattle.capture_texts.specs.declared.byte_order.ByteOrder.{ByteOrder}
-use Rattle.capture_texts.specs.declared.byte_order.ByteOrder.TheVariants.{BigEndian, LittleEndian}
+use Rattle.std.specs.Prelude.{ℕ, ◌-◌, List, slice_range, Option, Some}
 use Rattle.capture_file.specs.declared.pcapng.block.BlockHeader.{BlockHeader}
 use Rattle.capture_file.specs.declared.pcapng.read.NextBlock.{NextBlock}
 use Rattle.capture_file.specs.declared.pcapng.read.NextBlock.TheVariants.{Whole}
@@ -10,13 +8,9 @@ use Rattle.capture_file.specs.declared.reader.next_packet.NextPacket.TheVariants
 use Rattle.capture_texts.specs.Texts.{texts_after}
 use Rattle.capture_texts.specs.declared.file_texts.FileTexts.{FileTexts}
 
-abbrev pub is_big_endian : ByteOrder → Bool
-is_big_endian BigEndian = true
-is_big_endian LittleEndian = false
-
 -- the texts after a block with this header and body
 abbrev pub texts_with : BlockHeader → List ℕ → FileTexts → FileTexts
-texts_with header body before = texts_after (is_big_endian header.byte_order) header.block_type body before
+texts_with header body before = texts_after header.byte_order header.block_type body before
 
 -- a rejected block changes no text
 abbrev pub unless_refused : Option NextPacket → FileTexts → FileTexts → FileTexts

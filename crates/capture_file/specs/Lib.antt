@@ -10,7 +10,6 @@ pub mod Pcapng
 pub mod PcapngBlocks
 pub mod PcapngBodies
 pub mod PcapngBody
-pub mod PcapngOptions
 pub mod PcapngPackets
 pub mod PcapngReading
 pub mod PcapngSteps

@@ -3,7 +3,7 @@ use Rattle.std.specs.Prelude.{ℕ, ◌-◌, ◌^◌, ◌==◌, not, nat_lt, if�
 use Rattle.std.specs.Int.{cast_signed, w64}
 use Rattle.net_base.specs.Refusals.{first_of, refused_if}
 use Rattle.capture_texts.specs.Numbers.{long_at, number_at, short_at}
-use Rattle.capture_file.specs.PcapngOptions.{option_with}
+use Rattle.capture_texts.specs.Options.{option_value}
 use Rattle.capture_texts.specs.declared.byte_order.ByteOrder.{ByteOrder}
 use Rattle.capture_file.specs.declared.pcapng.errors.BodyError.{BodyError}
 use Rattle.capture_file.specs.declared.pcapng.errors.BodyError.TheVariants.{CutOff, Version}
@@ -12,7 +12,7 @@ use Rattle.capture_file.specs.declared.pcapng.block_body.SectionHeader.{SectionH
 use Rattle.capture_file.specs.declared.pcapng.time_resolution.TimeResolution.{TimeResolution}
 use Rattle.capture_file.specs.declared.pcapng.time_resolution.TimeResolution.TheVariants.{PowerOfTen, PowerOfTwo}
 
--- the error for a body of fewer bytes
+-- the error for a body with fewer bytes than it requires
 abbrev pub below : ℕ → List ℕ → Option BodyError
 below required_len body = refused_if (nat_lt (length body) required_len) (CutOff required_len (length body))
 
@@ -22,7 +22,7 @@ below required_len body = refused_if (nat_lt (length body) required_len) (CutOff
 abbrev pub section_header : ByteOrder → List ℕ → SectionHeader
 section_header order body = record { major_version = short_at order body 4; minor_version = short_at order body 6 }
 
--- the errors, in this order: fewer than 16 bytes; a major version other than 1
+-- why the body is rejected, if it is: it has fewer than 16 bytes, or else its major version is not 1
 abbrev pub section_header_refusal : ByteOrder → List ℕ → Option BodyError
 section_header_refusal order body = first_of (
     below 16 body
@@ -43,20 +43,20 @@ units_per_second (PowerOfTwo exponent) = 2 ^ exponent
 -- the resolution in the option 9, if_tsresol, with a value of one byte; without the option, microseconds
 abbrev pub resolution_by : Option (List ℕ) → TimeResolution
 resolution_by None = PowerOfTen 6
-resolution_by (Some option) = time_resolution (slice_index option 4)
+resolution_by (Some value) = time_resolution (slice_index value 0)
 
 -- the seconds to add to each timestamp: the signed number in the option 14, if_tsoffset, with a value of eight bytes; without the option, 0
 abbrev pub offset_by : ByteOrder → Option (List ℕ) → ℤ
 offset_by order None = pos 0
-offset_by order (Some option) = cast_signed w64 (long_at order option 4)
+offset_by order (Some value) = cast_signed w64 (long_at order value 0)
 
 -- the interface in a body: the number of the link type, the snap length, and two options
 abbrev pub interface_description : ByteOrder → List ℕ → InterfaceDescription
 interface_description order body = record {
   link_type = short_at order body 0;
   snap_len = number_at order body 4;
-  time_resolution = resolution_by (option_with order 9 1 (drop 8 body));
-  time_offset = offset_by order (option_with order 14 8 (drop 8 body));
+  time_resolution = resolution_by (option_value order 9 (Some 1) (drop 8 body));
+  time_offset = offset_by order (option_value order 14 (Some 8) (drop 8 body));
 }
 
 -- the error for fewer than 8 bytes

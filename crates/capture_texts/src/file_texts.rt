@@ -1,8 +1,8 @@
 ghost use Rattle.std.specs.Prelude.{◌≡◌, drop};
 ghost use Rattle.capture_texts.specs.Texts as specs;
 
-use crate::KeptText;
-use crate::options::{number_in, option_value};
+use crate::options::option_value;
+use crate::{ByteOrder, KeptText};
 use arrayvec::ArrayVec;
 
 /// The number of interfaces of a section whose texts are kept, at most.
@@ -33,10 +33,10 @@ pub struct InterfaceTexts {
 
 impl InterfaceTexts {
     /// The texts among the options of a block.
-    fn from_options(is_big_endian: bool, options: &[u8]) -> InterfaceTexts
-        ensures { result ≡ specs.interface_texts is_big_endian options.now }
+    fn from_options(order: ByteOrder, options: &[u8]) -> InterfaceTexts
+        ensures { result ≡ specs.interface_texts order options.now }
     {
-        let text_of = |code| KeptText::new(option_value(is_big_endian, options, code));
+        let text_of = |code| KeptText::new(text_in(order, options, code));
         InterfaceTexts {
             name: text_of(2),
             description: text_of(3),
@@ -71,22 +71,22 @@ impl FileTexts {
     }
 
     /// Takes in the texts of the next block with this type and body, in a section with this byte order.
-    pub fn note(&mut self, is_big_endian: bool, block_type: u32, body: &[u8])
-        ensures { self.new ≡ specs.texts_after is_big_endian block_type body.now self.old }
+    pub fn note(&mut self, order: ByteOrder, block_type: u32, body: &[u8])
+        ensures { self.new ≡ specs.texts_after order block_type body.now self.old }
     {
         match block_type {
-            SECTION_HEADER => self.begin_section(is_big_endian, after(body, 16)),
-            INTERFACE_DESCRIPTION => self.add_interface(is_big_endian, after(body, 8)),
-            ENHANCED_PACKET => self.add_packet(is_big_endian, body),
+            SECTION_HEADER => self.begin_section(order, after(body, 16)),
+            INTERFACE_DESCRIPTION => self.add_interface(order, after(body, 8)),
+            ENHANCED_PACKET => self.add_packet(order, body),
             _ => {}
         }
     }
 
     /// Begins a section whose header block has these options.
-    fn begin_section(&mut self, is_big_endian: bool, options: &[u8])
-        ensures { self.new ≡ specs.section_begun is_big_endian options.now self.old }
+    fn begin_section(&mut self, order: ByteOrder, options: &[u8])
+        ensures { self.new ≡ specs.section_begun order options.now self.old }
     {
-        let text_of = |code| KeptText::new(option_value(is_big_endian, options, code));
+        let text_of = |code| KeptText::new(text_in(order, options, code));
         self.comment = text_of(COMMENT);
         self.hardware = text_of(2);
         self.operating_system = text_of(3);
@@ -95,35 +95,45 @@ impl FileTexts {
     }
 
     /// Adds the interface of a block with these options, if there is room.
-    fn add_interface(&mut self, is_big_endian: bool, options: &[u8])
-        ensures { self.new ≡ specs.interface_added is_big_endian options.now self.old }
+    fn add_interface(&mut self, order: ByteOrder, options: &[u8])
+        ensures { self.new ≡ specs.interface_added order options.now self.old }
     {
         if !self.interfaces.is_full() {
-            let texts = InterfaceTexts::from_options(is_big_endian, options);
+            let texts = InterfaceTexts::from_options(order, options);
             self.interfaces.push(texts);
         }
     }
 
     /// Counts the packet of an enhanced packet block with this body, if it has a comment.
-    fn add_packet(&mut self, is_big_endian: bool, body: &[u8])
-        ensures { self.new ≡ specs.packet_added is_big_endian body.now self.old }
+    fn add_packet(&mut self, order: ByteOrder, body: &[u8])
+        ensures { self.new ≡ specs.packet_added order body.now self.old }
     {
-        if has_comment(is_big_endian, body) {
+        if has_comment(order, body) {
             self.commented_packets = self.commented_packets.saturating_add(1);
         }
     }
 }
 
 /// Whether an enhanced packet block with this body has a comment. The options follow the captured bytes, which are padded to four bytes.
-fn has_comment(is_big_endian: bool, body: &[u8]) -> bool
-    ensures { result ≡ specs.has_comment is_big_endian body.now }
+fn has_comment(order: ByteOrder, body: &[u8]) -> bool
+    ensures { result ≡ specs.has_comment order body.now }
 {
     if body.len() <= 20 {
         return false;
     }
-    let captured_len = number_in(is_big_endian, body, 12) as usize;
+    let captured_len = order.number_in(body, 12) as usize;
     let options = after(body, 20 + (captured_len + 3) / 4 * 4);
-    !option_value(is_big_endian, options, COMMENT).is_empty()
+    !text_in(order, options, COMMENT).is_empty()
+}
+
+/// The text in the first option with this code, or no byte if there is no such option.
+fn text_in(order: ByteOrder, options: &[u8], code: u16) -> &[u8]
+    ensures { result.now ≡ specs.text_in order code options.now }
+{
+    match option_value(order, options, code, None) {
+        Some(text) => text,
+        None => &[],
+    }
 }
 
 /// The bytes after the first bytes.

@@ -1,10 +1,11 @@
 //! The texts of a pcapng file that say what it is: names, descriptions and comments (draft-ietf-opsawg-pcapng, sections 3.5, 4.1 and 4.2).
 //!
-//! `FileTexts` keeps the texts of the section that is read, up to `MAX_TEXT_LEN` bytes of each, and nothing is allocated.
+//! `ByteOrder` reads the numbers of a capture, and `option_value` an option of a block. `FileTexts` keeps the texts of the section
+//! that is read, up to `MAX_TEXT_LEN` bytes of each. Nothing is allocated.
 //!
 //! ```
 //! let mut texts = FileTexts::new();
-//! texts.note(is_big_endian, block_type, body);
+//! texts.note(byte_order, block_type, body);
 //! let name = texts.interfaces.as_slice()[0].name.bytes.as_slice();
 //! ```
 #![tactic(auto)]

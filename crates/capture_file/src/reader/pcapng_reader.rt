@@ -1,5 +1,4 @@
 ghost use Rattle.std.specs.Prelude.{◌≡◌, ◌+◌, ◌-◌, ℕ, IfOk, IfSome, OnErr, [], length};
-ghost use Rattle.capture_file.specs.BlockTexts.{texts_with};
 ghost use Rattle.capture_file.specs.Opening.{ReadsRestOfBlock};
 ghost use Rattle.capture_file.specs.Packets.{IsNextWithin, IsWithin};
 ghost use Rattle.capture_file.specs.PcapngReading.{AreFirst};
@@ -45,7 +44,7 @@ impl PcapngReader {
                     let section = Section::new(header.byte_order);
                     let offset = u64::from(header.total_len);
                     let mut texts = FileTexts::new();
-                    note(&mut texts, header, body);
+                    texts.note(header.byte_order, header.block_type, body);
                     match SectionHeader::from_body(header.byte_order, body) {
                         Ok(_) => Ok(PcapngReader {
                             section,
@@ -108,7 +107,7 @@ impl PcapngReader {
                 let body = &buffer[8..header.total_len as usize - 4];
                 match self.section.take(&Block { header, body }) {
                     Ok(packet) => {
-                        note(&mut self.texts, header, body);
+                        self.texts.note(header.byte_order, header.block_type, body);
                         match packet {
                             Some(packet) => Ok(Some(NextPacket::Whole(packet))),
                             None => Ok(None),
@@ -128,14 +127,6 @@ impl PcapngReader {
             NextBlock::Refused(error) => Ok(refused(PacketError::Block(error))),
         }
     }
-}
-
-/// Takes in the texts of a block with this body.
-fn note(texts: &mut FileTexts, header: BlockHeader, body: &[u8])
-    ensures { texts.new ≡ texts_with header body.now texts.old }
-{
-    let is_big_endian = matches!(header.byte_order, ByteOrder::BigEndian);
-    texts.note(is_big_endian, header.block_type, body);
 }
 
 /// What comes next where the buffer has no room for a block.

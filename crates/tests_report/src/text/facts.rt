@@ -123,8 +123,8 @@ fn texts_of_a_pcapng_file(rt: HostRuntime) -> Result<(), Fail> {
     let pushed = section.interfaces.try_push(interface);
     pushed.ok().ok_or("no room")?;
     let mut texts = FileTexts::new();
-    texts.note(false, SECTION_HEADER, &SECTION);
-    texts.note(false, INTERFACE_DESCRIPTION, &INTERFACE);
+    texts.note(ByteOrder::LittleEndian, SECTION_HEADER, &SECTION);
+    texts.note(ByteOrder::LittleEndian, INTERFACE_DESCRIPTION, &INTERFACE);
     let capture = Some(CaptureReader::Pcapng(PcapngReader {
         section,
         offset: 28,
