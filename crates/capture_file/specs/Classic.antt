@@ -39,7 +39,7 @@ link_types =
 abbrev pub link_type_with : ℕ → Option LinkType
 link_type_with number = lookup (λ known. number == known) link_types
 
--- the link type with this number, or the number, if the link type is not read
+-- the link type with this number, or the number itself if its link type is not read
 abbrev pub link_type_or_number : ℕ → Result LinkType ℕ
 link_type_or_number number = ok_or (link_type_with number) number
 
@@ -47,23 +47,23 @@ link_type_or_number number = ok_or (link_type_with number) number
 abbrev pub link_number : ByteOrder → List ℕ → ℕ
 link_number order bytes = number_at order bytes 20 % 65536
 
--- The header of the capture that begins with these bytes. Its resolution belongs to the magic number in its byte order. Its snap length is
--- in bytes 16 to 19. Its link type belongs to the number of the link type, or it is this number, if the link type is not read.
+-- The header of the capture that begins with these bytes. In its byte order, bytes 0 to 3 are the magic number of its resolution. Its snap
+-- length is in bytes 16 to 19. Its link type is the type with the number in bytes 20 to 23, or this number itself if the type is not read.
 pub record IsHeaderOf (bytes : List ℕ) (header : CaptureHeader) : Type 0 where
   pub resolution : resolution_with (number_at header.byte_order bytes 0) ≡ Some header.resolution
   pub snap_len : header.snap_len ≡ number_at header.byte_order bytes 16
   pub link_type : header.link_type ≡ link_type_or_number (link_number header.byte_order bytes)
 
--- this byte order, and the resolution whose magic number is in the first four bytes, if there is one
+-- this byte order and the resolution, if the first four bytes are a magic number in this byte order
 abbrev pub form_in : ByteOrder → List ℕ → Option (ByteOrder × Resolution)
 form_in order bytes = option_map (λ resolution. (order, resolution)) (resolution_with (number_at order bytes 0))
 
--- the byte order in which the first four bytes are a magic number, and the resolution of the magic number
+-- the byte order in which the first four bytes are a magic number, and its resolution; none if they are no magic number
 abbrev pub form_of : List ℕ → Option (ByteOrder × Resolution)
 form_of bytes = option_or (form_in BigEndian bytes) (form_in LittleEndian bytes)
 
--- The error for the first four bytes, if they are no magic number that is read. A1B2CD34 is the magic number of the modified format of
--- older Linux systems (libpcap), with longer headers of records.
+-- The error if the first four bytes are no magic number that is read. A1B2CD34 is the magic number of the modified format of older Linux
+-- systems, whose records have longer headers (libpcap).
 abbrev pub magic_error : List ℕ → CaptureHeaderError
 magic_error bytes =
     if number_at BigEndian bytes 0 == 0xA1B2CD34 || number_at LittleEndian bytes 0 == 0xA1B2CD34 then Modified
@@ -73,16 +73,15 @@ magic_error bytes =
 abbrev pub is_version_read : ℕ → ℕ → Bool
 is_version_read major minor = major == 2 && nat_le 4 minor
 
--- the error for a version that is not read, in a capture with this byte order and resolution
+-- the error for a version that is not read; bytes without a magic number have another error
 abbrev pub version_refusal : Option (ByteOrder × Resolution) → List ℕ → Option CaptureHeaderError
 version_refusal None bytes = None
 version_refusal (Some form) bytes =
     refused_if (not (is_version_read (short_at form.0 bytes 4) (short_at form.0 bytes 6)))
     (Version (short_at form.0 bytes 4) (short_at form.0 bytes 6))
 
--- Why the header of a capture is rejected, if it is. The first of these reasons counts: the bytes begin with the type of a section header
--- block, as a pcapng file does; there are fewer than 24 bytes; the first four bytes are no magic number that is read; the version is not
--- read.
+-- Why the header of a capture is rejected, if it is. If several errors apply, the first one counts. A pcapng file begins with 0A0D0D0A, the
+-- type of its first block. The header has 24 bytes.
 abbrev pub header_refusal : List ℕ → Option CaptureHeaderError
 header_refusal bytes = first_of (
     refused_if (be_number bytes 0 4 == 0x0A0D0D0A) Pcapng
@@ -109,17 +108,18 @@ record_len order bytes = 16 + number_at order bytes 8
 abbrev pub IsRecord : ByteOrder → List ℕ → Type 0
 IsRecord order bytes = length bytes ≡ record_len order bytes
 
--- bytes that do not begin with a whole record: fewer than 16 bytes, or fewer than the header and its captured length
+-- bytes that do not begin with a whole record: they end within its header, or within its captured bytes
 abbrev pub IsPartial : ByteOrder → List ℕ → Type 0
 IsPartial order bytes = (length bytes < 16) ⊎ (length bytes < record_len order bytes)
 
--- these bytes are these records, one after the other, and a rest that does not begin with a whole record
+-- The bytes consist of these records, one after the other, and a rest that does not begin with a whole record.
 pub record IsReading (order : ByteOrder) (bytes : List ℕ) (records : List (List ℕ)) (rest : List ℕ) : Type 0 where
   pub whole : bytes ≡ concat records ++ rest
   pub each : AllByRecursion (IsRecord order) records
   pub partial : IsPartial order rest
 
--- the records that end at or before a cut after `cut` bytes: the first records, up to a record that ends after the cut
+-- After a cut, only the first `cut` bytes are left. `cut_records` are the records that end within these bytes. The next record ends after
+-- them.
 pub record AreBeforeCut (cut : ℕ) (records cut_records : List (List ℕ)) : Type 0 where
   pub count : ℕ
   pub first : cut_records ≡ take count records

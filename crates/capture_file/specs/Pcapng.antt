@@ -32,7 +32,7 @@ order_by_magic bytes =
 abbrev pub lacks_magic : List ℕ → Bool
 lacks_magic bytes = is_section_header bytes && is_none (order_by_magic bytes)
 
--- the byte order of a block in a section with this byte order; a section header block states its own byte order, since it begins a section
+-- The byte order of a block in a section with this byte order. A section header block begins a section, and states its own byte order.
 abbrev pub order_of : ByteOrder → List ℕ → ByteOrder
 order_of section bytes = if is_section_header bytes then unwrap_or (order_by_magic bytes) section else section
 
@@ -42,7 +42,7 @@ order_of section bytes = if is_section_header bytes then unwrap_or (order_by_mag
 abbrev pub is_block_len : ℕ → Bool
 is_block_len len = nat_le 12 len && len % 4 == 0
 
--- the length of the block at the front of these bytes: its first total length
+-- the length of the block at the front of these bytes, in its bytes 4 to 7
 abbrev pub block_len : ByteOrder → List ℕ → ℕ
 block_len section bytes = number_at (order_of section bytes) bytes 4
 
@@ -58,12 +58,12 @@ block_header section bytes = record {
   total_len = block_len section bytes;
 }
 
--- a section header block that ends within its fields: with both total lengths they have 28 bytes (section 4.1)
+-- a section header block that is too short for its fields, which have 28 bytes together with both total lengths (section 4.1)
 abbrev pub is_short_section : ByteOrder → List ℕ → Bool
 is_short_section section bytes = is_section_header bytes && nat_lt (block_len section bytes) 28
 
--- Why the header of a block is rejected, if it is. The first of these reasons counts: there are fewer than 12 bytes; a section header block
--- has no byte-order magic; no block has this total length; a section header block with this total length ends within its fields.
+-- Why the header of a block is rejected, if it is. If several errors apply, the first one counts. The header is the first 12 bytes of the
+-- block.
 abbrev pub block_header_refusal : ByteOrder → List ℕ → Option BlockError
 block_header_refusal section bytes = first_of (
     refused_if (nat_lt (length bytes) 12) (CutOff 12 (length bytes))
@@ -72,8 +72,7 @@ block_header_refusal section bytes = first_of (
     ∷ refused_if (is_short_section section bytes) (SectionLength (block_len section bytes))
     ∷ [])
 
--- Why a block is rejected, if it is. The first of these reasons counts: its header is rejected; there are fewer bytes than its total
--- length; its last four bytes are another total length.
+-- Why a block is rejected, if it is. If several errors apply, the first one counts. The two total lengths of a block are equal.
 abbrev pub block_refusal : ByteOrder → List ℕ → Option BlockError
 block_refusal section bytes =
     let len = block_len section bytes in
@@ -91,7 +90,7 @@ pub record ReadsBlock (section : ByteOrder) (bytes : List ℕ) (block : Block) (
 
 -- ---- a file as a list of blocks
 
--- a block in a section with this byte order, without bytes after it
+-- the bytes of exactly one block, in a section with this byte order
 pub record IsBlock (section : ByteOrder) (bytes : List ℕ) : Type 0 where
   pub has_order : lacks_magic bytes ≡ false
   pub shortest : 12 ≤ length bytes
@@ -110,7 +109,7 @@ abbrev pub order_after : ByteOrder → List (List ℕ) → ByteOrder
 order_after section [] = section
 order_after section (block ∷ blocks) = order_after (order_of section block) blocks
 
--- these bytes are these blocks, one after the other, and a rest that is rejected as a block
+-- The bytes consist of these blocks, one after the other, and a rest that is rejected as a block.
 pub record IsBlockReading (section : ByteOrder) (bytes : List ℕ) (blocks : List (List ℕ)) (rest : List ℕ) : Type 0 where
   pub whole : bytes ≡ concat blocks ++ rest
   pub each : AreBlocks section blocks

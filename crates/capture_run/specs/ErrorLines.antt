@@ -14,7 +14,7 @@ abbrev pub compressed_text : Compression → List ℕ
 compressed_text compression =
     codes "The capture is compressed, and is read by " ++ (compression_name compression ++ codes " -dc FILE | capture_report.")
 
--- the text of an error of a capture: for a compressed capture this one, and else that of the error itself
+-- the text of an error of a capture: this text for a compressed capture; of the text of another error nothing is stated
 abbrev pub IsErrorText : CaptureError → List ℕ → Type 0
 IsErrorText error text = MatchOption (compression_of error) (Unit {0}) (λ compression. text ≡ compressed_text compression)
 

@@ -29,14 +29,14 @@ use Rattle.capture_selection.specs.declared.place.Place.{Place}
 use Rattle.capture_selection.specs.declared.selection_error.SelectionError.{SelectionError}
 use Rattle.capture_selection.specs.declared.selection_error.SelectionError.TheVariants.{Capture}
 
--- the outcome of a block that determines this next item, or none: a block with a packet has the outcome of the packet, which is read as the
--- report reads it
+-- The outcome of a block that determines this next item. It is the outcome of the packet in the block, which is read as the report reads
+-- it. A block without a packet determines no item, and has no outcome.
 abbrev pub HasBlockOutcome : Parts → List ℕ → Option NextPacket → Option Outcome → Type 0
 HasBlockOutcome options buffer None outcome = outcome ≡ None
 HasBlockOutcome options buffer (Some next) outcome =
     (packet : FilePacket) × (packet_in buffer next ≡ Some packet) × HasOutcome options (IsPacketOf packet) outcome
 
--- the reader reads this block, and these are the next item according to the block and the reader after it
+-- The reader reads this block. `after` is the reader after the block, and `next` is the next item, if the block determines it.
 pub record StepsOver (before : PcapngReader) (bytes : List ℕ) (after : PcapngReader) (buffer : List ℕ) (next : Option NextPacket) : Type 0 where
   pub has_room : length buffer ≡ max_packet_len
   pub block : NextBlock
@@ -54,7 +54,7 @@ pub record IsBlockPart (options : Parts) (before : PcapngReader) (part : Part) (
 abbrev pub IsLongBlock : PcapngReader → List ℕ → Type 0
 IsLongBlock state bytes = max_packet_len < block_len state.section.byte_order bytes
 
--- these bytes are not a whole block: the length of the block as far as it is known, and their length
+-- The bytes end within a block. `required` is the length of the block, as far as it is known, and `len` is the number of bytes.
 abbrev pub IsCutBlock : PcapngReader → List ℕ → ℕ → ℕ → Type 0
 IsCutBlock state bytes required len = (bytes ≢ []) × (block_refusal state.section.byte_order bytes ≡ Some (CutOff required len))
 
@@ -63,7 +63,7 @@ abbrev pub IsRefusedBlock : PcapngReader → List ℕ → PlacedPacketError → 
 IsRefusedBlock state bytes error =
     (after : PcapngReader) × (buffer : List ℕ) × StepsOver state bytes after buffer (Some (packets.Refused error))
 
--- the number of the next packet after a block with this outcome, or without a packet
+-- the number of the next packet after a block with this outcome; a block without an outcome contains no packet
 abbrev pub number_after : ℕ → Option Outcome → ℕ
 number_after number None = number
 number_after number (Some outcome) = one_more number
@@ -93,13 +93,13 @@ pub record IsFileStart (blocks : Blocks) : Type 0 where
 
 -- ---- the first block
 
--- the error of the first block of a file as the error of the beginning of the file, as the report has it
+-- an error of the first block of a file, in the form of the report, in which it is an error of the header
 abbrev pub at_beginning : SelectionError → SelectionError
 at_beginning (Capture (RecordCutOff number offset required len)) = Capture (Header (Pcapng (errors.Block (CutOff required len))))
 at_beginning (Capture (Refused error)) = Capture (Header (Pcapng error.error))
 at_beginning error = error
 
--- the first block of a file is rejected, by an error that has this form as the error of the beginning; no packet is counted
+-- The first block of a file is rejected. `error` is the error in the form of the report. No packet is counted.
 pub record RefusesFirst (options : Parts) (start : Blocks) (error : PacketError) (left still_left held now_held : Option (List ℕ))
     (counts now_counts : Counts) : Type 0 where
   pub given : SelectionError
@@ -107,13 +107,14 @@ pub record RefusesFirst (options : Parts) (start : Blocks) (error : PacketError)
   pub stops : StopsBy (blocks_of options) given start left still_left held now_held counts
   pub same : now_counts ≡ counts
 
--- an error that rejects a block is not at the start of the file
+-- if the error rejects a block, this block is not the first block of the file
 abbrev pub IsPastFirst : {A : Type 0} → Result A SelectionError → Type 0
 IsPastFirst (Err (Capture (RecordCutOff number offset required len))) = 1 ≤ offset
 IsPastFirst (Err (Capture (Refused error))) = 1 ≤ error.offset
 IsPastFirst other = Unit {0}
 
--- what was passed of a file from its start up to a result; if its first block is rejected, the error is that of the beginning
+-- What was read and written of a file, from its start up to this result. If its first block is rejected, the error is an error of the
+-- header.
 abbrev pub PassesFile : Parts → Result (Unit {0}) SelectionError → Blocks → Blocks → Option (List ℕ) → Option (List ℕ) → Option (List ℕ)
     → Option (List ℕ) → Counts → Counts → Type 0
 PassesFile options (Err (Capture (Header (Pcapng error)))) start after left still_left held now_held counts now_counts =
@@ -123,12 +124,12 @@ PassesFile options result start after left still_left held now_held counts now_c
 
 -- ---- results
 
--- the error of bytes at this place that are no block
+-- the error of the selection if this error rejects the bytes at this place as a block
 abbrev pub refused_by : Place → BlockError → SelectionError
 refused_by place (CutOff required len) = Capture (RecordCutOff place.number place.offset required len)
 refused_by place error = Capture (Refused (record { offset = place.offset; error = errors.Block error }))
 
--- the outcome of a block at the front of the buffer, or without room in it, or the error that rejects the block
+-- The result of reading a block: its outcome, or the error that rejects it. The block is at the front of the buffer, or has no room there.
 abbrev pub StepsTo : Parts → PcapngReader → List ℕ → NextBlock → PcapngReader → Result (Option Outcome) PlacedPacketError → Type 0
 StepsTo options before buffer block after (Ok outcome) =
     (next : Option NextPacket) × IsStep before buffer block after next × HasBlockOutcome options buffer next outcome

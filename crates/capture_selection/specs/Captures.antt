@@ -47,14 +47,14 @@ SelectsBlocks options result left still_left held now_held counts now_counts =
     × PassesFile options result start after left still_left held now_held counts now_counts)
     ⊎ ((is_full options.limit counts.chosen ≡ true) × SelectsNothing held now_held counts now_counts × (result ≡ Err (Capture Enough))))
 
--- this error rejects the first bytes of a capture; if reading failed, it states nothing
+-- this error rejects the first bytes of a capture; an error of reading states nothing about them
 abbrev pub RefusesBytes : List ℕ → CaptureError → Type 0
 RefusesBytes bytes (Header (Classic error)) = header_refusal bytes ≡ Some error
 RefusesBytes bytes (ReadHeader error) = Unit {0}
 RefusesBytes bytes other = ⊥
 
--- The selection of a capture. If the header of a classic capture is rejected or can't be read, nothing was written. After a write that
--- failed nothing is known.
+-- The selection of a capture. If the header of a classic capture is rejected or can't be read, nothing was written. If a write failed,
+-- nothing is known.
 abbrev pub SelectsCapture : Parts → Result (Unit {0}) SelectionError → Option (List ℕ) → Option (List ℕ) → Option (List ℕ) → Option (List ℕ)
     → Counts → Counts → Type 0
 SelectsCapture options (Err (Capture (Header (Classic error)))) left still_left held now_held counts now_counts =

@@ -22,11 +22,11 @@ pub record HasOutcome (options : Parts) (IsPacket : Packet → Type 0) (outcome 
   pub is_outcome : IsOutcomeOf options packet given
   pub has : outcome ≡ Some given
 
--- a number with a packet more; 2^64 - 1 stays
+-- the number of packets with one packet more; it is at most 2^64 - 1
 abbrev pub one_more : ℕ → ℕ
 one_more count = min (count + 1) (2 ^ 64 - 1)
 
--- the numbers with a packet of this outcome: every packet is read, and a written packet is chosen
+-- the counts with one more packet, by its outcome: every packet was read, and a written packet is also a chosen packet
 abbrev pub counted : Counts → Outcome → Counts
 counted counts Excluded = record counts { read = one_more counts.read }
 counted counts Unlisted = record counts { read = one_more counts.read; chosen = one_more counts.chosen }

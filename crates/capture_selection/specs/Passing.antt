@@ -1,4 +1,4 @@
--- What is written for the bytes that are read, part after part: a part is a record of a classic capture, or a block of a pcapng file.
+-- What is read and written, part by part. A part is a record of a classic capture or a block of a pcapng file.
 use Rattle.std.specs.Prelude.{◌≡◌, ◌++◌, ◌⊎◌, ℕ, true, List, [], ◌∷◌, flat_map, fold, length, ⊤, Option, Some, None, Result, Ok, Err}
 use Rattle.std.specs.Io.KnownBytes.{Appends, Consumes, IsAtEnd}
 use Rattle.std.specs.Option.{option_to_list}
@@ -59,8 +59,8 @@ abbrev pub AreParts : (format : Format) → format.State → List Part → forma
 AreParts format before [] after = after ≡ before
 AreParts format before (part ∷ parts) after = (between : format.State) × format.IsPart before part between × AreParts format between parts after
 
--- Exactly the packets that are not left out were written, and each outcome was counted. The reader has lost exactly the bytes of the parts,
--- in their order, and the writer has grown by exactly what is written for them.
+-- Parts were read, and were written unless their packet is left out. The input lost exactly the bytes of the parts, in their order. The
+-- output grew by exactly what is written for them. Each outcome was counted.
 pub record Passes (format : Format) (before after : format.State) (left still_left held now_held : Option (List ℕ)) (counts now_counts : Counts)
     : Type 0 where
   pub parts : List Part
@@ -91,8 +91,9 @@ abbrev pub IsWriteError : SelectionError → Type 0
 IsWriteError (Write error) = ⊤
 IsWriteError (Capture error) = ⊥
 
--- An error in a part with these first bytes, which are `rest`. `then_left` is what an input has left after them, and `still_left` what it
--- has left at the end. They differ only if reading failed. An error that contains a place contains the place of the part.
+-- The error occurred in a part after its first bytes, which are `rest`. `then_left` is what the input contains after these bytes, and
+-- `still_left` is what it contains after the error. They differ only if reading failed. If the error contains a place, it is the place of
+-- the part.
 abbrev pub IsEndBy : (format : Format) → SelectionError → format.State → List ℕ → Option (List ℕ) → Option (List ℕ) → Counts → Type 0
 IsEndBy format (Capture (RecordCutOff number offset required len)) state rest then_left still_left counts =
     IsAt (format.place_of state) number offset × format.IsCut state rest required len × IsAtEnd still_left × (then_left ≡ still_left)
@@ -105,12 +106,12 @@ IsEndBy format (Capture (Header error)) state rest then_left still_left counts =
 IsEndBy format (Capture (ReadHeader error)) state rest then_left still_left counts = ⊥
 IsEndBy format (Write error) state rest then_left still_left counts = ⊥
 
--- these bytes are the first bytes of the others
+-- `bytes` begins with `front`
 abbrev pub IsFront : List ℕ → List ℕ → Type 0
 IsFront front bytes = (more : List ℕ) × (bytes ≡ front ++ more)
 
--- The first bytes of a part were read up to an error. Nothing was written for this part, unless the buffer has no room for its packet: then
--- first bytes of it may have been written.
+-- The first bytes of a part were read, and then an error occurred. Nothing was written for this part, unless the buffer has no room for its
+-- packet. Then some of its first bytes may have been written.
 pub record StopsBy (format : Format) (error : SelectionError) (state : format.State) (left still_left held now_held : Option (List ℕ))
     (counts : Counts) : Type 0 where
   pub then_left : Option (List ℕ)
@@ -121,7 +122,7 @@ pub record StopsBy (format : Format) (error : SelectionError) (state : format.St
   pub is_front : (front ≡ []) ⊎ (format.IsLong state rest × IsFront front rest)
   pub ends : IsEndBy format error state rest then_left still_left counts
 
--- parts were passed, and then the first bytes of another part were read up to an error
+-- parts were read and written, and then an error occurred in the next part
 pub record EndsBy (format : Format) (error : SelectionError) (before : format.State) (left still_left held now_held : Option (List ℕ))
     (counts now_counts : Counts) : Type 0 where
   pub after : format.State
@@ -130,7 +131,7 @@ pub record EndsBy (format : Format) (error : SelectionError) (before : format.St
   pub passes : Passes format before after left middle held then_held counts now_counts
   pub stops : StopsBy format error after middle still_left then_held now_held now_counts
 
--- what was passed up to a result; after a write that failed nothing is known
+-- What was read and written up to this result. If a write failed, nothing is known.
 abbrev pub PassesTo : {A : Type 0} → (format : Format) → Result A SelectionError → format.State → format.State → Option (List ℕ) → Option (List ℕ)
     → Option (List ℕ) → Option (List ℕ) → Counts → Counts → Type 0
 PassesTo format (Ok given) before after left still_left held now_held counts now_counts =
@@ -138,7 +139,7 @@ PassesTo format (Ok given) before after left still_left held now_held counts now
 PassesTo format (Err error) before after left still_left held now_held counts now_counts =
     IsWriteError error ⊎ EndsBy format error before left still_left held now_held counts now_counts
 
--- the same of the next part, if there is one: after an error no part was passed
+-- What one call read and written, which reads at most one part. If an error occurred in the part, no whole part was passed.
 abbrev pub PassesNext : {A : Type 0} → (format : Format) → Result A SelectionError → format.State → format.State → Option (List ℕ) → Option (List ℕ)
     → Option (List ℕ) → Option (List ℕ) → Counts → Counts → Type 0
 PassesNext format (Ok given) before after left still_left held now_held counts now_counts =
@@ -155,20 +156,22 @@ pub record Copies (left still_left held now_held : Option (List ℕ)) (len : ℕ
   pub consumed : Consumes left still_left bytes
   pub appended : Appends held now_held bytes
 
--- as many bytes of the part at this place were copied as were counted, or some up to an error
+-- The result is the number of bytes that were copied of the part at this place. If reading failed, some bytes were copied before.
 abbrev pub CopiesUpTo : Place → Result ℕ SelectionError → Option (List ℕ) → Option (List ℕ) → Option (List ℕ) → Option (List ℕ) → Type 0
 CopiesUpTo place (Ok len) left still_left held now_held = Copies left still_left held now_held len
 CopiesUpTo place (Err error) left still_left held now_held =
     IsWriteError error ⊎ (IsReadError place error × (len : ℕ) × (then_left : Option (List ℕ)) × Copies left then_left held now_held len)
 
--- these bytes were written before, and the bytes that are read after them belong to a packet with this outcome
+-- The first bytes of a part had been read before, and then `len` more bytes were read. All these bytes were written, unless the packet with
+-- this outcome is left out.
 pub record PassesRest (outcome : Option Outcome) (first : List ℕ) (left still_left held now_held : Option (List ℕ)) (len : ℕ) : Type 0 where
   pub bytes : List ℕ
   pub has_len : length bytes ≡ len
   pub consumed : Consumes left still_left bytes
   pub appended : Appends held now_held (written_by (first ++ bytes) outcome)
 
--- the same of the part at this place, up to the end of its packet or of the input, or up to an error
+-- The result is the number of bytes that were read of the part at this place, after its first bytes. If reading failed, some bytes were
+-- read and written before.
 abbrev pub PassesLong : Place → Option Outcome → Result ℕ SelectionError → List ℕ → Option (List ℕ) → Option (List ℕ) → Option (List ℕ) → Option (List ℕ) → Type 0
 PassesLong place outcome (Ok len) first left still_left held now_held = PassesRest outcome first left still_left held now_held len
 PassesLong place outcome (Err error) first left still_left held now_held =

@@ -22,7 +22,7 @@ pub record IsRecordPart (options : Parts) (capture : CaptureHeader) (part : Part
 abbrev pub IsLongRecord : CaptureHeader → List ℕ → Type 0
 IsLongRecord capture bytes = max_packet_len < number_at capture.byte_order bytes 8
 
--- these bytes do not begin with a whole record, and this is the length of the record as far as it is known, and theirs
+-- The bytes end within a record. `required` is the length of the record, as far as it is known, and `len` is the number of bytes.
 abbrev pub IsCutRecord : CaptureHeader → List ℕ → ℕ → ℕ → Type 0
 IsCutRecord capture bytes required len =
     (bytes ≢ []) × IsPartial capture.byte_order bytes × (required ≡ required_len capture.byte_order bytes) × (len ≡ length bytes)
