@@ -1,6 +1,7 @@
 //! What a capture is, as the summary of its report shows it: the type of its file, its byte order, its interfaces, and its texts.
 //!
-//! `write_facts` writes it as text. `capture_json` writes it as JSON, with the words of this crate.
+//! `write_facts` writes it as text. `capture_json` writes it as JSON, with the words of this crate. `ShownText` and `EscapedBytes` show any
+//! text of a capture or of a command line, so that it can't end a line or control a terminal.
 #![tactic(auto)]
 
 mod facts;
@@ -9,5 +10,5 @@ mod texts;
 mod words;
 
 pub use facts::write_facts;
-pub use shown_text::write_shown;
+pub use shown_text::{EscapedBytes, ShownText, write_shown};
 pub use words::{byte_order_word, time_resolution, write_resolution};

@@ -1,16 +1,76 @@
-//! Texts of a capture, as summaries show them.
+//! Texts as reports show them: no text can end a line or control a terminal.
 
-ghost use Rattle.std.specs.Prelude.{◌≡◌, OnOk};
+ghost use Rattle.std.specs.Prelude.{◌≡◌, OnOk, Some};
+ghost use Rattle.std.specs.Fmt.{WritesOnOk};
 ghost use Rattle.std.specs.Io.KnownBytes.{Appends};
 ghost use Rattle.std.specs.List.{flat_map};
 ghost use Rattle.capture_facts.specs.ShownText as specs;
 
 use capture_texts::KeptText;
 use std::io::Write;
-use std::{io, str};
+use std::{fmt, io, str};
 
-/// Writes a text as summaries show it. A control character is shown by its number, as in `\x1B`, so that no text can end a line or control
-/// a terminal. In a text that is not UTF-8 each byte but a printable character of ASCII is shown by its number. `...` follows a cut text.
+/// A text that is shown character by character. A control character is shown by its number, as in `\x1B`.
+#[derive(Clone, Copy)]
+pub struct ShownText<'a>(pub &'a str);
+
+impl<'a> fmt::Display for ShownText<'a> {
+    ghost output = { λ shown. Some (specs.shown_text shown.0.now) };
+
+    fn fmt<W: fmt::Write>(&self, f: &mut fmt::Formatter<W>) -> fmt::Result {
+        for character in self.0.chars() {
+            write_character(f, character)?;
+        }
+        Ok(())
+    }
+}
+
+/// Writes a character, or the number of a control character.
+fn write_character<W: fmt::Write>(f: &mut fmt::Formatter<W>, character: char) -> fmt::Result
+    ensures { WritesOnOk W.write_str_gives f.old result (specs.shown_char character) f.new }
+{
+    if character.is_control() {
+        write!(f, "\\x{:02X}", character as u32)
+    } else {
+        f.write_char(character)
+    }
+}
+
+/// Bytes that are not UTF-8. Each byte is shown by its number, as in `\xFF`, unless it is a printable character of ASCII other than a
+/// backslash.
+#[derive(Clone, Copy)]
+pub struct EscapedBytes<'a>(pub &'a [u8]);
+
+impl<'a> fmt::Display for EscapedBytes<'a> {
+    ghost output = { λ escaped. Some (flat_map specs.escaped_byte escaped.0.now) };
+
+    fn fmt<W: fmt::Write>(&self, f: &mut fmt::Formatter<W>) -> fmt::Result {
+        for byte in self.0 {
+            write_byte(f, *byte)?;
+        }
+        Ok(())
+    }
+}
+
+/// Writes a byte, or its number if it is no printable character.
+fn write_byte<W: fmt::Write>(f: &mut fmt::Formatter<W>, byte: u8) -> fmt::Result
+    ensures { WritesOnOk W.write_str_gives f.old result (specs.escaped_byte byte) f.new }
+{
+    if is_plain(byte) {
+        f.write_char(char::from(byte))
+    } else {
+        write!(f, "\\x{byte:02X}")
+    }
+}
+
+/// Whether a byte is a printable character of ASCII other than a backslash.
+fn is_plain(byte: u8) -> bool
+    ensures { result ≡ specs.is_plain byte }
+{
+    matches!(byte, b' '..=b'~') && byte != b'\\'
+}
+
+/// Writes a text as summaries show it: as `ShownText`, or as `EscapedBytes` if it is not UTF-8. `...` follows a cut text.
 ///
 /// # Errors
 ///
@@ -37,55 +97,7 @@ fn write_bytes<W: Write>(output: &mut W, bytes: &[u8]) -> io::Result<()>
     ensures { OnOk result (Appends (W.contents output.old) (W.contents output.new) (specs.shown_bytes bytes.now)) }
 {
     match str::from_utf8(bytes) {
-        Ok(text) => write_characters(output, text),
-        Err(_) => write_escaped(output, bytes),
+        Ok(text) => write!(output, "{}", ShownText(text)),
+        Err(_) => write!(output, "{}", EscapedBytes(bytes)),
     }
-}
-
-/// Writes each character of a text.
-fn write_characters<W: Write>(output: &mut W, text: &str) -> io::Result<()>
-    ensures { OnOk result (Appends (W.contents output.old) (W.contents output.new) (specs.shown_text text.now)) }
-{
-    for character in text.chars() {
-        write_character(output, character)?;
-    }
-    Ok(())
-}
-
-/// Writes a character, or the number of a control character.
-fn write_character<W: Write>(output: &mut W, character: char) -> io::Result<()>
-    ensures { OnOk result (Appends (W.contents output.old) (W.contents output.new) (specs.shown_char character)) }
-{
-    if character.is_control() {
-        write!(output, "\\x{:02X}", character as u32)
-    } else {
-        write!(output, "{character}")
-    }
-}
-
-/// Writes each byte of a text that is not UTF-8.
-fn write_escaped<W: Write>(output: &mut W, bytes: &[u8]) -> io::Result<()>
-    ensures { OnOk result (Appends (W.contents output.old) (W.contents output.new) (flat_map specs.escaped_byte bytes.now)) }
-{
-    for byte in bytes {
-        write_escaped_byte(output, *byte)?;
-    }
-    Ok(())
-}
-
-/// Writes a byte, or its number if it is no printable character.
-fn write_escaped_byte<W: Write>(output: &mut W, byte: u8) -> io::Result<()>
-    ensures { OnOk result (Appends (W.contents output.old) (W.contents output.new) (specs.escaped_byte byte)) }
-{
-    if is_plain(byte) {
-        return output.write_all(&[byte]);
-    }
-    write!(output, "\\x{byte:02X}")
-}
-
-/// Whether a byte is a printable character of ASCII other than a backslash.
-fn is_plain(byte: u8) -> bool
-    ensures { result ≡ specs.is_plain byte }
-{
-    matches!(byte, b' '..=b'~') && byte != b'\\'
 }

@@ -3,7 +3,8 @@ use Rattle.std.proofs.Common.{◌≡◌, ◌+◌, ◌∷◌, ◌++◌, [], Bool,
 use Rattle.std.proofs.lemmas.Str.{IsUtf8-from_is_utf8, is_utf8-from_IsUtf8}
 use Rattle.std.specs.List.{flat_map}
 use Rattle.std.specs.Str.{is_utf8}
-use Rattle.capture_report.specs.Words.{AreArguments, escaped_byte, word_of}
+use Rattle.capture_facts.specs.ShownText.{escaped_byte}
+use Rattle.capture_report.specs.Words.{AreArguments, word_of}
 
 -- bytes that are UTF-8
 pub text_word : (bytes text : List ℕ) → text ≡ bytes → IsUtf8 bytes → text ≡ word_of bytes

@@ -1,17 +1,8 @@
 -- The words of the command line.
-use Rattle.std.specs.Prelude.{◌≡◌, ℕ, ◌+◌, ◌==◌, ◌&&◌, not, Bool, if◌then◌else◌, List, [], ◌∷◌, ◌++◌, codes, length, map}
-use Rattle.std.specs.Int.{is_in_range}
+use Rattle.std.specs.Prelude.{◌≡◌, ℕ, ◌+◌, if◌then◌else◌, List, [], ◌∷◌, length, map}
 use Rattle.std.specs.List.{flat_map}
 use Rattle.std.specs.Str.{is_utf8}
-use Rattle.capture_text.specs.Numbers.{hex_padded}
-
--- a byte that is written as it is in the escaped form of a name: a printable character of ASCII, but not a backslash (92)
-abbrev pub is_plain : ℕ → Bool
-is_plain byte = is_in_range 32 126 byte && not (byte == 92)
-
--- a byte of a name in its escaped form: every other byte is written by its number
-abbrev pub escaped_byte : ℕ → List ℕ
-escaped_byte byte = if is_plain byte then byte ∷ [] else codes "\\x" ++ hex_padded 2 byte
+use Rattle.capture_facts.specs.ShownText.{escaped_byte}
 
 -- an argument as a text; if it is not UTF-8, it is the name of a file in its escaped form, after NUL (0), which no argument contains
 abbrev pub word_of : List ℕ → List ℕ

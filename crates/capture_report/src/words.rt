@@ -1,9 +1,9 @@
 //! The words of the command line.
 
-ghost use Rattle.std.specs.Prelude.{◌≡◌, ◌∷◌, ◌++◌, IfOk, OnOk, map, string_bytes};
-ghost use Rattle.std.specs.List.{flat_map};
-ghost use Rattle.capture_report.specs.Words.{AreWordsOf, escaped_byte, is_plain, word_of};
+ghost use Rattle.std.specs.Prelude.{◌≡◌, IfOk, map, string_bytes};
+ghost use Rattle.capture_report.specs.Words.{AreWordsOf, word_of};
 
+use capture_facts::EscapedBytes;
 use capture_run::ESCAPED;
 use std::alloc::{AllocError, Global};
 use std::env::{Env, FillError};
@@ -74,42 +74,12 @@ pub fn words_of<A: Arguments>(alloc: Global, arguments: &A) -> io::Result<Vec<St
     Err(io::Error::from(ErrorKind::ArgumentListTooLong))
 }
 
-/// An argument as a word. If its bytes are not UTF-8, they are escaped.
+/// An argument as a word. If its bytes are not UTF-8, they are escaped, after the mark.
 fn word_of(alloc: Global, bytes: &[u8]) -> Result<String, AllocError>
     ensures { IfOk result (λ word. string_bytes word ≡ word_of bytes.now) }
 {
     match str::from_utf8(bytes) {
         Ok(text) => String::from_str(alloc, text),
-        Err(_) => escaped(alloc, bytes),
+        Err(_) => format!(in alloc; "{ESCAPED}{}", EscapedBytes(bytes)),
     }
-}
-
-/// The escaped form of bytes, after the mark.
-fn escaped(alloc: Global, bytes: &[u8]) -> Result<String, AllocError>
-    ensures { IfOk result (λ word. string_bytes word ≡ 0 ∷ flat_map escaped_byte bytes.now) }
-{
-    let mut word = String::new(alloc);
-    word.push(ESCAPED)?;
-    for byte in bytes {
-        push_escaped(alloc, &mut word, *byte)?;
-    }
-    Ok(word)
-}
-
-/// Appends a byte, or its number if it is no printable character.
-fn push_escaped(alloc: Global, word: &mut String, byte: u8) -> Result<(), AllocError>
-    ensures { OnOk result (string_bytes word.new ≡ string_bytes word.old ++ escaped_byte byte) }
-{
-    if is_plain(byte) {
-        return word.push(char::from(byte));
-    }
-    let number = format!(in alloc; "\\x{byte:02X}")?;
-    word.push_str(number.as_str())
-}
-
-/// Whether a byte is a printable character of ASCII other than a backslash.
-fn is_plain(byte: u8) -> bool
-    ensures { result ≡ is_plain byte }
-{
-    matches!(byte, b' '..=b'~') && byte != b'\\'
 }

@@ -1,7 +1,6 @@
 mod EndingLemmas
 mod LimitLemmas
 mod LineLemmas
-mod NameLemmas
 mod PacketsTextLemmas
 mod ReadLemmas
 mod ReportLemmas

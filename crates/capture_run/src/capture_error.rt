@@ -7,7 +7,8 @@ ghost use Rattle.capture_run.specs.Names.{shown_name};
 
 use crate::ExitStatus;
 use crate::compression::Compression;
-use crate::shown_name::ShownName;
+use crate::shown_name::without_mark;
+use capture_facts::ShownText;
 use capture_file::classic::CaptureHeaderError;
 use capture_file::reader::{OpenError, PacketError, PlacedPacketError};
 use std::alloc::{AllocError, Global};
@@ -137,7 +138,10 @@ fn error_line(alloc: Global, name: Option<&str>, error: &CaptureError) -> Result
 {
     let text = text_of(alloc, error)?;
     match name {
-        Some(name) => format!(in alloc; "capture_report: {}: {text}\n", ShownName(name)),
+        Some(name) => {
+            let shown = ShownText(without_mark(name));
+            format!(in alloc; "capture_report: {shown}: {text}\n")
+        }
         None => format!(in alloc; "capture_report: {text}\n"),
     }
 }
@@ -206,8 +210,9 @@ fn open_error_line(alloc: Global, name: &str, error: &io::Error) -> Result<Strin
     ensures { IfOk result (λ line. IsOpenErrorLine name.now (string_bytes line)) }
 {
     let text = format!(in alloc; "{error}")?;
+    let shown = ShownText(without_mark(name));
     let hint = hint_of(name);
-    format!(in alloc; "capture_report: {}: {text}{hint}\n", ShownName(name))
+    format!(in alloc; "capture_report: {shown}: {text}{hint}\n")
 }
 
 /// The text for the name of a capture whose first word is a word of a filter. It is empty for every other name.

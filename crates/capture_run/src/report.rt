@@ -10,8 +10,9 @@ ghost use Rattle.capture_run.specs.Names.{shown_name};
 
 use crate::capture_error::{write_end, write_open_error};
 use crate::capture_reports::CaptureReports;
-use crate::shown_name::{ShownName, without_mark};
+use crate::shown_name::without_mark;
 use crate::{ExitStatus, Format, Lines, Open, Parts, WriteError};
+use capture_facts::ShownText;
 use capture_json::write_file_name;
 use std::alloc::Global;
 use std::hash::RandomState;
@@ -226,5 +227,5 @@ fn write_text_heading<W: Write>(output: &mut W, place: usize, name: &str) -> io:
     if place > 0 {
         writeln!(output)?;
     }
-    writeln!(output, "==> {} <==", ShownName(name))
+    writeln!(output, "==> {} <==", ShownText(without_mark(name)))
 }

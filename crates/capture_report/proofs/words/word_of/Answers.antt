@@ -7,4 +7,4 @@ returns-in-Ok c = rw (text_word c.args.bytes.now c.in-Ok.text.now c.in-Ok.ensure
 
 -- other bytes
 pub returns-in-Err : goal.returns-in-Err
-returns-in-Err c = rw (escaped_word c.args.bytes.now c.in-Err.ensures.cases.0) at c.escaped.ensures
+returns-in-Err c = rw (escaped_word c.args.bytes.now c.in-Err.ensures.cases.0) at c.format.ensures.ok

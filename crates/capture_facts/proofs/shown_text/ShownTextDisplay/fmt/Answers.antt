@@ -1,9 +1,9 @@
 use Rattle.std.proofs.Common.{◌++◌, ◌∙◌, List, ℕ, ap, append-nil, append_assoc, rules, sym}
 use Rattle.std.proofs.Output.{has_written_append, has_written_of_eq}
 use Rattle.std.proofs.lemmas.Str.{IsUtf8-past_char}
-use Rattle.capture_run.specs.Names.{shown_char}
-use Rattle.capture_run.proofs.NameLemmas.{shown_empty, shown_step}
-use Rattle.capture_run.proofs.shown_name.ShownNameDisplay.fmt.Goals as goal
+use Rattle.capture_facts.specs.ShownText.{shown_char}
+use Rattle.capture_facts.proofs.ShownLemmas.{shown_empty, shown_step}
+use Rattle.capture_facts.proofs.shown_text.ShownTextDisplay.fmt.Goals as goal
 
 -- one more character
 pub loop-character-preserved : goal.loop-character-preserved
