@@ -3,7 +3,7 @@ use Rattle.std.proofs.Common.{◌≡◌, ℕ, ◌^◌, ◌<◌, List, [], ◌∷
 use seplogic.Ra.Ura.{Ura}
 use mir.Syntax.{ty_ptr, ty_struct, tcons, tnil}
 use mir.Val.{Val, WT, has_ty, vint, vstruct, vcons, vnil}
-use base.Logic.{SProp, ent, emp}
+use base.Logic.{ent, emp}
 use base.Fml.{Fml}
 use contract.Monad.{fact, fact_i}
 use types.Logic.{Logic, sem}

@@ -1,6 +1,6 @@
 -- `refuse` stores the refusal behind the pointer unless it is NULL, and hands the memory back.
-use Rattle.std.proofs.Common.{◌≡◌, ℕ, [], ◌∷◌, ◌++◌, refl, sym, ap, subst, ◌∙◌, lit<, List, T}
-use mir.Syntax.{Fn, Ty}
+use Rattle.std.proofs.Common.{◌≡◌, [], ◌∷◌, ◌++◌, refl, sym, ap, subst, ◌∙◌, lit<, List, T}
+use mir.Syntax.{Fn}
 use mir.Val.{Val, WT, has_ty}
 use base.Fraction.{full_share}
 use base.Logic.{SProp}

@@ -1,4 +1,4 @@
-use Rattle.std.proofs.Common.{◌∙◌, Some, Ok, arith, refl, rules, subst, sym}
+use Rattle.std.proofs.Common.{◌∙◌, Some, Ok, arith, rules, subst, sym}
 use Rattle.tcp_part.specs.TcpOptionsReading.{ReadsNext}
 use Rattle.etherparse_transport_c.proofs.TcpOptionLemmas.{reads_from}
 use Rattle.etherparse_transport_c.proofs.tcp_option.etherparse_tcp_option_next.Goals as goal
