@@ -1,5 +1,7 @@
 -- The verdict on a packet of a capture.
 use Rattle.std.specs.Prelude.{◌≡◌, ℕ, ◌==◌, Bool, true, false, not, ◌&&◌, ◌||◌, List, Option, Some, None, IfSome, MatchBool, MatchOption}
+use Rattle.ip_part.specs.Addresses.{by_value}
+use Rattle.ip_part.specs.Protocols.{proto_over}
 use Rattle.ip_part.specs.declared.ip_error.IpError.{IpError}
 use Rattle.ip_part.specs.declared.ip_error.IpError.TheVariants.{ExtensionHeaderCutOff, HeaderCutOff, HeaderLength, JumboPayloadFragment, JumboPayloadLength, JumboPayloadMissing, JumboPayloadUnexpected, PacketCutOff, TotalLength, Version}
 use Rattle.ip_part.specs.declared.proto.Proto.{Proto}
@@ -63,11 +65,17 @@ IsOnChecksum found LengthMissing = ⊥
 IsOnChecksum found (TooLong required_len) = ⊥
 IsOnChecksum found (Refused refusal) = ⊥
 
--- the verdict on an accepted transport: a packet that states no length is not tested, since the number of bytes that its checksum covers is
--- unknown; a fragment stays a fragment
+-- the verdict on an accepted transport of one of the four protocols: a packet that states no length is not tested, since the number of bytes
+-- that its checksum covers is unknown; a fragment stays a fragment
+abbrev pub JudgesRead : TransportInIp → Verdict → Type 0
+JudgesRead found verdict =
+    MatchBool (found.is_length_missing && not found.is_fragment) (verdict ≡ LengthMissing) (IsOnChecksum found verdict)
+
+-- the verdict on an accepted transport: any other protocol has no checksum that is read, whether the packet is a fragment, is cut off or
+-- states no length
 abbrev pub JudgesAccepted : TransportInIp → Verdict → Type 0
 JudgesAccepted found verdict =
-    MatchBool (found.is_length_missing && not found.is_fragment) (verdict ≡ LengthMissing) (IsOnChecksum found verdict)
+    MatchOption (proto_over (by_value found.addresses) found.protocol.0) (verdict ≡ untested OtherProtocol) (λ proto. JudgesRead found verdict)
 
 -- Only the first bytes of a transport are present. Either the IP header counts more bytes than are present. Or it states no length, so that
 -- the packet extends to the end of its frame, and the capture cut the frame.

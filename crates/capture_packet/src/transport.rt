@@ -100,17 +100,13 @@ fn tested(found: &TransportInIp<'_>, transport: &TransportSlice<'_>) -> Verdict
     Verdict::Checksum(transport.checksum_verdict(found.addresses))
 }
 
-/// The verdict on a packet without a transport header: the packet is a fragment, or is of another protocol.
+/// The verdict on a packet without a transport header. If its protocol is one of the four, it is a fragment.
 fn untested(found: &TransportInIp<'_>) -> Verdict
     requires { kept found.now ≡ None }
     ensures { JudgesAccepted found.now result }
 {
-    if found.is_fragment {
+    if found.proto().is_some() {
         Verdict::untested(Untested::Fragment)
-    } else if found.is_length_missing {
-        Verdict::LengthMissing
-    } else if found.is_cut_off {
-        Verdict::untested(Untested::CutOff)
     } else {
         Verdict::untested(Untested::OtherProtocol)
     }

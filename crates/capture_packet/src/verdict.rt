@@ -10,12 +10,14 @@ use etherparse_transport::{ChecksumVerdict, Untested};
 /// is malformed. A report counts this packet as rejected.
 #[derive(Clone, Debug, PartialEq, Eq, Drop)]
 pub enum Verdict {
-    /// The verdict on the checksum. If the frame contains no IP packet, it is `Untested` with `OtherProtocol`. If the frame or the packet
-    /// is cut off, it is `Untested` with `CutOff`. A fragment is `Untested` with `Fragment`, also if it is cut off.
+    /// The verdict on the checksum. It is `Untested` with the first of these reasons that applies:
+    /// - `OtherProtocol`: the frame contains no IP packet, or the protocol is not UDP, TCP, ICMPv4 over IPv4 or ICMPv6 over IPv6.
+    /// - `Fragment`: the packet is a fragment.
+    /// - `CutOff`: the frame or the packet is cut off.
     Checksum(ChecksumVerdict),
     /// The IP header states no length, so that the number of bytes that the checksum covers is not known (RFC 791, section 3.1; RFC 8200,
-    /// section 3). A host captures such a packet before its network card splits it. A fragment without a length is `Untested` with
-    /// `Fragment`.
+    /// section 3). A host captures such a packet before its network card splits it. A fragment without a length, and a packet of another
+    /// protocol without a length, are `Untested`.
     LengthMissing,
     /// The packet is not read, because the buffer has no room for it.
     TooLong {

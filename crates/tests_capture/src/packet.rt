@@ -810,7 +810,7 @@ const ICMPV4: Kind = Kind::Ip(Some(Proto::Icmpv4));
 type VerdictRow = (Header, &'static [u8], bool, Kind, Verdict);
 
 #[rattlefmt::skip]
-static VERDICTS: [VerdictRow; 20] = [
+static VERDICTS: [VerdictRow; 23] = [
     (Header::Ipv4(0x45, 31, 0x20, 17), &UDP_OVER_IPV4, false, UDP, FRAGMENT),
     // A fragment that is cut off is reported as a fragment.
     (Header::Ipv4(0x45, 40, 0x20, 17), &UDP_OVER_IPV4, false, UDP, FRAGMENT),
@@ -843,7 +843,11 @@ static VERDICTS: [VerdictRow; 20] = [
     ),
     (Header::Ipv6(9, 1), &ECHO_OVER_IPV4, false, Kind::Ip(None), OTHER_PROTOCOL),
     (Header::Ipv4(0x45, 31, 0, 50), &UDP_OVER_IPV4, false, Kind::Ip(None), OTHER_PROTOCOL),
-    (Header::Ipv4(0x45, 32, 0, 50), &UDP_OVER_IPV4, false, Kind::Ip(None), CUT_OFF),
+    // No checksum of another protocol is read, also if the packet is a fragment or cut off.
+    (Header::Ipv4(0x45, 31, 0x20, 89), &UDP_OVER_IPV4, false, Kind::Ip(None), OTHER_PROTOCOL),
+    (Header::Ipv4(0x45, 40, 0x20, 58), &UDP_OVER_IPV4, false, Kind::Ip(None), OTHER_PROTOCOL),
+    (Header::Ipv4(0x45, 32, 0, 50), &UDP_OVER_IPV4, false, Kind::Ip(None), OTHER_PROTOCOL),
+    (Header::Ipv6(16, 44), &[47, 0, 0, 1, 0, 0, 0, 7, 0, 0, 8, 0, 1, 2, 3, 4], true, Kind::Ip(None), OTHER_PROTOCOL),
 ];
 
 /// Stops the test unless the packet of a row is what the row says, and has its verdict.
@@ -912,11 +916,12 @@ fn lengths_of_payloads(rt: HostRuntime) {
 
 /// Packets with a total length or a payload length of 0. Without a header that must follow they are cut off or refused.
 #[rattlefmt::skip]
-static WITHOUT_LENGTH: [VerdictRow; 19] = [
+static WITHOUT_LENGTH: [VerdictRow; 20] = [
     (Header::Ipv4(0x45, 0, 0x40, 17), &UDP_OVER_IPV4, false, UDP, Verdict::LengthMissing),
     (Header::Ipv4(0x45, 0, 0x40, 6), &TCP_WRONG, true, TCP, Verdict::LengthMissing),
     (Header::Ipv4(0x45, 0, 0x40, 1), &ECHO_OVER_IPV4, false, ICMPV4, Verdict::LengthMissing),
-    (Header::Ipv4(0x45, 0, 0, 50), &UDP_OVER_IPV4, false, Kind::Ip(None), Verdict::LengthMissing),
+    (Header::Ipv4(0x45, 0, 0, 50), &UDP_OVER_IPV4, false, Kind::Ip(None), OTHER_PROTOCOL),
+    (Header::Ipv4(0x45, 0, 0x20, 50), &UDP_OVER_IPV4, true, Kind::Ip(None), OTHER_PROTOCOL),
     (Header::Ipv4(0x45, 0, 0x20, 17), &UDP_OVER_IPV4, false, UDP, FRAGMENT),
     (Header::Ipv6(0, 6), &TCP_OVER_IPV6, false, TCP, Verdict::LengthMissing),
     (
