@@ -2,6 +2,7 @@ ghost use Rattle.std.specs.Prelude.{◌≡◌, ◌↔◌, ◌<◌, ◌-◌, ◌^
 ghost use Rattle.capture_summary.specs.SummaryTables.{CountsOne, IsBalanced, empty_tables, has_fault};
 ghost use Rattle.capture_summary.specs.Kinds.{link_place, link_rows, protocol_rows, refusal_place, refusal_rows, verdict_place, verdict_rows};
 ghost use Rattle.capture_protocols.specs.Protocols.{protocol_place};
+ghost use Rattle.capture_summary.specs.Ranking.{IsRankingOf, by_packets, has_more_packets};
 ghost use Rattle.capture_summary.specs.Rates.{average_len};
 ghost use Rattle.capture_summary.specs.Tables.{no_packets};
 ghost use Rattle.capture_summary.specs.declared.verdict_kind.VerdictKind.TheVariants.{Refused};
@@ -10,6 +11,7 @@ use crate::{
     CaptureInfo, Count, Flow, Flows, LinkKind, Protocol, RefusalKind, TimeSpan, VerdictKind,
     protocol_rows,
 };
+use arrayvec::ArrayVec;
 use std::alloc::{AllocError, Global};
 use std::hash::RandomState;
 use std::marker::Model;
@@ -143,6 +145,15 @@ impl Summary {
         ensures { map (λ row. (row.0.now, row.1)) result ≡ protocol_rows self.now.protocols }
     {
         protocol_rows::rows(&self.protocols)
+    }
+
+    /// The rows of the table of protocols, the row with the most packets first. Rows with the same number of packets are in the order of the
+    /// table.
+    pub fn protocols_by_packets(&self) -> ArrayVec<(&'static str, Count), { Protocol::COUNT }>
+        ensures rows { map (λ row. (row.0.now, row.1)) result.items ≡ by_packets (protocol_rows self.now.protocols) }
+        ensures ranked { IsRankingOf has_more_packets (protocol_rows self.now.protocols) (map (λ row. (row.0.now, row.1)) result.items) }
+    {
+        protocol_rows::by_packets(&self.protocols())
     }
 
     /// The rows of the table of checksums: the name and the number of packets of each.

@@ -6,7 +6,7 @@ use Rattle.std.specs.Net.Text.{socket_text}
 use Rattle.capture_summary.specs.declared.verdict_kind.VerdictKind.TheVariants.{Refused}
 use Rattle.capture_summary.specs.Conversations.{both}
 use Rattle.capture_summary.specs.Kinds.{flow_protocol_word, link_rows, protocol_rows, refusal_rows, verdict_place, verdict_rows}
-use Rattle.capture_summary.specs.Ranking.{busiest_of}
+use Rattle.capture_summary.specs.Ranking.{busiest_of, by_packets}
 use Rattle.capture_summary.specs.SummaryTables.{SummaryTables}
 use Rattle.capture_text.specs.TotalsText.{totals_text}
 use Rattle.capture_summary.specs.declared.count.Count.{Count}
@@ -112,11 +112,11 @@ conversations_table busiest without_ports without_room =
 
 -- ---- the summary
 
--- the totals and the tables, with these conversations
+-- the totals and the tables, with these conversations; the rows of protocols are ordered by their packets
 abbrev pub tables_text : List ConversationCount → SummaryTables → List ℕ
 tables_text busiest tables =
     totals_text tables ++ (packets_table tables.packets (codes "link type") (link_rows tables.links)
-    ++ (counts_table tables.packets (codes "protocol") (protocol_rows tables.protocols)
+    ++ (counts_table tables.packets (codes "protocol") (by_packets (protocol_rows tables.protocols))
     ++ (packets_table tables.packets (codes "checksum") (verdict_rows tables.verdicts)
     ++ (packets_table (slice_index tables.verdicts (verdict_place Refused)) (codes "refused") (refusal_rows tables.refusals)
     ++ conversations_table busiest tables.flows.without_ports tables.flows.without_room))))

@@ -19,7 +19,8 @@ const NAME_WIDTH: usize = 25;
 const MOST_CONVERSATION_NAME_LEN: usize = 128;
 
 /// Writes the numbers of packets, bytes and conversations, and the times of the packets. Then it writes the tables of link types,
-/// protocols, checksums, rejections and conversations. The last table lists the conversations in `busiest`.
+/// protocols, checksums, rejections and conversations. The protocol with the most packets is first, as `Summary::protocols_by_packets`
+/// orders the rows. The last table lists the conversations in `busiest`.
 ///
 /// A table has a name and columns of numbers, which are aligned to the right. Rows that count no packet are left out, and so are tables
 /// without rows.
@@ -38,7 +39,7 @@ pub fn write_summary<W: Write>(
     let flows = summary.flows();
     write_totals(output, summary)?;
     write_table(output, "link type", &summary.links(), packets)?;
-    write_protocols(output, &summary.protocols(), packets)?;
+    write_protocols(output, &summary.protocols_by_packets(), packets)?;
     write_table(output, "checksum", &summary.verdicts(), packets)?;
     write_table(output, "refused", &summary.refusals(), refused)?;
     write_conversations(output, busiest, flows.without_ports(), flows.without_room())

@@ -334,8 +334,28 @@ static REFUSAL_ROWS: [(&str, u64); 12] = [
     ("ICMPv6 length", 1),
 ];
 
+/// The rows of protocols with packets, and one more row, in the order of their packets. Those with one packet are in the order of the table.
+#[rattlefmt::skip]
+static PROTOCOLS_BY_PACKETS: [(&str, Count); 10] = [
+    ("unknown", Count { packets: 14, bytes: 880 }),
+    ("TCP", Count { packets: 4, bytes: 400 }),
+    ("UDP", Count { packets: 2, bytes: 200 }),
+    ("ICMPv4", Count { packets: 1, bytes: 100 }),
+    ("ICMPv6", Count { packets: 1, bytes: 100 }),
+    ("OSPF", Count { packets: 1, bytes: 100 }),
+    ("other over IP", Count { packets: 1, bytes: 100 }),
+    ("ARP", Count { packets: 1, bytes: 100 }),
+    ("other without IP", Count { packets: 1, bytes: 100 }),
+    ("IGMP", Count::NONE),
+];
+
 fn expect_rows(rt: &impl Abort, summary: &Summary) {
     expect_equal(rt, &summary.protocols(), &PROTOCOL_ROWS);
+    expect_equal(
+        rt,
+        &summary.protocols_by_packets().get(..10),
+        &Some(PROTOCOLS_BY_PACKETS.as_slice()),
+    );
     expect_equal(rt, &summary.verdicts(), &VERDICT_ROWS);
     expect_equal(rt, &summary.links(), &LINK_ROWS);
     expect_equal(rt, &summary.refusals(), &REFUSAL_ROWS);

@@ -1,4 +1,4 @@
-use Rattle.std.proofs.Common.{◌∙◌, ap, ap₂}
+use Rattle.std.proofs.Common.{◌∙◌, ap, ap₂, map}
 use Rattle.std.specs.Prelude.{codes}
 use Rattle.capture_text.specs.SummaryText.{conversations_table, counts_table, packets_table}
 use Rattle.capture_text.proofs.WrittenLemmas.{appended, written_1, written_then}
@@ -10,7 +10,8 @@ returns g c =
     (written_then _ _ _ _ _ _ (appended _ _ _ _ c.in_ok-write_table.ensures
     (ap₂ (λ packets rows. packets_table packets (codes "link type") rows) c.packets-packets.ensures.packets c.links.ensures))
     (written_then _ _ _ _ _ _ (appended _ _ _ _ c.in_ok-write_protocols.ensures
-    (ap₂ (λ packets rows. counts_table packets (codes "protocol") rows) c.packets-packets.ensures.packets c.protocols.ensures))
+    (ap₂ (λ packets rows. counts_table packets (codes "protocol") rows) c.packets-packets.ensures.packets
+    (ap (map (λ row. (row.0.now, row.1))) c.deref.ensures.0 ∙ c.protocols_by_packets.ensures.rows)))
     (written_then _ _ _ _ _ _ (appended _ _ _ _ c.in_ok-write_table-2.ensures
     (ap₂ (λ packets rows. packets_table packets (codes "checksum") rows) c.packets-packets.ensures.packets c.verdicts.ensures))
     (written_then _ _ _ _ _ _ (appended _ _ _ _ c.in_ok-write_table-3.ensures
