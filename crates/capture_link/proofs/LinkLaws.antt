@@ -23,24 +23,24 @@ not_both header frame tags other has in_tag = grind (arith, has.last, has.there,
 
 -- equal results contain equal headers
 same_header : {one other : LinkHeader} (said : Result LinkHeader LinkHeaderCutOff) → said ≡ Ok one → said ≡ Ok other
-    → (one.len ≡ other.len) × (one.next ≡ other.next)
+    → (one.len ≡ other.len) × (one.next ≡ other.next) × (one.end ≡ other.end)
 same_header {one} {other} said is other_is =
     let same : one ≡ other = cc (is, other_is) in
-    (ap (λ header. header.len) same, ap (λ header. header.next) same)
+    (ap (λ header. header.len) same, ap (λ header. header.next) same, ap (λ header. header.end) same)
 
 one_ether_header : (header : EtherHeader) (frame : List ℕ) (len other_len : ℕ) (next other_next : Option NetworkProtocol)
-    → HasEtherHeader header frame len next → HasEtherHeader header frame other_len other_next
-    → (len ≡ other_len) × (next ≡ other_next)
-one_ether_header header frame len other_len next other_next has its_has =
+    (end other_end : Option ℕ) → HasEtherHeader header frame len next end → HasEtherHeader header frame other_len other_next other_end
+    → (len ≡ other_len) × (next ≡ other_next) × (end ≡ other_end)
+one_ether_header header frame len other_len next other_next end other_end has its_has =
     same_header _ has.says
     (rw (one_count header frame its_has.tags has.tags its_has.has has.has) at its_has.says)
 
-whole_ether_header : (header : EtherHeader) (frame : List ℕ) (len required_len : ℕ) (next : Option NetworkProtocol)
-    → HasEtherHeader header frame len next → NeedsEtherHeader header frame required_len → ⊥
-whole_ether_header header frame len required_len next has (inl needs) = omega (arith, has.has.there, needs.0)
-whole_ether_header header frame len required_len next has (inr (inl needs)) =
+whole_ether_header : (header : EtherHeader) (frame : List ℕ) (len required_len : ℕ) (next : Option NetworkProtocol) (end : Option ℕ)
+    → HasEtherHeader header frame len next end → NeedsEtherHeader header frame required_len → ⊥
+whole_ether_header header frame len required_len next end has (inl needs) = omega (arith, has.has.there, needs.0)
+whole_ether_header header frame len required_len next end has (inr (inl needs)) =
     not_both header frame has.tags needs.tags has.has needs.in_tag
-whole_ether_header header frame len required_len next has (inr (inr needs)) =
+whole_ether_header header frame len required_len next end has (inr (inr needs)) =
     cc (one_count header frame has.tags needs.tags has.has needs.has, has.says, needs.says)
 
 needs_one_ether_length : (header : EtherHeader) (frame : List ℕ) (required_len other_len : ℕ) → NeedsEtherHeader header frame required_len
@@ -58,19 +58,21 @@ needs_one_ether_length header frame required_len other_len (inr (inr needs)) (in
 
 -- ---- all link types
 
-pub one_header : (frame : List ℕ) (len other_len : ℕ) (next other_next : Option NetworkProtocol)
-    (first : Result FirstHeader LinkHeaderCutOff)
-    → HasWhole frame len next first → HasWhole frame other_len other_next first → (len ≡ other_len) × (next ≡ other_next)
-one_header frame len other_len next other_next (Ok (Whole header)) has its_has = (has.0 ∙ sym its_has.0, has.1 ∙ sym its_has.1)
-one_header frame len other_len next other_next (Ok (EtherType header)) has its_has =
-    one_ether_header header frame len other_len next other_next has its_has
-one_header frame len other_len next other_next (Err error) has its_has = absurd has
+pub one_header : (frame : List ℕ) (len other_len : ℕ) (next other_next : Option NetworkProtocol) (end other_end : Option ℕ)
+    (first : Result FirstHeader LinkHeaderCutOff) → HasWhole frame len next end first → HasWhole frame other_len other_next other_end first
+    → (len ≡ other_len) × (next ≡ other_next) × (end ≡ other_end)
+one_header frame len other_len next other_next end other_end (Ok (Whole header)) has its_has =
+    (has.0 ∙ sym its_has.0, has.1.0 ∙ sym its_has.1.0, has.1.1 ∙ sym its_has.1.1)
+one_header frame len other_len next other_next end other_end (Ok (EtherType header)) has its_has =
+    one_ether_header header frame len other_len next other_next end other_end has its_has
+one_header frame len other_len next other_next end other_end (Err error) has its_has = absurd has
 
-pub whole_header : (frame : List ℕ) (len required_len : ℕ) (next : Option NetworkProtocol) (first : Result FirstHeader LinkHeaderCutOff)
-    → HasWhole frame len next first → ¬ NeedsWhole frame required_len first
-whole_header frame len required_len next (Ok (Whole header)) has needs = needs
-whole_header frame len required_len next (Ok (EtherType header)) has needs = whole_ether_header header frame len required_len next has needs
-whole_header frame len required_len next (Err error) has needs = has
+pub whole_header : (frame : List ℕ) (len required_len : ℕ) (next : Option NetworkProtocol) (end : Option ℕ)
+    (first : Result FirstHeader LinkHeaderCutOff) → HasWhole frame len next end first → ¬ NeedsWhole frame required_len first
+whole_header frame len required_len next end (Ok (Whole header)) has needs = needs
+whole_header frame len required_len next end (Ok (EtherType header)) has needs =
+    whole_ether_header header frame len required_len next end has needs
+whole_header frame len required_len next end (Err error) has needs = has
 
 pub needs_one_length : (frame : List ℕ) (required_len other_len : ℕ) (first : Result FirstHeader LinkHeaderCutOff)
     → NeedsWhole frame required_len first → NeedsWhole frame other_len first → required_len ≡ other_len

@@ -48,7 +48,7 @@ has_tags header frame len ether_type read is = record {
 
 pub has_header : (header : EtherHeader) (frame : List ℕ) (len ether_type : ℕ) (result : Result LinkHeader LinkHeaderCutOff)
     → IsRead header frame len ether_type → is_vlan_tag ether_type ≡ false → result ≡ after_tags header frame len ether_type
-    → IfOk result (λ found. HasEtherHeader header frame found.len found.next)
+    → IfOk result (λ found. HasEtherHeader header frame found.len found.next found.end)
 has_header header frame len ether_type (Ok found) read is says = record {
   tags = read.tags;
   has = has_tags header frame len ether_type read is;

@@ -23,4 +23,5 @@ by_family order frame place =
 
 -- a loopback frame at this place: the address family, four bytes
 abbrev pub family_at : ByteOrder → List ℕ → ℕ → Result FirstHeader LinkHeaderCutOff
-family_at order frame place = with_bytes frame (place + 4) (Ok (Whole (record { len = place + 4; next = by_family order frame place })))
+family_at order frame place = with_bytes frame (place + 4) (
+    Ok (Whole (record { len = place + 4; next = by_family order frame place; end = None })))

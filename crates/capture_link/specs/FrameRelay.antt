@@ -12,8 +12,8 @@ use Rattle.capture_link.specs.declared.network_protocol.NetworkProtocol.TheVaria
 abbrev pub by_nlpid : List ℕ → ℕ → ℕ → Result FirstHeader LinkHeaderCutOff
 by_nlpid frame place nlpid =
     if nlpid == 0x80 then snap_at frame (place + 1)
-    else if nlpid == 0xCC || nlpid == 0x8E then Ok (Whole (record { len = place + 1; next = None }))
-    else Ok (Whole (record { len = place + 1; next = Some (Nlpid nlpid) }))
+    else if nlpid == 0xCC || nlpid == 0x8E then Ok (Whole (record { len = place + 1; next = None; end = None }))
+    else Ok (Whole (record { len = place + 1; next = Some (Nlpid nlpid); end = None }))
 
 -- the header with the network layer protocol ID at this place
 abbrev pub nlpid_at : List ℕ → ℕ → Result FirstHeader LinkHeaderCutOff
@@ -32,7 +32,7 @@ has_ether_type frame =
 abbrev pub without_control : List ℕ → FirstHeader
 without_control frame =
     if has_ether_type frame then EtherType (record { len = 4; ether_type_at = 2 })
-    else Whole (record { len = 3; next = Some (FrameRelay (be_number frame 0 3)) })
+    else Whole (record { len = 3; next = Some (FrameRelay (be_number frame 0 3)); end = None })
 
 -- The first header of a Frame Relay frame. A pad byte 00 may follow the address and the control byte. Then the network layer protocol ID
 -- follows.

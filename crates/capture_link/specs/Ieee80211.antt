@@ -1,5 +1,5 @@
 -- IEEE 802.11 frames, and the radiotap header that a capture may contain before them.
-use Rattle.std.specs.Prelude.{ℕ, ◌+◌, ◌==◌, ◌&&◌, Bool, not, nat_le, if◌then◌else◌, bit_and, List, slice_index, Some, Result, Ok}
+use Rattle.std.specs.Prelude.{ℕ, ◌+◌, ◌==◌, ◌&&◌, Bool, not, nat_le, if◌then◌else◌, bit_and, List, slice_index, Some, None, Result, Ok}
 use Rattle.net_base.specs.Bytes.{be_number, flag}
 use Rattle.capture_texts.specs.Numbers.{short_at}
 use Rattle.capture_link.specs.LinkHeaders.{with_bytes}
@@ -53,7 +53,7 @@ has_whole_unit frame place =
 
 -- the header of a frame with a body that is not read
 abbrev pub other_frame : List ℕ → ℕ → FirstHeader
-other_frame frame place = Whole (record { len = place + 2; next = Some (Ieee80211 (be_number frame place 2)) })
+other_frame frame place = Whole (record { len = place + 2; next = Some (Ieee80211 (be_number frame place 2)); end = None })
 
 -- the header of a data frame: an LLC header follows, if the body is one whole data unit
 abbrev pub data_frame : List ℕ → ℕ → Result FirstHeader LinkHeaderCutOff
@@ -72,7 +72,7 @@ frame_at frame place = with_bytes frame (place + 2) (
 abbrev pub by_radiotap : List ℕ → ℕ → ℕ → Result FirstHeader LinkHeaderCutOff
 by_radiotap frame version len =
     if version == 0 && nat_le 8 len then frame_at frame len
-    else Ok (Whole (record { len = 8; next = Some (Radiotap version len) }))
+    else Ok (Whole (record { len = 8; next = Some (Radiotap version len); end = None }))
 
 -- the first header of a frame after a radiotap header
 abbrev pub after_radiotap : List ℕ → Result FirstHeader LinkHeaderCutOff

@@ -1,11 +1,11 @@
 -- The headers of the link layer before a network packet: their lengths, and the protocols that follow them.
-use Rattle.std.specs.Prelude.{◌≡◌, ◌⊎◌, ◌≤◌, ◌<◌, ℕ, zero, suc, ◌+◌, ◌*◌, ◌==◌, ◌||◌, ◌&&◌, nat_le, nat_lt, Bool, true, false, if◌then◌else◌, List, drop, length, slice_index, Option, Some, None, Result, Ok, Err}
+use Rattle.std.specs.Prelude.{◌≡◌, ◌⊎◌, ◌≤◌, ◌<◌, ℕ, zero, suc, ◌+◌, ◌*◌, ◌==◌, ◌||◌, ◌&&◌, nat_le, nat_lt, Bool, true, false, if◌then◌else◌, List, length, slice_index, slice_range, is_some, Option, Some, None, Result, Ok, Err}
 use Rattle.net_base.specs.Bytes.{be_number}
 use Rattle.capture_link.specs.AddressFamilies.{family_at}
 use Rattle.capture_link.specs.EtherHeaders.{ethernet_at}
 use Rattle.capture_link.specs.FrameRelay.{frame_relay}
 use Rattle.capture_link.specs.Ieee80211.{after_radiotap, frame_at}
-use Rattle.capture_link.specs.LinkHeaders.{with_bytes}
+use Rattle.capture_link.specs.LinkHeaders.{end_in, with_bytes}
 use Rattle.capture_link.specs.Llc.{llc_at}
 use Rattle.capture_link.specs.Metadata.{after_avs, after_ppi, after_prism, after_tap, filter_header, ipnet_header}
 use Rattle.capture_link.specs.Mpls.{stack_at}
@@ -17,6 +17,7 @@ use Rattle.capture_file.specs.declared.link_type.LinkType.{LinkType}
 use Rattle.capture_file.specs.declared.link_type.LinkType.TheVariants.{Avs, BsdLoopback, CiscoHdlc, Ethernet, FrameRelay, Ieee80211, InfiniBand, Ipnet, LinuxCooked, LinuxCooked2, Nflog, OpenBsdLoopback, Pflog, Pktap, Ppi, Ppp, PppHdlc, PppOverEthernet, Prism, Radiotap, RawIp}
 use Rattle.capture_link.specs.declared.link.Frame.{Frame}
 use Rattle.capture_link.specs.declared.link.Frame.TheVariants.{Ip, Other}
+use Rattle.capture_link.specs.declared.link.IpBytes.{IpBytes}
 use Rattle.capture_link.specs.declared.link.LinkHeaderCutOff.{LinkHeaderCutOff}
 use Rattle.capture_link.specs.declared.link.header.EtherHeader.{EtherHeader}
 use Rattle.capture_link.specs.declared.link.header.FirstHeader.{FirstHeader}
@@ -76,7 +77,7 @@ abbrev pub after_ether_type : List ℕ → ℕ → ℕ → Result LinkHeader Lin
 after_ether_type frame place ether_type =
     if ether_type == 0x8864 then session_at frame place
     else if ether_type == 0x8847 || ether_type == 0x8848 then stack_at frame (UnknownEtherType ether_type) place
-    else Ok (record { len = place; next = by_ether_type ether_type })
+    else Ok (record { len = place; next = by_ether_type ether_type; end = None })
 
 -- the header that ends with an LLC header, or with the ether type of a SNAP header after it
 abbrev pub after_llc : List ℕ → Result FirstHeader LinkHeaderCutOff → Result LinkHeader LinkHeaderCutOff
@@ -98,11 +99,12 @@ pub record HasTags (header : EtherHeader) (frame : List ℕ) (tags : ℕ) : Type
   pub there : tagged_len header tags ≤ length frame
 
 -- The frame has a whole link header with an ether type. Its length includes the tags and the header after them, and this protocol comes
--- next.
-pub record HasEtherHeader (header : EtherHeader) (frame : List ℕ) (len : ℕ) (next : Option NetworkProtocol) : Type 0 where
+-- next, up to this end, if the header states one.
+pub record HasEtherHeader (header : EtherHeader) (frame : List ℕ) (len : ℕ) (next : Option NetworkProtocol) (end : Option ℕ) : Type 0 where
   pub tags : ℕ
   pub has : HasTags header frame tags
-  pub says : after_tags header frame (tagged_len header tags) (ether_type_after header frame tags) ≡ Ok (record { len = len; next = next })
+  pub says : after_tags header frame (tagged_len header tags) (ether_type_after header frame tags)
+      ≡ Ok (record { len = len; next = next; end = end })
 
 -- the frame contains the header and these tags, and ends within the tag after them
 pub record EndsInTag (header : EtherHeader) (frame : List ℕ) (tags : ℕ) : Type 0 where
@@ -156,7 +158,7 @@ first_header Ethernet order frame = ethernet_at frame 0
 first_header Ppp order frame = whole (ppp_header frame)
 first_header PppHdlc order frame = if is_cisco_hdlc frame then Ok (EtherType cisco_hdlc) else whole (ppp_header frame)
 first_header PppOverEthernet order frame = whole (session_at frame 0)
-first_header RawIp order frame = Ok (Whole (record { len = 0; next = None }))
+first_header RawIp order frame = Ok (Whole (record { len = 0; next = None; end = None }))
 first_header CiscoHdlc order frame = Ok (EtherType cisco_hdlc)
 first_header Ieee80211 order frame = frame_at frame 0
 first_header FrameRelay order frame = frame_relay frame
@@ -173,15 +175,16 @@ first_header InfiniBand order frame = Ok (EtherType infiniband)
 first_header Pktap order frame = after_tap frame
 first_header LinuxCooked2 order frame = cooked_header linux_cooked_2 frame
 
--- the whole link header has this length, and this protocol comes next, according to the first header; `None` is IP
-abbrev pub HasWhole : List ℕ → ℕ → Option NetworkProtocol → Result FirstHeader LinkHeaderCutOff → Type 0
-HasWhole frame len next (Ok (Whole header)) = (len ≡ header.len) × (next ≡ header.next)
-HasWhole frame len next (Ok (EtherType header)) = HasEtherHeader header frame len next
-HasWhole frame len next (Err error) = ⊥
+-- The whole link header has this length, and this protocol comes next, according to the first header; `None` is IP. What follows the header
+-- has this end, if the header states it; `None` is the end of the frame.
+abbrev pub HasWhole : List ℕ → ℕ → Option NetworkProtocol → Option ℕ → Result FirstHeader LinkHeaderCutOff → Type 0
+HasWhole frame len next end (Ok (Whole header)) = (len ≡ header.len) × (next ≡ header.next) × (end ≡ header.end)
+HasWhole frame len next end (Ok (EtherType header)) = HasEtherHeader header frame len next end
+HasWhole frame len next end (Err error) = ⊥
 
 -- the same for a frame of this link type
-abbrev pub HasLinkHeader : LinkType → ByteOrder → List ℕ → ℕ → Option NetworkProtocol → Type 0
-HasLinkHeader link_type order frame len next = HasWhole frame len next (first_header link_type order frame)
+abbrev pub HasLinkHeader : LinkType → ByteOrder → List ℕ → ℕ → Option NetworkProtocol → Option ℕ → Type 0
+HasLinkHeader link_type order frame len next end = HasWhole frame len next end (first_header link_type order frame)
 
 -- the frame ends within its link header, according to the first header; this is the length of the link header, as far as it is known
 abbrev pub NeedsWhole : List ℕ → ℕ → Result FirstHeader LinkHeaderCutOff → Type 0
@@ -193,16 +196,25 @@ NeedsWhole frame required_len (Err error) = required_len ≡ error.required_len
 abbrev pub NeedsLinkHeader : LinkType → ByteOrder → List ℕ → ℕ → Type 0
 NeedsLinkHeader link_type order frame required_len = NeedsWhole frame required_len (first_header link_type order frame)
 
+-- the bytes of a frame after a header of this length, up to this end, if the header states it, or up to the end of the frame
+pub record AreBytesAfter (frame : List ℕ) (len : ℕ) (end : Option ℕ) (found : IpBytes) : Type 0 where
+  pub start : found.start ≡ len
+  pub is_end_stated : found.is_end_stated ≡ is_some end
+  pub ordered : len ≤ end_in frame end
+  pub within : end_in frame end ≤ length frame
+  pub bytes : found.bytes.now ≡ slice_range frame len (end_in frame end)
+
 -- the content of a frame after a header of this length: the packet in the bytes after it, or another protocol
-abbrev pub IsCutAfter : List ℕ → ℕ → Option NetworkProtocol → Frame → Type 0
-IsCutAfter frame len None (Ip packet) = (len ≤ length frame) × (packet.now ≡ drop len frame)
-IsCutAfter frame len (Some protocol) (Other other) = other ≡ protocol
-IsCutAfter frame len None (Other other) = ⊥
-IsCutAfter frame len (Some protocol) (Ip packet) = ⊥
+abbrev pub IsCutAfter : List ℕ → ℕ → Option NetworkProtocol → Option ℕ → Frame → Type 0
+IsCutAfter frame len None end (Ip found) = AreBytesAfter frame len end found
+IsCutAfter frame len (Some protocol) end (Other other) = other ≡ protocol
+IsCutAfter frame len None end (Other other) = ⊥
+IsCutAfter frame len (Some protocol) end (Ip found) = ⊥
 
 -- the content of a frame after its header
-pub record IsFoundAfter (HasHeader : ℕ → Option NetworkProtocol → Type 0) (frame : List ℕ) (found : Frame) : Type 0 where
+pub record IsFoundAfter (HasHeader : ℕ → Option NetworkProtocol → Option ℕ → Type 0) (frame : List ℕ) (found : Frame) : Type 0 where
   pub len : ℕ
   pub next : Option NetworkProtocol
-  pub has_header : HasHeader len next
-  pub is_cut : IsCutAfter frame len next found
+  pub end : Option ℕ
+  pub has_header : HasHeader len next end
+  pub is_cut : IsCutAfter frame len next end found

@@ -1,8 +1,9 @@
 -- The first header of a frame.
-use Rattle.std.specs.Prelude.{ℕ, ◌+◌, ◌^◌, ◌≤◌, nat_lt, if◌then◌else◌, List, length, Some, Result, Err}
+use Rattle.std.specs.Prelude.{ℕ, ◌+◌, ◌^◌, ◌≤◌, nat_lt, if◌then◌else◌, List, length, Option, Some, None, Result, Err}
 use Rattle.capture_link.specs.declared.link.LinkHeaderCutOff.{LinkHeaderCutOff}
 use Rattle.capture_link.specs.declared.link.header.FirstHeader.{FirstHeader}
 use Rattle.capture_link.specs.declared.link.header.FirstHeader.TheVariants.{EtherType, Whole}
+use Rattle.capture_link.specs.declared.link.header.LinkHeader.{LinkHeader}
 use Rattle.capture_link.specs.declared.network_protocol.NetworkProtocol.TheVariants.{LinkType}
 
 -- the error for a frame that is shorter than its header, which has this length
@@ -13,15 +14,24 @@ cut_off frame required_len = record { required_len = required_len; len = length 
 abbrev pub with_bytes : {A : Type 0} → List ℕ → ℕ → Result A LinkHeaderCutOff → Result A LinkHeaderCutOff
 with_bytes frame required_len says = if nat_lt (length frame) required_len then Err (cut_off frame required_len) else says
 
+-- the end of what follows the link header: the end that the header states, or the end of the frame
+abbrev pub end_in : List ℕ → Option ℕ → ℕ
+end_in frame None = length frame
+end_in frame (Some end) = end
+
+-- the frame contains the whole header, and what follows it up to its end
+abbrev pub IsHeaderWithin : List ℕ → LinkHeader → Type 0
+IsHeaderWithin frame header = (header.len ≤ end_in frame header.end) × (end_in frame header.end ≤ length frame)
+
 -- The frame contains a whole header. A header with an ether type contains both bytes of the ether type, but the frame may end within it.
 abbrev pub Fits : List ℕ → FirstHeader → Type 0
-Fits frame (Whole header) = header.len ≤ length frame
+Fits frame (Whole header) = IsHeaderWithin frame header
 Fits frame (EtherType header) = header.ether_type_at + 2 ≤ header.len
 
 -- The result for a header with an unknown version or a wrong length: what follows the header cannot be found. The next protocol is then
 -- the number of the link type. The length counts the bytes that were examined.
 abbrev pub unread : ℕ → ℕ → FirstHeader
-unread len number = Whole (record { len = len; next = Some (LinkType number) })
+unread len number = Whole (record { len = len; next = Some (LinkType number); end = None })
 
 -- the length of the first header, without VLAN tags and headers after them
 abbrev pub first_len : FirstHeader → ℕ

@@ -1,5 +1,5 @@
 -- LLC and SNAP headers (IEEE 802.2; RFC 1042).
-use Rattle.std.specs.Prelude.{ℕ, ◌+◌, ◌^◌, ◌==◌, if◌then◌else◌, List, slice_index, Some, Result, Ok}
+use Rattle.std.specs.Prelude.{ℕ, ◌+◌, ◌^◌, ◌==◌, if◌then◌else◌, List, slice_index, Some, None, Result, Ok}
 use Rattle.net_base.specs.Bytes.{be_number}
 use Rattle.capture_link.specs.LinkHeaders.{with_bytes}
 use Rattle.capture_link.specs.declared.link.LinkHeaderCutOff.{LinkHeaderCutOff}
@@ -11,7 +11,7 @@ use Rattle.capture_link.specs.declared.network_protocol.NetworkProtocol.TheVaria
 abbrev pub by_organization_code : List ℕ → ℕ → ℕ → FirstHeader
 by_organization_code frame place organization_code =
     if organization_code == 0 then EtherType (record { len = place + 5; ether_type_at = place + 3 })
-    else Whole (record { len = place + 5; next = Some (Snap organization_code (be_number frame (place + 3) 2)) })
+    else Whole (record { len = place + 5; next = Some (Snap organization_code (be_number frame (place + 3) 2)); end = None })
 
 -- the header that ends with the SNAP header at this place
 abbrev pub snap_at : List ℕ → ℕ → Result FirstHeader LinkHeaderCutOff
@@ -23,7 +23,8 @@ max_llc_place = 2 ^ 63
 
 -- the header that ends with the network layer protocol ID at this place
 abbrev pub osi_at : List ℕ → ℕ → Result FirstHeader LinkHeaderCutOff
-osi_at frame place = with_bytes frame (place + 1) (Ok (Whole (record { len = place + 1; next = Some (Nlpid (slice_index frame place)) })))
+osi_at frame place = with_bytes frame (place + 1) (
+    Ok (Whole (record { len = place + 1; next = Some (Nlpid (slice_index frame place)); end = None })))
 
 -- An LLC header contains the service access points of the destination and of the source, and a control byte. A SNAP header follows AA AA
 -- 03. A network layer protocol ID follows FE FE 03 (ISO/IEC TR 9577).
@@ -31,4 +32,4 @@ abbrev pub llc_at : List ℕ → ℕ → Result FirstHeader LinkHeaderCutOff
 llc_at frame place = with_bytes frame (place + 3) (
     if be_number frame place 3 == 0xAAAA03 then snap_at frame (place + 3)
     else if be_number frame place 3 == 0xFEFE03 then osi_at frame (place + 3)
-    else Ok (Whole (record { len = place + 3; next = Some (Llc (slice_index frame place) (slice_index frame (place + 1))) })))
+    else Ok (Whole (record { len = place + 3; next = Some (Llc (slice_index frame place) (slice_index frame (place + 1))); end = None })))

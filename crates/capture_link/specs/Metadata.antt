@@ -20,7 +20,7 @@ use Rattle.capture_link.specs.declared.network_protocol.NetworkProtocol.TheVaria
 
 -- a whole header of this length with an address family, which is a family of IP or not
 abbrev pub with_family : ℕ → ℕ → Bool → FirstHeader
-with_family len family is_ip = Whole (record { len = len; next = if is_ip then None else Some (AddressFamily family) })
+with_family len family is_ip = Whole (record { len = len; next = if is_ip then None else Some (AddressFamily family); end = None })
 
 -- a length with the padding up to a multiple of four
 abbrev pub padded : ℕ → ℕ
@@ -74,7 +74,7 @@ after_prism frame = with_bytes frame 8 (
 abbrev pub enclosed_in : List ℕ → ℕ → ℕ → Option LinkType → Result FirstHeader LinkHeaderCutOff
 enclosed_in frame place number (Some BsdLoopback) = family_at LittleEndian frame place
 enclosed_in frame place number (Some Ethernet) = ethernet_at frame place
-enclosed_in frame place number (Some RawIp) = Ok (Whole (record { len = place; next = None }))
+enclosed_in frame place number (Some RawIp) = Ok (Whole (record { len = place; next = None; end = None }))
 enclosed_in frame place number (Some Ieee80211) = frame_at frame place
 enclosed_in frame place number other = Ok (unread place number)
 

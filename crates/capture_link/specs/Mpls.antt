@@ -18,7 +18,7 @@ by_first_byte other first = if begins_ip first then None else Some other
 -- the header that ends with a label stack
 abbrev pub after_stack : List ℕ → NetworkProtocol → ℕ → Result LinkHeader LinkHeaderCutOff
 after_stack frame other place = with_bytes frame (place + 1) (
-    Ok (record { len = place; next = by_first_byte other (slice_index frame place) }))
+    Ok (record { len = place; next = by_first_byte other (slice_index frame place); end = None }))
 
 -- the label stack at this place, if it has at most this number of labels; a label has four bytes, and the lowest bit of its third byte
 -- marks the last label (section 2.1)

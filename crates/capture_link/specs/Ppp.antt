@@ -1,5 +1,5 @@
 -- PPP frames (RFC 1661 and RFC 1662), and frames of PPP over Ethernet (RFC 2516).
-use Rattle.std.specs.Prelude.{ℕ, ◌+◌, ◌==◌, ◌||◌, ◌&&◌, Bool, nat_le, if◌then◌else◌, List, length, slice_index, Option, Some, None, Result, Ok}
+use Rattle.std.specs.Prelude.{ℕ, ◌+◌, ◌==◌, ◌||◌, ◌&&◌, Bool, nat_le, if◌then◌else◌, List, length, slice_index, take, Option, Some, None, Result, Ok, Err}
 use Rattle.net_base.specs.Bytes.{be_number, flag}
 use Rattle.capture_link.specs.LinkHeaders.{with_bytes}
 use Rattle.capture_link.specs.Mpls.{stack_at}
@@ -18,7 +18,7 @@ by_ppp_protocol number = if number == 0x0021 || number == 0x0057 then None else 
 abbrev pub after_protocol : List ℕ → ℕ → ℕ → Result LinkHeader LinkHeaderCutOff
 after_protocol frame place number =
     if number == 0x0281 || number == 0x0283 then stack_at frame (PppProtocol number) place
-    else Ok (record { len = place; next = by_ppp_protocol number })
+    else Ok (record { len = place; next = by_ppp_protocol number; end = None })
 
 -- The header that ends after the Protocol field at this place, a number of two bytes, or of one byte if it is compressed. A number of one
 -- byte is odd, and the first byte of a number of two bytes is even (RFC 1661, sections 2 and 6.5).
@@ -35,9 +35,26 @@ has_address frame = nat_le 2 (length frame) && be_number frame 0 2 == 0xFF03
 abbrev pub ppp_header : List ℕ → Result LinkHeader LinkHeaderCutOff
 ppp_header frame = protocol_at frame (if has_address frame then 2 else 0)
 
+-- a PPPoE header that ends at this place, and whose payload is not read; the next protocol is its ether type
+abbrev pub unread_session : ℕ → LinkHeader
+unread_session place = record { len = place; next = Some (EtherType 0x8864); end = None }
+
+-- The header up to the packet in a PPPoE payload with this start and this end, after the PPP header in the payload has been read with this
+-- result. A payload without a whole PPP header is not read.
+abbrev pub in_payload : ℕ → ℕ → Result LinkHeader LinkHeaderCutOff → LinkHeader
+in_payload start end (Ok header) = record { len = header.len; next = header.next; end = Some end }
+in_payload start end (Err error) = unread_session start
+
+-- The header up to the packet in a PPPoE payload with this start and this end. Bytes after the payload, such as the padding of a short
+-- Ethernet frame, are not part of it. If the frame ends before the payload, the payload ends with the frame.
+abbrev pub session_payload : List ℕ → ℕ → ℕ → Result LinkHeader LinkHeaderCutOff
+session_payload frame start end =
+    if nat_le end (length frame) then Ok (in_payload start end (protocol_at (take end frame) start))
+    else protocol_at frame start
+
 -- A PPPoE header at this place (RFC 2516, section 4). It contains version 1 and type 1 in a byte, the code, which is 0 in a session, the
--- number of the session, and a length. The Protocol field of PPP follows.
+-- number of the session, and the length of the payload that follows, in bytes. The payload begins with the Protocol field of PPP.
 abbrev pub session_at : List ℕ → ℕ → Result LinkHeader LinkHeaderCutOff
 session_at frame place = with_bytes frame (place + 6) (
-    if be_number frame place 2 == 0x1100 then protocol_at frame (place + 6)
-    else Ok (record { len = place + 6; next = Some (EtherType 0x8864) }))
+    if be_number frame place 2 == 0x1100 then session_payload frame (place + 6) (place + 6 + be_number frame (place + 4) 2)
+    else Ok (unread_session (place + 6)))

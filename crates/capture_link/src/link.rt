@@ -4,8 +4,8 @@ ghost use Rattle.std.specs.Prelude.{◌≡◌, ◌+◌, ◌≤◌, IfErr, IfOk, 
 ghost use Rattle.capture_link.specs.AddressFamilies as families;
 ghost use Rattle.capture_link.specs.EtherHeaders.{ethernet_at};
 ghost use Rattle.capture_link.specs.Link as specs;
-ghost use Rattle.capture_link.specs.Link.{HasEtherHeader, HasLinkHeader, IsFoundAfter, NeedsEtherHeader, NeedsLinkHeader, by_ether_type};
-ghost use Rattle.capture_link.specs.LinkHeaders.{Fits, max_frame_place};
+ghost use Rattle.capture_link.specs.Link.{AreBytesAfter, HasEtherHeader, HasLinkHeader, IsFoundAfter, NeedsEtherHeader, NeedsLinkHeader, by_ether_type};
+ghost use Rattle.capture_link.specs.LinkHeaders.{Fits, IsHeaderWithin, max_frame_place};
 
 mod ether_type;
 mod frame_relay;
@@ -39,9 +39,20 @@ use capture_file::{ByteOrder, LinkType};
 #[derive(Debug, PartialEq, Eq, Drop)]
 pub enum Frame<'a> {
     /// The frame contains an IPv4 or IPv6 packet, at the front of these bytes.
-    Ip(&'a [u8]),
+    Ip(IpBytes<'a>),
     /// The frame contains another network protocol.
     Other(NetworkProtocol),
+}
+
+/// The bytes of a frame after its link header.
+#[derive(Debug, PartialEq, Eq, Drop)]
+pub struct IpBytes<'a> {
+    /// The bytes up to the end of a PPPoE payload, or up to the end of the frame. They begin with the IP packet. Padding may follow it.
+    pub bytes: &'a [u8],
+    /// The place of these bytes, in bytes from the start of the frame: the length of the link header.
+    pub start: usize,
+    /// Whether the link header states the end of these bytes. Then none of them is missing, even if the capture cut the frame after them.
+    pub is_end_stated: bool,
 }
 
 /// The frame ends within its link header.
@@ -129,6 +140,9 @@ const TO_ALL_STATIONS: u8 = 0x8F;
 /// the header of a PPPoE session (RFC 2516) or a stack of MPLS labels (RFC 3032). A stack of MPLS labels is also skipped after the PPP
 /// protocols 0281 and 0283.
 ///
+/// A PPPoE header states the length of its payload. What follows the payload is not part of the packet. If the frame ends before the
+/// payload, the payload ends with the frame. If the payload is too short for its PPP header, the protocol is the ether type 8864.
+///
 /// These numbers identify an IP packet:
 /// - the ether types 0800 and 86DD
 /// - the address families 2, 24, 28 and 30, in either byte order, 2 and 26 of LINKTYPE_IPNET, and 2 and 10 of LINKTYPE_NFLOG
@@ -149,8 +163,21 @@ pub fn network_packet(
 {
     let header = link_header(link_type, order, frame)?;
     match header.next {
-        None => Ok(Frame::Ip(&frame[header.len..])),
+        None => Ok(Frame::Ip(bytes_after(header, frame))),
         Some(protocol) => Ok(Frame::Other(protocol)),
+    }
+}
+
+/// The bytes after a link header, up to the end that it states, or up to the end of the frame.
+fn bytes_after(header: LinkHeader, frame: &[u8]) -> IpBytes<'_>
+    requires { IsHeaderWithin frame.now header }
+    ensures { AreBytesAfter frame.now header.len header.end result }
+{
+    let end = header.end.unwrap_or(frame.len());
+    IpBytes {
+        bytes: &frame[header.len..end],
+        start: header.len,
+        is_end_stated: header.end.is_some(),
     }
 }
 
@@ -160,8 +187,8 @@ fn link_header(
     order: ByteOrder,
     frame: &[u8],
 ) -> Result<LinkHeader, LinkHeaderCutOff>
-    ensures found { IfOk result (λ header. HasLinkHeader link_type order frame.now header.len header.next) }
-    ensures within { IfOk result (λ header. header.len ≤ length frame.now) }
+    ensures found { IfOk result (λ header. HasLinkHeader link_type order frame.now header.len header.next header.end) }
+    ensures within { IfOk result (IsHeaderWithin frame.now) }
     ensures refused { IfErr result (λ error. NeedsLinkHeader link_type order frame.now error.required_len) }
     ensures len { IfErr result (λ error. error.len ≡ length frame.now) }
 {
@@ -188,7 +215,11 @@ fn first_header(
         LinkType::PppHdlc if is_cisco_hdlc(frame) => Ok(FirstHeader::EtherType(CISCO_HDLC)),
         LinkType::PppHdlc => Ok(FirstHeader::Whole(ppp_header(frame)?)),
         LinkType::PppOverEthernet => Ok(FirstHeader::Whole(session_at(frame, 0)?)),
-        LinkType::RawIp => Ok(FirstHeader::Whole(LinkHeader { len: 0, next: None })),
+        LinkType::RawIp => Ok(FirstHeader::Whole(LinkHeader {
+            len: 0,
+            next: None,
+            end: None,
+        })),
         LinkType::CiscoHdlc => Ok(FirstHeader::EtherType(CISCO_HDLC)),
         LinkType::Ieee80211 => frame_at(frame, 0),
         LinkType::FrameRelay => frame_relay(frame),
@@ -217,8 +248,8 @@ fn is_cisco_hdlc(frame: &[u8]) -> bool
 /// A header with an ether type, and its tags.
 fn tagged_header(header: EtherHeader, frame: &[u8]) -> Result<LinkHeader, LinkHeaderCutOff>
     requires { header.ether_type_at + 2 ≤ header.len }
-    ensures found { IfOk result (λ found. HasEtherHeader header frame.now found.len found.next) }
-    ensures within { IfOk result (λ found. found.len ≤ length frame.now) }
+    ensures found { IfOk result (λ found. HasEtherHeader header frame.now found.len found.next found.end) }
+    ensures within { IfOk result (IsHeaderWithin frame.now) }
     ensures refused { IfErr result (λ error. NeedsEtherHeader header frame.now error.required_len) }
     ensures len { IfErr result (λ error. error.len ≡ length frame.now) }
 {
@@ -243,7 +274,7 @@ fn after_tags(
 ) -> Result<LinkHeader, LinkHeaderCutOff>
     requires { place ≤ length frame.now }
     ensures is { result ≡ specs.after_tags header frame.now place ether_type }
-    ensures within { IfOk result (λ header. header.len ≤ length frame.now) }
+    ensures within { IfOk result (IsHeaderWithin frame.now) }
     ensures len { IfErr result (λ error. error.len ≡ length frame.now) }
 {
     if place <= header.len || ether_type >= ether_type::LEAST {
@@ -265,7 +296,7 @@ fn after_ether_type(
 ) -> Result<LinkHeader, LinkHeaderCutOff>
     requires { len ≤ length frame.now }
     ensures is { result ≡ specs.after_ether_type frame.now len ether_type }
-    ensures within { IfOk result (λ header. header.len ≤ length frame.now) }
+    ensures within { IfOk result (IsHeaderWithin frame.now) }
     ensures len { IfErr result (λ error. error.len ≡ length frame.now) }
 {
     match ether_type {
@@ -274,6 +305,7 @@ fn after_ether_type(
         _ => Ok(LinkHeader {
             len,
             next: protocol_of(ether_type),
+            end: None,
         }),
     }
 }
@@ -290,6 +322,7 @@ fn family_at(order: ByteOrder, frame: &[u8], place: usize) -> Result<FirstHeader
     Ok(FirstHeader::Whole(LinkHeader {
         len,
         next: by_family(order, frame, place),
+        end: None,
     }))
 }
 

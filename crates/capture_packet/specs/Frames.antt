@@ -1,5 +1,5 @@
 -- The packet in a frame: its content, and the verdict on it.
-use Rattle.std.specs.Prelude.{◌≡◌, ◌⊎◌, ℕ, Bool, true, false, List, length, map, MatchOption}
+use Rattle.std.specs.Prelude.{◌≡◌, ◌⊎◌, ◌&&◌, ℕ, Bool, true, false, not, List, length, map, MatchOption}
 use Rattle.ip_part.specs.Ip.{Carries, IsAfterHeaders, lacks_len, lax_refusal, refusal}
 use Rattle.ip_part.specs.declared.ip_error.IpError.{IpError}
 use Rattle.ip_part.specs.declared.transport.TransportInIp.{TransportInIp}
@@ -55,9 +55,10 @@ IsInTunnels nested packet = (map by_value packet.tunnels.items ≡ nested.outers
 
 -- ---- frames
 
--- the packet in the frame: an IP packet, which is the innermost if it contains others, or another protocol
+-- The packet in the frame: an IP packet, which is the innermost if it contains others, or another protocol. If a link header states the end
+-- of the packet's bytes, the capture cut none of them.
 abbrev pub IsInFrame : Bool → Frame → Packet → Type 0
-IsInFrame is_cut (Ip bytes) packet = IsInTunnels (innermost is_cut bytes.now) packet
+IsInFrame is_cut (Ip found) packet = IsInTunnels (innermost (is_cut && not found.is_end_stated) found.bytes.now) packet
 IsInFrame is_cut (Other protocol) packet = packet ≡ in_no_tunnel (NotIp protocol) (untested OtherProtocol)
 
 -- the packet after a whole link header

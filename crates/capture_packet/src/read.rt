@@ -27,7 +27,8 @@ pub const MAX_PACKET_LEN: usize = 524_288;
 ///
 /// A packet is cut off if its IP header counts more bytes than are present, whatever the capture states about its frame. It is also cut off
 /// if its IP header is incomplete in a frame with `is_cut`. A packet that is cut off is not rejected for an incomplete header. Its checksum
-/// is not tested. A frame may contain padding after its packet. If only the padding was cut, the packet is whole.
+/// is not tested. A frame may contain padding after its packet. If only the padding was cut, the packet is whole. Bytes after the payload
+/// of PPPoE do not count as present. If the frame contains that payload, the packet is read as in a frame without `is_cut`.
 ///
 /// If an IP packet contains another IP packet, the inner packet is read, and the outer packet is one of `tunnels`. An IPv4 packet follows an
 /// IP header with protocol 4 (RFC 2003), and an IPv6 packet follows protocol 41 (RFC 4213, section 3.5; RFC 2473). Protocol 47 is GRE,
@@ -48,7 +49,7 @@ pub fn read_packet<'a>(
     ensures { IsRead link_type order frame.now is_cut result }
 {
     match network_packet(link_type, order, frame) {
-        Ok(Frame::Ip(packet)) => read_ip_packet(packet, is_cut),
+        Ok(Frame::Ip(found)) => read_ip_packet(found.bytes, is_cut && !found.is_end_stated),
         Ok(Frame::Other(protocol)) => Packet::in_no_tunnel(
             Content::NotIp(protocol),
             Verdict::untested(Untested::OtherProtocol),

@@ -1,17 +1,16 @@
 -- Lemmas of the translation of packets.
-use Rattle.std.proofs.Common.{◌≡◌, ◌≤◌, ◌+◌, ◌-◌, ◌++◌, ◌∙◌, ℕ, Bool, List, Option, Result, Ok, Err, IfOk, None, arith, ap, drop, take, length, refl, inl, inr, []}
-use Rattle.std.proofs.lemmas.List.{append-nil, drop-take, drop_all, take-append-drop, take-take}
+use Rattle.std.proofs.Common.{◌≡◌, ◌≤◌, ◌+◌, ◌-◌, ◌++◌, ◌∙◌, ℕ, Bool, List, Option, Result, Ok, Err, IfOk, arith, ap, drop, take, length, refl, sym, inl, inr}
+use Rattle.std.proofs.lemmas.List.{drop-drop, drop-take, take-append-drop, take-take}
 use Rattle.std.specs.List.{slice_range}
-use borrow.Rule.Slice.PartMut.{Post-is, post_of, put_mid}
+use borrow.Rule.Slice.PartMut.{Post-is, put_mid}
 use Rattle.capture_texts.specs.declared.byte_order.ByteOrder.{ByteOrder}
 use Rattle.capture_file.specs.declared.link_type.LinkType.{LinkType}
 use Rattle.capture_packet.specs.Contents.{ports_in}
-use Rattle.capture_link.specs.Link.{HasLinkHeader}
 use Rattle.etherparse_transport.specs.declared.ip.ipv4_translation.Ipv4Translation.{Ipv4Translation}
 use Rattle.etherparse_transport.specs.declared.ip.ipv6_translation.Ipv6Translation.{Ipv6Translation}
 use Rattle.ip_part.specs.declared.transport.TransportInIp.{TransportInIp}
 use Rattle.net_base.specs.IpHeaders.{ipv4_header_len, ipv4_header_of, ipv6_header_of}
-use Rattle.translator.specs.Packets.{TranslatesFrame, TranslatesPacket, ipv4_opposite, ipv6_opposite}
+use Rattle.translator.specs.Packets.{IsPacketIn, TranslatesFrame, TranslatesPacket, ipv4_opposite, ipv6_opposite}
 use Rattle.translator.specs.Replacements.{exchanged, ipv4_translation, ipv6_translation}
 use Rattle.translator.specs.declared.reason.Reason.{Reason}
 use Rattle.translator.specs.declared.table.Table.{Table}
@@ -79,25 +78,33 @@ pub if_ok_map : {A E : Type 0} → {P Q : A → Type 0} → (result : Result A E
 if_ok_map (Ok value) gives fact = gives value fact
 if_ok_map (Err error) gives fact = fact
 
+-- the parts of a frame before, between and after two places
+three_parts : (frame : List ℕ) (start end : ℕ) → start ≤ end → take start frame ++ (slice_range frame start end ++ drop end frame) ≡ frame
+three_parts frame start end ordered =
+    let places : start + (end - start) ≡ end = omega (arith, ordered) in
+    let rest : drop end frame ≡ drop (end - start) (drop start frame) = ap (λ place. drop place frame) (sym places) ∙ sym (drop-drop (end - start) start frame) in
+    ap (λ bytes. take start frame ++ (slice_range frame start end ++ bytes)) rest
+    ∙ ap (λ bytes. take start frame ++ bytes) (take-append-drop (end - start) (drop start frame))
+    ∙ take-append-drop start frame
+
 -- a frame after the translation of the packet in it
-pub frame_translated : (table : Table) (link_type : LinkType) (order : ByteOrder) (frame packet : List ℕ) (start : ℕ) (result : Result Bool Reason)
-    → start ≤ length frame → HasLinkHeader link_type order frame start None → TranslatesPacket table (drop start frame) packet result
-    → TranslatesFrame table link_type order frame (take start frame ++ packet) result
-frame_translated table link_type order frame packet start (Ok applies) within is_packet translates = record {
-  len = start;
+pub frame_translated : (table : Table) (link_type : LinkType) (order : ByteOrder) (frame packet : List ℕ) (start end : ℕ) (result : Result Bool Reason)
+    → IsPacketIn link_type order frame start end → TranslatesPacket table (slice_range frame start end) packet result
+    → TranslatesFrame table link_type order frame (take start frame ++ (packet ++ drop end frame)) result
+frame_translated table link_type order frame packet start end (Ok applies) is_packet translates = record {
+  start = start;
+  end = end;
   is_packet = is_packet;
   packet = packet;
   translates = translates;
   written = refl;
 }
-frame_translated table link_type order frame packet start (Err reason) within is_packet (inl same) =
-    ap (λ bytes. take start frame ++ bytes) same ∙ take-append-drop start frame
-frame_translated table link_type order frame packet start (Err reason) within is_packet (inr same) =
-    ap (λ bytes. take start frame ++ bytes) same ∙ take-append-drop start frame
+frame_translated table link_type order frame packet start end (Err reason) is_packet (inl same) =
+    ap (λ bytes. take start frame ++ (bytes ++ drop end frame)) same ∙ three_parts frame start end is_packet.ordered
+frame_translated table link_type order frame packet start end (Err reason) is_packet (inr same) =
+    ap (λ bytes. take start frame ++ (bytes ++ drop end frame)) same ∙ three_parts frame start end is_packet.ordered
 
--- a write to the end of a frame
-pub put_end : (frame packet : List ℕ) (start : ℕ) → start ≤ length frame
-    → put_mid start (length frame - start) frame packet ≡ take start frame ++ packet
-put_end frame packet start within =
-    let none : post_of start (length frame - start) frame ≡ [] = Post-is start (length frame) frame within ∙ drop_all (length frame) frame (omega arith) in
-    ap (λ bytes. take start frame ++ (packet ++ bytes)) none ∙ ap (λ bytes. take start frame ++ bytes) (append-nil packet)
+-- a write between two places of a frame
+pub put_between : (frame packet : List ℕ) (start end : ℕ) → start ≤ end
+    → put_mid start (end - start) frame packet ≡ take start frame ++ (packet ++ drop end frame)
+put_between frame packet start end ordered = ap (λ bytes. take start frame ++ (packet ++ bytes)) (Post-is start end frame ordered)

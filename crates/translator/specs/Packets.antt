@@ -1,9 +1,10 @@
 -- The translation of a packet by the table.
-use Rattle.std.specs.Prelude.{◌≡◌, ◌++◌, ◌⊎◌, ℕ, Bool, true, false, if◌then◌else◌, is_some, List, drop, take, Option, Some, None, Result, Ok, Err}
+use Rattle.std.specs.Prelude.{◌≡◌, ◌≤◌, ◌++◌, ◌⊎◌, ℕ, Bool, true, false, if◌then◌else◌, is_some, List, drop, length, slice_range, take, Option, Some, None, Result, Ok, Err}
 use Rattle.capture_texts.specs.declared.byte_order.ByteOrder.{ByteOrder}
 use Rattle.capture_file.specs.declared.link_type.LinkType.{LinkType}
 use Rattle.capture_packet.specs.Contents.{ports_in}
 use Rattle.capture_link.specs.Link.{HasLinkHeader}
+use Rattle.capture_link.specs.LinkHeaders.{end_in}
 use Rattle.etherparse_transport.specs.Ipv4Translations.{ipv4_translated}
 use Rattle.etherparse_transport.specs.Ipv6Translations.{ipv6_translated}
 use Rattle.etherparse_transport.specs.declared.ip.ipv4_translation.Ipv4Translation.{Ipv4Translation}
@@ -118,13 +119,23 @@ TranslatesIpv6 table packet after (Err reason) = after ≡ packet
 abbrev pub TranslatesPacket : Table → List ℕ → List ℕ → Result Bool Reason → Type 0
 TranslatesPacket table packet after result = TranslatesIpv4 table packet after result ⊎ TranslatesIpv6 table packet after result
 
--- the packet after the link header of a frame was translated, or stays; the link header stays
+-- the IP packet in a frame is between these places: after the link header, up to the end that the link header states, or up to the end of
+-- the frame
+pub record IsPacketIn (link_type : LinkType) (order : ByteOrder) (frame : List ℕ) (start end : ℕ) : Type 0 where
+  pub stated : Option ℕ
+  pub header : HasLinkHeader link_type order frame start None stated
+  pub is_end : end ≡ end_in frame stated
+  pub ordered : start ≤ end
+  pub within : end ≤ length frame
+
+-- the packet in a frame was translated, or stays; what is before it and after it stays
 pub record TranslatesWithin (table : Table) (link_type : LinkType) (order : ByteOrder) (frame after : List ℕ) (result : Result Bool Reason) : Type 0 where
-  pub len : ℕ
-  pub is_packet : HasLinkHeader link_type order frame len None
+  pub start : ℕ
+  pub end : ℕ
+  pub is_packet : IsPacketIn link_type order frame start end
   pub packet : List ℕ
-  pub translates : TranslatesPacket table (drop len frame) packet result
-  pub written : after ≡ take len frame ++ packet
+  pub translates : TranslatesPacket table (slice_range frame start end) packet result
+  pub written : after ≡ take start frame ++ (packet ++ drop end frame)
 
 -- the packet in a frame was translated, or the frame stays
 abbrev pub TranslatesFrame : Table → LinkType → ByteOrder → List ℕ → List ℕ → Result Bool Reason → Type 0

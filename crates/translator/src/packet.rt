@@ -1,10 +1,9 @@
 //! The translation of the packet in a frame.
 
-ghost use Rattle.std.specs.Prelude.{◌≡◌, ◌≤◌, IfOk, None, length};
+ghost use Rattle.std.specs.Prelude.{◌≡◌, IfOk, length};
 ghost use Rattle.std.specs.Option.{option_map};
-ghost use Rattle.capture_link.specs.Link.{HasLinkHeader};
 ghost use Rattle.translator.specs.Packets as specs;
-ghost use Rattle.translator.specs.Packets.{TranslatesCaptured, TranslatesFrame, TranslatesPacket};
+ghost use Rattle.translator.specs.Packets.{IsPacketIn, TranslatesCaptured, TranslatesFrame, TranslatesPacket};
 
 use crate::ipv4_packet::translate_ipv4_packet;
 use crate::ipv6_packet::translate_ipv6_packet;
@@ -30,8 +29,8 @@ pub fn translate_frame(
     ensures translates { TranslatesFrame table.now link_type order frame.old frame.new result }
     ensures len { length frame.new ≡ length frame.old }
 {
-    let start = packet_start(link_type, order, frame)?;
-    translate_packet(&mut frame[start..], table)
+    let (start, end) = packet_place(link_type, order, frame)?;
+    translate_packet(&mut frame[start..end], table)
 }
 
 /// Translates the packet in a frame, as `translate_frame` does, if the link type of the frame is read.
@@ -54,13 +53,16 @@ pub fn translate_captured_frame(
     }
 }
 
-/// Where the IP packet in a frame begins.
-fn packet_start(link_type: LinkType, order: ByteOrder, frame: &[u8]) -> Result<usize, Reason>
-    ensures found { IfOk result (λ start. HasLinkHeader link_type order frame.now start None) }
-    ensures within { IfOk result (λ start. start ≤ length frame.now) }
+/// The start and the end of the bytes of a frame with its IP packet.
+fn packet_place(
+    link_type: LinkType,
+    order: ByteOrder,
+    frame: &[u8],
+) -> Result<(usize, usize), Reason>
+    ensures { IfOk result (λ place. IsPacketIn link_type order frame.now place.0 place.1) }
 {
     match network_packet(link_type, order, frame) {
-        Ok(Frame::Ip(packet)) => Ok(frame.len() - packet.len()),
+        Ok(Frame::Ip(found)) => Ok((found.start, found.start + found.bytes.len())),
         Ok(Frame::Other(_)) => Err(Reason::NotIp),
         Err(_) => Err(Reason::LinkHeader),
     }

@@ -70,6 +70,7 @@ fn without_control(frame: &[u8], header: u32) -> FirstHeader
         FirstHeader::Whole(LinkHeader {
             len: 3,
             next: Some(NetworkProtocol::FrameRelay { header }),
+            end: None,
         })
     }
 }
@@ -92,10 +93,15 @@ fn nlpid_at(frame: &[u8], place: usize) -> Result<FirstHeader, LinkHeaderCutOff>
     expect_len(frame, len)?;
     match frame[place] {
         SNAP_ID => snap_at(frame, len),
-        IPV4_ID | IPV6_ID => Ok(FirstHeader::Whole(LinkHeader { len, next: None })),
+        IPV4_ID | IPV6_ID => Ok(FirstHeader::Whole(LinkHeader {
+            len,
+            next: None,
+            end: None,
+        })),
         nlpid => Ok(FirstHeader::Whole(LinkHeader {
             len,
             next: Some(NetworkProtocol::Nlpid(nlpid)),
+            end: None,
         })),
     }
 }

@@ -15,6 +15,8 @@ pub(super) struct LinkHeader {
     pub len: usize,
     /// The next network protocol. `None` is IP.
     pub next: Option<NetworkProtocol>,
+    /// The end of what follows the header, in bytes from the start of the frame, if the header states it. `None` is the end of the frame.
+    pub end: Option<usize>,
 }
 
 /// A link header that contains an ether type.
@@ -44,6 +46,7 @@ impl FirstHeader {
         FirstHeader::Whole(LinkHeader {
             len,
             next: Some(NetworkProtocol::LinkType(number)),
+            end: None,
         })
     }
 }

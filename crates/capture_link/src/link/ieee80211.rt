@@ -65,6 +65,7 @@ pub(super) fn after_radiotap(frame: &[u8]) -> Result<FirstHeader, LinkHeaderCutO
         Ok(FirstHeader::Whole(LinkHeader {
             len: RADIOTAP_LEN,
             next: Some(NetworkProtocol::Radiotap { version, len }),
+            end: None,
         }))
     }
 }
@@ -110,6 +111,7 @@ fn other_frame(frame: &[u8], place: usize) -> FirstHeader
         next: Some(NetworkProtocol::Ieee80211 {
             frame_control: short_at(frame, place),
         }),
+        end: None,
     })
 }
 

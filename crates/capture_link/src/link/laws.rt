@@ -9,10 +9,11 @@ ghost use Rattle.capture_link.specs.declared.network_protocol.NetworkProtocol.{N
 /// byte order.
 pub fn one_link_header()
     ensures unique { (link_type : LinkType) (order : ByteOrder) (frame : List ℕ) (len other_len : ℕ) (next other_next : Option NetworkProtocol)
-        → HasLinkHeader link_type order frame len next → HasLinkHeader link_type order frame other_len other_next
-        → (len ≡ other_len) × (next ≡ other_next) }
+        (end other_end : Option ℕ) → HasLinkHeader link_type order frame len next end
+        → HasLinkHeader link_type order frame other_len other_next other_end
+        → (len ≡ other_len) × (next ≡ other_next) × (end ≡ other_end) }
     ensures whole { (link_type : LinkType) (order : ByteOrder) (frame : List ℕ) (len required_len : ℕ) (next : Option NetworkProtocol)
-        → HasLinkHeader link_type order frame len next → ¬ NeedsLinkHeader link_type order frame required_len }
+        (end : Option ℕ) → HasLinkHeader link_type order frame len next end → ¬ NeedsLinkHeader link_type order frame required_len }
     ensures required { (link_type : LinkType) (order : ByteOrder) (frame : List ℕ) (required_len other_len : ℕ)
         → NeedsLinkHeader link_type order frame required_len → NeedsLinkHeader link_type order frame other_len → required_len ≡ other_len }
     ensures any_order { (link_type : LinkType) (order other : ByteOrder) (frame : List ℕ) (required_len : ℕ)

@@ -37,6 +37,7 @@ pub(super) fn llc_at(frame: &[u8], place: usize) -> Result<FirstHeader, LinkHead
                 dsap: frame[place],
                 ssap: frame[place + 1],
             }),
+            end: None,
         })),
     }
 }
@@ -53,6 +54,7 @@ fn osi_at(frame: &[u8], place: usize) -> Result<FirstHeader, LinkHeaderCutOff>
     Ok(FirstHeader::Whole(LinkHeader {
         len,
         next: Some(NetworkProtocol::Nlpid(frame[place])),
+        end: None,
     }))
 }
 
@@ -79,5 +81,6 @@ pub(super) fn snap_at(frame: &[u8], place: usize) -> Result<FirstHeader, LinkHea
             organization_code,
             protocol,
         }),
+        end: None,
     }))
 }

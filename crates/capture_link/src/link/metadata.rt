@@ -96,7 +96,11 @@ pub(super) fn with_family(len: usize, family: u32, is_ip: bool) -> FirstHeader
     } else {
         Some(NetworkProtocol::AddressFamily(family))
     };
-    FirstHeader::Whole(LinkHeader { len, next })
+    FirstHeader::Whole(LinkHeader {
+        len,
+        next,
+        end: None,
+    })
 }
 
 /// The first header of an IEEE 802.11 frame after a Prism header, or after a header of AVS.
@@ -184,6 +188,7 @@ fn enclosed_at(frame: &[u8], place: usize, number: u16) -> Result<FirstHeader, L
     let raw_ip = LinkHeader {
         len: place,
         next: None,
+        end: None,
     };
     match LinkType::from_number(number) {
         Some(LinkType::BsdLoopback) => family_at(ByteOrder::LittleEndian, frame, place),

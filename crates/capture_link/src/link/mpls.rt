@@ -2,6 +2,7 @@
 
 ghost use Rattle.std.specs.Prelude.{◌≡◌, ◌+◌, ◌≤◌, ◌/◌, IfErr, IfOk, length, slice_index};
 ghost use Rattle.net_base.specs.Bytes.{flag};
+ghost use Rattle.capture_link.specs.LinkHeaders.{IsHeaderWithin};
 ghost use Rattle.capture_link.specs.Mpls as specs;
 
 use crate::NetworkProtocol;
@@ -25,7 +26,7 @@ pub(super) fn stack_at(
 ) -> Result<LinkHeader, LinkHeaderCutOff>
     requires { place ≤ length frame.now }
     ensures is { result ≡ specs.stack_at frame.now other place }
-    ensures within { IfOk result (λ header. header.len ≤ length frame.now) }
+    ensures within { IfOk result (IsHeaderWithin frame.now) }
     ensures len { IfErr result (λ error. error.len ≡ length frame.now) }
 {
     let mut label = place;
@@ -53,13 +54,14 @@ fn after_stack(
 ) -> Result<LinkHeader, LinkHeaderCutOff>
     requires { place ≤ length frame.now }
     ensures is { result ≡ specs.after_stack frame.now other place }
-    ensures within { IfOk result (λ header. header.len ≤ length frame.now) }
+    ensures within { IfOk result (IsHeaderWithin frame.now) }
     ensures len { IfErr result (λ error. error.len ≡ length frame.now) }
 {
     expect_len(frame, place + 1)?;
     Ok(LinkHeader {
         len: place,
         next: by_first_byte(other, frame[place]),
+        end: None,
     })
 }
 

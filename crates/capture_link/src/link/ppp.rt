@@ -1,6 +1,7 @@
 //! PPP frames (RFC 1661 and RFC 1662), and frames of PPP over Ethernet (RFC 2516).
 
 ghost use Rattle.std.specs.Prelude.{◌≡◌, ◌+◌, ◌≤◌, IfErr, IfOk, length, true};
+ghost use Rattle.capture_link.specs.LinkHeaders.{IsHeaderWithin};
 ghost use Rattle.capture_link.specs.Ppp as specs;
 
 use crate::NetworkProtocol;
@@ -14,6 +15,9 @@ const ADDRESS_LEN: usize = 2;
 
 /// The length of a PPPoE header, in bytes: version and type, code, session and length.
 const SESSION_LEN: usize = 6;
+
+/// The place of the length of the payload in a PPPoE header, in bytes (RFC 2516, section 4).
+const PAYLOAD_LEN_AT: usize = 4;
 
 /// The Address and Control fields for all stations and unnumbered information (RFC 1662, section 3.1).
 const ADDRESS_AND_CONTROL: u16 = 0xFF03;
@@ -39,7 +43,7 @@ const MPLS_MULTICAST: u16 = 0x0283;
 /// The header of a PPP frame.
 pub(super) fn ppp_header(frame: &[u8]) -> Result<LinkHeader, LinkHeaderCutOff>
     ensures is { result ≡ specs.ppp_header frame.now }
-    ensures within { IfOk result (λ header. header.len ≤ length frame.now) }
+    ensures within { IfOk result (IsHeaderWithin frame.now) }
     ensures len { IfErr result (λ error. error.len ≡ length frame.now) }
 {
     if has_address(frame) {
@@ -49,22 +53,68 @@ pub(super) fn ppp_header(frame: &[u8]) -> Result<LinkHeader, LinkHeaderCutOff>
     }
 }
 
-/// The header that ends with the Protocol field after the PPPoE header at this place.
+/// The header up to the packet in the payload after the PPPoE header at this place.
 pub(super) fn session_at(frame: &[u8], place: usize) -> Result<LinkHeader, LinkHeaderCutOff>
     requires { place ≤ length frame.now }
     ensures is { result ≡ specs.session_at frame.now place }
-    ensures within { IfOk result (λ header. header.len ≤ length frame.now) }
+    ensures within { IfOk result (IsHeaderWithin frame.now) }
     ensures len { IfErr result (λ error. error.len ≡ length frame.now) }
 {
     let len = place + SESSION_LEN;
     expect_len(frame, len)?;
     if short_at(frame, place) == SESSION_DATA {
-        protocol_at(frame, len)
+        let payload_len = short_at(frame, place + PAYLOAD_LEN_AT);
+        session_payload(frame, len, payload_len)
     } else {
-        Ok(LinkHeader {
-            len,
-            next: Some(NetworkProtocol::EtherType(PPPOE_SESSION)),
-        })
+        Ok(unread_session(len))
+    }
+}
+
+/// The header up to the packet in a PPPoE payload of this length, in bytes, which begins at this place. If the frame ends before the
+/// payload, the payload ends with the frame.
+fn session_payload(
+    frame: &[u8],
+    place: usize,
+    payload_len: u16,
+) -> Result<LinkHeader, LinkHeaderCutOff>
+    requires { place ≤ length frame.now }
+    ensures is { result ≡ specs.session_payload frame.now place (place + payload_len) }
+    ensures within { IfOk result (IsHeaderWithin frame.now) }
+    ensures len { IfErr result (λ error. error.len ≡ length frame.now) }
+{
+    let end = place + usize::from(payload_len);
+    if end <= frame.len() {
+        Ok(whole_payload(&frame[..end], place))
+    } else {
+        protocol_at(frame, place)
+    }
+}
+
+/// The header up to the packet in a PPPoE payload, which begins at this place and ends with these bytes of a frame. A payload without a
+/// whole PPP header is not read.
+fn whole_payload(bytes: &[u8], place: usize) -> LinkHeader
+    requires { place ≤ length bytes.now }
+    ensures is { result ≡ specs.in_payload place (length bytes.now) (specs.protocol_at bytes.now place) }
+    ensures within { IsHeaderWithin bytes.now result }
+{
+    match protocol_at(bytes, place) {
+        Ok(header) => LinkHeader {
+            len: header.len,
+            next: header.next,
+            end: Some(bytes.len()),
+        },
+        Err(_) => unread_session(place),
+    }
+}
+
+/// A PPPoE header that ends at this place, and whose payload is not read. The next protocol is its ether type.
+fn unread_session(place: usize) -> LinkHeader
+    ensures { result ≡ specs.unread_session place }
+{
+    LinkHeader {
+        len: place,
+        next: Some(NetworkProtocol::EtherType(PPPOE_SESSION)),
+        end: None,
     }
 }
 
@@ -80,7 +130,7 @@ fn has_address(frame: &[u8]) -> bool
 fn protocol_at(frame: &[u8], place: usize) -> Result<LinkHeader, LinkHeaderCutOff>
     requires { place ≤ length frame.now }
     ensures is { result ≡ specs.protocol_at frame.now place }
-    ensures within { IfOk result (λ header. header.len ≤ length frame.now) }
+    ensures within { IfOk result (IsHeaderWithin frame.now) }
     ensures len { IfErr result (λ error. error.len ≡ length frame.now) }
 {
     expect_len(frame, place + 1)?;
@@ -96,7 +146,7 @@ fn protocol_at(frame: &[u8], place: usize) -> Result<LinkHeader, LinkHeaderCutOf
 fn after_protocol(frame: &[u8], place: usize, number: u16) -> Result<LinkHeader, LinkHeaderCutOff>
     requires { place ≤ length frame.now }
     ensures is { result ≡ specs.after_protocol frame.now place number }
-    ensures within { IfOk result (λ header. header.len ≤ length frame.now) }
+    ensures within { IfOk result (IsHeaderWithin frame.now) }
     ensures len { IfErr result (λ error. error.len ≡ length frame.now) }
 {
     match number {
@@ -104,6 +154,7 @@ fn after_protocol(frame: &[u8], place: usize, number: u16) -> Result<LinkHeader,
         _ => Ok(LinkHeader {
             len: place,
             next: protocol_of(number),
+            end: None,
         }),
     }
 }

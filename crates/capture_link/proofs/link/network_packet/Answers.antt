@@ -1,19 +1,20 @@
 use Rattle.std.proofs.Common.{None, Some, refl}
-use Rattle.std.proofs.lemmas.List.{take_rest}
 use Rattle.capture_link.proofs.link.network_packet.Goals as goal
 
 pub returns-in-None-clause-found : goal.returns-in-None-clause-found
 returns-in-None-clause-found c = record {
   len = c.in_ok-header.header.len;
   next = None;
+  end = c.in_ok-header.header.end;
   has_header = rw c.in-None.is at c.in_ok-header.ensures.found;
-  is_cut = (c.in_ok-header.ensures.within, take_rest c.args.frame.now c.in_ok-header.header.len);
+  is_cut = c.bytes_after.ensures;
 }
 
 pub returns-in-Some-clause-found : goal.returns-in-Some-clause-found
 returns-in-Some-clause-found c = record {
   len = c.in_ok-header.header.len;
   next = Some c.in-Some.protocol;
+  end = c.in_ok-header.header.end;
   has_header = rw c.in-Some.is at c.in_ok-header.ensures.found;
   is_cut = refl;
 }
