@@ -1,8 +1,9 @@
 use crate::expect::{expect_equal, expect_ok};
-use crate::packet::{IPV4_UDP, OTHER_PROTOCOL, UDP_OVER_IPV4, joined, udp_packet};
+use crate::packet::{CUT_OFF, IPV4_UDP, OTHER_PROTOCOL, RIGHT, UDP_OVER_IPV4, joined, udp_packet};
 use capture_file::{ByteOrder, LinkType};
 use capture_link::LinkHeaderCutOff;
 use capture_packet::{Content, NetworkProtocol, Packet, Refusal, Verdict, read_packet};
+use etherparse_transport::ip::IpError;
 use std::process::Abort;
 
 /// LLC and SNAP headers with the ether type of IPv4 (RFC 1042).
@@ -257,11 +258,17 @@ fn headers_after_an_ether_type_are_passed_over(rt: HostRuntime) {
 type EthernetRow = (&'static [u8], Result<NetworkProtocol, usize>);
 
 #[rattlefmt::skip]
-static OTHER_ETHER_TYPES: [EthernetRow; 25] = [
+static OTHER_ETHER_TYPES: [EthernetRow; 31] = [
     (&[0x88, 0x64, 0x11, 0, 0, 1, 0], Err(20)),
     (&[0x88, 0x64, 0x11, 0, 0, 1, 0, 2], Err(21)),
     (&[0x88, 0x64, 0x11, 0, 0, 1, 0, 2, 0], Err(22)),
     (&[0x88, 0x64, 0x11, 0, 0, 1, 0, 2, 0xC0, 0x21], Ok(NetworkProtocol::PppProtocol(0xC021))),
+    (&[0x88, 0x64, 0x11, 0, 0, 1, 0, 3, 0xC0, 0x21], Ok(NetworkProtocol::PppProtocol(0xC021))),
+    (&[0x88, 0x64, 0x11, 0, 0, 1, 0, 1, 0xC1, 0x21], Ok(NetworkProtocol::PppProtocol(0xC1))),
+    (&[0x88, 0x64, 0x11, 0, 0, 1, 0, 1, 0xC0, 0x21], Ok(NetworkProtocol::EtherType(0x8864))),
+    (&[0x88, 0x64, 0x11, 0, 0, 1, 0, 0, 0xC0, 0x21], Ok(NetworkProtocol::EtherType(0x8864))),
+    (&[0x88, 0x64, 0x11, 0, 0, 1, 0, 0], Ok(NetworkProtocol::EtherType(0x8864))),
+    (&[0x88, 0x64, 0x11, 0, 0, 1, 0, 6, 2, 0x81, 0, 1, 1, 64, 0x45], Ok(NetworkProtocol::EtherType(0x8864))),
     (&[0x88, 0x64, 0x11, 0xA7, 0, 1, 0, 0], Ok(NetworkProtocol::EtherType(0x8864))),
     (&[0x88, 0x64, 0x21, 0, 0, 1, 0, 2, 0, 0x21], Ok(NetworkProtocol::EtherType(0x8864))),
     (&[0x88, 0x63, 0x11, 9, 0, 0, 0, 0], Ok(NetworkProtocol::EtherType(0x8863))),
@@ -296,5 +303,98 @@ fn expect_other_ether_type(rt: &(impl Abort + AllocGlobal), row: &EthernetRow) {
 fn other_headers_after_an_ether_type(rt: HostRuntime) {
     for row in &OTHER_ETHER_TYPES {
         expect_other_ether_type(&rt, row);
+    }
+}
+
+/// The link types of frames of PPPoE, and what comes before the PPPoE header.
+static BEFORE_SESSION: [(LinkType, &[u8]); 2] = [
+    (
+        LinkType::Ethernet,
+        &[2, 0, 0, 0, 0, 2, 2, 0, 0, 0, 0, 1, 0x88, 0x64],
+    ),
+    (LinkType::PppOverEthernet, &[]),
+];
+
+/// The length in a PPPoE header, and the verdict on the frame. After the PPP protocol number it has a UDP packet of 31 bytes, and four bytes
+/// of padding.
+#[rattlefmt::skip]
+static PAYLOAD_LENS: [(u8, Verdict); 8] = [
+    (0, OTHER_PROTOCOL),
+    (1, OTHER_PROTOCOL),
+    (2, Verdict::Refused(Refusal::Ip(IpError::HeaderCutOff { required_len: 1, len: 0 }))),
+    (21, Verdict::Refused(Refusal::Ip(IpError::HeaderCutOff { required_len: 20, len: 19 }))),
+    (32, CUT_OFF),
+    (33, RIGHT),
+    (37, RIGHT),
+    (38, RIGHT),
+];
+
+/// Stops the test unless this is the verdict on a frame with this length in its PPPoE header, after these bytes.
+fn expect_verdict(
+    rt: &(impl Abort + AllocGlobal),
+    link_type: LinkType,
+    before: &[u8],
+    len: u8,
+    is_cut: bool,
+    expected: &Verdict,
+) {
+    let header = [0x11, 0, 0, 1, 0, len, 0, 0x21];
+    let parts: [&[u8]; 5] = [before, &header, &IPV4_UDP, &UDP_OVER_IPV4, &[0xEE; 4]];
+    let frame = expect_ok(rt, joined(rt.alloc(), &parts));
+    let packet = read_packet(link_type, ByteOrder::BigEndian, &frame, is_cut);
+    expect_equal(rt, &(len, &packet.verdict), &(len, expected));
+}
+
+#[test]
+fn payloads_of_pppoe_end_at_their_length(rt: HostRuntime) {
+    for (len, expected) in &PAYLOAD_LENS {
+        for (link_type, before) in &BEFORE_SESSION {
+            for is_cut in [false, true] {
+                expect_verdict(&rt, *link_type, before, *len, is_cut, expected);
+            }
+        }
+    }
+}
+
+#[test]
+fn packets_without_a_length_end_with_their_pppoe_payload(rt: HostRuntime) {
+    let frame = [
+        0x11, 0, 0, 1, 0, 25, 0, 0x21, 0x45, 0, 0, 0, 0, 1, 0x40, 0, 64, 200, 0, 0, 10, 0, 0, 1,
+        10, 0, 0, 2, 1, 2, 3, 0xEE, 0xEE,
+    ];
+    for is_cut in [false, true] {
+        let packet = read_packet(
+            LinkType::PppOverEthernet,
+            ByteOrder::BigEndian,
+            &frame,
+            is_cut,
+        );
+        let is_counted = matches!(packet.content, Content::Ip { payload_len: 3, .. });
+        expect_equal(
+            &rt,
+            &(is_counted, &packet.verdict),
+            &(true, &Verdict::LengthMissing),
+        );
+    }
+}
+
+#[test]
+fn frames_end_before_their_pppoe_payload(rt: HostRuntime) {
+    let refusal = IpError::HeaderCutOff {
+        required_len: 20,
+        len: 3,
+    };
+    let frame = [0x11, 0, 0, 1, 0, 33, 0, 0x21, 0x45, 0, 0];
+    for (is_cut, expected) in [
+        (true, CUT_OFF),
+        (false, Verdict::Refused(Refusal::Ip(refusal))),
+    ] {
+        let packet = read_packet(
+            LinkType::PppOverEthernet,
+            ByteOrder::BigEndian,
+            &frame,
+            is_cut,
+        );
+        expect_equal(&rt, &packet.verdict, &expected);
     }
 }

@@ -23,7 +23,7 @@ pub(crate) const RIGHT: Verdict = Verdict::Checksum(ChecksumVerdict::Right);
 
 const FRAGMENT: Verdict = Verdict::Checksum(ChecksumVerdict::Untested(Untested::Fragment));
 
-const CUT_OFF: Verdict = Verdict::Checksum(ChecksumVerdict::Untested(Untested::CutOff));
+pub(crate) const CUT_OFF: Verdict = Verdict::Checksum(ChecksumVerdict::Untested(Untested::CutOff));
 
 const UNKNOWN_DESTINATION: Verdict = Verdict::Checksum(ChecksumVerdict::Untested(
     Untested::UnknownDestination,
