@@ -1,15 +1,18 @@
 //! The blocks of a pcapng file (draft-ietf-opsawg-pcapng, section 3.1).
 
-ghost use Rattle.std.specs.Prelude.{◌≡◌, ◌<◌, ◌≤◌, ◌%◌, ◌+◌, OnOk, Some, length, take};
-ghost use Rattle.std.specs.Io.KnownBytes.{IsAtEnd, prepend_known};
-ghost use Rattle.translator.specs.Passing.{CountsPart, EndsAtCut, IsWritten, PassesUpTo};
+ghost use Rattle.std.specs.Prelude.{◌≡◌, ◌≤◌, ℕ, IfErr, List, Ok, OnOk, Option, Some, false, length, min};
+ghost use Rattle.std.specs.Io.KnownBytes.{Consumes, IsAtEnd};
+ghost use Rattle.capture_file.specs.Packets.{IsWithin};
+ghost use Rattle.capture_file.specs.Pcapng.{block_refusal};
+ghost use Rattle.capture_file.specs.PcapngReading.{AreFirst, BeginsBlock};
+ghost use Rattle.capture_packet.specs.Frames.{max_packet_len};
+ghost use Rattle.translator.specs.Blocks.{CopiesRest, IsFileStart, TranslatesKept, TranslatesWhere, blocks_of, cut_at};
+ghost use Rattle.translator.specs.Passing.{PassesNext, PassesTo};
 ghost use Rattle.translator.specs.declared.capture_error.CaptureError.TheVariants.{Block as BlockRefused};
-ghost use Rattle.translator.specs.declared.counts.Counts.{Counts};
-ghost use Rattle.translator.specs.declared.table.Table.{Table};
 
 use crate::capture_error::CaptureError;
 use crate::counts::Counts;
-use crate::packet::translate_frame;
+use crate::packet::translate_captured_frame;
 use crate::reason::Reason;
 use crate::table::Table;
 use crate::transfer::{Buffer, copy, read_after, read_into, write};
@@ -20,162 +23,202 @@ use capture_packet::MAX_PACKET_LEN;
 use std::io;
 use std::io::{ErrorKind, Read, Write};
 
-/// Translates the packets of a pcapng file, which begins with these bytes: at most the first 12 bytes of its first block.
+/// A pcapng file after some of its blocks.
+#[derive(Drop)]
+pub(crate) struct Blocks {
+    /// The section that the next block is in.
+    pub section: Section,
+    /// The start of the next block, in bytes from the start of the file. It counts to 2^64 - 1 at most.
+    pub offset: u64,
+}
+
+impl Blocks {
+    /// The start of a file. Its section header block states the byte order.
+    pub fn start() -> Blocks
+        ensures { IsFileStart result }
+    {
+        Blocks {
+            section: Section::new(ByteOrder::BigEndian),
+            offset: 0,
+        }
+    }
+}
+
+/// Translates the packets of a pcapng file that begins with these bytes.
 pub(crate) fn translate_blocks<R: Read, W: Write>(
     input: &mut R,
     output: &mut W,
     buffer: &mut Buffer,
     begin: &[u8],
+    file: &mut Blocks,
     table: &Table,
     counts: &mut Counts,
 ) -> Result<(), CaptureError>
-    requires begin { length begin.now ≤ 12 }
-    ensures passes { PassesUpTo table.now result (prepend_known begin.now (R.remaining input.old)) (R.remaining input.new)
-        (W.contents output.old) (W.contents output.new) counts.old counts.new }
-    ensures ends { (length begin.now < 12 → IsAtEnd (R.remaining input.old)) → OnOk result (IsAtEnd (R.remaining input.new)) }
-    ensures cut { EndsAtCut result (R.remaining input.new) }
+    requires begin { AreFirst begin.now (R.remaining input.old) }
+    requires some { 1 ≤ length begin.now }
+    ensures passes { (left : Option (List ℕ)) → Consumes left (R.remaining input.old) begin.now → PassesTo (blocks_of table.now) result
+        file.old file.new left (R.remaining input.new) (W.contents output.old) (W.contents output.new) counts.old counts.new }
+    ensures ends { OnOk result (IsAtEnd (R.remaining input.new)) }
 {
-    // The section header block states its byte order.
-    let mut section = Section::new(ByteOrder::BigEndian);
-    let mut first = [0u8; MIN_BLOCK_LEN];
-    let mut len = begin.len();
-    first[..len].copy_from_slice(begin);
-    let mut offset = 0;
-    for _block in 0..u64::MAX {
-        if len == 0 {
-            return Ok(());
-        }
-        let total_len = translate_block(
-            input,
-            output,
-            buffer,
-            &first[..len],
-            &mut section,
-            offset,
-            table,
-            counts,
-        )?;
-        offset = offset.saturating_add(total_len as u64);
-        len = read_into(input, &mut first, offset)?;
-    }
-    let error = io::Error::from(ErrorKind::FileTooLarge);
-    Err(CaptureError::Read { offset, error })
+    translate_block(input, output, buffer, begin, file, table, counts)?;
+    translate_others(input, output, buffer, file, table, counts)
 }
 
-/// Translates a block that begins with these bytes, at this place in the file, and returns its length.
+/// Translates the blocks of a pcapng file after its first block.
+fn translate_others<R: Read, W: Write>(
+    input: &mut R,
+    output: &mut W,
+    buffer: &mut Buffer,
+    file: &mut Blocks,
+    table: &Table,
+    counts: &mut Counts,
+) -> Result<(), CaptureError>
+    ensures passes { PassesTo (blocks_of table.now) result file.old file.new (R.remaining input.old) (R.remaining input.new)
+        (W.contents output.old) (W.contents output.new) counts.old counts.new }
+    ensures ends { OnOk result (IsAtEnd (R.remaining input.new)) }
+{
+    for _block in 0..u64::MAX {
+        let is_block = translate_next(input, output, buffer, file, table, counts)?;
+        if !is_block {
+            return Ok(());
+        }
+    }
+    let error = io::Error::from(ErrorKind::FileTooLarge);
+    Err(CaptureError::Read {
+        offset: file.offset,
+        error,
+    })
+}
+
+/// Translates the next block. Returns whether there is a block.
+fn translate_next<R: Read, W: Write>(
+    input: &mut R,
+    output: &mut W,
+    buffer: &mut Buffer,
+    file: &mut Blocks,
+    table: &Table,
+    counts: &mut Counts,
+) -> Result<bool, CaptureError>
+    ensures passes { PassesNext (blocks_of table.now) result file.old file.new (R.remaining input.old) (R.remaining input.new)
+        (W.contents output.old) (W.contents output.new) counts.old counts.new }
+    ensures ends { result ≡ Ok false → IsAtEnd (R.remaining input.new) }
+{
+    let mut first = [0u8; MIN_BLOCK_LEN];
+    let len = read_into(input, &mut first, file.offset)?;
+    if len == 0 {
+        return Ok(false);
+    }
+    translate_block(input, output, buffer, &first[..len], file, table, counts)?;
+    Ok(true)
+}
+
+/// Translates a block that begins with these bytes.
 fn translate_block<R: Read, W: Write>(
     input: &mut R,
     output: &mut W,
     buffer: &mut Buffer,
     first: &[u8],
-    section: &mut Section,
-    offset: u64,
+    file: &mut Blocks,
     table: &Table,
     counts: &mut Counts,
-) -> Result<usize, CaptureError>
-    requires first { length first.now ≤ 12 }
-    ensures passes { PassesUpTo table.now result (prepend_known first.now (R.remaining input.old)) (R.remaining input.new)
-        (W.contents output.old) (W.contents output.new) counts.old counts.new }
-    ensures cut { EndsAtCut result (R.remaining input.new) }
+) -> Result<(), CaptureError>
+    requires first { AreFirst first.now (R.remaining input.old) }
+    requires some { 1 ≤ length first.now }
+    ensures passes { (left : Option (List ℕ)) → Consumes left (R.remaining input.old) first.now → PassesNext (blocks_of table.now) result
+        file.old file.new left (R.remaining input.new) (W.contents output.old) (W.contents output.new) counts.old counts.new }
 {
-    let header = match BlockHeader::from_slice(section.byte_order, first) {
+    let header = match BlockHeader::from_slice(file.section.byte_order, first) {
         Ok(header) => header,
         Err(error) => {
             write(output, first)?;
-            return Err(refused(offset, PacketError::Block(error)));
+            return Err(refused(file.offset, PacketError::Block(error)));
         }
     };
-    let total_len = header.total_len as usize;
-    let kept_len = total_len.min(MAX_PACKET_LEN);
-    let kept = &mut buffer[..kept_len];
-    let len = read_after(input, kept, first, offset)?;
-    let result = translate_read(&header, kept, len, section, table, counts);
-    write(output, &kept[..len])?;
-    if let Err(error) = result {
-        return Err(refused(offset, error));
-    }
-    copy_rest(input, output, buffer, total_len, kept_len, offset)?;
-    Ok(total_len)
+    translate_headed(input, output, buffer, first, &header, file, table, counts)
 }
 
-/// Copies the bytes of a block for which the buffer has no room.
-fn copy_rest<R: Read, W: Write>(
+/// Translates a block with this header, which begins with these bytes.
+fn translate_headed<R: Read, W: Write>(
     input: &mut R,
     output: &mut W,
     buffer: &mut Buffer,
-    total_len: usize,
-    kept_len: usize,
-    offset: u64,
+    first: &[u8],
+    header: &BlockHeader,
+    file: &mut Blocks,
+    table: &Table,
+    counts: &mut Counts,
 ) -> Result<(), CaptureError>
-    requires kept { kept_len ≤ total_len }
-    ensures passes { (table : Table) (counts : Counts) → PassesUpTo table result (R.remaining input.old) (R.remaining input.new)
-        (W.contents output.old) (W.contents output.new) counts counts }
-    ensures cut { EndsAtCut result (R.remaining input.new) }
+    requires header { BeginsBlock file.old.section.byte_order first.now header.now }
+    ensures passes { (left : Option (List ℕ)) → Consumes left (R.remaining input.old) first.now → PassesNext (blocks_of table.now) result
+        file.old file.new left (R.remaining input.new) (W.contents output.old) (W.contents output.new) counts.old counts.new }
 {
-    let rest_len = total_len - kept_len;
-    let len = copy(input, output, buffer, rest_len, offset)?;
-    if len < rest_len {
-        return Err(refused(offset, cut_off(total_len, kept_len + len)));
+    let kept = &mut buffer[..kept_len(header)];
+    let len = read_after(input, first, kept, file.offset)?;
+    if len < kept.len() {
+        write(output, &kept[..len])?;
+        return Err(cut_off(file.offset, header, len));
     }
+    if let Err(error) = check(header, kept, file.section.byte_order) {
+        write(output, kept)?;
+        return Err(refused(file.offset, PacketError::Block(error)));
+    }
+    let translated = translate_kept(header, kept, &mut file.section, table);
+    write(output, kept)?;
+    match translated {
+        Ok(outcome) => counts.add_if(outcome),
+        Err(error) => return Err(refused(file.offset, error)),
+    }
+    copy_rest(input, output, buffer, header, file.offset)?;
+    file.offset = file.offset.saturating_add(u64::from(header.total_len));
     Ok(())
 }
 
-/// Translates the packet of a block, if it is a packet block, and all bytes for which there is room were read. `len` is the number of bytes
-/// that were read.
-fn translate_read(
-    header: &BlockHeader,
-    bytes: &mut [u8],
-    len: usize,
-    section: &mut Section,
-    table: &Table,
-    counts: &mut Counts,
-) -> Result<(), PacketError>
-    requires header { (12 ≤ header.now.total_len) × (header.now.total_len % 4 ≡ 0) }
-    requires bytes { (12 ≤ length bytes.old) × (length bytes.old ≤ header.now.total_len) }
-    requires len { len ≤ length bytes.old }
-    ensures part { CountsPart table.now (take len bytes.old) (take len bytes.new) counts.old counts.new }
-    ensures len { length bytes.new ≡ length bytes.old }
+/// The number of bytes of the block with this header for which the buffer has room.
+fn kept_len(header: &BlockHeader) -> usize
+    ensures { result ≡ min header.now.total_len max_packet_len }
 {
-    if len < bytes.len() {
-        return Err(cut_off(header.total_len as usize, len));
-    }
-    translate_kept(header, bytes, section, table, counts)
+    (header.total_len as usize).min(MAX_PACKET_LEN)
 }
 
-/// Translates the packet of a block, if it is a packet block. The bytes are the block, or its beginning if the buffer has no room for it.
+/// Checks the block in these bytes. The last total length of a block for which the buffer has no room is not checked.
+fn check(header: &BlockHeader, bytes: &[u8], order: ByteOrder) -> Result<(), BlockError>
+    ensures accepted { OnOk result (header.now.total_len ≤ max_packet_len → block_refusal order bytes.now ≡ None) }
+    ensures refused { IfErr result (λ error. (header.now.total_len ≤ max_packet_len) × (block_refusal order bytes.now ≡ Some error)) }
+{
+    if header.total_len as usize > MAX_PACKET_LEN {
+        return Ok(());
+    }
+    match Block::from_slice(order, bytes) {
+        Ok(_) => Ok(()),
+        Err(error) => Err(error),
+    }
+}
+
+/// Translates the packet of a block, if it is a packet block, and returns its outcome. The bytes are the block, or its beginning if the buffer
+/// has no room for it.
 fn translate_kept(
     header: &BlockHeader,
     bytes: &mut [u8],
     section: &mut Section,
     table: &Table,
-    counts: &mut Counts,
-) -> Result<(), PacketError>
-    requires header { (12 ≤ header.now.total_len) × (header.now.total_len % 4 ≡ 0) }
-    requires bytes { (12 ≤ length bytes.old) × (length bytes.old ≤ header.now.total_len) }
-    ensures part { CountsPart table.now bytes.old bytes.new counts.old counts.new }
+) -> Result<Option<Result<bool, Reason>>, PacketError>
+    requires header { 12 ≤ header.now.total_len }
+    requires bytes { length bytes.old ≡ min header.now.total_len max_packet_len }
+    ensures translates { TranslatesKept table.now section.old header.now bytes.old bytes.new section.new result }
     ensures len { length bytes.new ≡ length bytes.old }
 {
-    let is_whole = bytes.len() == header.total_len as usize;
-    if is_whole {
-        if let Err(error) = Block::from_slice(section.byte_order, bytes) {
-            return Err(PacketError::Block(error));
-        }
-    }
-    let end = bytes.len().min(header.total_len as usize - 4);
+    let total_len = header.total_len as usize;
+    let end = MAX_PACKET_LEN.min(total_len - 4);
     let block = Block {
         header: *header,
         body: &bytes[8..end],
     };
     match section.take(&block) {
-        Ok(Some(packet)) => {
-            counts.add(translate_captured(&packet, bytes, table));
-            Ok(())
-        }
-        Ok(None) => Ok(()),
+        Ok(Some(packet)) => Ok(Some(translate_captured(&packet, bytes, table))),
+        Ok(None) => Ok(None),
         // The captured bytes of a packet are not all in the buffer.
-        Err(PacketError::Body(BodyError::CutOff { .. })) if !is_whole => {
-            counts.add(Err(Reason::TooLong));
-            Ok(())
+        Err(PacketError::Body(BodyError::CutOff { .. })) if total_len > MAX_PACKET_LEN => {
+            Ok(Some(Err(Reason::TooLong)))
         }
         Err(error) => Err(error),
     }
@@ -187,20 +230,41 @@ fn translate_captured(
     bytes: &mut [u8],
     table: &Table,
 ) -> Result<bool, Reason>
-    requires within { packet.now.start + packet.now.captured_len ≤ length bytes.old }
-    ensures part { IsWritten table.now bytes.old bytes.new (Some result) }
+    requires within { IsWithin (length bytes.old) packet.now }
+    ensures translates { TranslatesWhere table.now packet.now (record { read = bytes.old; written = bytes.new; outcome = Some result }) }
     ensures len { length bytes.new ≡ length bytes.old }
 {
-    let Ok(link_type) = packet.link_type else {
-        return Err(Reason::LinkType);
-    };
     let frame = &mut bytes[packet.start..packet.start + packet.captured_len];
-    translate_frame(link_type, packet.byte_order, frame, table)
+    translate_captured_frame(packet.link_type, packet.byte_order, frame, table)
 }
 
-/// The error for a file that ends within a block.
-fn cut_off(required_len: usize, len: usize) -> PacketError {
-    PacketError::Block(BlockError::CutOff { required_len, len })
+/// Copies the bytes of a block for which the buffer has no room.
+fn copy_rest<R: Read, W: Write>(
+    input: &mut R,
+    output: &mut W,
+    buffer: &mut Buffer,
+    header: &BlockHeader,
+    offset: u64,
+) -> Result<(), CaptureError>
+    ensures copies { CopiesRest header.now.total_len offset result (R.remaining input.old) (R.remaining input.new)
+        (W.contents output.old) (W.contents output.new) }
+{
+    let kept_len = kept_len(header);
+    let rest_len = header.total_len as usize - kept_len;
+    let len = copy(input, output, buffer, rest_len, offset)?;
+    if len < rest_len {
+        return Err(cut_off(offset, header, kept_len + len));
+    }
+    Ok(())
+}
+
+/// The error for a file that ends after this number of bytes of the block with this header.
+fn cut_off(offset: u64, header: &BlockHeader, len: usize) -> CaptureError
+    ensures { result ≡ cut_at offset header.now.total_len len }
+{
+    let required_len = header.total_len as usize;
+    let error = BlockError::CutOff { required_len, len };
+    refused(offset, PacketError::Block(error))
 }
 
 /// The error for a block at this place in the file.

@@ -1,5 +1,6 @@
 ghost use Rattle.std.specs.Prelude.{◌≡◌};
 ghost use Rattle.translator.specs.Outcomes.{counted};
+ghost use Rattle.translator.specs.Passing.{counted_if};
 
 use crate::reason::Reason;
 use std::io;
@@ -35,6 +36,15 @@ impl Counts {
                 let place = reason as usize;
                 self.by_reason[place] = self.by_reason[place].saturating_add(1);
             }
+        }
+    }
+
+    /// Counts the packet with this outcome, if there is one.
+    pub fn add_if(&mut self, outcome: Option<Result<bool, Reason>>)
+        ensures { self.new ≡ counted_if self.old outcome }
+    {
+        if let Some(outcome) = outcome {
+            self.add(outcome);
         }
     }
 

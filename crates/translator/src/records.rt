@@ -1,9 +1,12 @@
 //! The records of a classic capture (draft-ietf-opsawg-pcap, section 5).
 
-ghost use Rattle.std.specs.Prelude.{◌≡◌, ◌<◌, ◌≤◌, ℕ, IfErr, IfOk, OnOk, None, Some, Ok, length, take};
-ghost use Rattle.std.specs.Io.KnownBytes.{IsAtEnd};
+ghost use Rattle.std.specs.Prelude.{◌≡◌, ◌<◌, ◌≤◌, ℕ, List, OnOk, Ok, Option, false, length};
+ghost use Rattle.std.specs.Io.KnownBytes.{Appends, Consumes, IsAtEnd};
+ghost use Rattle.capture_file.specs.Classic.{record_header};
+ghost use Rattle.capture_packet.specs.Frames.{max_packet_len};
 ghost use Rattle.translator.specs.declared.capture_error.CaptureError.TheVariants.{RecordCutOff};
-ghost use Rattle.translator.specs.Passing.{CountsFrame, CountsPacket, CountsPart, EndsAtCut, IsCut, PassesUpTo};
+ghost use Rattle.translator.specs.Passing.{PassesNext, PassesTo};
+ghost use Rattle.translator.specs.Records.{passed, records_of};
 
 use crate::capture_error::CaptureError;
 use crate::counts::Counts;
@@ -11,7 +14,8 @@ use crate::packet::translate_captured_frame;
 use crate::reason::Reason;
 use crate::table::Table;
 use crate::transfer::{Buffer, copy, read_into, write};
-use capture_file::classic::{CaptureHeader, RecordHeader};
+use capture_file::classic::RecordHeader;
+use capture_file::reader::ClassicReader;
 use capture_packet::MAX_PACKET_LEN;
 use std::io;
 use std::io::{ErrorKind, Read, Write};
@@ -21,71 +25,54 @@ pub(crate) fn translate_records<R: Read, W: Write>(
     input: &mut R,
     output: &mut W,
     buffer: &mut Buffer,
-    capture: &CaptureHeader,
+    records: &mut ClassicReader,
     table: &Table,
     counts: &mut Counts,
 ) -> Result<(), CaptureError>
-    ensures passes { PassesUpTo table.now result (R.remaining input.old) (R.remaining input.new) (W.contents output.old) (W.contents output.new)
-        counts.old counts.new }
+    ensures passes { PassesTo (records_of table.now) result records.old records.new (R.remaining input.old) (R.remaining input.new)
+        (W.contents output.old) (W.contents output.new) counts.old counts.new }
     ensures ends { OnOk result (IsAtEnd (R.remaining input.new)) }
-    ensures cut { EndsAtCut result (R.remaining input.new) }
 {
-    let mut offset = CaptureHeader::LEN as u64;
     for _record in 0..u64::MAX {
-        match translate_record(input, output, buffer, capture, offset, table, counts)? {
-            Some(len) => offset = offset.saturating_add(len as u64),
-            None => return Ok(()),
+        let is_record = translate_record(input, output, buffer, records, table, counts)?;
+        if !is_record {
+            return Ok(());
         }
     }
     let error = io::Error::from(ErrorKind::FileTooLarge);
-    Err(CaptureError::Read { offset, error })
+    Err(CaptureError::Read {
+        offset: records.offset,
+        error,
+    })
 }
 
-/// Translates the next record, which begins at this place in the file, and returns its length. `None` at the end of the capture.
+/// Translates the next record. Returns whether there is a record.
 fn translate_record<R: Read, W: Write>(
     input: &mut R,
     output: &mut W,
     buffer: &mut Buffer,
-    capture: &CaptureHeader,
-    offset: u64,
+    records: &mut ClassicReader,
     table: &Table,
     counts: &mut Counts,
-) -> Result<Option<usize>, CaptureError>
-    ensures passes { PassesUpTo table.now result (R.remaining input.old) (R.remaining input.new) (W.contents output.old) (W.contents output.new)
-        counts.old counts.new }
-    ensures counted { (len : ℕ) → result ≡ Ok (Some len) → CountsPacket counts.old counts.new }
-    ensures ends { result ≡ Ok None → IsAtEnd (R.remaining input.new) }
-    ensures cut { EndsAtCut result (R.remaining input.new) }
+) -> Result<bool, CaptureError>
+    ensures passes { PassesNext (records_of table.now) result records.old records.new (R.remaining input.old) (R.remaining input.new)
+        (W.contents output.old) (W.contents output.new) counts.old counts.new }
+    ensures ends { result ≡ Ok false → IsAtEnd (R.remaining input.new) }
 {
     let mut first = [0u8; RecordHeader::LEN];
-    let len = read_into(input, &mut first, offset)?;
-    write(output, &first[..len])?;
+    let len = read_into(input, &mut first, records.offset)?;
     if len == 0 {
-        return Ok(None);
+        return Ok(false);
     }
+    write(output, &first[..len])?;
     if len < RecordHeader::LEN {
-        return Err(cut_off(offset, RecordHeader::LEN, len));
+        return Err(cut_off(records.offset, RecordHeader::LEN, len));
     }
-    let record = RecordHeader::from_bytes(capture.byte_order, &first);
-    let captured_len = record.captured_len as usize;
-    let required_len = RecordHeader::LEN + captured_len;
-    let len = translate_captured(
-        input,
-        output,
-        buffer,
-        capture,
-        captured_len,
-        offset,
-        table,
-        counts,
-    )?;
-    if len < captured_len {
-        return Err(cut_off(offset, required_len, RecordHeader::LEN + len));
-    }
-    Ok(Some(required_len))
+    translate_headed(input, output, buffer, records, &first, table, counts)?;
+    Ok(true)
 }
 
-/// The error for a capture that ends within a record.
+/// The error for a capture that ends within the record at this place.
 fn cut_off(offset: u64, required_len: usize, len: usize) -> CaptureError
     ensures { result ≡ RecordCutOff offset required_len len }
 {
@@ -96,52 +83,92 @@ fn cut_off(offset: u64, required_len: usize, len: usize) -> CaptureError
     }
 }
 
-/// Translates the captured bytes of a record, and returns the number of these bytes that are present. If they are not all present, or the
-/// buffer has no room for them, they are written as they were read.
-fn translate_captured<R: Read, W: Write>(
+/// Translates a record after its header, which was read and written.
+fn translate_headed<R: Read, W: Write>(
     input: &mut R,
     output: &mut W,
     buffer: &mut Buffer,
-    capture: &CaptureHeader,
-    captured_len: usize,
-    offset: u64,
+    records: &mut ClassicReader,
+    first: &[u8; RecordHeader::LEN],
     table: &Table,
     counts: &mut Counts,
-) -> Result<usize, CaptureError>
-    ensures passes { PassesUpTo table.now result (R.remaining input.old) (R.remaining input.new) (W.contents output.old) (W.contents output.new)
+) -> Result<(), CaptureError>
+    ensures passes { (left held : Option (List ℕ)) → Consumes left (R.remaining input.old) first.now → Appends held (W.contents output.old) first.now
+        → PassesNext (records_of table.now) result records.old records.new left (R.remaining input.new) held (W.contents output.new)
         counts.old counts.new }
-    ensures counted { result ≡ Ok captured_len → CountsPacket counts.old counts.new }
-    ensures within { IfOk result (λ len. len ≤ captured_len) }
-    ensures end { IfOk result (λ len. len < captured_len → IsAtEnd (R.remaining input.new)) }
-    ensures failed { IfErr result (λ error. IsCut error → ⊥) }
 {
-    if captured_len > MAX_PACKET_LEN {
-        counts.add(Err(Reason::TooLong));
-        return copy(input, output, buffer, captured_len, offset);
+    let header = RecordHeader::from_bytes(records.header.byte_order, first);
+    if header.captured_len as usize > MAX_PACKET_LEN {
+        copy_long(input, output, buffer, records, &header, table, counts)
+    } else {
+        translate_kept(input, output, buffer, records, &header, table, counts)
     }
-    let frame = &mut buffer[..captured_len];
-    let len = read_into(input, frame, offset)?;
-    translate_read(capture, frame, len, table, counts);
-    write(output, &frame[..len])?;
-    Ok(len)
 }
 
-/// Translates the packet in a frame, and counts it, if all bytes of the frame were read.
-fn translate_read(
-    capture: &CaptureHeader,
-    frame: &mut [u8],
-    len: usize,
+/// Copies the captured bytes of a record, for which the buffer has no room.
+fn copy_long<R: Read, W: Write>(
+    input: &mut R,
+    output: &mut W,
+    buffer: &mut Buffer,
+    records: &mut ClassicReader,
+    header: &RecordHeader,
     table: &Table,
     counts: &mut Counts,
-)
-    requires within { len ≤ length frame.old }
-    ensures part { CountsPart table.now (take len frame.old) (take len frame.new) counts.old counts.new }
-    ensures frame { len ≡ length frame.old →
-        CountsFrame table.now capture.now.link_type capture.now.byte_order frame.old frame.new counts.old counts.new }
-    ensures len { length frame.new ≡ length frame.old }
+) -> Result<(), CaptureError>
+    requires room { max_packet_len < header.now.captured_len }
+    ensures passes { (first : List ℕ) (left held : Option (List ℕ)) → length first ≡ 16
+        → header.now ≡ record_header records.old.header.byte_order first → Consumes left (R.remaining input.old) first
+        → Appends held (W.contents output.old) first
+        → PassesNext (records_of table.now) result records.old records.new left (R.remaining input.new) held (W.contents output.new)
+        counts.old counts.new }
 {
-    if len == frame.len() {
-        let (link_type, order) = (capture.link_type, capture.byte_order);
-        counts.add(translate_captured_frame(link_type, order, frame, table));
+    let captured_len = header.captured_len as usize;
+    let len = copy(input, output, buffer, captured_len, records.offset)?;
+    if len < captured_len {
+        let required_len = RecordHeader::LEN + captured_len;
+        return Err(cut_off(records.offset, required_len, RecordHeader::LEN + len));
     }
+    counts.add(Err(Reason::TooLong));
+    pass(records, header);
+    Ok(())
+}
+
+/// Translates the captured bytes of a record. If they are not all present, they are written as they were read.
+fn translate_kept<R: Read, W: Write>(
+    input: &mut R,
+    output: &mut W,
+    buffer: &mut Buffer,
+    records: &mut ClassicReader,
+    header: &RecordHeader,
+    table: &Table,
+    counts: &mut Counts,
+) -> Result<(), CaptureError>
+    requires room { header.now.captured_len ≤ max_packet_len }
+    ensures passes { (first : List ℕ) (left held : Option (List ℕ)) → length first ≡ 16
+        → header.now ≡ record_header records.old.header.byte_order first → Consumes left (R.remaining input.old) first
+        → Appends held (W.contents output.old) first
+        → PassesNext (records_of table.now) result records.old records.new left (R.remaining input.new) held (W.contents output.new)
+        counts.old counts.new }
+{
+    let frame = &mut buffer[..header.captured_len as usize];
+    let len = read_into(input, frame, records.offset)?;
+    if len < frame.len() {
+        write(output, &frame[..len])?;
+        let required_len = RecordHeader::LEN + frame.len();
+        return Err(cut_off(records.offset, required_len, RecordHeader::LEN + len));
+    }
+    let (link_type, order) = (records.header.link_type, records.header.byte_order);
+    let outcome = translate_captured_frame(link_type, order, frame, table);
+    write(output, frame)?;
+    counts.add(outcome);
+    pass(records, header);
+    Ok(())
+}
+
+/// Goes on to the place after a record with this header.
+fn pass(records: &mut ClassicReader, header: &RecordHeader)
+    ensures { records.new ≡ passed records.old header.now }
+{
+    let len = RecordHeader::LEN as u64 + u64::from(header.captured_len);
+    records.offset = records.offset.saturating_add(len);
 }

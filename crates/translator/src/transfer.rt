@@ -1,13 +1,14 @@
 //! Reading and writing, with the errors of the program.
 
-ghost use Rattle.std.specs.Prelude.{◌≡◌, ◌<◌, ◌≤◌, IfErr, IfOk, OnOk, length, take};
-ghost use Rattle.std.specs.Io.KnownBytes.{Appends, Consumes, IsAtEnd, prepend_known};
-ghost use Rattle.translator.specs.Passing.{CopiesUpTo, IsCut, IsReadError, IsWriteError};
+ghost use Rattle.std.specs.Prelude.{◌≡◌, ◌<◌, ◌≤◌, IfErr, IfOk, IfSome, OnOk, length, take};
+ghost use Rattle.std.specs.Io.KnownBytes.{Appends, Consumes, IsAtEnd};
+ghost use Rattle.streams.specs.Streams.{FillsAfter};
+ghost use Rattle.translator.specs.Passing.{CopiesUpTo, IsReadError, IsWriteError};
 
 use crate::capture_error::CaptureError;
 use capture_packet::MAX_PACKET_LEN;
 use std::io::{Read, Write};
-use streams::fill;
+use streams::{fill, fill_after};
 
 /// Room for a block of a pcapng file, and for the packet of a record.
 pub(crate) type Buffer = [u8; MAX_PACKET_LEN];
@@ -21,8 +22,9 @@ pub(crate) fn read_into<R: Read>(
 ) -> Result<usize, CaptureError>
     ensures len { IfOk result (λ len. len ≤ length buffer.new) }
     ensures consumed { IfOk result (λ len. Consumes (R.remaining input.old) (R.remaining input.new) (take len buffer.new)) }
+    ensures bytes { IfOk result (λ len. IfSome (R.remaining input.old) (λ all. take len buffer.new ≡ take (length buffer.old) all)) }
     ensures end { IfOk result (λ len. len < length buffer.new → IsAtEnd (R.remaining input.new)) }
-    ensures failed { IfErr result IsReadError }
+    ensures failed { IfErr result (IsReadError offset) }
 {
     match fill(input, buffer) {
         Ok(len) => Ok(len),
@@ -30,25 +32,22 @@ pub(crate) fn read_into<R: Read>(
     }
 }
 
-/// Reads into a buffer after the bytes that were read before, and returns the number of bytes in the buffer: those and the bytes read.
+/// Copies the first bytes to the front of a buffer, and reads into the buffer after them. Returns the number of bytes present.
 pub(crate) fn read_after<R: Read>(
     input: &mut R,
+    first: &[u8],
     buffer: &mut [u8],
-    before: &[u8],
     offset: u64,
 ) -> Result<usize, CaptureError>
-    requires room { length before.now ≤ length buffer.old }
-    ensures len { IfOk result (λ len. (length before.now ≤ len) × (len ≤ length buffer.new)) }
-    ensures consumed { IfOk result (λ len.
-        Consumes (prepend_known before.now (R.remaining input.old)) (R.remaining input.new) (take len buffer.new)) }
-    ensures end { IfOk result (λ len. len < length buffer.new → IsAtEnd (R.remaining input.new)) }
-    ensures failed { IfErr result IsReadError }
-    ensures buffer { length buffer.new ≡ length buffer.old }
+    requires room { length first.now ≤ length buffer.old }
+    ensures fills { IfOk result (FillsAfter first.now (R.remaining input.old) (R.remaining input.new) buffer.new) }
+    ensures within { IfOk result (λ len. len ≤ length buffer.new) }
+    ensures failed { IfErr result (IsReadError offset) }
 {
-    let place = before.len();
-    buffer[..place].copy_from_slice(before);
-    let len = read_into(input, &mut buffer[place..], offset)?;
-    Ok(place + len)
+    match fill_after(input, first, buffer) {
+        Ok(len) => Ok(len),
+        Err(error) => Err(CaptureError::Read { offset, error }),
+    }
 }
 
 /// Writes these bytes.
@@ -70,10 +69,9 @@ pub(crate) fn copy<R: Read, W: Write>(
     count: usize,
     offset: u64,
 ) -> Result<usize, CaptureError>
-    ensures copies { CopiesUpTo result (R.remaining input.old) (R.remaining input.new) (W.contents output.old) (W.contents output.new) }
+    ensures copies { CopiesUpTo offset count result (R.remaining input.old) (R.remaining input.new) (W.contents output.old) (W.contents output.new) }
     ensures within { IfOk result (λ len. len ≤ count) }
     ensures end { IfOk result (λ len. len < count → IsAtEnd (R.remaining input.new)) }
-    ensures failed { IfErr result (λ error. IsCut error → ⊥) }
 {
     let mut copied = 0;
     while copied < count {

@@ -1,26 +1,16 @@
-use Rattle.std.proofs.Common.{rules}
-use Rattle.translator.proofs.PassingLemmas.{passes_after_error, passes_after_read_error, passes_nothing, passes_on, passes_same, passes_to_record_error}
+use Rattle.std.proofs.Common.{[], arith, inl, refl, rules, take}
+use Rattle.std.proofs.KnownBytes.{Appends-nil, Consumes-nil}
+use Rattle.translator.proofs.RecordLemmas.{cut_header, ends_cut, next_front}
 use Rattle.translator.proofs.records.translate_record.Goals as goal
 
 pub returns-in_err-len-clause-passes : goal.returns-in_err-len-clause-passes
 returns-in_err-len-clause-passes g c =
-    passes_after_read_error _ _ _ _ _ _ _ _ _ _ c.in_err-len.ensures.failed (passes_nothing _ _ _ _) (search rules)
+    next_front _ _ _ _ _ _ _ _ _ _ _ [] c.in_err-len.ensures.failed (Consumes-nil _) (Appends-nil _) (inl (omega arith)) (search rules)
 
 pub returns-then-len-lt-LEN-clause-passes : goal.returns-then-len-lt-LEN-clause-passes
 returns-then-len-lt-LEN-clause-passes g c =
-    passes_to_record_error _ _ _ _ _ _ _ _ _ _ _ c.cut_off.ensures (passes_same _ _ _ _ _ _ _ c.in_ok-len.ensures.consumed c.in_ok-write.ensures.appends)
-
-pub returns-in_err-len-2-clause-passes : goal.returns-in_err-len-2-clause-passes
-returns-in_err-len-2-clause-passes g c =
-    passes_after_error _ _ _ _ _ _ _ _ _ _ _ _ (passes_same _ _ _ _ _ _ _ c.in_ok-len.ensures.consumed c.in_ok-write.ensures.appends)
-    c.in_err-len-2.ensures.passes (search rules)
-
-pub returns-then-len-captured_len-clause-passes : goal.returns-then-len-captured_len-clause-passes
-returns-then-len-captured_len-clause-passes g c =
-    passes_to_record_error _ _ _ _ _ _ _ _ _ _ _ c.cut_off-then-len-captured_len.ensures
-    (passes_on _ _ _ _ _ _ _ _ _ _ (passes_same _ _ _ _ _ _ _ c.in_ok-len.ensures.consumed c.in_ok-write.ensures.appends)
-    c.in_ok-len-2.ensures.passes)
-
-pub returns-clause-passes : goal.returns-clause-passes
-returns-clause-passes g c =
-    passes_on _ _ _ _ _ _ _ _ _ _ (passes_same _ _ _ _ _ _ _ c.in_ok-len.ensures.consumed c.in_ok-write.ensures.appends) c.in_ok-len-2.ensures.passes
+    let first = c.read_into.new.buffer in
+    let len = c.in_ok-len.len in
+    ends_cut _ _ _ _ _ _ _ _ (take len first) _ _ c.cut_off.ensures c.in_ok-len.ensures.consumed c.in_ok-write.ensures.appends
+    (cut_header c.args.records.now.header first len (search rules) (λ none. search rules) (omega (arith, c.if-len-lt-LEN.true)))
+    (c.in_ok-len.ensures.end (search rules))

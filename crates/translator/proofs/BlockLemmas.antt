@@ -1,0 +1,478 @@
+-- The blocks of a pcapng file as parts.
+use Rattle.std.proofs.Common.{◌≡◌, ◌≢◌, ◌≤◌, ◌<◌, ◌+◌, ◌-◌, ◌++◌, ◌∙◌, ◌⊎◌, ℕ, Bool, List, Option, Result, Some, None, Ok, Err, [], ap, append_assoc, append-nil, arith, drop, inl, inr, length, length-append, min, refl, slice_range, subst, sym, take, ⊎_elim}
+use Rattle.std.proofs.KnownBytes.{Appends-trans, Consumes-trans, Appends-nil, Consumes-nil}
+use Rattle.std.proofs.lemmas.Bool.{cases_lt}
+use Rattle.std.proofs.lemmas.Bool.Decides.{nat_tests}
+use Rattle.std.proofs.lemmas.List.{drop-append-le, nil_from_length, take-append-le, take_at}
+use Rattle.std.specs.Io.KnownBytes.{Appends, Consumes, IsAtEnd}
+use Rattle.capture_file.proofs.PcapngLemmas.{block_header_front, block_len_front, is_short_section_front, lacks_magic_front}
+use Rattle.capture_file.proofs.PcapngReadingLemmas.{cut_off_after, cut_off_short, whole_block}
+use Rattle.capture_file.proofs.RecordLemmas.{be_number_front}
+use Rattle.capture_file.specs.Pcapng.{IsBlock, block_header, block_header_refusal, block_len, block_refusal}
+use Rattle.capture_file.specs.PcapngReading.{AreFirst, IsNextBlock, ReadsAfter}
+use Rattle.capture_file.specs.PcapngSteps.{offset_after}
+use Rattle.capture_file.specs.Sections.{TakesBlock, TakesBody, TakesUnless}
+use Rattle.capture_texts.specs.declared.byte_order.ByteOrder.{ByteOrder}
+use Rattle.capture_file.specs.declared.pcapng.block.BlockHeader.{BlockHeader}
+use Rattle.capture_file.specs.declared.pcapng.block_body.BlockBody.{BlockBody}
+use Rattle.capture_file.specs.declared.pcapng.block_body.BlockBody.TheVariants as bodies
+use Rattle.capture_file.specs.declared.pcapng.errors.BlockError.{BlockError}
+use Rattle.capture_file.specs.declared.pcapng.errors.BlockError.TheVariants.{CutOff, LastLength, Magic, SectionLength, TotalLength}
+use Rattle.capture_file.specs.declared.pcapng.errors.BodyError.{BodyError}
+use Rattle.capture_file.specs.declared.pcapng.read.NextBlock.{NextBlock}
+use Rattle.capture_file.specs.declared.pcapng.read.NextBlock.TheVariants.{Refused}
+use Rattle.capture_file.specs.declared.reader.captured_packet.CapturedPacket.{CapturedPacket}
+use Rattle.capture_file.specs.declared.reader.packet_error.PacketError.{PacketError}
+use Rattle.capture_file.specs.declared.reader.packet_error.PacketError.TheVariants as errors
+use Rattle.capture_file.specs.declared.reader.pcapng_reader.Section.{Section}
+use Rattle.capture_packet.specs.Frames.{max_packet_len}
+use Rattle.translator.proofs.PacketLemmas.{range_within}
+use Rattle.translator.proofs.PassingLemmas.{leaves_at_read, next_to_end, next_to_read_error, next_to_write_error}
+use Rattle.translator.proofs.RecordLemmas.{copied}
+use Rattle.translator.specs.Blocks.{CopiesRest, HasTaken, IsBeyond, IsBlockEnd, IsBlockPart, IsFilled, IsKept, IsLongFront, IsNoBlock, IsRefusedBlock, IsRejected, IsRestEnd, IsWholeBlock, StopsRest, TakesKept, TranslatesBlock, TranslatesKept, TranslatesWhere, blocks_of, cut_at, kept_body}
+use Rattle.translator.specs.Packets.{TranslatesCaptured}
+use Rattle.translator.specs.Passing.{Copies, CopiesFront, IfBlockCutOff, IsReadError, IsWriteError, LeavesAt, Part, PassesNext, StopsBy, counted_if}
+use Rattle.translator.specs.declared.blocks.Blocks.{Blocks}
+use Rattle.translator.specs.declared.capture_error.CaptureError.{CaptureError}
+use Rattle.translator.specs.declared.capture_error.CaptureError.TheVariants as capture_errors
+use Rattle.translator.specs.declared.counts.Counts.{Counts}
+use Rattle.translator.specs.declared.reason.Reason.{Reason}
+use Rattle.translator.specs.declared.table.Table.{Table}
+
+-- ---- first bytes of a block
+
+-- the error of the header in the first bytes is the error of the header in all bytes
+header_refusal_front : (section : ByteOrder) (first more : List ℕ) → 12 ≤ length first
+    → block_header_refusal section (first ++ more) ≡ block_header_refusal section first
+header_refusal_front section first more within =
+    grind (
+      arith,
+      nat_tests,
+      lacks_magic_front first more within,
+      be_number_front 4 first more 8 (omega (arith, within)),
+      block_len_front section first more within,
+      is_short_section_front section first more within,
+      length-append first more,
+    )
+
+-- the header in the first bytes is the header of these bytes
+header_read : (section : ByteOrder) (first bytes read : List ℕ) (header : BlockHeader) → read ≡ first ++ bytes → 12 ≤ length first
+    → header ≡ block_header section first → header ≡ block_header section read
+header_read section first bytes read header splits within is =
+    is ∙ sym (block_header_front section first bytes within) ∙ ap (block_header section) (sym splits)
+
+accepted_read : (section : ByteOrder) (first bytes read : List ℕ) → read ≡ first ++ bytes → 12 ≤ length first
+    → block_header_refusal section first ≡ None → block_header_refusal section read ≡ None
+accepted_read section first bytes read splits within accepted =
+    ap (block_header_refusal section) splits ∙ header_refusal_front section first bytes within ∙ accepted
+
+-- a range of the first bytes
+range_front : (a b : ℕ) (first more : List ℕ) → a ≤ b → b ≤ length first → slice_range (first ++ more) a b ≡ slice_range first a b
+range_front a b first more order within =
+    sym (range_within a b (length first) (first ++ more) order within) ∙ ap (λ bytes. slice_range bytes a b) (take_at first more (length first) refl)
+
+body_front : (header : BlockHeader) (read more : List ℕ) → 12 ≤ header.total_len → length read ≡ min header.total_len max_packet_len
+    → kept_body header (read ++ more) ≡ kept_body header read
+body_front header read more least kept = range_front 8 _ read more (omega (arith, least)) (omega (arith, kept, least))
+
+-- ---- the packet in a block
+
+-- a translation within first bytes, and the bytes after them
+abbrev grown : Part → List ℕ → Part
+grown part more = record { read = part.read ++ more; written = part.written ++ more; outcome = part.outcome }
+
+written_grown : (start end : ℕ) (read after more : List ℕ) → start ≤ length read → end ≤ length read
+    → (take start read ++ (after ++ drop end read)) ++ more ≡ take start (read ++ more) ++ (after ++ drop end (read ++ more))
+written_grown start end read after more start_within end_within =
+    append_assoc (take start read) (after ++ drop end read) more
+    ∙ ap (λ bytes. take start read ++ bytes) (append_assoc after (drop end read) more)
+    ∙ ap (λ bytes. bytes ++ (after ++ (drop end read ++ more))) (sym (take-append-le start read more start_within))
+    ∙ ap (λ bytes. take start (read ++ more) ++ (after ++ bytes)) (sym (drop-append-le end read more end_within))
+
+where_grown : (table : Table) (packet : CapturedPacket) (part : Part) (more : List ℕ) → TranslatesWhere table packet part
+    → TranslatesWhere table packet (grown part more)
+where_grown table packet part more translates = record {
+  within = omega (arith, translates.within, length-append part.read more);
+  after = translates.after;
+  result = translates.result;
+  translates = subst (λ frame. TranslatesCaptured table packet.link_type packet.byte_order frame translates.after translates.result)
+      (sym (range_front packet.start (packet.start + packet.captured_len) part.read more (omega arith) translates.within)) translates.translates;
+  is_written = ap (λ bytes. bytes ++ more) translates.is_written
+      ∙ written_grown packet.start (packet.start + packet.captured_len) part.read translates.after more (omega (arith, translates.within)) translates.within;
+  outcome = translates.outcome;
+}
+
+taken_grown : (table : Table) (total_len : ℕ) (taken : Result (Option CapturedPacket) PacketError) (part : Part) (more : List ℕ)
+    → HasTaken table total_len taken part → HasTaken table total_len taken (grown part more)
+taken_grown table total_len (Ok None) part more has = (ap (λ bytes. bytes ++ more) has.0, has.1)
+taken_grown table total_len (Ok (Some packet)) part more has = where_grown table packet part more has
+taken_grown table total_len (Err error) part more has = (has.0, (ap (λ bytes. bytes ++ more) has.1.0, has.1.1))
+
+takes_grown : (before after : Section) (header : BlockHeader) (read more : List ℕ) (taken : Result (Option CapturedPacket) PacketError)
+    → 12 ≤ length read → header ≡ block_header before.byte_order read → 12 ≤ header.total_len → length read ≡ min header.total_len max_packet_len
+    → TakesBlock before header (kept_body header read) after taken → TakesKept before (read ++ more) after taken
+takes_grown before after header read more taken within is least kept takes =
+    subst (λ given. TakesBlock before given (kept_body given (read ++ more)) after taken) (is ∙ sym (block_header_front before.byte_order read more within))
+    (subst (λ body. TakesBlock before header body after taken) (sym (body_front header read more least kept)) takes)
+
+-- the packet in a block, whose first bytes are `read`, was translated
+pub block_translated : (table : Table) (before after : Section) (header : BlockHeader) (read written more : List ℕ) (outcome : Option (Result Bool Reason))
+    → 12 ≤ length read → header ≡ block_header before.byte_order read → 12 ≤ header.total_len → length read ≡ min header.total_len max_packet_len
+    → TranslatesKept table before header read written after (Ok outcome)
+    → TranslatesBlock table before (record { read = read ++ more; written = written ++ more; outcome = outcome }) after
+block_translated table before after header read written more outcome within is least kept translates = record {
+  taken = translates.0;
+  takes = takes_grown before after header read more translates.0 within is least kept translates.1;
+  has_outcome = subst (λ total_len. HasTaken table total_len translates.0 (record { read = read ++ more; written = written ++ more; outcome = outcome }))
+      (ap (λ given. given.total_len) (is ∙ sym (block_header_front before.byte_order read more within)))
+      (taken_grown table header.total_len translates.0 (record { read = read; written = written; outcome = outcome }) more translates.2);
+}
+
+-- ---- whole blocks
+
+is_long : (section : ByteOrder) (read more : List ℕ) (header : BlockHeader) → 12 ≤ length read → header ≡ block_header section read
+    → max_packet_len < header.total_len → max_packet_len < block_len section (read ++ more)
+is_long section read more header within is long =
+    omega (arith, long, ap (λ given. given.total_len) is, block_len_front section read more within)
+
+-- the whole block, from its first bytes and the rest
+pub is_whole : (section : ByteOrder) (header : BlockHeader) (read more : List ℕ) → 12 ≤ length read → header ≡ block_header section read
+    → block_header_refusal section read ≡ None → length read ≡ min header.total_len max_packet_len → length more ≡ header.total_len - max_packet_len
+    → (header.total_len ≤ max_packet_len → block_refusal section read ≡ None) → IsWholeBlock section (read ++ more)
+is_whole section header read more within is accepted kept rest whole =
+    let total = ap (λ given. given.total_len) is in
+    ⊎_elim
+    (λ long. inr (
+      (header_refusal_front section read more within ∙ accepted, is_long section read more header within is long),
+      omega (arith, long, kept, rest, total, block_len_front section read more within, length-append read more),
+    ))
+    (λ short.
+    let none : more ≡ [] = nil_from_length more (omega (arith, rest, short)) in
+    let empty : length (read ++ []) ≤ block_len section read = omega (arith, short, kept, total, ap length (append-nil read)) in
+    subst (λ bytes. IsWholeBlock section (read ++ bytes)) (sym none)
+    (inl (
+      (whole_block section read [] within empty (ap (block_refusal section) (append-nil read) ∙ whole short)).0,
+      omega (arith, short, kept, ap length (append-nil read)),
+    )))
+    (cases_lt max_packet_len header.total_len)
+
+-- ---- ends within a block
+
+-- bytes that are all that is left, read to the end
+alone : (rest : List ℕ) → Consumes (Some rest) (Some []) rest
+alone rest = sym (append-nil rest)
+
+-- the next item according to first bytes and all bytes after them
+next_of : (section : ByteOrder) (first rest buffer : List ℕ) (next : NextBlock) → ReadsAfter section first (Some rest) (Some []) buffer next
+    → IsNextBlock section (first ++ rest) buffer next
+next_of section first rest buffer next reads =
+    let same : reads.bytes ≡ rest = sym (reads.consumed ∙ append-nil reads.bytes) in
+    subst (λ bytes. IsNextBlock section (first ++ bytes) buffer next) same reads.is_next
+
+-- these first bytes of a block are cut off
+cut_next : (section : ByteOrder) (first rest : List ℕ) (header : BlockHeader) (len : ℕ) → 12 ≤ length first
+    → block_header_refusal section first ≡ None → header ≡ block_header section first → len ≡ length (first ++ rest) → len < header.total_len
+    → IsNextBlock section (first ++ rest) [] (Refused (CutOff header.total_len len))
+cut_next section first rest header len within accepted is has_len short =
+    next_of section first rest [] (Refused (CutOff header.total_len len))
+    (cut_off_after section first rest (Some rest) (Some []) [] header len within accepted is (alone rest) has_len short refl)
+
+-- the statement of a block that is cut off holds
+cut_statement : (error : BlockError) (Statement : Type 0) → ((required len : ℕ) → error ≡ CutOff required len → Statement)
+    → IfBlockCutOff (errors.Block error) Statement
+cut_statement (CutOff required len) Statement holds = holds required len refl
+cut_statement (Magic magic) Statement holds = tt
+cut_statement (TotalLength total_len) Statement holds = tt
+cut_statement (SectionLength total_len) Statement holds = tt
+cut_statement (LastLength total_len last_len) Statement holds = tt
+
+-- the bytes at the place of a block are no block, and were copied
+pub ends_refused : (table : Table) (result : CaptureError) (state : Blocks) (left still_left held now_held : Option (List ℕ)) (counts : Counts)
+    (bytes : List ℕ) (error : BlockError)
+    → result ≡ capture_errors.Block (record { offset = state.offset; error = errors.Block error }) → Consumes left still_left bytes
+    → Appends held now_held bytes → (bytes ≢ []) → block_refusal state.section.byte_order bytes ≡ Some error
+    → (IsFilled state.section.byte_order bytes → ⊥) → ((required len : ℕ) → error ≡ CutOff required len → IsAtEnd still_left)
+    → IsWriteError result ⊎ StopsBy (blocks_of table) result state left still_left held now_held counts counts
+ends_refused table result state left still_left held now_held counts bytes error is consumed appended some refused not_filled at_end =
+    subst (λ given. IsWriteError given ⊎ StopsBy (blocks_of table) given state left still_left held now_held counts counts) (sym is)
+    (inr (record {
+      then_left = still_left;
+      front = copied bytes;
+      is_end = (refl, inl (record { reason = error; is_error = refl; some = some; refused = refused; front = inl (not_filled, (refl, refl)) }));
+      consumed = consumed;
+      appended = appended;
+      counted = refl;
+      leaves = (refl, cut_statement error (IsAtEnd still_left) at_end);
+    }))
+
+-- the header of a block is rejected
+pub ends_header : (table : Table) (result : CaptureError) (state : Blocks) (left still_left held now_held : Option (List ℕ)) (counts : Counts)
+    (first : List ℕ) (error : BlockError)
+    → result ≡ capture_errors.Block (record { offset = state.offset; error = errors.Block error }) → Consumes left still_left first
+    → Appends held now_held first → AreFirst first still_left → 1 ≤ length first
+    → block_header_refusal state.section.byte_order first ≡ Some error
+    → IsWriteError result ⊎ StopsBy (blocks_of table) result state left still_left held now_held counts counts
+ends_header table result state left still_left held now_held counts first error is consumed appended are some refused =
+    ends_refused table result state left still_left held now_held counts first error is consumed appended
+    (λ none. omega (arith, ap length none, some)) (grind (arith, nat_tests)) (λ filled. omega (arith, filled.1, are.0))
+    (λ required len cut. are.1 (grind (arith, nat_tests)))
+
+-- the file ends within the bytes of a block for which the buffer has room
+pub ends_cut : (table : Table) (result : CaptureError) (state : Blocks) (left still_left held now_held : Option (List ℕ)) (counts : Counts)
+    (first rest : List ℕ) (header : BlockHeader) (len : ℕ)
+    → result ≡ cut_at state.offset header.total_len len → Consumes left still_left (first ++ rest) → Appends held now_held (first ++ rest)
+    → 12 ≤ length first → block_header_refusal state.section.byte_order first ≡ None → header ≡ block_header state.section.byte_order first
+    → len ≡ length (first ++ rest) → len < min header.total_len max_packet_len → IsAtEnd still_left
+    → IsWriteError result ⊎ StopsBy (blocks_of table) result state left still_left held now_held counts counts
+ends_cut table result state left still_left held now_held counts first rest header len is consumed appended within accepted is_header has_len short at_end =
+    let next = cut_next state.section.byte_order first rest header len within accepted is_header has_len (omega (arith, short)) in
+    ends_refused table result state left still_left held now_held counts (first ++ rest) (CutOff header.total_len len) is consumed appended
+    next.0 next.1 (λ filled. omega (arith, filled.1, has_len, short)) (λ required cut_len cut. at_end)
+
+-- a whole block is rejected by its last total length
+pub ends_differs : (table : Table) (result : CaptureError) (state : Blocks) (left still_left held now_held : Option (List ℕ)) (counts : Counts)
+    (first rest : List ℕ) (header : BlockHeader) (error : BlockError)
+    → result ≡ capture_errors.Block (record { offset = state.offset; error = errors.Block error }) → Consumes left still_left (first ++ rest)
+    → Appends held now_held (first ++ rest) → 12 ≤ length first → block_header_refusal state.section.byte_order first ≡ None
+    → header ≡ block_header state.section.byte_order first → header.total_len ≤ max_packet_len → length (first ++ rest) ≡ header.total_len
+    → block_refusal state.section.byte_order (first ++ rest) ≡ Some error
+    → IsWriteError result ⊎ StopsBy (blocks_of table) result state left still_left held now_held counts counts
+ends_differs table result state left still_left held now_held counts first rest header error is consumed appended within accepted is_header short whole refused =
+    let section = state.section.byte_order in
+    let total = ap (λ given. given.total_len) is_header in
+    ends_refused table result state left still_left held now_held counts (first ++ rest) error is consumed appended
+    (λ none. omega (arith, ap length none, length-append first rest, within)) refused
+    (λ filled. omega (arith, filled.0.1, block_len_front section first rest within, total, short))
+    (λ required len cut.
+    absurd (omega (arith, cut_off_short section first rest required len within accepted (refused ∙ ap Some cut), whole, total)))
+
+-- ---- blocks that the section rejects
+
+no_block_in_body : (before after : Section) (header : BlockHeader) (body : BlockBody) (error : BlockError)
+    → TakesBody before header body after (Err (errors.Block error)) → ⊥
+no_block_in_body before after header (bodies.SectionHeader said) error takes = cc takes.0
+no_block_in_body before after header (bodies.InterfaceDescription interface) error takes = cc takes.2
+no_block_in_body before after header (bodies.Packet packet) error takes = cc takes.2
+no_block_in_body before after header bodies.Other error takes = cc takes.0
+
+no_block_unless : (refusal : Option BodyError) (before after : Section) (header : BlockHeader) (body : List ℕ) (error : BlockError)
+    → TakesUnless refusal before header body after (Err (errors.Block error)) → ⊥
+no_block_unless (Some refused) before after header body error takes = cc takes.0
+no_block_unless None before after header body error takes = no_block_in_body before after header takes.0 error takes.2
+
+-- a section does not reject a block as cut off
+leaves_rejected : (before after : Section) (header : BlockHeader) (body : List ℕ) (error : PacketError) (Statement : Type 0)
+    → TakesBlock before header body after (Err error) → IfBlockCutOff error Statement
+leaves_rejected before after header body (errors.Block error) Statement takes = absurd (no_block_unless _ before after header body error takes)
+leaves_rejected before after header body (errors.Body error) Statement takes = tt
+leaves_rejected before after header body (errors.TooLong block_type total_len) Statement takes = tt
+leaves_rejected before after header body (errors.Interfaces max) Statement takes = tt
+
+is_kept : (section : ByteOrder) (header : BlockHeader) (read : List ℕ) → 12 ≤ length read → header ≡ block_header section read
+    → block_header_refusal section read ≡ None → length read ≡ min header.total_len max_packet_len
+    → (header.total_len ≤ max_packet_len → block_refusal section read ≡ None) → IsKept section read
+is_kept section header read within is accepted kept whole =
+    let total = ap (λ given. given.total_len) is in
+    ⊎_elim
+    (λ long. inr ((accepted, omega (arith, long, total)), omega (arith, long, kept)))
+    (λ short.
+    let empty : length (read ++ []) ≤ block_len section read = omega (arith, short, kept, total, ap length (append-nil read)) in
+    inl (
+      subst (IsBlock section) (append-nil read)
+          (whole_block section read [] within empty (ap (block_refusal section) (append-nil read) ∙ whole short)).0,
+      omega (arith, short, kept),
+    ))
+    (cases_lt max_packet_len header.total_len)
+
+-- the section rejects the block that begins with these bytes, which were copied
+pub ends_rejected : (table : Table) (result : CaptureError) (state : Blocks) (after : Section) (left still_left held now_held : Option (List ℕ)) (counts : Counts)
+    (header : BlockHeader) (first bytes read written : List ℕ) (error : PacketError)
+    → result ≡ capture_errors.Block (record { offset = state.offset; error = error }) → read ≡ first ++ bytes → Consumes left still_left read
+    → Appends held now_held written → 12 ≤ length first → block_header_refusal state.section.byte_order first ≡ None
+    → header ≡ block_header state.section.byte_order first → length read ≡ min header.total_len max_packet_len
+    → (header.total_len ≤ max_packet_len → block_refusal state.section.byte_order read ≡ None)
+    → TranslatesKept table state.section header read written after (Err error)
+    → IsWriteError result ⊎ StopsBy (blocks_of table) result state left still_left held now_held counts counts
+ends_rejected table result state after left still_left held now_held counts header first bytes read written error is splits consumed appended within accepted
+    is_header kept whole translates =
+    let section = state.section.byte_order in
+    let read_within : 12 ≤ length read = omega (arith, ap length splits, length-append first bytes, within) in
+    let read_header = header_read section first bytes read header splits within is_header in
+    let read_accepted = accepted_read section first bytes read splits within accepted in
+    subst (λ given. IsWriteError given ⊎ StopsBy (blocks_of table) given state left still_left held now_held counts counts) (sym is)
+    (inr (record {
+      then_left = still_left;
+      front = copied read;
+      is_end = (
+        refl,
+        inr (record {
+          is_kept = is_kept section header read read_within read_header read_accepted kept whole;
+          after = after;
+          takes = subst (λ given. TakesBlock state.section given (kept_body given read) after (Err error)) read_header translates.0;
+          not_beyond = subst (λ total_len. IsBeyond total_len error → ⊥) (ap (λ given. given.total_len) read_header) translates.1;
+          unchanged = (refl, refl);
+        }),
+      );
+      consumed = consumed;
+      appended = subst (Appends held now_held) translates.2 appended;
+      counted = refl;
+      leaves = (refl, leaves_rejected state.section after header (kept_body header read) error (IsAtEnd still_left) translates.0);
+    }))
+
+-- ---- ends within the rest of a long block
+
+rest_end : (table : Table) (state : Blocks) (error : CaptureError) (front : Part) (total_len len : ℕ)
+    → IsRestEnd total_len state.offset len error → (front.read ≢ [])
+    → block_refusal state.section.byte_order front.read ≡ Some (CutOff total_len (max_packet_len + len)) → IsLongFront table state.section front
+    → IsBlockEnd table state front error
+rest_end table state (capture_errors.Read offset error) front total_len len is some refused long = (is, inr long)
+rest_end table state (capture_errors.Block placed) front total_len len is some refused long =
+    let same : placed ≡ record { offset = state.offset; error = errors.Block (CutOff total_len (max_packet_len + len)) } = cc is in (
+      ap (λ given. given.offset) same,
+      inl (record { reason = CutOff total_len (max_packet_len + len); is_error = ap (λ given. given.error) same; some = some; refused = refused; front = inr long }),
+    )
+rest_end table state (capture_errors.Header error) front total_len len is some refused long = absurd is
+rest_end table state (capture_errors.RecordCutOff offset required other) front total_len len is some refused long = absurd is
+rest_end table state (capture_errors.Write error) front total_len len is some refused long = absurd is
+
+-- the packet of a long block was translated, and then its rest was copied up to an error
+stops_rest : (table : Table) (error : CaptureError) (state : Blocks) (after : Section) (left middle still_left held then_held now_held : Option (List ℕ))
+    (counts now_counts : Counts) (header : BlockHeader) (first bytes read written : List ℕ) (outcome : Option (Result Bool Reason))
+    → read ≡ first ++ bytes → 12 ≤ length first → block_header_refusal state.section.byte_order first ≡ None → header ≡ block_header state.section.byte_order first
+    → 12 ≤ header.total_len → length read ≡ min header.total_len max_packet_len
+    → TranslatesKept table state.section header read written after (Ok outcome) → Consumes left middle read → Appends held then_held written
+    → now_counts ≡ counted_if counts outcome → StopsRest header.total_len state.offset error middle still_left then_held now_held
+    → StopsBy (blocks_of table) error state left still_left held now_held counts now_counts
+stops_rest table error state after left middle still_left held then_held now_held counts now_counts header first bytes read written outcome
+    splits within accepted is_header least kept translates consumed appended counts_are stops =
+    let section = state.section.byte_order in
+    let more = stops.copies.bytes in
+    let read_within : 12 ≤ length read = omega (arith, kept, least) in
+    let read_header = header_read section first bytes read header splits within is_header in
+    let read_accepted = accepted_read section first bytes read splits within accepted in
+    let total = ap (λ given. given.total_len) read_header in
+    let long : max_packet_len < header.total_len = omega (arith, stops.within) in
+    let has_len : max_packet_len + stops.len ≡ length (read ++ more) =
+    omega (arith, length-append read more, kept, long, stops.copies.has_len) in
+    let next = cut_next section read more header (max_packet_len + stops.len) read_within read_accepted read_header has_len
+    (omega (arith, stops.within)) in
+    let front : Part = record { read = read ++ more; written = written ++ more; outcome = outcome } in
+    record {
+      then_left = stops.then_left;
+      front = front;
+      is_end = rest_end table state error front header.total_len stops.len stops.ends next.0 next.1 (
+        ((header_refusal_front section read more read_within ∙ read_accepted, is_long section read more header read_within read_header long), omega (arith, has_len)),
+        omega (arith, has_len, stops.within, total, block_len_front section read more read_within),
+        after,
+        block_translated table state.section after header read written more outcome read_within read_header least kept translates,
+      );
+      consumed = Consumes-trans left middle stops.then_left read more consumed stops.copies.consumed;
+      appended = Appends-trans held then_held now_held written more appended stops.copies.appended;
+      counted = counts_are;
+      leaves = stops.leaves;
+    }
+
+pub next_rest : {A : Type 0} → (table : Table) (result : Result A CaptureError) (error : CaptureError) (state then_state : Blocks) (after : Section)
+    (left middle still_left held then_held now_held : Option (List ℕ))
+    (counts now_counts : Counts) (header : BlockHeader) (first bytes read written : List ℕ) (outcome : Option (Result Bool Reason))
+    → read ≡ first ++ bytes → 12 ≤ length first → block_header_refusal state.section.byte_order first ≡ None → header ≡ block_header state.section.byte_order first
+    → 12 ≤ header.total_len → length read ≡ min header.total_len max_packet_len
+    → TranslatesKept table state.section header read written after (Ok outcome) → Consumes left middle read → Appends held then_held written
+    → now_counts ≡ counted_if counts outcome → CopiesRest header.total_len state.offset (Err error) middle still_left then_held now_held
+    → result ≡ Err error → PassesNext (blocks_of table) result state then_state left still_left held now_held counts now_counts
+next_rest table result error state then_state after left middle still_left held then_held now_held counts now_counts header first bytes read written outcome
+    splits within accepted is_header least kept translates consumed appended counts_are (inl failed) fails =
+    next_to_write_error (blocks_of table) result error state then_state left still_left held now_held counts now_counts failed fails
+next_rest table result error state then_state after left middle still_left held then_held now_held counts now_counts header first bytes read written outcome
+    splits within accepted is_header least kept translates consumed appended counts_are (inr stops) fails =
+    next_to_end (blocks_of table) result error state then_state left still_left held now_held counts now_counts
+    (inr (stops_rest table error state after left middle still_left held then_held now_held counts now_counts header first bytes read written outcome
+    splits within accepted is_header least kept translates consumed appended counts_are stops)) fails
+
+-- ---- whole parts
+
+-- the block was passed
+pub block_part : (table : Table) (before after : Section) (header : BlockHeader) (first bytes read written more : List ℕ) (outcome : Option (Result Bool Reason))
+    → read ≡ first ++ bytes → 12 ≤ length first → block_header_refusal before.byte_order first ≡ None → header ≡ block_header before.byte_order first
+    → 12 ≤ header.total_len → length read ≡ min header.total_len max_packet_len
+    → (header.total_len ≤ max_packet_len → block_refusal before.byte_order read ≡ None)
+    → TranslatesKept table before header read written after (Ok outcome) → length more ≡ header.total_len - max_packet_len
+    → IsBlockPart table before (record { read = read ++ more; written = written ++ more; outcome = outcome }) after
+block_part table before after header first bytes read written more outcome splits within accepted is_header least kept whole translates rest =
+    let section = before.byte_order in
+    let read_within : 12 ≤ length read = omega (arith, kept, least) in
+    let read_header = header_read section first bytes read header splits within is_header in
+    record {
+      is_block = is_whole section header read more read_within read_header (accepted_read section first bytes read splits within accepted) kept rest whole;
+      translates = block_translated table before after header read written more outcome read_within read_header least kept translates;
+    }
+
+-- the place after a block
+pub block_offset : (section : ByteOrder) (offset then_offset : ℕ) (header : BlockHeader) (first bytes read more : List ℕ) → read ≡ first ++ bytes
+    → 12 ≤ length first → header ≡ block_header section first → then_offset ≡ offset_after offset header
+    → then_offset ≡ offset_after offset (block_header section (read ++ more))
+block_offset section offset then_offset header first bytes read more splits within is_header is =
+    is ∙ ap (offset_after offset) (header_read section first bytes read header splits within is_header
+    ∙ sym (block_header_front section read more (omega (arith, ap length splits, length-append first bytes, within))))
+
+-- ---- reading failed before a block
+
+-- no bytes of a block, at a read error
+pub no_block : (table : Table) (state : Blocks) (error : CaptureError) → IsReadError state.offset error → IsBlockEnd table state (copied []) error
+no_block table state (capture_errors.Header error) is = absurd is
+no_block table state (capture_errors.RecordCutOff offset required len) is = absurd is
+no_block table state (capture_errors.Block placed) is = absurd is
+no_block table state (capture_errors.Read offset error) is = (is, inl (refl, (refl, refl)))
+no_block table state (capture_errors.Write error) is = absurd is
+
+pub next_unread : {A : Type 0} → (table : Table) (result : Result A CaptureError) (error : CaptureError) (state then_state : Blocks)
+    (left still_left held : Option (List ℕ)) (counts : Counts)
+    → IsReadError state.offset error → result ≡ Err error
+    → PassesNext (blocks_of table) result state then_state left still_left held held counts counts
+next_unread table result error state then_state left still_left held counts is fails =
+    next_to_read_error (blocks_of table) result error state then_state left left still_left held held counts counts state.offset (copied [])
+    is (no_block table state error is) (Consumes-nil left) (Appends-nil held) refl fails
+
+-- ---- the rest of a long block
+
+rest_read : (total_len place len : ℕ) (error : CaptureError) → IsReadError place error → IsRestEnd total_len place len error
+rest_read total_len place len (capture_errors.Header error) is = absurd is
+rest_read total_len place len (capture_errors.RecordCutOff offset required other) is = absurd is
+rest_read total_len place len (capture_errors.Block placed) is = absurd is
+rest_read total_len place len (capture_errors.Read offset error) is = is
+rest_read total_len place len (capture_errors.Write error) is = absurd is
+
+-- copying the rest failed
+pub rest_to_error : (total_len place count : ℕ) (result : Result (Unit {0}) CaptureError) (error : CaptureError) (left still_left held now_held : Option (List ℕ))
+    → count ≡ total_len - max_packet_len → (IsWriteError error ⊎ (IsReadError place error × CopiesFront count left held now_held))
+    → result ≡ Err error → CopiesRest total_len place result left still_left held now_held
+rest_to_error total_len place count result error left still_left held now_held rest (inl failed) fails =
+    subst (λ given. CopiesRest total_len place given left still_left held now_held) (sym fails) (inl failed)
+rest_to_error total_len place count result error left still_left held now_held rest (inr (is, front)) fails =
+    subst (λ given. CopiesRest total_len place given left still_left held now_held) (sym fails)
+    (inr (record {
+      len = front.len;
+      within = omega (arith, front.within, rest);
+      then_left = front.then_left;
+      copies = front.copies;
+      ends = rest_read total_len place front.len error is;
+      leaves = leaves_at_read place error front.then_left still_left is;
+    }))
+
+-- the file ends within the rest
+pub rest_cut : (total_len place len kept : ℕ) (error : CaptureError) (left still_left held now_held : Option (List ℕ))
+    → error ≡ cut_at place total_len (kept + len) → kept ≡ min total_len max_packet_len → len < total_len - kept
+    → Copies left still_left held now_held len → IsAtEnd still_left
+    → IsWriteError error ⊎ StopsRest total_len place error left still_left held now_held
+rest_cut total_len place len kept error left still_left held now_held is is_kept short copies at_end =
+    let all : kept ≡ max_packet_len = omega (arith, is_kept, short) in
+    subst (λ given. IsWriteError given ⊎ StopsRest total_len place given left still_left held now_held)
+    (sym (is ∙ ap (λ front. cut_at place total_len (front + len)) all))
+    (inr (record {
+      len = len;
+      within = omega (arith, is_kept, short);
+      then_left = still_left;
+      copies = copies;
+      ends = refl;
+      leaves = (refl, at_end);
+    }))

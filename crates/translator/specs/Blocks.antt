@@ -1,0 +1,187 @@
+-- The blocks of a pcapng file as parts (draft-ietf-opsawg-pcapng, section 3.1). The buffer has room for `max_packet_len` bytes. The rest of a
+-- longer block is copied.
+use Rattle.std.specs.Prelude.{◌≡◌, ◌≢◌, ◌+◌, ◌-◌, ◌<◌, ◌≤◌, ◌++◌, ◌⊎◌, ℕ, Bool, List, [], drop, length, min, slice_range, take, Option, Some, None, Result, Ok, Err}
+use Rattle.capture_file.specs.Packets.{IsWithin}
+use Rattle.capture_file.specs.Pcapng.{IsBlock, block_header, block_header_refusal, block_len, block_refusal}
+use Rattle.capture_file.specs.PcapngSteps.{offset_after}
+use Rattle.capture_file.specs.Sections.{TakesBlock}
+use Rattle.capture_texts.specs.declared.byte_order.ByteOrder.{ByteOrder}
+use Rattle.capture_texts.specs.declared.byte_order.ByteOrder.TheVariants.{BigEndian}
+use Rattle.capture_file.specs.declared.pcapng.block.BlockHeader.{BlockHeader}
+use Rattle.capture_file.specs.declared.pcapng.errors.BlockError.{BlockError}
+use Rattle.capture_file.specs.declared.pcapng.errors.BlockError.TheVariants as block_errors
+use Rattle.capture_file.specs.declared.pcapng.errors.BodyError.TheVariants as body_errors
+use Rattle.capture_file.specs.declared.reader.captured_packet.CapturedPacket.{CapturedPacket}
+use Rattle.capture_file.specs.declared.reader.packet_error.PacketError.{PacketError}
+use Rattle.capture_file.specs.declared.reader.packet_error.PacketError.TheVariants as errors
+use Rattle.capture_file.specs.declared.reader.pcapng_reader.Section.{Section}
+use Rattle.capture_packet.specs.Frames.{max_packet_len}
+use Rattle.translator.specs.Packets.{TranslatesCaptured}
+use Rattle.translator.specs.Passing.{Copies, Format, IsUnchanged, IsWriteError, LeavesAt, Part}
+use Rattle.translator.specs.declared.blocks.Blocks.{Blocks}
+use Rattle.translator.specs.declared.capture_error.CaptureError.{CaptureError}
+use Rattle.translator.specs.declared.capture_error.CaptureError.TheVariants as capture_errors
+use Rattle.translator.specs.declared.reason.Reason.{Reason}
+use Rattle.translator.specs.declared.reason.Reason.TheVariants.{TooLong}
+use Rattle.translator.specs.declared.table.Table.{Table}
+
+-- ---- the packet in a block
+
+-- The captured bytes of the packet were translated, with the link type of its interface. The bytes before and after them were written as they
+-- were read.
+pub record TranslatesWhere (table : Table) (packet : CapturedPacket) (part : Part) : Type 0 where
+  pub within : IsWithin (length part.read) packet
+  pub after : List ℕ
+  pub result : Result Bool Reason
+  pub translates : TranslatesCaptured table packet.link_type packet.byte_order
+      (slice_range part.read packet.start (packet.start + packet.captured_len)) after result
+  pub is_written : part.written ≡ take packet.start part.read ++ (after ++ drop (packet.start + packet.captured_len) part.read)
+  pub outcome : part.outcome ≡ Some result
+
+-- the captured bytes in a block of this length end after the bytes for which the buffer has room
+abbrev pub IsBeyond : ℕ → PacketError → Type 0
+IsBeyond total_len (errors.Body (body_errors.CutOff required len)) = max_packet_len < total_len
+IsBeyond total_len error = ⊥
+
+-- the outcome of a block of this length, by what the section takes from it: a block without a packet is copied
+abbrev pub HasTaken : Table → ℕ → Result (Option CapturedPacket) PacketError → Part → Type 0
+HasTaken table total_len (Ok None) part = IsUnchanged part None
+HasTaken table total_len (Ok (Some packet)) part = TranslatesWhere table packet part
+HasTaken table total_len (Err error) part = IsBeyond total_len error × IsUnchanged part (Some (Err TooLong))
+
+-- the body of a block as far as the buffer has room
+abbrev pub kept_body : BlockHeader → List ℕ → List ℕ
+kept_body header bytes = slice_range bytes 8 (min max_packet_len (header.total_len - 4))
+
+-- the section takes the block that begins with these bytes
+abbrev pub TakesKept : Section → List ℕ → Section → Result (Option CapturedPacket) PacketError → Type 0
+TakesKept before bytes after taken =
+    let header = block_header before.byte_order bytes in TakesBlock before header (kept_body header bytes) after taken
+
+-- the packet in the block that begins with these bytes was translated, if the block contains a packet
+pub record TranslatesBlock (table : Table) (before : Section) (part : Part) (after : Section) : Type 0 where
+  pub taken : Result (Option CapturedPacket) PacketError
+  pub takes : TakesKept before part.read after taken
+  pub has_outcome : HasTaken table (block_len before.byte_order part.read) taken part
+
+-- ---- whole blocks
+
+-- the buffer has no room for the block that begins with these bytes, whose header is accepted
+abbrev pub BeginsLongBlock : ByteOrder → List ℕ → Type 0
+BeginsLongBlock section bytes = (block_header_refusal section bytes ≡ None) × (max_packet_len < block_len section bytes)
+
+-- a block, with nothing after it; the last total length of a block without room in the buffer is not checked
+abbrev pub IsWholeBlock : ByteOrder → List ℕ → Type 0
+IsWholeBlock section bytes =
+    (IsBlock section bytes × (length bytes ≤ max_packet_len))
+    ⊎ (BeginsLongBlock section bytes × (length bytes ≡ block_len section bytes))
+
+-- exactly one block, with the outcome of its packet
+pub record IsBlockPart (table : Table) (before : Section) (part : Part) (after : Section) : Type 0 where
+  pub is_block : IsWholeBlock before.byte_order part.read
+  pub translates : TranslatesBlock table before part after
+
+-- ---- ends within a block
+
+-- at least the bytes of a long block for which the buffer has room
+abbrev pub IsFilled : ByteOrder → List ℕ → Type 0
+IsFilled section bytes = BeginsLongBlock section bytes × (max_packet_len ≤ length bytes)
+
+-- the first bytes of a long block, whose packet was translated before the rest was copied
+abbrev pub IsLongFront : Table → Section → Part → Type 0
+IsLongFront table before part =
+    IsFilled before.byte_order part.read × (length part.read ≤ block_len before.byte_order part.read)
+    × (after : Section) × TranslatesBlock table before part after
+
+-- the bytes are no block, for this reason, and are copied, except that the packet of a long block that is cut off may have been translated
+pub record IsNoBlock (table : Table) (before : Section) (part : Part) (error : PacketError) : Type 0 where
+  pub reason : BlockError
+  pub is_error : error ≡ errors.Block reason
+  pub some : part.read ≢ []
+  pub refused : block_refusal before.byte_order part.read ≡ Some reason
+  pub front : ((IsFilled before.byte_order part.read → ⊥) × IsUnchanged part None) ⊎ IsLongFront table before part
+
+-- a block, or the first bytes of a long block, as many as the buffer has room for
+abbrev pub IsKept : ByteOrder → List ℕ → Type 0
+IsKept section bytes =
+    (IsBlock section bytes × (length bytes ≤ max_packet_len)) ⊎ (BeginsLongBlock section bytes × (length bytes ≡ max_packet_len))
+
+-- the section rejects the block that begins with these bytes, which are copied
+pub record IsRejected (before : Section) (part : Part) (error : PacketError) : Type 0 where
+  pub is_kept : IsKept before.byte_order part.read
+  pub after : Section
+  pub takes : TakesKept before part.read after (Err error)
+  pub not_beyond : IsBeyond (block_len before.byte_order part.read) error → ⊥
+  pub unchanged : IsUnchanged part None
+
+-- the block that begins with these bytes is rejected
+abbrev pub IsRefusedBlock : Table → Section → Part → PacketError → Type 0
+IsRefusedBlock table before part error = IsNoBlock table before part error ⊎ IsRejected before part error
+
+-- nothing of a block, or the first bytes of a long block, were passed
+abbrev pub IsBlockFront : Table → Section → Part → Type 0
+IsBlockFront table before part = ((part.read ≡ []) × IsUnchanged part None) ⊎ IsLongFront table before part
+
+-- this error ends the file within a block
+abbrev pub IsBlockEnd : Table → Blocks → Part → CaptureError → Type 0
+IsBlockEnd table blocks part (capture_errors.Block placed) =
+    (placed.offset ≡ blocks.offset) × IsRefusedBlock table blocks.section part placed.error
+IsBlockEnd table blocks part (capture_errors.Read offset error) = (offset ≡ blocks.offset) × IsBlockFront table blocks.section part
+IsBlockEnd table blocks part (capture_errors.Header error) = ⊥
+IsBlockEnd table blocks part (capture_errors.RecordCutOff offset required len) = ⊥
+IsBlockEnd table blocks part (capture_errors.Write error) = ⊥
+
+-- ---- files
+
+-- pcapng files, whose packets are translated by this table
+abbrev pub blocks_of : Table → Format
+blocks_of table = record {
+  State = Blocks;
+  IsPart = λ before part after. IsBlockPart table before.section part after.section
+      × (after.offset ≡ offset_after before.offset (block_header before.section.byte_order part.read));
+  IsEnd = IsBlockEnd table;
+}
+
+-- the start of a file; the section header block states its byte order
+pub record IsFileStart (blocks : Blocks) : Type 0 where
+  pub byte_order : blocks.section.byte_order ≡ BigEndian
+  pub interfaces : blocks.section.interfaces.items ≡ []
+  pub offset : blocks.offset ≡ 0
+
+-- ---- results
+
+-- the block at the front of a buffer, or the first bytes of a long block, were translated, or the section rejects them
+abbrev pub TranslatesKept : Table → Section → BlockHeader → List ℕ → List ℕ → Section → Result (Option (Result Bool Reason)) PacketError → Type 0
+TranslatesKept table before header read written after (Ok outcome) =
+    (taken : Result (Option CapturedPacket) PacketError) × TakesBlock before header (kept_body header read) after taken
+    × HasTaken table header.total_len taken (record { read = read; written = written; outcome = outcome })
+TranslatesKept table before header read written after (Err error) =
+    TakesBlock before header (kept_body header read) after (Err error) × (IsBeyond header.total_len error → ⊥) × (written ≡ read)
+
+-- the error of a file that ends after these bytes of the block at this place
+abbrev pub cut_at : ℕ → ℕ → ℕ → CaptureError
+cut_at offset total_len len = capture_errors.Block (record { offset = offset; error = errors.Block (block_errors.CutOff total_len len) })
+
+-- an error after this number of bytes of the rest of a block with this length, for which the buffer has no room
+abbrev pub IsRestEnd : ℕ → ℕ → ℕ → CaptureError → Type 0
+IsRestEnd total_len place len (capture_errors.Read offset error) = offset ≡ place
+IsRestEnd total_len place len (capture_errors.Block placed) =
+    capture_errors.Block placed ≡ cut_at place total_len (max_packet_len + len)
+IsRestEnd total_len place len (capture_errors.Header error) = ⊥
+IsRestEnd total_len place len (capture_errors.RecordCutOff offset required other) = ⊥
+IsRestEnd total_len place len (capture_errors.Write error) = ⊥
+
+-- the first bytes of the rest were copied, up to an error
+pub record StopsRest (total_len place : ℕ) (error : CaptureError) (left still_left held now_held : Option (List ℕ)) : Type 0 where
+  pub len : ℕ
+  pub within : len < total_len - max_packet_len
+  pub then_left : Option (List ℕ)
+  pub copies : Copies left then_left held now_held len
+  pub ends : IsRestEnd total_len place len error
+  pub leaves : LeavesAt error then_left still_left
+
+-- the rest of a block with this length at this place was copied, up to an error if there is one
+abbrev pub CopiesRest : ℕ → ℕ → Result (Unit {0}) CaptureError → Option (List ℕ) → Option (List ℕ) → Option (List ℕ) → Option (List ℕ) → Type 0
+CopiesRest total_len place (Ok done) left still_left held now_held = Copies left still_left held now_held (total_len - max_packet_len)
+CopiesRest total_len place (Err error) left still_left held now_held =
+    IsWriteError error ⊎ StopsRest total_len place error left still_left held now_held

@@ -1,0 +1,83 @@
+-- The translation of a whole capture.
+use Rattle.std.specs.Prelude.{◌≡◌, ◌⊎◌, ℕ, true, false, List, take, ⊤, Option, Some, IfSome, Result, Ok, Err}
+use Rattle.std.specs.Io.KnownBytes.{Appends, Consumes}
+use Rattle.capture_file.specs.Classic.{header_refusal}
+use Rattle.capture_file.specs.Opening.{SaysHeader}
+use Rattle.capture_file.specs.Packets.{begins_records}
+use Rattle.capture_file.specs.Pcapng.{is_section_header}
+use Rattle.capture_file.specs.Reading.{RefusesHeader}
+use Rattle.capture_file.specs.declared.classic.capture_header.CaptureHeader.{CaptureHeader}
+use Rattle.capture_file.specs.declared.reader.capture_reader.ClassicReader.{ClassicReader}
+use Rattle.translator.specs.Blocks.{IsFileStart, blocks_of}
+use Rattle.translator.specs.Passing.{PassesTo}
+use Rattle.translator.specs.Records.{records_of}
+use Rattle.translator.specs.declared.blocks.Blocks.{Blocks}
+use Rattle.translator.specs.declared.capture_error.CaptureError.{CaptureError}
+use Rattle.translator.specs.declared.capture_error.CaptureError.TheVariants.{Block, Header, Read, RecordCutOff, Write}
+use Rattle.translator.specs.declared.counts.Counts.{Counts}
+use Rattle.translator.specs.declared.table.Table.{Table}
+
+-- whether the first 12 bytes of an input, if they are known, begin with the type of a section header block
+abbrev pub IsPcapng : Option (List ℕ) → Type 0
+IsPcapng left = IfSome left (λ all. is_section_header (take 12 all) ≡ true)
+
+abbrev pub IsNoPcapng : Option (List ℕ) → Type 0
+IsNoPcapng left = IfSome left (λ all. is_section_header (take 12 all) ≡ false)
+
+-- The translation of a classic capture. Its header of 24 bytes was written as it was read, and then its records were passed.
+pub record TranslatesRecords (table : Table) (result : Result (Unit {0}) CaptureError) (left still_left held now_held : Option (List ℕ))
+    (counts now_counts : Counts) : Type 0 where
+  pub header : CaptureHeader
+  pub bytes : List ℕ
+  pub says : SaysHeader bytes (Ok header)
+  pub middle : Option (List ℕ)
+  pub then_held : Option (List ℕ)
+  pub consumed : Consumes left middle bytes
+  pub appended : Appends held then_held bytes
+  pub after : ClassicReader
+  pub passes : PassesTo (records_of table) result (begins_records header) after middle still_left then_held now_held counts now_counts
+
+-- the translation of a pcapng file, whose blocks were passed
+pub record TranslatesBlocks (table : Table) (result : Result (Unit {0}) CaptureError) (left still_left held now_held : Option (List ℕ))
+    (counts now_counts : Counts) : Type 0 where
+  pub is_pcapng : IsPcapng left
+  pub start : Blocks
+  pub is_start : IsFileStart start
+  pub after : Blocks
+  pub passes : PassesTo (blocks_of table) result start after left still_left held now_held counts now_counts
+
+-- a capture of either format
+abbrev pub TranslatesEither : Table → Result (Unit {0}) CaptureError → Option (List ℕ) → Option (List ℕ) → Option (List ℕ) → Option (List ℕ) → Counts
+    → Counts → Type 0
+TranslatesEither table result left still_left held now_held counts now_counts =
+    TranslatesRecords table result left still_left held now_held counts now_counts
+    ⊎ TranslatesBlocks table result left still_left held now_held counts now_counts
+
+-- nothing was written, and no packet was counted
+abbrev pub TranslatesNothing : Option (List ℕ) → Option (List ℕ) → Counts → Counts → Type 0
+TranslatesNothing held now_held counts now_counts = (now_held ≡ held) × (now_counts ≡ counts)
+
+-- The translation of a capture. If the header of a classic capture is rejected, or can't be read, nothing was written. After a write that
+-- failed nothing is known.
+abbrev pub TranslatesCapture : Table → Result (Unit {0}) CaptureError → Option (List ℕ) → Option (List ℕ) → Option (List ℕ) → Option (List ℕ) → Counts
+    → Counts → Type 0
+TranslatesCapture table (Ok given) left still_left held now_held counts now_counts =
+    TranslatesEither table (Ok given) left still_left held now_held counts now_counts
+TranslatesCapture table (Err (Header error)) left still_left held now_held counts now_counts =
+    IsNoPcapng left × RefusesHeader left still_left error × TranslatesNothing held now_held counts now_counts
+TranslatesCapture table (Err (Read offset error)) left still_left held now_held counts now_counts =
+    ((offset ≡ 0) × TranslatesNothing held now_held counts now_counts)
+    ⊎ TranslatesEither table (Err (Read offset error)) left still_left held now_held counts now_counts
+TranslatesCapture table (Err (RecordCutOff offset required_len len)) left still_left held now_held counts now_counts =
+    TranslatesRecords table (Err (RecordCutOff offset required_len len)) left still_left held now_held counts now_counts
+TranslatesCapture table (Err (Block error)) left still_left held now_held counts now_counts =
+    TranslatesBlocks table (Err (Block error)) left still_left held now_held counts now_counts
+TranslatesCapture table (Err (Write error)) left still_left held now_held counts now_counts = ⊤
+
+-- this error rejects the first bytes of a capture; if reading failed, it states nothing
+abbrev pub RefusesBytes : List ℕ → CaptureError → Type 0
+RefusesBytes bytes (Header error) = header_refusal bytes ≡ Some error
+RefusesBytes bytes (Read offset error) = offset ≡ 0
+RefusesBytes bytes (RecordCutOff offset required_len len) = ⊥
+RefusesBytes bytes (Block error) = ⊥
+RefusesBytes bytes (Write error) = ⊥

@@ -1,0 +1,76 @@
+-- The records of a classic capture as parts (draft-ietf-opsawg-pcap, section 5).
+use Rattle.std.specs.Prelude.{◌≡◌, ◌≢◌, ◌<◌, ◌≤◌, ◌++◌, ◌⊎◌, ℕ, Bool, List, [], drop, length, take, Some, None, Result, Err}
+use Rattle.capture_file.specs.Classic.{IsPartial, IsRecord, number_at, record_header, record_len}
+use Rattle.capture_file.specs.Packets.{offset_after_record}
+use Rattle.capture_file.specs.Reading.{required_len}
+use Rattle.capture_file.specs.declared.classic.capture_header.CaptureHeader.{CaptureHeader}
+use Rattle.capture_file.specs.declared.classic.record_header.RecordHeader.{RecordHeader}
+use Rattle.capture_file.specs.declared.reader.capture_reader.ClassicReader.{ClassicReader}
+use Rattle.capture_packet.specs.Frames.{max_packet_len}
+use Rattle.translator.specs.Packets.{TranslatesCaptured}
+use Rattle.translator.specs.Passing.{Format, IsUnchanged, Part}
+use Rattle.translator.specs.declared.capture_error.CaptureError.{CaptureError}
+use Rattle.translator.specs.declared.capture_error.CaptureError.TheVariants.{Block, Header, Read, RecordCutOff, Write}
+use Rattle.translator.specs.declared.reason.Reason.{Reason}
+use Rattle.translator.specs.declared.reason.Reason.TheVariants.{TooLong}
+use Rattle.translator.specs.declared.table.Table.{Table}
+
+-- the captured length in the header of the record that begins with these bytes
+abbrev pub captured_len : CaptureHeader → List ℕ → ℕ
+captured_len capture bytes = number_at capture.byte_order bytes 8
+
+-- The frame of a record was translated: the captured bytes after the header of 16 bytes, with the link type of the capture. The header was
+-- written as it was read.
+pub record TranslatesRecord (table : Table) (capture : CaptureHeader) (part : Part) : Type 0 where
+  pub after : List ℕ
+  pub result : Result Bool Reason
+  pub translates : TranslatesCaptured table capture.link_type capture.byte_order (drop 16 part.read) after result
+  pub is_written : part.written ≡ take 16 part.read ++ after
+  pub outcome : part.outcome ≡ Some result
+
+-- the outcome of a record: its frame was translated, or the record was copied since the buffer has no room for the frame
+abbrev pub HasRecordOutcome : Table → CaptureHeader → Part → Type 0
+HasRecordOutcome table capture part =
+    ((captured_len capture part.read ≤ max_packet_len) × TranslatesRecord table capture part)
+    ⊎ ((max_packet_len < captured_len capture part.read) × IsUnchanged part (Some (Err TooLong)))
+
+-- exactly one record of this capture, with its outcome
+pub record IsRecordPart (table : Table) (capture : CaptureHeader) (part : Part) : Type 0 where
+  pub is_record : IsRecord capture.byte_order part.read
+  pub has_outcome : HasRecordOutcome table capture part
+
+-- the capture after a record with this header
+abbrev pub passed : ClassicReader → RecordHeader → ClassicReader
+passed records header = record { header = records.header; offset = offset_after_record records.offset header }
+
+-- the capture after the record that begins with these bytes
+abbrev pub records_after : ClassicReader → List ℕ → ClassicReader
+records_after records bytes = passed records (record_header records.header.byte_order bytes)
+
+-- The capture ends within the record that begins with these bytes, which are copied: the length of the record as far as it is known, and the
+-- number of these bytes.
+abbrev pub IsCutRecord : CaptureHeader → Part → ℕ → ℕ → Type 0
+IsCutRecord capture part required len =
+    IsUnchanged part None × (part.read ≢ []) × IsPartial capture.byte_order part.read
+    × (required ≡ required_len capture.byte_order part.read) × (len ≡ length part.read)
+
+-- at most the bytes of one record, which are copied
+abbrev pub IsRecordFront : CaptureHeader → Part → Type 0
+IsRecordFront capture part =
+    IsUnchanged part None × ((length part.read < 16) ⊎ (length part.read ≤ record_len capture.byte_order part.read))
+
+-- this error ends the capture within a record, which is not counted
+abbrev pub IsRecordEnd : ClassicReader → Part → CaptureError → Type 0
+IsRecordEnd records part (RecordCutOff offset required len) = (offset ≡ records.offset) × IsCutRecord records.header part required len
+IsRecordEnd records part (Read offset error) = (offset ≡ records.offset) × IsRecordFront records.header part
+IsRecordEnd records part (Header error) = ⊥
+IsRecordEnd records part (Block error) = ⊥
+IsRecordEnd records part (Write error) = ⊥
+
+-- classic captures, whose packets are translated by this table
+abbrev pub records_of : Table → Format
+records_of table = record {
+  State = ClassicReader;
+  IsPart = λ before part after. (after ≡ records_after before part.read) × IsRecordPart table before.header part;
+  IsEnd = IsRecordEnd;
+}
