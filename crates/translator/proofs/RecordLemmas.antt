@@ -4,7 +4,8 @@ use Rattle.std.proofs.lemmas.Bool.Decides.{nat_tests}
 use Rattle.std.proofs.lemmas.List.{drop_at, take_at}
 use Rattle.std.specs.Io.KnownBytes.{Appends, Consumes, IsAtEnd}
 use Rattle.capture_file.proofs.RecordLemmas.{number_at_front, record_header_front, record_len_front}
-use Rattle.capture_file.specs.Classic.{IsPartial, IsRecord, number_at, record_header, record_len}
+use Rattle.capture_file.specs.Classic.{IsPartial, IsRecord, record_header, record_len}
+use Rattle.capture_texts.specs.Numbers.{number_at}
 use Rattle.capture_file.specs.Reading.{required_len}
 use Rattle.capture_texts.specs.declared.byte_order.ByteOrder.{ByteOrder}
 use Rattle.capture_file.specs.declared.classic.capture_header.CaptureHeader.{CaptureHeader}

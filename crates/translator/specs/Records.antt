@@ -1,6 +1,7 @@
 -- The records of a classic capture as parts (draft-ietf-opsawg-pcap, section 5).
 use Rattle.std.specs.Prelude.{◌≡◌, ◌≢◌, ◌<◌, ◌≤◌, ◌++◌, ◌⊎◌, ℕ, Bool, List, [], drop, length, take, Some, None, Result, Err}
-use Rattle.capture_file.specs.Classic.{IsPartial, IsRecord, number_at, record_header, record_len}
+use Rattle.capture_file.specs.Classic.{IsPartial, IsRecord, record_header, record_len}
+use Rattle.capture_texts.specs.Numbers.{number_at}
 use Rattle.capture_file.specs.Packets.{offset_after_record}
 use Rattle.capture_file.specs.Reading.{required_len}
 use Rattle.capture_file.specs.declared.classic.capture_header.CaptureHeader.{CaptureHeader}
