@@ -62,7 +62,7 @@ pub one_header : (frame : List ℕ) (len other_len : ℕ) (next other_next : Opt
     (first : Result FirstHeader LinkHeaderCutOff) → HasWhole frame len next end first → HasWhole frame other_len other_next other_end first
     → (len ≡ other_len) × (next ≡ other_next) × (end ≡ other_end)
 one_header frame len other_len next other_next end other_end (Ok (Whole header)) has its_has =
-    (has.0 ∙ sym its_has.0, has.1.0 ∙ sym its_has.1.0, has.1.1 ∙ sym its_has.1.1)
+    (has.0 ∙ sym its_has.0, has.1 ∙ sym its_has.1, has.2 ∙ sym its_has.2)
 one_header frame len other_len next other_next end other_end (Ok (EtherType header)) has its_has =
     one_ether_header header frame len other_len next other_next end other_end has its_has
 one_header frame len other_len next other_next end other_end (Err error) has its_has = absurd has
