@@ -29,9 +29,9 @@ use Rattle.capture_packet.specs.Frames.{max_packet_len}
 use Rattle.translator.proofs.PacketLemmas.{range_within}
 use Rattle.translator.proofs.PassingLemmas.{leaves_at_read, next_to_end, next_to_read_error, next_to_write_error}
 use Rattle.translator.proofs.RecordLemmas.{copied}
-use Rattle.translator.specs.Blocks.{CopiesRest, HasTaken, IsBeyond, IsBlockEnd, IsBlockPart, IsFilled, IsKept, IsLongFront, IsNoBlock, IsRefusedBlock, IsRejected, IsRestEnd, IsWholeBlock, StopsRest, TakesKept, TranslatesBlock, TranslatesKept, TranslatesWhere, blocks_of, cut_at, kept_body}
+use Rattle.translator.specs.Blocks.{CopiesRest, HasTaken, IsBeyond, IsBlockEnd, IsBlockPart, IsFilled, IsKept, IsLongFront, IsRestEnd, IsWholeBlock, StopsRest, TakesKept, TranslatesBlock, TranslatesKept, TranslatesWhere, blocks_of, cut_at, kept_body}
 use Rattle.translator.specs.Packets.{TranslatesCaptured}
-use Rattle.translator.specs.Passing.{Copies, CopiesFront, IfBlockCutOff, IsReadError, IsWriteError, LeavesAt, Part, PassesNext, StopsBy, counted_if}
+use Rattle.translator.specs.Passing.{Copies, CopiesFront, IfBlockCutOff, IsReadError, IsWriteError, Part, PassesNext, StopsBy, counted_if}
 use Rattle.translator.specs.declared.blocks.Blocks.{Blocks}
 use Rattle.translator.specs.declared.capture_error.CaptureError.{CaptureError}
 use Rattle.translator.specs.declared.capture_error.CaptureError.TheVariants as capture_errors

@@ -1,5 +1,5 @@
 -- The header of a capture, and a whole capture.
-use Rattle.std.proofs.Common.{◌≡◌, ◌≤◌, ◌<◌, ◌++◌, ◌∙◌, ◌⊎◌, true, false, Bool, IfSome, ℕ, List, Option, Result, Some, None, Ok, Err, [], ap, append-nil, arith, inl, inr, length, length-append, length-take-le, refl, subst, sym, take, ⊎_elim}
+use Rattle.std.proofs.Common.{◌≡◌, ◌≤◌, ◌<◌, ◌++◌, ◌∙◌, ◌⊎◌, Bool, IfSome, ℕ, List, Option, Result, Some, None, Ok, Err, [], ap, append-nil, arith, inl, inr, length, length-append, length-take-le, refl, subst, sym, take, ⊎_elim}
 use Rattle.std.proofs.lemmas.List.{nil_from_length, take_all, take_at}
 use Rattle.std.proofs.lemmas.Bool.{cases_lt}
 use Rattle.std.proofs.KnownBytes.{Consumes-trans}
@@ -7,13 +7,12 @@ use Rattle.std.specs.Io.KnownBytes.{Consumes, IsAtEnd}
 use Rattle.streams.specs.Streams.{FillsAfter}
 use Rattle.capture_file.specs.Classic.{header_refusal}
 use Rattle.capture_file.specs.Opening.{SaysHeader}
-use Rattle.capture_file.specs.Packets.{begins_records}
 use Rattle.capture_file.specs.Pcapng.{is_section_header}
 use Rattle.capture_file.specs.Reading.{ReadsHeader}
 use Rattle.capture_file.specs.declared.classic.capture_header.CaptureHeader.{CaptureHeader}
 use Rattle.capture_file.specs.declared.classic.capture_header_error.CaptureHeaderError.{CaptureHeaderError}
 use Rattle.capture_file.specs.declared.reader.capture_reader.ClassicReader.{ClassicReader}
-use Rattle.translator.specs.Captures.{IsNoPcapng, IsPcapng, RefusesBytes, TranslatesBlocks, TranslatesCapture, TranslatesRecords}
+use Rattle.translator.specs.Captures.{IsNoPcapng, RefusesBytes, TranslatesBlocks, TranslatesCapture, TranslatesRecords}
 use Rattle.translator.specs.Passing.{IsReadError, IsWriteError, PassesTo}
 use Rattle.translator.specs.Records.{records_of}
 use Rattle.translator.specs.declared.capture_error.CaptureError.{CaptureError}

@@ -1,11 +1,11 @@
 -- What was read and written, part after part.
-use Rattle.std.proofs.Common.{◌≡◌, ◌≤◌, ◌<◌, ◌+◌, ◌++◌, ◌∙◌, ◌⊎◌, ℕ, List, Option, Result, Some, None, Ok, Err, [], ◌∷◌, ap, arith, fold, inl, inr, length, length-append, length-take-le, append-nil, refl, subst, sym, take}
+use Rattle.std.proofs.Common.{◌≡◌, ◌≤◌, ◌<◌, ◌+◌, ◌++◌, ◌∙◌, ◌⊎◌, ℕ, List, Option, Result, None, Ok, Err, [], ◌∷◌, ap, arith, fold, inl, inr, length, length-append, length-take-le, append-nil, refl, subst, sym, take}
 use Rattle.std.proofs.KnownBytes.{Appends-nil, Appends-trans, Consumes-nil, Consumes-trans}
 use Rattle.std.proofs.lemmas.Grind.{flat_map-append, fold-append}
 use Rattle.std.specs.Io.KnownBytes.{Appends, Consumes}
 use Rattle.std.specs.Option.{option_to_list}
 use Rattle.translator.specs.Outcomes.{counted}
-use Rattle.translator.specs.Passing.{AreParts, Copies, CopiesUpTo, EndsBy, Format, IsReadError, IsWriteError, LeavesAt, Part, Passes, PassesNext, PassesTo, StopsBy, counted_if, outcomes_of, read_of, written_of}
+use Rattle.translator.specs.Passing.{AreParts, Copies, CopiesUpTo, Format, IsReadError, IsWriteError, LeavesAt, Part, Passes, PassesNext, PassesTo, StopsBy, counted_if, outcomes_of, read_of, written_of}
 use Rattle.translator.specs.declared.capture_error.CaptureError.{CaptureError}
 use Rattle.translator.specs.declared.capture_error.CaptureError.TheVariants.{Block, Header, Read, RecordCutOff, Write}
 use Rattle.translator.specs.declared.counts.Counts.{Counts}

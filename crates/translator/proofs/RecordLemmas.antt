@@ -1,18 +1,18 @@
 -- The records of a classic capture as parts.
-use Rattle.std.proofs.Common.{◌≡◌, ◌≢◌, ◌≤◌, ◌<◌, ◌+◌, ◌++◌, ◌∙◌, ◌⊎◌, ℕ, Bool, List, Option, Result, Some, None, Err, [], ap, arith, inl, inr, length, length-append, length-take-le, refl, subst, sym, take}
+use Rattle.std.proofs.Common.{◌≡◌, ◌≤◌, ◌<◌, ◌+◌, ◌++◌, ◌∙◌, ◌⊎◌, ℕ, Bool, List, Option, Result, Some, None, Err, [], ap, arith, inl, inr, length, length-append, length-take-le, refl, subst, sym, take}
+use Rattle.std.proofs.KnownBytes.{Appends-trans, Consumes-trans}
 use Rattle.std.proofs.lemmas.Bool.Decides.{nat_tests}
 use Rattle.std.proofs.lemmas.List.{drop_at, take_at}
 use Rattle.std.specs.Io.KnownBytes.{Appends, Consumes, IsAtEnd}
 use Rattle.capture_file.proofs.RecordLemmas.{number_at_front, record_header_front, record_len_front}
-use Rattle.capture_file.specs.Classic.{IsPartial, IsRecord, record_header, record_len}
+use Rattle.capture_file.specs.Classic.{IsRecord, record_header, record_len}
 use Rattle.capture_texts.specs.Numbers.{number_at}
-use Rattle.capture_file.specs.Reading.{required_len}
 use Rattle.capture_texts.specs.declared.byte_order.ByteOrder.{ByteOrder}
 use Rattle.capture_file.specs.declared.classic.capture_header.CaptureHeader.{CaptureHeader}
 use Rattle.capture_file.specs.declared.classic.record_header.RecordHeader.{RecordHeader}
 use Rattle.capture_file.specs.declared.reader.capture_reader.ClassicReader.{ClassicReader}
 use Rattle.capture_packet.specs.Frames.{max_packet_len}
-use Rattle.translator.proofs.PassingLemmas.{next_to_end, next_to_read_error, next_to_write_error}
+use Rattle.translator.proofs.PassingLemmas.{next_to_read_error, next_to_write_error}
 use Rattle.translator.specs.Packets.{TranslatesCaptured}
 use Rattle.translator.specs.Passing.{CopiesFront, IsReadError, IsWriteError, Part, PassesNext, StopsBy}
 use Rattle.translator.specs.Records.{IsCutRecord, IsRecordEnd, IsRecordFront, IsRecordPart, passed, records_after, records_of}
@@ -147,3 +147,18 @@ pub next_front : {A : Type 0} → (table : Table) (result : Result A CaptureErro
 next_front table result error records after left then_left still_left held now_held counts bytes is consumed appended front fails =
     next_to_read_error (records_of table) result error records after left then_left still_left held now_held counts counts records.offset
     (copied bytes) is (read_end records (copied bytes) error is ((refl, refl), front)) consumed appended refl fails
+
+-- copying the captured bytes of a record failed
+pub next_copied : {A : Type 0} → (table : Table) (result : Result A CaptureError) (error : CaptureError) (records after : ClassicReader)
+    (left middle still_left held then_held now_held : Option (List ℕ)) (counts : Counts) (first : List ℕ) (count : ℕ)
+    → length first ≡ 16 → count ≡ number_at records.header.byte_order first 8 → Consumes left middle first → Appends held then_held first
+    → (IsWriteError error ⊎ (IsReadError records.offset error × CopiesFront count middle then_held now_held)) → result ≡ Err error
+    → PassesNext (records_of table) result records after left still_left held now_held counts counts
+next_copied table result error records after left middle still_left held then_held now_held counts first count has_len is_count consumed appended (inl failed) fails =
+    next_to_write_error (records_of table) result error records after left still_left held now_held counts counts failed fails
+next_copied table result error records after left middle still_left held then_held now_held counts first count has_len is_count consumed appended (inr (is, front)) fails =
+    let bytes = front.copies.bytes in
+    next_front table result error records after left front.then_left still_left held now_held counts (first ++ bytes) is
+    (Consumes-trans left middle front.then_left first bytes consumed front.copies.consumed)
+    (Appends-trans held then_held now_held first bytes appended front.copies.appended)
+    (inr (front_captured records.header.byte_order first bytes has_len (omega (arith, front.copies.has_len, front.within, is_count)))) fails

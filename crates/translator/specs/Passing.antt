@@ -1,5 +1,5 @@
 -- What the program writes for the bytes that it reads, part after part: a part is a record of a classic capture, or a block of a pcapng file.
-use Rattle.std.specs.Prelude.{◌≡◌, ◌<◌, ◌⊎◌, ℕ, Bool, List, [], ◌∷◌, flat_map, fold, length, ⊤, Option, Some, None, Result, Ok, Err}
+use Rattle.std.specs.Prelude.{◌≡◌, ◌<◌, ◌⊎◌, ℕ, Bool, List, [], ◌∷◌, flat_map, fold, length, ⊤, Option, Result, Ok, Err}
 use Rattle.std.specs.Io.KnownBytes.{Appends, Consumes, IsAtEnd}
 use Rattle.std.specs.Option.{option_to_list}
 use Rattle.capture_file.specs.declared.pcapng.errors.BlockError.TheVariants as block_errors

@@ -1,4 +1,4 @@
-use Rattle.std.proofs.Common.{◌≡◌, ◌-◌, arith, min, rules, subst}
+use Rattle.std.proofs.Common.{◌≡◌, ◌-◌, arith, rules, subst}
 use Rattle.capture_packet.specs.Frames.{max_packet_len}
 use Rattle.translator.proofs.BlockLemmas.{rest_cut, rest_to_error}
 use Rattle.translator.specs.Passing.{Copies}

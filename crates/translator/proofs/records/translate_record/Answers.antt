@@ -1,4 +1,4 @@
-use Rattle.std.proofs.Common.{[], arith, inl, refl, rules, take}
+use Rattle.std.proofs.Common.{[], arith, inl, rules, take}
 use Rattle.std.proofs.KnownBytes.{Appends-nil, Consumes-nil}
 use Rattle.translator.proofs.RecordLemmas.{cut_header, ends_cut, next_front}
 use Rattle.translator.proofs.records.translate_record.Goals as goal
