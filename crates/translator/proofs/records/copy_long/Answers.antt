@@ -1,4 +1,4 @@
-use Rattle.std.proofs.Common.{◌+◌, ◌++◌, ap, arith, Err, Some, rules}
+use Rattle.std.proofs.Common.{◌++◌, ap, arith, Err, Some, rules}
 use Rattle.std.proofs.KnownBytes.{Appends-trans, Consumes-trans}
 use Rattle.translator.proofs.PassingLemmas.{passes_part}
 use Rattle.translator.proofs.RecordLemmas.{after_record, cut_captured, ends_cut, next_copied, record_copied}

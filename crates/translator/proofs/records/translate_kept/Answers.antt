@@ -1,4 +1,4 @@
-use Rattle.std.proofs.Common.{◌+◌, ◌++◌, Some, ap, arith, inr, length-take, length-take-le, rules, take}
+use Rattle.std.proofs.Common.{◌++◌, Some, ap, arith, inr, length-take, length-take-le, rules, take}
 use Rattle.std.proofs.KnownBytes.{Appends-trans, Consumes-trans}
 use Rattle.capture_file.proofs.ReaderLemmas.{full}
 use Rattle.translator.proofs.PassingLemmas.{passes_part}
