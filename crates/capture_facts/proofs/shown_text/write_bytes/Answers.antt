@@ -5,9 +5,9 @@ use Rattle.capture_text.proofs.WrittenLemmas.{written_1}
 -- bytes that are UTF-8
 pub returns-in-Ok : goal.returns-in-Ok
 returns-in-Ok g c =
-    written_1 _ _ _ _ _ c.write_characters.ensures
+    written_1 _ _ _ _ _ c.write.ensures.bytes
     (shown_utf8 c.args.bytes.now c.in-Ok.text.now c.in-Ok.ensures.cases.0 c.in-Ok.ensures.cases.1)
 
 -- other bytes
 pub returns-in-Err : goal.returns-in-Err
-returns-in-Err g c = written_1 _ _ _ _ _ c.write_escaped.ensures (shown_other c.args.bytes.now c.in-Err.ensures.cases.0)
+returns-in-Err g c = written_1 _ _ _ _ _ c.write-in-Err.ensures.bytes (shown_other c.args.bytes.now c.in-Err.ensures.cases.0)

@@ -7,4 +7,5 @@ returns-in-Ok c = rw (text_word c.args.bytes.now c.in-Ok.text.now c.in-Ok.ensure
 
 -- other bytes
 pub returns-in-Err : goal.returns-in-Err
+unfolding lib.Utf8.encode
 returns-in-Err c = rw (escaped_word c.args.bytes.now c.in-Err.ensures.cases.0) at c.format.ensures.ok
