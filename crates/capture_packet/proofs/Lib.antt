@@ -1,2 +1,3 @@
+pub mod FrameLemmas
 mod TunnelExamples
 pub mod TunnelLemmas

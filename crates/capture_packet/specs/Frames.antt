@@ -55,10 +55,14 @@ IsInTunnels nested packet = (map by_value packet.tunnels.items ≡ nested.outers
 
 -- ---- frames
 
--- The packet in the frame: an IP packet, which is the innermost if it contains others, or another protocol. If a link header states the end
--- of the packet's bytes, the capture cut none of them.
+-- Whether the capture cut the bytes after a link header. If the link header states their end, the frame contains it, and the capture cut
+-- none of them.
+abbrev pub are_bytes_cut : Bool → Bool → Bool
+are_bytes_cut is_cut is_end_stated = is_cut && not is_end_stated
+
+-- the packet in the frame: an IP packet, which is the innermost if it contains others, or another protocol
 abbrev pub IsInFrame : Bool → Frame → Packet → Type 0
-IsInFrame is_cut (Ip found) packet = IsInTunnels (innermost (is_cut && not found.is_end_stated) found.bytes.now) packet
+IsInFrame is_cut (Ip found) packet = IsInTunnels (innermost (are_bytes_cut is_cut found.is_end_stated) found.bytes.now) packet
 IsInFrame is_cut (Other protocol) packet = packet ≡ in_no_tunnel (NotIp protocol) (untested OtherProtocol)
 
 -- the packet after a whole link header

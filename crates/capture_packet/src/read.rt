@@ -2,7 +2,7 @@ ghost use Rattle.std.specs.Prelude.{◌≡◌, ◌<◌, None};
 ghost use Rattle.std.specs.Option.{option_map};
 ghost use Rattle.arrayvec.specs.ArrayVec.{array_vec_len};
 ghost use Rattle.ip_part.specs.Ip.{Carries, lacks_len, lax_refusal, refusal};
-ghost use Rattle.capture_packet.specs.Frames.{IsInPacket, IsInTunnels, IsRead, IsUnread, link_verdict};
+ghost use Rattle.capture_packet.specs.Frames.{IsInPacket, IsInTunnels, IsRead, IsUnread, are_bytes_cut, link_verdict};
 ghost use Rattle.capture_packet.specs.HopLimits as hop_limits;
 ghost use Rattle.capture_packet.specs.Tunnels.{innermost, max_tunnels, payload_packet};
 ghost use Rattle.capture_packet.specs.Verdicts as specs;
@@ -49,13 +49,23 @@ pub fn read_packet<'a>(
     ensures { IsRead link_type order frame.now is_cut result }
 {
     match network_packet(link_type, order, frame) {
-        Ok(Frame::Ip(found)) => read_ip_packet(found.bytes, is_cut && !found.is_end_stated),
+        Ok(Frame::Ip(found)) => read_ip_packet(
+            found.bytes,
+            are_bytes_cut(is_cut, found.is_end_stated),
+        ),
         Ok(Frame::Other(protocol)) => Packet::in_no_tunnel(
             Content::NotIp(protocol),
             Verdict::untested(Untested::OtherProtocol),
         ),
         Err(error) => Packet::in_no_tunnel(Content::Unread, link_verdict(error, is_cut)),
     }
+}
+
+/// Whether the capture cut the bytes after a link header. It cut none of them if the link header states their end.
+fn are_bytes_cut(is_cut: bool, is_end_stated: bool) -> bool
+    ensures { result ≡ are_bytes_cut is_cut is_end_stated }
+{
+    is_cut && !is_end_stated
 }
 
 /// The verdict on a frame that ends within its link header. The packet is rejected, unless the capture cut the frame.
