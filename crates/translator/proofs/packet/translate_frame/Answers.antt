@@ -7,7 +7,7 @@ pub returns-clause-translates : goal.returns-clause-translates
 returns-clause-translates c =
     let frame = c.args.frame.now in
     let packet = c.translate_packet.new.packet in
-    let is_packet = c.in_ok-start-end.ensures in
+    let is_packet = c.in_ok-start.ensures in
     subst (λ after. TranslatesFrame c.args.table.now c.args.link_type c.args.order frame after c.translate_packet.result)
     (sym (put_between frame packet _ _ is_packet.ordered))
     (frame_translated c.args.table.now c.args.link_type c.args.order frame packet _ _ c.translate_packet.result is_packet
