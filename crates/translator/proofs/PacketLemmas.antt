@@ -1,5 +1,5 @@
 -- Lemmas of the translation of packets.
-use Rattle.std.proofs.Common.{◌≡◌, ◌≤◌, ◌+◌, ◌-◌, ◌++◌, ◌∙◌, ℕ, Bool, List, Option, Result, Ok, Err, IfOk, arith, ap, drop, take, length, refl, sym, inl, inr}
+use Rattle.std.proofs.Common.{◌≡◌, ◌≤◌, ◌+◌, ◌-◌, ◌++◌, ◌∙◌, ℕ, Bool, List, Option, Result, Ok, Err, IfOk, arith, ap, drop, take, refl, sym, inl, inr}
 use Rattle.std.proofs.lemmas.List.{drop-drop, drop-take, take-append-drop, take-take}
 use Rattle.std.specs.List.{slice_range}
 use borrow.Rule.Slice.PartMut.{Post-is, put_mid}
