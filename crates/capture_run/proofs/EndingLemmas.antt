@@ -69,7 +69,7 @@ reports_packets choice (Some all) (Some rest) reader ended before after counted 
     let of_file : IsReadToEnd ended → CountsFile choice all ended before after =
     λ is_end. record { reader = reader; rest = rest; begins = begins; counts = counts is_end } in
     record {
-      is_report = end_of_packets choice all ended before after _ _ (offset_of last) of_file places.places (λ is. (reader, rest, begins, many is));
+      is_report = end_of_packets choice all ended before after _ _ (offset_of last) of_file places.1.places (λ is. (reader, rest, begins, many is));
       counts = of_file;
-      kept = λ at. absurd (not_at_header ended _ _ (offset_of last) places.places at);
+      kept = λ at. absurd (not_at_header ended _ _ (offset_of last) places.1.places at);
     }

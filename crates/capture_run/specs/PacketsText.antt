@@ -9,7 +9,7 @@ use Rattle.capture_file.specs.declared.packet_time.PacketTime.{PacketTime}
 use Rattle.capture_facts.specs.FactsText.{facts_text}
 use Rattle.capture_packet.specs.Frames.{max_packet_len}
 use Rattle.capture_json.specs.JsonSummary.{json_summary}
-use Rattle.capture_run.specs.Report.{CountsEach, IsAnsweredBy, IsPacketOf, IsReadToEnd, ReportsOne, info_of, packet_time}
+use Rattle.capture_run.specs.Report.{CountsEach, IsAnsweredBy, IsPacketOf, IsReadToEnd, PlacesAfter, ReportsOne, info_of, packet_time}
 use Rattle.capture_run.specs.ReportText.{IsTextOfOne}
 use Rattle.capture_run.specs.Runs.{EndsAtHeader}
 use Rattle.capture_summary.specs.SummaryTables.{SummaryTables}
@@ -49,11 +49,13 @@ EndsAfter reader packets ended bytes =
     (next : NextPacket) × HasPackets max_packet_len reader bytes packets next × IsAnsweredBy next (length packets + 1) ended
 
 -- These packets are at the start of the bytes. The chosen packets were counted, one after the other, and this is the text of the packets.
--- The first packet has number 1, whether it is chosen or not. If the bytes were read to their end, these are all packets.
+-- The first packet has number 1, whether it is chosen or not. If the bytes were read to their end, these are all packets. An error within
+-- a record or block after them contains the next number, and the place where the record or block begins.
 pub record WritesPackets (reader : CaptureReader) (parts : Parts) (first : Option PacketTime) (left : Option (List ℕ)) (ended : Result (Unit {0}) CaptureError) (before after : SummaryTables) (text : List ℕ) : Type 0 where
   pub packets : List FilePacket
   pub are_first : IfSome left (BeginsWithPackets max_packet_len reader packets)
   pub are_all : IsReadToEnd ended → IfSome left (EndsAfter reader packets ended)
+  pub places : (last : CaptureReader) × PlacesAfter reader left packets before.packets last ended
   pub counted : CountsEach parts.choice before packets after
   pub is_text : IsPacketsText parts 1 first packets text
 

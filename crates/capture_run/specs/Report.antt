@@ -174,12 +174,15 @@ IsPlaced (Err (RecordCutOff number offset required_len len)) = Unit {0}
 IsPlaced (Err (Read number offset error)) = Unit {0}
 IsPlaced other = ⊥
 
--- After the packets that were read, and the packets that were counted of other captures, an error within a record or block contains the
--- next number, and the place where the record or block begins. The reader that is left is there.
-pub record PlacesEnd (reader : CaptureReader) (left : Option (List ℕ)) (counted : ℕ) (after : CaptureReader) (ended : Result (Unit {0}) CaptureError) : Type 0 where
-  pub packets : List FilePacket
+-- After these packets, and the packets that were counted of other captures, an error within a record or block contains the next number,
+-- and the place where the record or block begins. The reader that is left is there.
+pub record PlacesAfter (reader : CaptureReader) (left : Option (List ℕ)) (packets : List FilePacket) (counted : ℕ) (after : CaptureReader) (ended : Result (Unit {0}) CaptureError) : Type 0 where
   pub still_left : Option (List ℕ)
   pub still_reader : CaptureReader
   pub reads : ReadsPackets max_packet_len reader left still_left still_reader packets
   pub places : PlacesError (counted + length packets) (length packets + 1) (offset_of after) ended
   pub seeks : IsPlaced ended → Seeks max_packet_len still_reader still_left after
+
+-- the same after the packets that were read
+abbrev pub PlacesEnd : CaptureReader → Option (List ℕ) → ℕ → CaptureReader → Result (Unit {0}) CaptureError → Type 0
+PlacesEnd reader left counted after ended = (packets : List FilePacket) × PlacesAfter reader left packets counted after ended

@@ -79,8 +79,49 @@ loop-number-preserved g c =
       written-push initial.parts now initial.first packets next.packet line _ contents new_contents wrote (omega (arith, number)) one.is_text appended,
     )
 
+-- an error names the packet after the packets read
+pub returns-in-Some-clause-places : goal.returns-in-Some-clause-places
+returns-in-Some-clause-places g c =
+    let (packets, read, counted, number, most, len, parts, silent, within, time, last, wrote) = c.loop-number.invariant in (
+      packets,
+      record {
+        still_left = g.R.Read.remaining c.loop-number.input;
+        still_reader = c.loop-number.reader;
+        reads = read;
+        places = rw number at (rw c.in-Some.is at c.in_ok-ended.ensures.places) (c.args.packets.now.summary.packets + length packets);
+        seeks = rw c.in-Some.is at c.in_ok-ended.ensures.seeks;
+      },
+    )
+
+pub returns-clause-places : goal.returns-clause-places
+returns-clause-places g c =
+    let (packets, read, counted, number, most, len, parts, silent, within, time, last, wrote) = c.loop-number.invariant in (
+      packets,
+      record {
+        still_left = g.R.Read.remaining c.loop-number.input;
+        still_reader = c.loop-number.reader;
+        reads = read;
+        places = omega (arith, number, c.packets-room.ensures.packets, ap (λ tables. tables.packets) c.summary.ensures, c.loop-number-test.false);
+        seeks = λ placed. absurd placed;
+      },
+    )
+
+pub returns-then-is_full-clause-places : goal.returns-then-is_full-clause-places
+returns-then-is_full-clause-places g c =
+    let (packets, read, counted, number, most, len, parts, silent, within, time, last, wrote) = c.loop-number.invariant in (
+      packets,
+      record {
+        still_left = g.R.Read.remaining c.loop-number.input;
+        still_reader = c.loop-number.reader;
+        reads = read;
+        places = tt;
+        seeks = λ placed. absurd placed;
+      },
+    )
+
 -- the written text is the text of the counted packets
 pub returns-in-Some-clause-text : goal.returns-in-Some-clause-text
+unfolding returns-in-Some-clause-places
 returns-in-Some-clause-text g c =
     let (packets, read, counted, number, most, len, parts, silent, within, time, last, wrote) = c.loop-number.invariant in
     let reader = c.args.reader.now in
@@ -97,6 +138,7 @@ returns-in-Some-clause-text g c =
             ends_after reader first packets ends.next _
             (has_packets max_packet_len reader c.loop-number.reader first left packets ends.next read ends.ends)
             (rw number at ends.answered);
+        places = (_, (returns-in-Some-clause-places g c).1);
         counted = rw next.0 counted;
         is_text = wrote.1;
       },
@@ -104,6 +146,7 @@ returns-in-Some-clause-text g c =
     )
 
 pub returns-clause-text : goal.returns-clause-text
+unfolding returns-clause-places
 returns-clause-text g c =
     let (packets, read, counted, number, most, len, parts, silent, within, time, last, wrote) = c.loop-number.invariant in
     let reader = c.args.reader.now in (
@@ -112,6 +155,7 @@ returns-clause-text g c =
         packets = packets;
         are_first = begins_with_packets max_packet_len reader c.loop-number.reader (g.R.Read.remaining c.args.input.now) (g.R.Read.remaining c.loop-number.input) packets read;
         are_all = λ is_end. absurd is_end;
+        places = (_, (returns-clause-places g c).1);
         counted = counted;
         is_text = wrote.1;
       },
@@ -120,6 +164,7 @@ returns-clause-text g c =
 
 -- when the limit is reached, nothing after the packets read is counted or written
 pub returns-then-is_full-clause-text : goal.returns-then-is_full-clause-text
+unfolding returns-then-is_full-clause-places
 returns-then-is_full-clause-text g c =
     let (packets, read, counted, number, most, len, parts, silent, within, time, last, wrote) = c.loop-number.invariant in
     let reader = c.args.reader.now in (
@@ -128,23 +173,12 @@ returns-then-is_full-clause-text g c =
         packets = packets;
         are_first = begins_with_packets max_packet_len reader c.loop-number.reader (g.R.Read.remaining c.args.input.now) (g.R.Read.remaining c.loop-number.input) packets read;
         are_all = λ is_end. absurd is_end;
+        places = (_, (returns-then-is_full-clause-places g c).1);
         counted = counted;
         is_text = wrote.1;
       },
       wrote.2,
     )
-
-pub returns-then-is_full-clause-places : goal.returns-then-is_full-clause-places
-returns-then-is_full-clause-places g c =
-    let (packets, read, counted, number, most, len, parts, silent, within, time, last, wrote) = c.loop-number.invariant in
-    record {
-      packets = packets;
-      still_left = g.R.Read.remaining c.loop-number.input;
-      still_reader = c.loop-number.reader;
-      reads = read;
-      places = tt;
-      seeks = λ placed. absurd placed;
-    }
 
 pub returns-then-is_full-clause-limit : goal.returns-then-is_full-clause-limit
 returns-then-is_full-clause-limit g c =
@@ -181,31 +215,6 @@ returns-in_err-ended-clause-after_packets g c =
       packets-push max_packet_len c.args.reader.now c.loop-number.reader c.report_next.new.reader _ (g.R.Read.remaining c.loop-number.input)
           (g.R.Read.remaining c.report_next.new.input) packets packet read one,
     )
-
--- an error names the packet after the packets read
-pub returns-in-Some-clause-places : goal.returns-in-Some-clause-places
-returns-in-Some-clause-places g c =
-    let (packets, read, counted, number, most, len, parts, silent, within, time, last, wrote) = c.loop-number.invariant in
-    record {
-      packets = packets;
-      still_left = g.R.Read.remaining c.loop-number.input;
-      still_reader = c.loop-number.reader;
-      reads = read;
-      places = rw number at (rw c.in-Some.is at c.in_ok-ended.ensures.places) (c.args.packets.now.summary.packets + length packets);
-      seeks = rw c.in-Some.is at c.in_ok-ended.ensures.seeks;
-    }
-
-pub returns-clause-places : goal.returns-clause-places
-returns-clause-places g c =
-    let (packets, read, counted, number, most, len, parts, silent, within, time, last, wrote) = c.loop-number.invariant in
-    record {
-      packets = packets;
-      still_left = g.R.Read.remaining c.loop-number.input;
-      still_reader = c.loop-number.reader;
-      reads = read;
-      places = omega (arith, number, c.packets-room.ensures.packets, ap (λ tables. tables.packets) c.summary.ensures, c.loop-number-test.false);
-      seeks = λ placed. absurd placed;
-    }
 
 -- the reader that is left after the packets read
 pub returns-in-Some-clause-leaves : goal.returns-in-Some-clause-leaves

@@ -43,7 +43,7 @@ returns-clause-text g c =
         reader = c.in-Ok.reader;
         still_left = g.R.Read.remaining c.read_header.new.input;
         begins = c.in-Ok.ensures.begins;
-        goes_on = not_at_header c.in_ok-ended.ended _ _ (offset_of c.report_each.new.reader) c.in_ok-ended.ensures.places.places;
+        goes_on = not_at_header c.in_ok-ended.ended _ _ (offset_of c.report_each.new.reader) c.in_ok-ended.ensures.places.1.places;
         writes = writes;
       })),
       appends,
@@ -52,7 +52,7 @@ returns-clause-text g c =
 -- the reader that is left, if the beginning is accepted
 pub returns-clause-capture : goal.returns-clause-capture
 returns-clause-capture g c = (
-  not_at_header c.in_ok-ended.ended _ _ (offset_of c.report_each.new.reader) c.in_ok-ended.ensures.places.places,
+  not_at_header c.in_ok-ended.ended _ _ (offset_of c.report_each.new.reader) c.in_ok-ended.ensures.places.1.places,
   record {
     reader = c.in-Ok.reader;
     still_left = g.R.Read.remaining c.read_header.new.input;
