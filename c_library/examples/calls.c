@@ -1025,6 +1025,35 @@ static void names(void)
     named(25, "unknown status", __LINE__);
 }
 
+/* The name of a verdict, and that its length is answered, also where the buffer is too small for it. */
+static void verdict_named(uint32_t verdict, const char *name, int line)
+{
+    char text[64] = "", front[5] = "";
+    expect(etherparse_verdict_name(verdict, text, sizeof text) == strlen(name) && strcmp(text, name) == 0, line);
+    expect(etherparse_verdict_name(verdict, front, 0) == strlen(name) && front[0] == 0, line);
+    expect(etherparse_verdict_name(verdict, front, 5) == strlen(name) && strncmp(front, name, 4) == 0 && front[4] == 0, line);
+}
+
+#define VERDICT_NAMED(verdict) verdict_named(verdict, #verdict, __LINE__)
+
+static void verdict_names(void)
+{
+    VERDICT_NAMED(ETHERPARSE_VERDICT_RIGHT);
+    VERDICT_NAMED(ETHERPARSE_VERDICT_ABSENT);
+    VERDICT_NAMED(ETHERPARSE_VERDICT_WRONG);
+    VERDICT_NAMED(ETHERPARSE_VERDICT_PARTIAL);
+    VERDICT_NAMED(ETHERPARSE_VERDICT_UNTESTED_FRAGMENT);
+    VERDICT_NAMED(ETHERPARSE_VERDICT_UNTESTED_CUT_OFF);
+    VERDICT_NAMED(ETHERPARSE_VERDICT_UNTESTED_UNKNOWN_DESTINATION);
+    VERDICT_NAMED(ETHERPARSE_VERDICT_UNTESTED_OTHER_PROTOCOL);
+    VERDICT_NAMED(ETHERPARSE_VERDICT_UNTESTED_ZERO_LENGTH);
+    VERDICT_NAMED(ETHERPARSE_VERDICT_UNTESTED_TOO_LONG);
+    verdict_named(0, "unknown verdict", __LINE__);
+    verdict_named(5, "unknown verdict", __LINE__);
+    verdict_named(22, "unknown verdict", __LINE__);
+    verdict_named(UINT32_MAX, "unknown verdict", __LINE__);
+}
+
 /* What a status means, and that its length is answered, also where the buffer is too small for it. */
 static void means(etherparse_status status, const char *meaning, int line)
 {
@@ -1184,6 +1213,7 @@ static void nulls(etherparse_error *told)
     EXPECT(change.removed == 1 && change.added == 2);
     EXPECT(etherparse_error_text(&error, NULL, 0) > 0 && etherparse_status_name(ETHERPARSE_OK, NULL, 0) == 13);
     EXPECT(etherparse_status_text(ETHERPARSE_OK, NULL, 0) == 8);
+    EXPECT(etherparse_verdict_name(ETHERPARSE_VERDICT_RIGHT, NULL, 0) == 24);
     EXPECT(etherparse_icmpv4_checksum_test(NULL, 0, NULL) == ETHERPARSE_STATUS_LENGTH);
     EXPECT(etherparse_icmpv4_checksum_test(NULL, 0, ETHERPARSE_NO_ERROR) == ETHERPARSE_STATUS_LENGTH);
 }
@@ -1214,6 +1244,7 @@ int main(void)
     changes();
     texts();
     names();
+    verdict_names();
     meanings();
     nulls(&error);
     nulls(NULL);

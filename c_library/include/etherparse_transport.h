@@ -423,6 +423,12 @@ ETHERPARSE_CHECK_RESULT ETHERPARSE_NOT_NULL(3)
 etherparse_status etherparse_packet_verdict_lax(const uint8_t *bytes, size_t len, etherparse_ip_packet *packet,
                                                 etherparse_error *error);
 
+/*
+ * Writes the name of a verdict in this file, such as ETHERPARSE_VERDICT_RIGHT, and returns its length, both as etherparse_error_text
+ * does. For a number that is no verdict the name is "unknown verdict". No name of a verdict has more than 63 bytes.
+ */
+size_t etherparse_verdict_name(uint32_t verdict, char *buffer, size_t buffer_len);
+
 /* ---- UDP (RFC 768) ------------------------------------------------------------------------------------------------------- */
 
 /* The length of a UDP header, in bytes. */

@@ -664,6 +664,8 @@ unsafe extern "C" {
     pub fn etherparse_packet_verdict(bytes: *const u8, bytes_len: usize, packet: *mut IpPacket, error: *mut Error) -> u32;
     /// Finds the transport in the IP packet at the front of some bytes, also in one that is cut off, and tests its checksum.
     pub fn etherparse_packet_verdict_lax(bytes: *const u8, bytes_len: usize, packet: *mut IpPacket, error: *mut Error) -> u32;
+    /// Writes the name that the header in C has for a verdict, as `etherparse_error_text` writes a text.
+    pub fn etherparse_verdict_name(verdict: u32, buffer: *mut u8, buffer_len: usize) -> usize;
     /// The sum of nothing.
     pub fn etherparse_sum_new() -> Sum;
     /// Adds the words of some bytes. An odd last byte is the high half of a word, so of several parts only the last may be odd.

@@ -20,4 +20,5 @@ pub mod TcpOptions
 pub mod Text
 pub mod Translations
 pub mod Udp
+pub mod VerdictName
 pub mod Version

@@ -41,5 +41,6 @@ mod udp;
 mod value_type;
 mod verdict;
 mod verdict_kind;
+mod verdict_name;
 mod version;
 mod write;
