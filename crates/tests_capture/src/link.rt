@@ -373,7 +373,7 @@ fn packets_without_a_length_end_with_their_pppoe_payload(rt: HostRuntime) {
         expect_equal(
             &rt,
             &(is_counted, &packet.verdict),
-            &(true, &Verdict::LengthMissing),
+            &(true, &OTHER_PROTOCOL),
         );
     }
 }
