@@ -296,7 +296,7 @@ class Calls(unittest.TestCase):
         with self.assertRaises(ept.Error) as caught:
             ept.verdict(PACKET[:-1])
         error = caught.exception
-        self.assertEqual(str(error), "IP Error: the header counts 31 bytes, and the slice contains 30.")
+        self.assertEqual(str(error), "IP Error: the header counts 31 bytes, and 30 are there.")
         self.assertEqual((error.status, error.required_len, error.len), (Status.IP_PACKET_CUT_OFF, 31, 30))
         self.assertEqual((error.layer, error.actual, error.max_allowed), (0, 0, 0))
         self.assertIsInstance(error, ValueError)

@@ -28,7 +28,7 @@ answer_echo_text echo.ReplySource = codes "Echo Error: the source of the reply i
 -- a packet that is not written
 abbrev pub build_text : BuildSliceWriteError → List ℕ
 build_text (build.Space required_len len) = concat (
-    codes "Space Error: " ∷ decimal required_len ∷ codes " bytes are needed, and the slice has " ∷ decimal len ∷ codes "." ∷ [])
+    codes "Space Error: " ∷ decimal required_len ∷ codes " bytes are needed, and there is room for " ∷ decimal len ∷ codes "." ∷ [])
 build_text (build.PayloadLen actual max_allowed) = concat (
     codes "Payload Error: a payload of " ∷ decimal actual ∷ codes " bytes is above " ∷ decimal max_allowed ∷ codes "." ∷ [])
 build_text (build.TimestampLen error) = len_text error

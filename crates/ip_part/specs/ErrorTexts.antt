@@ -8,7 +8,7 @@ use Rattle.ip_part.specs.declared.ip_error.IpError.TheVariants.{HeaderCutOff, Ve
 -- a packet in which the transport was not found
 abbrev pub ip_text : IpError → List ℕ
 ip_text (HeaderCutOff required_len len) = concat (
-    codes "IP Error: the header has at least " ∷ decimal required_len ∷ codes " bytes, and the slice contains " ∷ decimal len ∷ codes "." ∷ [])
+    codes "IP Error: the header has at least " ∷ decimal required_len ∷ codes " bytes, and " ∷ decimal len ∷ codes " are there." ∷ [])
 ip_text (Version version) = concat (codes "IP Error: the version is " ∷ decimal version ∷ codes "." ∷ [])
 ip_text (HeaderLength header_len) = concat (codes "IP Error: the stated header length is " ∷ decimal header_len ∷ codes "." ∷ [])
 ip_text (TotalLength total_len header_len) = concat (
@@ -17,9 +17,9 @@ ip_text JumboPayloadMissing = codes "IP Error: the payload length is 0, and the 
 ip_text (JumboPayloadLength jumbo_payload_len) = concat (
     codes "IP Error: the jumbo payload length is " ∷ decimal jumbo_payload_len ∷ codes ", which is not above 65535." ∷ [])
 ip_text (PacketCutOff required_len len) = concat (
-    codes "IP Error: the header counts " ∷ decimal required_len ∷ codes " bytes, and the slice contains " ∷ decimal len ∷ codes "." ∷ [])
+    codes "IP Error: the header counts " ∷ decimal required_len ∷ codes " bytes, and " ∷ decimal len ∷ codes " are there." ∷ [])
 ip_text (ExtensionHeaderCutOff protocol offset required_len len) = concat (
-    codes "IP Error: the extension header IpNumber(" ∷ decimal protocol.0 ∷ codes ") at offset " ∷ decimal offset
+    codes "IP Error: the extension header with protocol number " ∷ decimal protocol.0 ∷ codes " at offset " ∷ decimal offset
     ∷ codes " has at least " ∷ decimal required_len ∷ codes " bytes, and " ∷ decimal len ∷ codes " are left." ∷ [])
 ip_text (JumboPayloadUnexpected payload_len) = concat (
     codes "IP Error: the payload length is " ∷ decimal payload_len ∷ codes ", and the hop-by-hop options have a jumbo payload option." ∷ [])

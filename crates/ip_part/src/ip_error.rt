@@ -93,9 +93,9 @@ impl IpError {
             IpError::HeaderCutOff { required_len, len } => ErrorText::from_parts(&[
                 Words("IP Error: the header has at least "),
                 Number(*required_len),
-                Words(" bytes, and the slice contains "),
+                Words(" bytes, and "),
                 Number(*len),
-                Words("."),
+                Words(" are there."),
             ]),
             IpError::Version { version } => ErrorText::from_parts(&[
                 Words("IP Error: the version is "),
@@ -128,9 +128,9 @@ impl IpError {
             IpError::PacketCutOff { required_len, len } => ErrorText::from_parts(&[
                 Words("IP Error: the header counts "),
                 Number(*required_len),
-                Words(" bytes, and the slice contains "),
+                Words(" bytes, and "),
                 Number(*len),
-                Words("."),
+                Words(" are there."),
             ]),
             IpError::ExtensionHeaderCutOff {
                 protocol,
@@ -138,9 +138,9 @@ impl IpError {
                 required_len,
                 len,
             } => ErrorText::from_parts(&[
-                Words("IP Error: the extension header IpNumber("),
+                Words("IP Error: the extension header with protocol number "),
                 Number(usize::from(protocol.0)),
-                Words(") at offset "),
+                Words(" at offset "),
                 Number(*offset),
                 Words(" has at least "),
                 Number(*required_len),

@@ -540,14 +540,14 @@ fn extension_headers_are_refused(rt: HostRuntime) {
 
 #[rattlefmt::skip]
 static TEXTS: [(IpError, &str); 10] = [
-    (IpError::HeaderCutOff { required_len: 20, len: 19 }, "IP Error: the header has at least 20 bytes, and the slice contains 19."),
+    (IpError::HeaderCutOff { required_len: 20, len: 19 }, "IP Error: the header has at least 20 bytes, and 19 are there."),
     (IpError::Version { version: 5 }, "IP Error: the version is 5."),
     (IpError::HeaderLength { header_len: 16 }, "IP Error: the stated header length is 16."),
     (IpError::TotalLength { total_len: 19, header_len: 20 }, "IP Error: the total length 19 is below the header length 20."),
-    (IpError::PacketCutOff { required_len: 47, len: 46 }, "IP Error: the header counts 47 bytes, and the slice contains 46."),
+    (IpError::PacketCutOff { required_len: 47, len: 46 }, "IP Error: the header counts 47 bytes, and 46 are there."),
     (
         IpError::ExtensionHeaderCutOff { protocol: IpNumber(60), offset: 40, required_len: 16, len: 15 },
-        "IP Error: the extension header IpNumber(60) at offset 40 has at least 16 bytes, and 15 are left.",
+        "IP Error: the extension header with protocol number 60 at offset 40 has at least 16 bytes, and 15 are left.",
     ),
     (
         IpError::JumboPayloadMissing,

@@ -246,7 +246,7 @@ fn the_longest_packet_is_built(rt: HostRuntime) {
 
 #[rattlefmt::skip]
 static TEXTS: [(BuildSliceWriteError, &str); 5] = [
-    (BuildSliceWriteError::Space { required_len: 43, len: 42 }, "Space Error: 43 bytes are needed, and the slice has 42."),
+    (BuildSliceWriteError::Space { required_len: 43, len: 42 }, "Space Error: 43 bytes are needed, and there is room for 42."),
     (
         BuildSliceWriteError::PayloadLen { actual: 65_508, max_allowed: 65_507 },
         "Payload Error: a payload of 65508 bytes is above 65507.",

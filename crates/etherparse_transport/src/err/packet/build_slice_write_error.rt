@@ -52,7 +52,7 @@ impl BuildSliceWriteError {
             BuildSliceWriteError::Space { required_len, len } => ErrorText::from_parts(&[
                 Words("Space Error: "),
                 Number(*required_len),
-                Words(" bytes are needed, and the slice has "),
+                Words(" bytes are needed, and there is room for "),
                 Number(*len),
                 Words("."),
             ]),
