@@ -383,7 +383,7 @@ static void tcp_options(void)
                                                   {3, 1, {7, 0, 0, 0, 0, 0, 0, 0}},    {5, 4, {1, 2, 3, 0xffffffff, 0, 0, 0, 0}}};
     static const size_t places[6] = {4, 6, 16, 17, 20, 38};
     static const uint8_t cut_off[3] = {2, 4, 5}, wrong_size[4] = {2, 3, 5, 0}, unknown[2] = {6, 2};
-    etherparse_tcp_option option, many[41];
+    etherparse_tcp_option option, many[40];
     size_t place = 0, i;
     clear();
     for (i = 0; i < 6; i++) {
@@ -415,17 +415,53 @@ static void tcp_options(void)
     memset(many, 0, sizeof many);
     REFUSED(etherparse_tcp_options_write(many, 1, buffer, 64, &written, &error), ETHERPARSE_STATUS_OPTION_UNKNOWN);
     EXPECT(error.option_kind == 0);
-    for (i = 0; i < 41; i++)
+    for (i = 0; i < 40; i++)
         many[i].kind = ETHERPARSE_TCP_OPTION_NOOP;
     OK(etherparse_tcp_options_write(many, 40, buffer, sizeof buffer, &written, &error));
-    REFUSED(etherparse_tcp_options_write(many, 41, buffer, 64, &written, &error), ETHERPARSE_STATUS_OPTIONS_TOO_LONG);
-    EXPECT(error.len == 41 && error.required_len == 40);
     many[0].value_count = 1;
     REFUSED(etherparse_tcp_options_write(many, 1, buffer, 64, &written, &error), ETHERPARSE_STATUS_OPTION_VALUES);
     EXPECT(error.option_kind == ETHERPARSE_TCP_OPTION_NOOP);
     many[0].kind = ETHERPARSE_TCP_OPTION_WINDOW_SCALE;
     many[0].values[0] = 256;
     REFUSED(etherparse_tcp_options_write(many, 1, buffer, 64, &written, &error), ETHERPARSE_STATUS_OPTION_VALUES);
+}
+
+/* Options of more than 40 bytes are refused with the number of their bytes, however many they are, unless one is no option. */
+static void too_many_tcp_options(void)
+{
+    static const etherparse_tcp_option noop = {1, 0, {0, 0, 0, 0, 0, 0, 0, 0}}, timestamp = {8, 2, {7, 9, 0, 0, 0, 0, 0, 0}};
+    static const etherparse_tcp_option unknown = {6, 0, {0, 0, 0, 0, 0, 0, 0, 0}}, long_noop = {1, 1, {0, 0, 0, 0, 0, 0, 0, 0}};
+    /* Options of 4, 3, 2, 10, 18, 26, 34 and 10 bytes. */
+    static const etherparse_tcp_option each[8] = {{2, 1, {1460, 0, 0, 0, 0, 0, 0, 0}}, {3, 1, {7, 0, 0, 0, 0, 0, 0, 0}},
+                                                  {4, 0, {0, 0, 0, 0, 0, 0, 0, 0}},    {5, 2, {1, 2, 0, 0, 0, 0, 0, 0}},
+                                                  {5, 4, {1, 2, 3, 4, 0, 0, 0, 0}},    {5, 6, {1, 2, 3, 4, 5, 6, 0, 0}},
+                                                  {5, 8, {1, 2, 3, 4, 5, 6, 7, 8}},    {8, 2, {7, 9, 0, 0, 0, 0, 0, 0}}};
+    etherparse_tcp_option many[48];
+    size_t i;
+    clear();
+    for (i = 0; i < 48; i++)
+        many[i] = noop;
+    REFUSED(etherparse_tcp_options_write(many, 41, buffer, 64, &written, &error), ETHERPARSE_STATUS_OPTIONS_TOO_LONG);
+    EXPECT(error.len == 41 && error.required_len == 40);
+    EXPECT(error_has_text("TcpOptionWriteError: Not enough memory to store all options in the options section of a tcp header "
+                          "(maximum 40 bytes can be stored, the options would have needed 41 bytes)."));
+    for (i = 0; i < 48; i++)
+        many[i] = timestamp;
+    REFUSED(etherparse_tcp_options_write(many, 5, buffer, 64, &written, &error), ETHERPARSE_STATUS_OPTIONS_TOO_LONG);
+    EXPECT(error.len == 50 && error.required_len == 40);
+    REFUSED(etherparse_tcp_options_write(many, 41, buffer, 64, &written, &error), ETHERPARSE_STATUS_OPTIONS_TOO_LONG);
+    EXPECT(error.len == 410 && error.required_len == 40);
+    many[40] = unknown;
+    REFUSED(etherparse_tcp_options_write(many, 41, buffer, 64, &written, &error), ETHERPARSE_STATUS_OPTION_UNKNOWN);
+    EXPECT(error.option_kind == 6 && error.len == 0 && error.required_len == 0);
+    many[39] = long_noop;
+    REFUSED(etherparse_tcp_options_write(many, 41, buffer, 64, &written, &error), ETHERPARSE_STATUS_OPTION_VALUES);
+    EXPECT(error.option_kind == ETHERPARSE_TCP_OPTION_NOOP && error.len == 0 && error.required_len == 0);
+    for (i = 0; i < 48; i++)
+        many[i] = each[i % 8];
+    REFUSED(etherparse_tcp_options_write(many, 48, buffer, 64, &written, &error), ETHERPARSE_STATUS_OPTIONS_TOO_LONG);
+    EXPECT(error.len == 6 * 107 && error.required_len == 40);
+    EXPECT(holds(none, 0, 77));
 }
 
 static void tcp_raw_options(void)
@@ -1075,7 +1111,7 @@ static void meanings(void)
     MEANS(ETHERPARSE_STATUS_BUFFER_TOO_SMALL, "the buffer is too small");
     MEANS(ETHERPARSE_STATUS_CHECKSUM_WRONG, "the checksum is wrong");
     MEANS(ETHERPARSE_STATUS_CHECKSUM_ABSENT, "the UDP packet has no checksum");
-    MEANS(ETHERPARSE_STATUS_OPTIONS_TOO_LONG, "more than 40 bytes of TCP options, or more than 40 options");
+    MEANS(ETHERPARSE_STATUS_OPTIONS_TOO_LONG, "more than 40 bytes of TCP options");
     MEANS(ETHERPARSE_STATUS_FLAGS_UNKNOWN, "the TCP flags are above 0x1ff");
     MEANS(ETHERPARSE_STATUS_PROTOCOL_UNKNOWN, "the protocol is none of UDP, TCP, ICMPv4 and ICMPv6");
     MEANS(ETHERPARSE_STATUS_OPTIONS_END, "no TCP option is left");
@@ -1228,6 +1264,7 @@ int main(void)
     udp_too_long();
     tcp();
     tcp_options();
+    too_many_tcp_options();
     tcp_raw_options();
     icmpv4();
     icmpv6();

@@ -114,10 +114,7 @@ typedef uint32_t etherparse_status;
 #define ETHERPARSE_STATUS_CHECKSUM_WRONG 5
 /* The checksum field of a UDP packet is 0, which means that the packet has no checksum: no other field. */
 #define ETHERPARSE_STATUS_CHECKSUM_ABSENT 6
-/*
- * More than 40 bytes of TCP options, or more than 40 options: required_len, which is 40, and len, which is the number of bytes, or of
- * options if there are more than 40. The text of the error calls both bytes: an option has at least one byte.
- */
+/* More than 40 bytes of TCP options: required_len, which is 40, and len, the number of bytes of all options. */
 #define ETHERPARSE_STATUS_OPTIONS_TOO_LONG 7
 /* Flags of a TCP header above ETHERPARSE_TCP_FLAGS: actual, max_allowed. */
 #define ETHERPARSE_STATUS_FLAGS_UNKNOWN 8
@@ -687,9 +684,9 @@ etherparse_status etherparse_tcp_raw_option_next(const uint8_t *options, size_t 
  * their length in bytes, 0 to 40, to *written. The options are padded with zeros to whole words of four bytes. Values after the
  * first value_count are ignored.
  *
- * In this order: ETHERPARSE_STATUS_OPTIONS_TOO_LONG: more than 40 options; `len` is their number. ETHERPARSE_STATUS_OPTION_UNKNOWN
- * or ETHERPARSE_STATUS_OPTION_VALUES of the first that is not an option. ETHERPARSE_STATUS_OPTIONS_TOO_LONG: more than 40 bytes; `len`
- * is their number. ETHERPARSE_STATUS_BUFFER_TOO_SMALL.
+ * In this order: ETHERPARSE_STATUS_OPTION_UNKNOWN or ETHERPARSE_STATUS_OPTION_VALUES: an unknown kind, or values that an option of this
+ * kind cannot have, of the first such option; ETHERPARSE_STATUS_OPTIONS_TOO_LONG: more than 40 bytes; `len` is the number of bytes
+ * that all options need, without padding; ETHERPARSE_STATUS_BUFFER_TOO_SMALL.
  */
 ETHERPARSE_CHECK_RESULT ETHERPARSE_NOT_NULL(5)
 etherparse_status etherparse_tcp_options_write(const etherparse_tcp_option *options, size_t option_count, uint8_t *buffer,

@@ -6,6 +6,7 @@
 
 Checksums are also computed here, without the library.
 """
+import ctypes
 import ipaddress
 import os
 import pathlib
@@ -33,6 +34,23 @@ PACKET = bytes.fromhex("4500001f000700004011" "0000" "c0a80101c0a80102" "001504d
 # An echo request from 192.168.1.1 to 192.168.1.2, and the same from 2001:db8::1 to 2001:db8::2.
 REQUEST = bytes.fromhex("4500002000070000" "0901" "2e83" "c0a80101" "c0a80102" "0800192c00010002" "70696e67")
 REQUEST6 = bytes.fromhex("60000000000c3a09" "20010db8" + "00" * 11 + "01" "20010db8" + "00" * 11 + "02" "8000457000010002" "70696e67")
+# How many bytes a TCP option has, by its kind and the number of its values (RFC 9293, section 3.2; RFC 7323; RFC 2018).
+OPTION_LENGTHS = {(1, 0): 1, (2, 1): 4, (3, 1): 3, (4, 0): 2, (5, 2): 10, (5, 4): 18, (5, 6): 26, (5, 8): 34, (8, 2): 10}
+
+
+class WrittenOption(ctypes.Structure):
+    """etherparse_tcp_option, which the module does not use."""
+
+    _fields_ = [("kind", ctypes.c_uint32), ("value_count", ctypes.c_uint32), ("values", ctypes.c_uint32 * 8)]
+
+
+def refusal_of_options(options):
+    """The error of the call that writes TCP options, each given by its kind and the number of its values."""
+    listed = (WrittenOption * len(options))(*options)
+    error, buffer, written = ept._Error(), ctypes.create_string_buffer(40), ctypes.c_size_t(0)
+    ept._library().etherparse_tcp_options_write(
+        listed, ctypes.c_size_t(len(options)), buffer, ctypes.c_size_t(len(buffer)), ctypes.byref(written), ctypes.byref(error))
+    return ept.Error(error)
 
 
 def frames():
@@ -262,6 +280,23 @@ class StoredCapture(unittest.TestCase):
             next(options)
         self.assertEqual((caught.exception.status, caught.exception.option_kind), (Status.OPTION_CUT_OFF, 3))
         self.assertEqual(list(options), [])
+
+    def test_too_many_tcp_options_are_refused_with_their_bytes(self):
+        for option, length in OPTION_LENGTHS.items():
+            for count in (40 // length + 1, 41, 1000):
+                error = refusal_of_options([option] * count)
+                self.assertEqual((error.status, error.required_len, error.len), (Status.OPTIONS_TOO_LONG, 40, count * length), option)
+        self.assertEqual(refusal_of_options([*OPTION_LENGTHS] * 9).len, 9 * sum(OPTION_LENGTHS.values()))
+        self.assertIn(" 41 bytes", str(refusal_of_options([(1, 0)] * 41)))
+
+    def test_what_is_no_tcp_option_is_refused_before_too_many_options(self):
+        for count in (1, 40, 41, 1000):
+            for place in (0, count - 1):
+                for wrong, status in ((6, 0), Status.OPTION_UNKNOWN), ((1, 1), Status.OPTION_VALUES):
+                    options = [(1, 0)] * count
+                    options[place] = wrong
+                    error = refusal_of_options(options)
+                    self.assertEqual((error.status, error.option_kind, error.len), (status, wrong[0], 0))
 
     def test_icmp_is_read(self):
         for number, found, line in self.judged():

@@ -63,9 +63,9 @@ pub enum ErrorKind {
         /// The length of the buffer.
         len: usize,
     },
-    /// More than 40 bytes of TCP options, or more than 40 options.
+    /// More than 40 bytes of TCP options.
     OptionsTooLong {
-        /// How many.
+        /// How many bytes.
         len: usize,
     },
     /// Flags of a TCP header above [`sys::TCP_FLAGS`].

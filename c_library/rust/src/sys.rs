@@ -763,8 +763,8 @@ unsafe extern "C" {
     ) -> u32;
     /// Writes the bytes of some options, padded with zeros to whole words of four bytes, as `etherparse_tcp_header_write` takes them.
     ///
-    /// More than 40 options are refused as their least length, one byte each; otherwise the first that is no element is told, and then
-    /// more than 40 bytes with their length.
+    /// An option that is no element is refused first, also of more than 40 options, and then more than 40 bytes, with the number of
+    /// bytes that all options need.
     pub fn etherparse_tcp_options_write(
         options: *const TcpOption,
         options_len: usize,

@@ -344,7 +344,8 @@ impl core::iter::FusedIterator for RawOptions<'_> {}
 /// Writes the bytes of some options at the front of a buffer, as [`Header::write`] takes them, and returns how many bytes they have,
 /// 0 to 40. Zeros behind them fill the last word of four bytes.
 ///
-/// Errors: `OptionsTooLong`, `OptionUnknown`, `OptionValues`, `BufferTooSmall`; the buffer is as it was.
+/// Errors, in this order: `OptionUnknown` or `OptionValues` of the first option that is none, however many there are; `OptionsTooLong`
+/// with the number of bytes that all options need; `BufferTooSmall`. The buffer is as it was.
 ///
 /// ```
 /// use etherparse_transport_c::tcp::{Options, TcpOption, write_options};
@@ -353,6 +354,8 @@ impl core::iter::FusedIterator for RawOptions<'_> {}
 /// let written = write_options(&options, &mut buffer)?;
 /// assert_eq!(buffer[..written], [2, 4, 0x05, 0xB4, 3, 3, 7, 0]);
 /// assert!(Options::new(&buffer[..written]).eq(options.map(Ok)));
+/// let refused = write_options(&[TcpOption::window_scale(7); 41], &mut buffer).unwrap_err();
+/// assert_eq!(refused.kind(), etherparse_transport_c::ErrorKind::OptionsTooLong { len: 123 });
 /// # Ok::<(), etherparse_transport_c::Error>(())
 /// ```
 pub fn write_options(options: &[TcpOption], buffer: &mut [u8]) -> Result<usize, Error> {

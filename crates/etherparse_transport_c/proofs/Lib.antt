@@ -11,6 +11,7 @@ pub mod QuotedPacketLemmas
 pub mod SumLemmas
 pub mod TcpLemmas
 pub mod TcpOptionLemmas
+pub mod TcpOptionLengthLemmas
 pub mod TcpRawOptionLemmas
 pub mod TextLemmas
 pub mod UdpLemmas

@@ -16,7 +16,7 @@ status_text status =
     else if status == numbers.status_buffer_too_small then codes "the buffer is too small"
     else if status == numbers.status_checksum_wrong then codes "the checksum is wrong"
     else if status == numbers.status_checksum_absent then codes "the UDP packet has no checksum"
-    else if status == numbers.status_options_too_long then codes "more than 40 bytes of TCP options, or more than 40 options"
+    else if status == numbers.status_options_too_long then codes "more than 40 bytes of TCP options"
     else if status == numbers.status_flags_unknown then codes "the TCP flags are above 0x1ff"
     else if status == numbers.status_protocol_unknown then codes "the protocol is none of UDP, TCP, ICMPv4 and ICMPv6"
     else if status == numbers.status_options_end then codes "no TCP option is left"

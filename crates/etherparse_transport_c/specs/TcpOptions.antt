@@ -89,11 +89,9 @@ abbrev pub bytes_of : Result (List TcpOptionElement) EtherparseError → List �
 bytes_of (Ok elements) = pad (join elements)
 bytes_of (Err error) = []
 
--- why options are not joined: more than a header has bytes for, each of one byte at the least; one that is no element; elements of more
--- than 40 bytes: in this order
+-- why options are not joined, however many they are: the first that is no element; or else more than 40 bytes of elements
 abbrev pub options_refusal : List EtherparseTcpOption → Option EtherparseError
-options_refusal options =
-    first_refusal (option_map of_options (too_long (length options))) (refusal_of (gathered [] options))
+options_refusal options = refusal_of (gathered [] options)
 
 -- their bytes, padded to whole words
 abbrev pub joined_bytes : List EtherparseTcpOption → List ℕ

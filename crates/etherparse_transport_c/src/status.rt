@@ -21,7 +21,7 @@ pub const CHECKSUM_WRONG: u32 = 5;
 /// The checksum field of a UDP packet is 0, which says that there is none.
 pub const CHECKSUM_ABSENT: u32 = 6;
 
-/// More than 40 bytes of TCP options, or more than 40 options.
+/// More than 40 bytes of TCP options.
 pub const OPTIONS_TOO_LONG: u32 = 7;
 
 /// A flag of a TCP header that is none of the nine.

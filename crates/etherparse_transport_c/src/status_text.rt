@@ -18,7 +18,7 @@ fn meaning(status: u32) -> &'static str
         status::BUFFER_TOO_SMALL => "the buffer is too small",
         status::CHECKSUM_WRONG => "the checksum is wrong",
         status::CHECKSUM_ABSENT => "the UDP packet has no checksum",
-        status::OPTIONS_TOO_LONG => "more than 40 bytes of TCP options, or more than 40 options",
+        status::OPTIONS_TOO_LONG => "more than 40 bytes of TCP options",
         status::FLAGS_UNKNOWN => "the TCP flags are above 0x1ff",
         status::PROTOCOL_UNKNOWN => "the protocol is none of UDP, TCP, ICMPv4 and ICMPv6",
         status::OPTIONS_END => "no TCP option is left",
