@@ -27,6 +27,12 @@ NOT_REBUILT = {8, 30}
 PLACES = {Protocol.UDP: 6, Protocol.TCP: 16, Protocol.ICMPV4: 2, Protocol.ICMPV6: 2}
 # The TCP options whose values the module knows, with their names in scapy.
 KNOWN_OPTIONS = {kind: TCPOptions[0][kind][0] for kind in TcpOptionKind}
+# The fields of UDP and TCP headers, with their names in scapy.
+UDP_FIELDS = {"source_port": "sport", "destination_port": "dport", "length": "len", "checksum": "chksum"}
+TCP_FIELDS = {
+    "source_port": "sport", "destination_port": "dport", "sequence_number": "seq", "acknowledgment_number": "ack", "flags": "flags",
+    "window_size": "window", "checksum": "chksum", "urgent_pointer": "urgptr",
+}
 # The fields of ICMP messages that have other names in scapy, by kind. Other fields are type, code and checksum.
 ICMPV4_FIELDS = {
     Icmpv4Kind.ECHO_REQUEST: {"id": "id", "sequence_number": "seq"},
@@ -136,30 +142,19 @@ class StoredCapture(unittest.TestCase):
             header = ept.header_addresses(packet)
             self.assertEqual((header.version, str(header.source), str(header.destination)), (ip.version, ip.src, ip.dst), number)
 
-    def test_udp_agrees(self):
-        count = 0
+    def test_udp_and_tcp_agree(self):
+        counts = {Protocol.UDP: 0, Protocol.TCP: 0}
         for number, packet, found, ip, layer in self.judged():
-            if found.header_protocol == Protocol.UDP:
-                udp = ept.read_udp(found.transport.payload)
-                self.assertEqual((udp.source_port, udp.destination_port), (layer.sport, layer.dport), number)
-                self.assertEqual((udp.length, udp.checksum), (layer.len, layer.chksum), number)
-                self.assertEqual(udp.payload, layer.payload.load, number)
-                count += 1
-        self.assertEqual(count, 12)
-
-    def test_tcp_agrees(self):
-        count = 0
-        for number, packet, found, ip, layer in self.judged():
-            if found.header_protocol == Protocol.TCP:
-                tcp = ept.read_tcp(found.transport.payload)
-                self.assertEqual((tcp.source_port, tcp.destination_port), (layer.sport, layer.dport), number)
-                self.assertEqual((tcp.sequence_number, tcp.acknowledgment_number), (layer.seq, layer.ack), number)
-                self.assertEqual((tcp.flags, tcp.window_size), (int(layer.flags), layer.window), number)
-                self.assertEqual((tcp.checksum, tcp.urgent_pointer), (layer.chksum, layer.urgptr), number)
-                self.assertEqual(len(tcp.options), 4 * layer.dataofs - 20, number)
-                self.assertEqual(tcp.payload, bytes(layer.payload), number)
-                count += 1
-        self.assertEqual(count, 4)
+            if found.header_protocol in counts:
+                is_tcp = found.header_protocol == Protocol.TCP
+                segment = (ept.read_tcp if is_tcp else ept.read_udp)(found.transport.payload)
+                names = TCP_FIELDS if is_tcp else UDP_FIELDS
+                self.assertEqual({name: getattr(segment, name) for name in names}, named(layer, names), number)
+                self.assertEqual(segment.payload, getattr(layer.payload, "load", b""), number)
+                if is_tcp:
+                    self.assertEqual(len(segment.options), 4 * layer.dataofs - 20, number)
+                counts[found.header_protocol] += 1
+        self.assertEqual(counts, {Protocol.UDP: 12, Protocol.TCP: 4})
 
     def test_tcp_options_agree(self):
         count = 0
