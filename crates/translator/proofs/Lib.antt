@@ -1,5 +1,6 @@
 pub mod BlockLemmas
 pub mod CaptureLemmas
+pub mod CountLemmas
 pub mod PacketLemmas
 pub mod PassingLemmas
 pub mod RecordLemmas

@@ -1,7 +1,9 @@
 pub mod Blocks
 pub mod Captures
+pub mod Given
 pub mod Outcomes
 pub mod Packets
 pub mod Passing
+pub mod Reasons
 pub mod Records
 pub mod Replacements

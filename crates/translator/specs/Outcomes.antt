@@ -1,11 +1,9 @@
 -- The outcomes of packets, their counts, and the exit status.
-use Rattle.std.specs.Prelude.{ℕ, ◌+◌, ◌-◌, ◌^◌, Bool, true, false, min, slice_index, slice_set, zero, suc, Result, Ok, Err}
+use Rattle.std.specs.Prelude.{ℕ, ◌+◌, ◌-◌, ◌^◌, ◌==◌, Bool, true, false, if◌then◌else◌, min, List, [], ◌∷◌, ◌++◌, flat_map, slice_index, slice_set, zero, suc, Result, Ok, Err, codes, decimal}
 use Rattle.capture_file.specs.declared.classic.capture_header_error.CaptureHeaderError.TheVariants.{CutOff, Magic, Modified, Pcapng, Version}
 use Rattle.capture_file.specs.declared.classic.capture_header_error.CaptureHeaderError.{CaptureHeaderError}
 use Rattle.capture_file.specs.declared.reader.packet_error.PacketError.{PacketError}
 use Rattle.capture_file.specs.declared.reader.packet_error.PacketError.TheVariants as packet_errors
-use Rattle.etherparse_transport.specs.declared.err.packet.translate_error.TranslateError.{TranslateError}
-use Rattle.etherparse_transport.specs.declared.err.packet.translate_error.TranslateError.TheVariants as errors
 use Rattle.translator.specs.declared.capture_error.CaptureError.{CaptureError}
 use Rattle.translator.specs.declared.capture_error.CaptureError.TheVariants.{Block, Header, Read, RecordCutOff, Write}
 use Rattle.translator.specs.declared.counts.Counts.{Counts}
@@ -13,16 +11,6 @@ use Rattle.translator.specs.declared.reason.Reason.{Reason}
 use Rattle.translator.specs.declared.reason.Reason.TheVariants as reasons
 
 -- ---- reasons
-
--- the reason for an error of the translation
-abbrev pub reason_of : TranslateError → Reason
-reason_of (errors.Ip error) = reasons.IpHeaders
-reason_of errors.OtherVersion = reasons.IpHeaders
-reason_of errors.SourceRoute = reasons.SourceRoute
-reason_of (errors.Protocol number) = reasons.Protocol
-reason_of (errors.HeaderCutOff required_len len) = reasons.TransportHeader
-reason_of errors.IcmpMessage = reasons.IcmpMessage
-reason_of errors.QuotedPacket = reasons.QuotedPacket
 
 -- the place of the count of a reason
 abbrev pub place : Reason → ℕ
@@ -50,6 +38,47 @@ counted counts (Ok true) = record counts { translated = one_more counts.translat
 counted counts (Ok false) = record counts { unaffected = one_more counts.unaffected }
 counted counts (Err reason) =
     record counts { by_reason = slice_set counts.by_reason (place reason) (one_more (slice_index counts.by_reason (place reason))) }
+
+-- ---- the lines on standard error
+
+-- the words for a reason
+abbrev pub reason_text : Reason → List ℕ
+reason_text reasons.TooLong = codes "the packet is too long"
+reason_text reasons.LinkType = codes "the link type is not read"
+reason_text reasons.LinkHeader = codes "the link header is cut off"
+reason_text reasons.NotIp = codes "no IP packet"
+reason_text reasons.IpHeaders = codes "the IP headers are rejected or cut off"
+reason_text reasons.SourceRoute = codes "a source route"
+reason_text reasons.Protocol = codes "another protocol, or IPv6 extension headers"
+reason_text reasons.TransportHeader = codes "the transport header is cut off"
+reason_text reasons.IcmpMessage = codes "an ICMP message that is no echo message and no error"
+reason_text reasons.QuotedPacket = codes "an ICMP error about a packet that can't be translated"
+reason_text reasons.QuotedAddresses = codes "an ICMP error about a packet whose addresses have other replacements"
+
+-- all reasons, in the order of their lines
+abbrev pub all_reasons : List Reason
+all_reasons =
+    reasons.TooLong ∷ reasons.LinkType ∷ reasons.LinkHeader ∷ reasons.NotIp ∷ reasons.IpHeaders ∷ reasons.SourceRoute ∷ reasons.Protocol
+    ∷ reasons.TransportHeader ∷ reasons.IcmpMessage ∷ reasons.QuotedPacket ∷ reasons.QuotedAddresses ∷ []
+
+-- the line for a reason in these words, which counts this number of packets; it is left out if there are none
+abbrev pub reason_line : List ℕ → ℕ → List ℕ
+reason_line reason count =
+    if count == 0 then [] else codes "translator: " ++ (decimal count ++ (codes " not translated: " ++ (reason ++ codes "\n")))
+
+-- the line for a reason with its count
+abbrev pub counted_line : Counts → Reason → List ℕ
+counted_line counts reason = reason_line (reason_text reason) (slice_index counts.by_reason (place reason))
+
+-- the line for the packets that were translated, and for those to which no replacement applies
+abbrev pub packets_line : Counts → List ℕ
+packets_line counts =
+    codes "translator: " ++ (decimal counts.translated ++ (codes " packets translated, "
+    ++ (decimal counts.unaffected ++ codes " without a replacement\n")))
+
+-- the table of counts, a line each
+abbrev pub counts_text : Counts → List ℕ
+counts_text counts = packets_line counts ++ flat_map (counted_line counts) all_reasons
 
 -- ---- the exit status
 

@@ -1,5 +1,6 @@
-ghost use Rattle.std.specs.Prelude.{◌≡◌};
-ghost use Rattle.translator.specs.Outcomes.{counted};
+ghost use Rattle.std.specs.Prelude.{◌≡◌, OnOk};
+ghost use Rattle.std.specs.Io.KnownBytes.{Appends};
+ghost use Rattle.translator.specs.Outcomes.{counted, counted_line, counts_text, reason_line};
 ghost use Rattle.translator.specs.Passing.{counted_if};
 
 use crate::reason::Reason;
@@ -33,7 +34,7 @@ impl Counts {
             Ok(true) => self.translated = self.translated.saturating_add(1),
             Ok(false) => self.unaffected = self.unaffected.saturating_add(1),
             Err(reason) => {
-                let place = reason as usize;
+                let place = reason.place();
                 self.by_reason[place] = self.by_reason[place].saturating_add(1);
             }
         }
@@ -53,22 +54,34 @@ impl Counts {
     /// # Errors
     ///
     /// The error of the first write that fails.
-    pub fn write_to<W: Write>(&self, output: &mut W) -> io::Result<()> {
+    pub fn write_to<W: Write>(&self, output: &mut W) -> io::Result<()>
+        ensures { OnOk result (Appends (W.contents output.old) (W.contents output.new) (counts_text self.now)) }
+    {
         writeln!(
             output,
             "translator: {} packets translated, {} without a replacement",
             self.translated, self.unaffected
         )?;
         for reason in Reason::ALL {
-            let count = self.by_reason[reason as usize];
-            if count > 0 {
-                writeln!(
-                    output,
-                    "translator: {count} not translated: {}",
-                    reason.text()
-                )?;
-            }
+            self.write_reason(output, reason)?;
         }
         Ok(())
     }
+
+    /// Writes the line for a reason, unless it counts no packet.
+    fn write_reason<W: Write>(&self, output: &mut W, reason: Reason) -> io::Result<()>
+        ensures { OnOk result (Appends (W.contents output.old) (W.contents output.new) (counted_line self.now reason)) }
+    {
+        write_line(output, reason.text(), self.by_reason[reason.place()])
+    }
+}
+
+/// Writes the line for a reason in these words, unless it counts no packet.
+fn write_line<W: Write>(output: &mut W, reason: &str, count: u64) -> io::Result<()>
+    ensures { OnOk result (Appends (W.contents output.old) (W.contents output.new) (reason_line reason.now count)) }
+{
+    if count == 0 {
+        return Ok(());
+    }
+    writeln!(output, "translator: {count} not translated: {reason}")
 }

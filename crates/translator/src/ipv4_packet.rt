@@ -1,9 +1,10 @@
 //! The translation of an IPv4 packet by the table.
 
-ghost use Rattle.std.specs.Prelude.{◌≡◌, ℕ, IfOk, List};
-ghost use Rattle.net_base.specs.IpHeaders.{ipv4_header_of};
-ghost use Rattle.translator.specs.Packets.{IsIpv4By, IsIpv4Quoting, TranslatesIpv4};
-ghost use Rattle.translator.specs.Replacements.{new_ipv4};
+ghost use Rattle.std.specs.Prelude.{◌≡◌, IfOk, Some};
+ghost use Rattle.net_base.specs.Refusals.{RefusesExactly};
+ghost use Rattle.translator.specs.Given.{ipv4_by_quoted, ipv4_given};
+ghost use Rattle.translator.specs.Packets.{TranslatesIpv4};
+ghost use Rattle.translator.specs.Reasons.{ipv4_quoting_reason, ipv4_unknown_reason};
 
 use crate::packet::quoted_in;
 use crate::reason::Reason;
@@ -28,7 +29,8 @@ pub(crate) fn translate_ipv4_packet(packet: &mut [u8], table: &Table) -> Result<
 
 /// What is replaced in an IPv4 packet.
 fn translation(packet: &[u8], table: &Table) -> Result<Ipv4Translation, Reason>
-    ensures { IfOk result (IsIpv4By table.now packet.now) }
+    ensures given { IfOk result (λ new. new ≡ ipv4_given table.now packet.now) }
+    ensures refused { RefusesExactly result (ipv4_unknown_reason table.now packet.now) }
 {
     let Ok(found) = transport_in_ip_lax(packet) else {
         return Err(Reason::IpHeaders);
@@ -51,9 +53,8 @@ fn quoting_translation(
     table: &Table,
     outer: &Ipv4Translation,
 ) -> Result<Ipv4Translation, Reason>
-    ensures { (packet : List ℕ) → outer.now.source ≡ new_ipv4 table.now.source (ipv4_header_of packet).source
-        → outer.now.destination ≡ new_ipv4 table.now.destination (ipv4_header_of packet).destination
-        → IfOk result (IsIpv4Quoting table.now packet quoted.now) }
+    ensures given { IfOk result (λ new. new ≡ ipv4_by_quoted table.now quoted.now) }
+    ensures refused { RefusesExactly result (ipv4_quoting_reason table.now outer.now (Some quoted.now)) }
 {
     let Ok(found) = transport_in_ip_lax(quoted) else {
         return Err(Reason::QuotedPacket);

@@ -1,9 +1,10 @@
 //! The translation of an IPv6 packet by the table.
 
-ghost use Rattle.std.specs.Prelude.{◌≡◌, ℕ, IfOk, List};
-ghost use Rattle.net_base.specs.IpHeaders.{ipv6_header_of};
-ghost use Rattle.translator.specs.Packets.{IsIpv6By, IsIpv6Quoting, TranslatesIpv6};
-ghost use Rattle.translator.specs.Replacements.{new_ipv6};
+ghost use Rattle.std.specs.Prelude.{◌≡◌, IfOk, Some};
+ghost use Rattle.net_base.specs.Refusals.{RefusesExactly};
+ghost use Rattle.translator.specs.Given.{ipv6_by_quoted, ipv6_given};
+ghost use Rattle.translator.specs.Packets.{TranslatesIpv6};
+ghost use Rattle.translator.specs.Reasons.{ipv6_quoting_reason, ipv6_unknown_reason};
 
 use crate::packet::quoted_in;
 use crate::reason::Reason;
@@ -28,7 +29,8 @@ pub(crate) fn translate_ipv6_packet(packet: &mut [u8], table: &Table) -> Result<
 
 /// What is replaced in an IPv6 packet.
 fn translation(packet: &[u8], table: &Table) -> Result<Ipv6Translation, Reason>
-    ensures { IfOk result (IsIpv6By table.now packet.now) }
+    ensures given { IfOk result (λ new. new ≡ ipv6_given table.now packet.now) }
+    ensures refused { RefusesExactly result (ipv6_unknown_reason table.now packet.now) }
 {
     let Ok(found) = transport_in_ip_lax(packet) else {
         return Err(Reason::IpHeaders);
@@ -51,9 +53,8 @@ fn quoting_translation(
     table: &Table,
     outer: &Ipv6Translation,
 ) -> Result<Ipv6Translation, Reason>
-    ensures { (packet : List ℕ) → outer.now.source ≡ new_ipv6 table.now.source (ipv6_header_of packet).source
-        → outer.now.destination ≡ new_ipv6 table.now.destination (ipv6_header_of packet).destination
-        → IfOk result (IsIpv6Quoting table.now packet quoted.now) }
+    ensures given { IfOk result (λ new. new ≡ ipv6_by_quoted table.now quoted.now) }
+    ensures refused { RefusesExactly result (ipv6_quoting_reason table.now outer.now (Some quoted.now)) }
 {
     let Ok(found) = transport_in_ip_lax(quoted) else {
         return Err(Reason::QuotedPacket);

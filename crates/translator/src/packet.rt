@@ -1,9 +1,9 @@
 //! The translation of the packet in a frame.
 
-ghost use Rattle.std.specs.Prelude.{◌≡◌, IfOk, length};
+ghost use Rattle.std.specs.Prelude.{◌≡◌, IfErr, IfOk, length};
 ghost use Rattle.std.specs.Option.{option_map};
-ghost use Rattle.translator.specs.Packets as specs;
-ghost use Rattle.translator.specs.Packets.{IsPacketIn, TranslatesCaptured, TranslatesFrame, TranslatesPacket};
+ghost use Rattle.translator.specs.Given as specs;
+ghost use Rattle.translator.specs.Packets.{HasNoPacket, IsPacketIn, TranslatesCaptured, TranslatesFrame, TranslatesPacket};
 
 use crate::ipv4_packet::translate_ipv4_packet;
 use crate::ipv6_packet::translate_ipv6_packet;
@@ -59,7 +59,8 @@ fn packet_place(
     order: ByteOrder,
     frame: &[u8],
 ) -> Result<(usize, usize), Reason>
-    ensures { IfOk result (λ place. IsPacketIn link_type order frame.now place.0 place.1) }
+    ensures found { IfOk result (λ place. IsPacketIn link_type order frame.now place.0 place.1) }
+    ensures refused { IfErr result (HasNoPacket link_type order frame.now) }
 {
     match network_packet(link_type, order, frame) {
         Ok(Frame::Ip(found)) => Ok((found.start, found.start + found.bytes.len())),

@@ -1,5 +1,6 @@
-ghost use Rattle.std.specs.Prelude.{◌≡◌};
-ghost use Rattle.translator.specs.Outcomes.{reason_of};
+ghost use Rattle.std.specs.Prelude.{◌≡◌, ◌<◌};
+ghost use Rattle.translator.specs.Outcomes.{place, reason_text};
+ghost use Rattle.translator.specs.Reasons.{of_error};
 
 use etherparse_transport::err::packet::TranslateError;
 
@@ -51,7 +52,7 @@ impl Reason {
 
     /// The reason for an error of the translation.
     pub fn of(error: &TranslateError) -> Reason
-        ensures { result ≡ reason_of error.now }
+        ensures { result ≡ of_error error.now }
     {
         match error {
             TranslateError::Ip(_) | TranslateError::OtherVersion => Reason::IpHeaders,
@@ -63,8 +64,18 @@ impl Reason {
         }
     }
 
+    /// The place of the reason among all reasons.
+    pub fn place(self) -> usize
+        ensures place { result ≡ place self }
+        ensures below { result < 11 }
+    {
+        self as usize
+    }
+
     /// The reason in words.
-    pub fn text(self) -> &'static str {
+    pub fn text(self) -> &'static str
+        ensures { result.now ≡ reason_text self }
+    {
         match self {
             Reason::TooLong => "the packet is too long",
             Reason::LinkType => "the link type is not read",

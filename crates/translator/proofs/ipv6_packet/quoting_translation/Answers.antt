@@ -1,19 +1,49 @@
-use Rattle.std.proofs.Common.{◌≡◌, ◌∙◌, rules}
-use Rattle.translator.proofs.PacketLemmas.{ipv6_destination_kept, ipv6_inner_given, ipv6_source_kept}
+use Rattle.std.proofs.Common.{◌≡◌, ◌∙◌, ap, false, refl, sym, true}
+use Rattle.translator.specs.Reasons.{is_same_ipv6}
+use Rattle.translator.proofs.PacketLemmas.{false_is_true, ipv6_destination_kept, ipv6_inner_given, ipv6_same_is, ipv6_source_kept, is_read_by, no_ipv6, not_read, ports_are, quoted_rules, same_addresses}
 use Rattle.translator.proofs.ipv6_packet.quoting_translation.Goals as goal
 
+pub returns-in_default-clause-refused : goal.returns-in_default-clause-refused
+returns-in_default-clause-refused c =
+    quoted_rules 6 c.args.quoted.now _ false _ (not_read 6 c.args.quoted.now _ c.in_default.ensures.refused) refl
+
+pub returns-in_default-from_slice-clause-refused : goal.returns-in_default-from_slice-clause-refused
+returns-in_default-from_slice-clause-refused c =
+    quoted_rules 6 c.args.quoted.now _ false _ (no_ipv6 c.args.quoted.now c.in-Ok.ensures.refused (λ begins. false_is_true (c.in_default-from_slice.ensures.found.1 begins))) refl
+
 pub returns-then-eq : goal.returns-then-eq
-returns-then-eq c packet outer_source outer_destination =
+returns-then-eq c =
+    let quoted = c.args.quoted.now in
+    let outer = c.args.outer.now in
     let inner = c.ipv6_translation-inner.result in
-    let same : record inner { source = c.args.outer.now.source; destination = c.args.outer.now.destination } ≡ inner = search rules in
+    let begins = c.in-Some.ensures.found.0 refl in
+    let inner_is = ipv6_inner_given c.args.table.now quoted c.destination.result c.source.result c.ports_in.result c.exchanged.result inner
+    (c.destination.ensures ∙ ipv6_destination_kept quoted c.in-Some.header c.in-Some.ensures.kept)
+    (c.source.ensures ∙ ipv6_source_kept quoted c.in-Some.header c.in-Some.ensures.kept)
+    (c.ports_in.ensures ∙ ports_are quoted c.in-Ok.found c.in-Ok.ensures.found c.in-Ok.ensures.stated)
+    c.exchanged.ensures c.ipv6_translation-inner.ensures in
+    let alike : is_same_ipv6 outer inner ≡ true =
+    sym (same_addresses outer.source outer.destination inner.source inner.destination inner.source_port inner.destination_port)
+    ∙ sym c.eq.ensures ∙ c.if-eq.true in
     record {
-      found = c.in-Ok.found;
-      carries = c.in-Ok.ensures.found;
-      given = same ∙ ipv6_inner_given c.args.table.now c.args.quoted.now c.destination.result c.source.result c.in-Ok.found c.ports_in.result
-          c.exchanged.result inner
-          (c.destination.ensures ∙ ipv6_destination_kept c.args.quoted.now c.in-Some.header c.in-Some.ensures.kept)
-          (c.source.ensures ∙ ipv6_source_kept c.args.quoted.now c.in-Some.header c.in-Some.ensures.kept)
-          c.ports_in.ensures c.exchanged.ensures c.ipv6_translation-inner.ensures;
-      source = outer_source;
-      destination = outer_destination;
+      given = ipv6_same_is outer inner _ alike inner_is;
+      refused = quoted_rules 6 quoted _ true true (is_read_by 6 quoted c.in-Ok.ensures.refused begins.is_version_6)
+          (ap (is_same_ipv6 outer) (sym inner_is) ∙ alike);
     }
+
+pub returns-clause-refused : goal.returns-clause-refused
+returns-clause-refused c =
+    let quoted = c.args.quoted.now in
+    let outer = c.args.outer.now in
+    let inner = c.ipv6_translation-inner.result in
+    let begins = c.in-Some.ensures.found.0 refl in
+    let inner_is = ipv6_inner_given c.args.table.now quoted c.destination.result c.source.result c.ports_in.result c.exchanged.result inner
+    (c.destination.ensures ∙ ipv6_destination_kept quoted c.in-Some.header c.in-Some.ensures.kept)
+    (c.source.ensures ∙ ipv6_source_kept quoted c.in-Some.header c.in-Some.ensures.kept)
+    (c.ports_in.ensures ∙ ports_are quoted c.in-Ok.found c.in-Ok.ensures.found c.in-Ok.ensures.stated)
+    c.exchanged.ensures c.ipv6_translation-inner.ensures in
+    let other : is_same_ipv6 outer inner ≡ false =
+    sym (same_addresses outer.source outer.destination inner.source inner.destination inner.source_port inner.destination_port)
+    ∙ sym c.eq.ensures ∙ c.if-eq.false in
+    quoted_rules 6 quoted _ true false (is_read_by 6 quoted c.in-Ok.ensures.refused begins.is_version_6)
+    (ap (is_same_ipv6 outer) (sym inner_is) ∙ other)
