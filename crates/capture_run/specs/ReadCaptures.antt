@@ -1,16 +1,16 @@
 -- The capture whose summary is written: the reader of the capture after its packets.
 use Rattle.std.specs.Prelude.{◌≡◌, ◌⊎◌, Bool, true, false, List, ℕ, Option, Some, None, Result}
-use Rattle.capture_file.specs.CapturePackets.{BeginsInput, EndsWith, FilePacket, ReadsPackets, Seeks}
+use Rattle.capture_file.specs.CapturePackets.{BeginsInput, FilePacket, ReadsPackets, Seeks}
 use Rattle.capture_file.specs.declared.reader.capture_reader.CaptureReader.{CaptureReader}
 use Rattle.capture_file.specs.declared.reader.next_packet.NextPacket.{NextPacket}
 use Rattle.capture_packet.specs.Frames.{max_packet_len}
+use Rattle.capture_run.specs.Report.{ReadsEnd}
 use Rattle.capture_run.specs.Runs.{EndsAtHeader}
 use Rattle.capture_run.specs.declared.capture_error.CaptureError.{CaptureError}
 
 -- the next item was read, and it is not a packet; this is the reader after it
 abbrev pub HasEnded : CaptureReader → Option (List ℕ) → CaptureReader → Type 0
-HasEnded before left after =
-    (next : NextPacket) × (ends : EndsWith max_packet_len before left next) × (after ≡ ends.after)
+HasEnded before left after = (next : NextPacket) × ReadsEnd before left next after
 
 -- No further packet was read. The reader is where the next packet begins, or after the item that ends the packets.
 abbrev pub IsLeft : CaptureReader → Option (List ℕ) → CaptureReader → Type 0

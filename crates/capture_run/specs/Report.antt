@@ -168,11 +168,16 @@ PlacesError packets number offset (Err Enough) = Unit {0}
 PlacesError packets number offset (Err (Header error)) = ⊥
 PlacesError packets number offset (Err (ReadHeader error)) = ⊥
 
--- an error within a record or block
-abbrev pub IsPlaced : Result (Unit {0}) CaptureError → Type 0
-IsPlaced (Err (RecordCutOff number offset required_len len)) = Unit {0}
-IsPlaced (Err (Read number offset error)) = Unit {0}
-IsPlaced other = ⊥
+-- no packet is left: this next item was read, and this is the reader after it
+abbrev pub ReadsEnd : CaptureReader → Option (List ℕ) → NextPacket → CaptureReader → Type 0
+ReadsEnd before left next after = (ends : EndsWith max_packet_len before left next) × (after ≡ ends.after)
+
+-- The reader that an error within a record or block leaves. It does not skip a record or block that is cut off, so it is at the start of
+-- that record or block. If reading failed, it is after blocks that are skipped.
+abbrev pub IsLeftAt : Result (Unit {0}) CaptureError → CaptureReader → Option (List ℕ) → CaptureReader → Type 0
+IsLeftAt (Err (RecordCutOff number offset required len)) before left after = ReadsEnd before left (packets.CutOff required len) after
+IsLeftAt (Err (Read number offset error)) before left after = Seeks max_packet_len before left after
+IsLeftAt other before left after = Unit {0}
 
 -- After these packets, and the packets that were counted of other captures, an error within a record or block contains the next number,
 -- and the place where the record or block begins. The reader that is left is there.
@@ -181,7 +186,7 @@ pub record PlacesAfter (reader : CaptureReader) (left : Option (List ℕ)) (pack
   pub still_reader : CaptureReader
   pub reads : ReadsPackets max_packet_len reader left still_left still_reader packets
   pub places : PlacesError (counted + length packets) (length packets + 1) (offset_of after) ended
-  pub seeks : IsPlaced ended → Seeks max_packet_len still_reader still_left after
+  pub left_at : IsLeftAt ended still_reader still_left after
 
 -- the same after the packets that were read
 abbrev pub PlacesEnd : CaptureReader → Option (List ℕ) → ℕ → CaptureReader → Result (Unit {0}) CaptureError → Type 0

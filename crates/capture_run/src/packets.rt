@@ -1,14 +1,14 @@
 //! From the bytes of a capture to the counts and lines of its packets.
 
 ghost use Rattle.std.specs.Prelude.{◌≡◌, ◌<◌, ◌-◌, ◌^◌, ℕ, List, Err, IfErr, IfOk, IfSome, IsNone, Some, length, take};
-ghost use Rattle.capture_file.specs.CapturePackets.{ArePacketsBeforeCut, BeginsInput, HasPackets, FilePacket, ReadsOne, Seeks, offset_of};
+ghost use Rattle.capture_file.specs.CapturePackets.{ArePacketsBeforeCut, BeginsInput, HasPackets, FilePacket, ReadsOne, offset_of};
 ghost use Rattle.capture_file.specs.declared.reader.next_packet.NextPacket.{NextPacket};
 ghost use Rattle.capture_run.specs.Endings.{HasTooManyPackets};
 ghost use Rattle.capture_packet.specs.Frames.{max_packet_len};
 ghost use Rattle.capture_run.specs.Limits.{EndsByLimit, EndsWithoutLimit, IsWithin, StopsAtLimit, StopsCapture};
 ghost use Rattle.capture_run.specs.PacketsText.{IsCaptureText, WritesPacket, WritesPackets};
 ghost use Rattle.capture_run.specs.ReadCaptures.{IsLeft, IsReaderOf, LeavesReader};
-ghost use Rattle.capture_run.specs.Report.{CountsCapture, CountsEach, IsPlaced, IsReadToEnd, PlacesEnd, PlacesError, ReadsWholePackets, ReportsNext};
+ghost use Rattle.capture_run.specs.Report.{CountsCapture, CountsEach, IsLeftAt, IsReadToEnd, PlacesEnd, PlacesError, ReadsWholePackets, ReportsNext};
 ghost use Rattle.capture_run.specs.Runs.{EndsAtHeader, IsUnread, ReportsCapture};
 ghost use Rattle.capture_text.specs.Written.{AppendsOne};
 ghost use Rattle.capture_run.specs.declared.parts.Lines.TheVariants as Lines;
@@ -141,8 +141,7 @@ fn report_next<R: Read, W: Write>(
         (R.remaining input.old) (R.remaining input.new) reader.new packets.old.summary packets.new.summary)) }
     ensures nothing { IfOk result (λ ended. IfSome ended (λ done. output.new ≡ output.old)) }
     ensures places { IfOk result (λ ended. IfSome ended (λ done. (packets : ℕ) → PlacesError packets number (offset_of reader.new) done)) }
-    ensures seeks { IfOk result (λ ended. IfSome ended (λ done. IsPlaced done
-        → Seeks max_packet_len reader.old (R.remaining input.old) reader.new)) }
+    ensures left_at { IfOk result (λ ended. IfSome ended (λ done. IsLeftAt done reader.old (R.remaining input.old) reader.new)) }
     ensures leaves { IfOk result (λ ended. IfSome ended (λ done. IsLeft reader.old (R.remaining input.old) reader.new)) }
     ensures unlimited { IfOk result (λ ended. IfSome ended EndsWithoutLimit) }
     ensures after_packet { IfErr result (λ error. (packet : FilePacket)

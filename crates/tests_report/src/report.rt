@@ -319,7 +319,7 @@ const SIMPLE_END: &[u8] = b"\0\0\0\x30\0\0\0";
 
 /// The parts of files, and the status, the output and the errors of a report of each.
 #[rattlefmt::skip]
-const PCAPNG_FILES: [(&[&[u8]], u8, &str, &str); 4] = [
+const PCAPNG_FILES: [(&[&[u8]], u8, &str, &str); 5] = [
     (&[SECTION, RAW_IP, OTHER_BLOCK, ENHANCED, &UDP, ENHANCED_END], 0, LINE, ""),
     (&[SECTION, RAW_IP, OTHER_LINK, ENHANCED, &UDP, ENHANCED_END, ENHANCED_OF_SECOND, &UDP, ENHANCED_END], 0,
      "1 00:00:00.000000 length 29: 192.0.2.1:7 > 192.0.2.2:9 UDP length 9, payload 1; checksum right\n2 -00:00:00.000004994 length 29: link type 147\n",
@@ -327,6 +327,8 @@ const PCAPNG_FILES: [(&[&[u8]], u8, &str, &str); 4] = [
     (&[SECTION, RAW_IP, SIMPLE, &UDP, SIMPLE_END], 0, "1 - length 29: 192.0.2.1:7 > 192.0.2.2:9 UDP length 9, payload 1; checksum right\n", ""),
     (&[SECTION, RAW_IP, ENHANCED, &UDP, ENHANCED_END, ENHANCED_OF_SECOND, &UDP, ENHANCED_END], 1, LINE,
      "capture_report: At byte 112 of the file: The packet is of interface 1, and the section has 1.\n"),
+    (&[SECTION, RAW_IP, OTHER_BLOCK, ENHANCED, &UDP], 1, "",
+     "capture_report: Packet 1, at byte 60 of the capture: its record has at least 64 bytes, and 57 are left.\n"),
 ];
 
 #[test]

@@ -89,7 +89,7 @@ returns-in-Some-clause-places g c =
         still_reader = c.loop-number.reader;
         reads = read;
         places = rw number at (rw c.in-Some.is at c.in_ok-ended.ensures.places) (c.args.packets.now.summary.packets + length packets);
-        seeks = rw c.in-Some.is at c.in_ok-ended.ensures.seeks;
+        left_at = rw c.in-Some.is at c.in_ok-ended.ensures.left_at;
       },
     )
 
@@ -102,7 +102,7 @@ returns-clause-places g c =
         still_reader = c.loop-number.reader;
         reads = read;
         places = omega (arith, number, c.packets-room.ensures.packets, ap (λ tables. tables.packets) c.summary.ensures, c.loop-number-test.false);
-        seeks = λ placed. absurd placed;
+        left_at = tt;
       },
     )
 
@@ -115,7 +115,7 @@ returns-then-is_full-clause-places g c =
         still_reader = c.loop-number.reader;
         reads = read;
         places = tt;
-        seeks = λ placed. absurd placed;
+        left_at = tt;
       },
     )
 

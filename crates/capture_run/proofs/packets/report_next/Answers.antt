@@ -5,8 +5,8 @@ use Rattle.capture_file.specs.PcapngSteps.{ReadsPacket}
 use Rattle.capture_file.specs.declared.reader.capture_reader.CaptureReader.{CaptureReader}
 use Rattle.capture_file.specs.declared.reader.captured_packet.CapturedPacket.{CapturedPacket}
 use Rattle.capture_file.specs.declared.reader.next_packet.NextPacket.{NextPacket}
-use Rattle.capture_file.specs.declared.reader.next_packet.NextPacket.TheVariants.{Refused, TooLong, Whole}
-use Rattle.capture_run.proofs.ReadLemmas.{has_ended}
+use Rattle.capture_file.specs.declared.reader.next_packet.NextPacket.TheVariants.{CutOff, Refused, TooLong, Whole}
+use Rattle.capture_run.proofs.ReadLemmas.{reads_end}
 use Rattle.capture_run.proofs.ReportLemmas.{at_error}
 use Rattle.capture_packet.specs.Frames.{max_packet_len}
 use Rattle.capture_run.proofs.packets.report_next.Goals as goal
@@ -86,9 +86,17 @@ returns-in_err-add_too_long-in-Ok-TooLong-clause-after_packet g c =
       reads_one _ _ _ _ c.next_packet.new.buffer _ (TooLong packet) _ (omega arith) c.in-Ok-TooLong.field-0-is c.in-Ok-TooLong.ensures.reads refl,
     )
 
--- ---- a block that can't be read
+-- ---- a record or block that is cut off, or a block that can't be read
+
+pub returns-in-Ok-CutOff-clause-left_at : goal.returns-in-Ok-CutOff-clause-left_at
+returns-in-Ok-CutOff-clause-left_at g c =
+    reads_end _ _ _ _ c.next_packet.new.buffer _ (CutOff c.in-Ok-CutOff.required_len c.in-Ok-CutOff.len) (omega arith)
+    c.in-Ok-CutOff.field-0-is c.in-Ok-CutOff.ensures.reads refl
 
 pub returns-in-Ok-Refused-clause-leaves : goal.returns-in-Ok-Refused-clause-leaves
 returns-in-Ok-Refused-clause-leaves g c =
-    inr (has_ended _ _ _ _ c.next_packet.new.buffer _ (Refused c.in-Ok-Refused.error) (omega arith) c.in-Ok-Refused.field-0-is
-    c.in-Ok-Refused.ensures.reads refl)
+    inr (
+      Refused c.in-Ok-Refused.error,
+      reads_end _ _ _ _ c.next_packet.new.buffer _ (Refused c.in-Ok-Refused.error) (omega arith) c.in-Ok-Refused.field-0-is
+          c.in-Ok-Refused.ensures.reads refl,
+    )
