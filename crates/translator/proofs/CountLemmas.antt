@@ -1,5 +1,5 @@
 -- The lines of the counts.
-use Rattle.std.proofs.Common.{◌≡◌, ◌+◌, ◌<◌, ◌∙◌, ℕ, List, [], Option, ap, get_or, length, subst, sym, take}
+use Rattle.std.proofs.Common.{◌+◌, ◌<◌, ◌∙◌, ℕ, List, [], Option, ap, get_or, length, subst, sym, take}
 use Rattle.std.proofs.KnownBytes.{Appends-trans}
 use Rattle.std.proofs.lemmas.List.{flat_map_more, take_more}
 use Rattle.std.specs.Io.KnownBytes.{Appends}

@@ -1,4 +1,4 @@
-use Rattle.std.proofs.Common.{◌≡◌, ◌∙◌, ap, false, None, refl, rules, Some, sym, true}
+use Rattle.std.proofs.Common.{◌≡◌, ◌∙◌, ap, false, refl, rules, Some, sym, true}
 use Rattle.etherparse_transport.specs.Ipv4Translations.{ipv4_translated}
 use Rattle.translator.specs.Reasons.{is_ipv4_nothing}
 use Rattle.translator.proofs.PacketLemmas.{ipv4_nothing_by, ipv4_stays, reason_rules}

@@ -1,5 +1,4 @@
 use Rattle.std.proofs.Common.{◌≡◌, ◌∙◌, ap, IfOk, None, Some, refl, rules, subst, sym}
-use Rattle.net_base.specs.IpHeaders.{ipv4_header_of}
 use Rattle.net_base.specs.Refusals.{RefusesExactly}
 use Rattle.translator.specs.Given.{ipv4_by, ipv4_with, quoted_in, quoted_of}
 use Rattle.translator.specs.Reasons.{ipv4_quoting_reason}

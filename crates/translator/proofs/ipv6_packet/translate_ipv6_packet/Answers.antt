@@ -1,4 +1,4 @@
-use Rattle.std.proofs.Common.{◌≡◌, ◌∙◌, ap, false, None, refl, rules, Some, sym, true}
+use Rattle.std.proofs.Common.{◌≡◌, ◌∙◌, ap, false, refl, rules, Some, sym, true}
 use Rattle.etherparse_transport.specs.Ipv6Translations.{ipv6_translated}
 use Rattle.translator.specs.Reasons.{is_ipv6_nothing}
 use Rattle.translator.proofs.PacketLemmas.{ipv6_nothing_by, ipv6_stays, reason_rules}
