@@ -1,4 +1,4 @@
--- What is replaced in a packet: what the table gives for its addresses and ports, or for those of the packet that an ICMP error is about.
+-- What the table replaces in a packet, by the packet's own addresses and ports. In an ICMP error, those of the quoted packet count.
 use Rattle.std.specs.Prelude.{ℕ, Bool, if◌then◌else◌, is_some, List, drop, Option, Some, None, Result, Ok, Err}
 use Rattle.capture_packet.specs.Contents.{ports_at}
 use Rattle.etherparse_transport.specs.declared.ip.ipv4_translation.Ipv4Translation.{Ipv4Translation}
