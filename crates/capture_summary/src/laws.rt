@@ -4,8 +4,10 @@ ghost use Rattle.std.specs.Prelude.{◌≡◌, ◌↔◌, ℕ, IsTrue, List, Opt
 ghost use Rattle.capture_summary.specs.declared.flow.Flow.{Flow};
 ghost use Rattle.capture_summary.specs.Conversations.{IsOneConversation, is_one_conversation, is_same_flow, reversed};
 ghost use Rattle.capture_summary.specs.CountedPackets.{AreConversationsOf, goes_back, goes_forward, table_of};
+ghost use Rattle.capture_summary.specs.FlowTable.{max_conversations};
+ghost use Rattle.capture_summary.specs.Ranking.{default_top};
 
-use crate::Flow;
+use crate::{BUSIEST, Flow, MAX_CONVERSATIONS};
 
 /// Two flows are counted in the same direction of a row exactly if they are the same.
 pub fn equal_flow(a: &Flow, b: &Flow) -> bool
@@ -34,4 +36,10 @@ pub fn exchanged()
     ensures row { (packet flow : Flow) → is_one_conversation (reversed packet) flow ≡ is_one_conversation packet flow }
     ensures direction { (packet flow : Flow) → is_same_flow flow (reversed flow) ≡ false
         → goes_back flow (reversed packet) ≡ goes_forward flow packet }
+{}
+
+/// The number of conversations that are counted, and how many of the busiest are listed if no other number is requested.
+pub fn limits()
+    ensures counted { MAX_CONVERSATIONS ≡ max_conversations }
+    ensures listed { BUSIEST ≡ default_top }
 {}
