@@ -5,7 +5,7 @@ use super::{
     expect_first_text, expect_ran, run_over,
 };
 use crate::expect::{expect_equal, expect_text};
-use capture_run::{ExitStatus, Format, Lines, Open, Parts, run};
+use capture_run::{ExitStatus, Format, Lines, Open, Parts, WriteError, run};
 use std::alloc::Global;
 use std::hash::RandomState;
 use std::io;
@@ -333,8 +333,8 @@ fn the_summary_is_of_all_captures(rt: HostRuntime) -> Result<(), Fail> {
     Ok(())
 }
 
-/// Stops the test unless a run that can't write one of its errors reports the captures, and then fails. The fault is at the call after
-/// `calls`.
+/// Stops the test unless a run that can't write one of its errors reports the captures, and then returns that fault. The fault is at the
+/// call after `calls`.
 fn expect_without_errors(
     rt: &(impl Abort + AllocGlobal + RandomSource),
     calls: usize,
@@ -354,7 +354,11 @@ fn expect_without_errors(
         &mut output,
         &mut errors,
     );
-    expect_equal(rt, &status.ok(), &None);
+    let kind = match status {
+        Err(WriteError::Write(error)) => Some(error.kind()),
+        _ => None,
+    };
+    expect_equal(rt, &kind, &Some(ErrorKind::BrokenPipe));
     expect_text(rt, output, WITH_MISSING)
 }
 

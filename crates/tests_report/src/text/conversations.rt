@@ -45,10 +45,10 @@ packets of other flows                      1            40
 ";
 
 const THREE_ROWS: &str = "
-busiest conversations                                                                                packets         bytes   packets >       bytes >   packets <       bytes <
-TCP [ffff:ffff:ffff:ffff:ffff:ffff:ffff:ffff]:65535 <> [fffe:fffe:fffe:fffe:fffe:fffe:fffe:fffe]:1 999999999 9999999999999   999999999 9999999999999           0             0
-UDP 192.0.2.1:49152 <> 192.0.2.2:53                                                                       13          1540          12          1500           1            40
-UDP 192.0.2.1:49152 <> 192.0.2.2:53                                                                18446744073709551615 18446744073709551615 18446744073709551615 18446744073709551615           1            40
+busiest conversations                                                                                    packets         bytes   packets >       bytes >   packets <       bytes <
+TCP [ffff:ffff:ffff:ffff:ffff:ffff:ffff:ffff]:65535 <> [fffe:fffe:fffe:fffe:fffe:fffe:fffe:fffe]:65535 999999999 9999999999999   999999999 9999999999999           0             0
+UDP 192.0.2.1:49152 <> 192.0.2.2:53                                                                           13          1540          12          1500           1            40
+UDP 192.0.2.1:49152 <> 192.0.2.2:53                                                                    18446744073709551615 18446744073709551615 18446744073709551615 18446744073709551615           1            40
 ";
 
 /// The rows from one number up to another, the counts of packets without ports and of those that found no room, and the table.
@@ -71,10 +71,11 @@ fn row(flow: Flow, forward: Count, reverse: Count) -> ConversationCount {
 #[test]
 fn the_table_of_conversations(rt: HostRuntime) -> Result<(), Fail> {
     let ipv4 = flow_of_ipv4();
+    // No name is longer.
     let ipv6 = Flow {
         protocol: FlowProtocol::Tcp,
         source: SocketAddr::new(IpAddr::from([0xFFFFu16; 8]), 65535),
-        destination: SocketAddr::new(IpAddr::from([0xFFFEu16; 8]), 1),
+        destination: SocketAddr::new(IpAddr::from([0xFFFEu16; 8]), 65535),
     };
     let rows = [
         row(ipv6, MANY, NONE),
