@@ -30,6 +30,16 @@ def header_numbers():
             yield enumerator or macro
 
 
+def header_lengths():
+    """The names of the header's lengths, which are macros."""
+    return re.findall(r"^#define (ETHERPARSE_\w+_LEN) \d+$", HEADER.read_text(), re.M)
+
+
+def header_structs():
+    """The names of the header's structs."""
+    return re.findall(r"^typedef struct (\w+) {", HEADER.read_text(), re.M)
+
+
 def prototypes():
     """The prototype of each call in the header, in one line, without comments and attributes. One that isn't read is an error."""
     text = re.sub(r"/\*.*?\*/", "", HEADER.read_text(), flags=re.S)

@@ -17,10 +17,11 @@ variable ETHERPARSE_TRANSPORT_LIBRARY contains the path of the library. If it is
 A packet is an IP packet in `bytes`, or in another object that `bytes()` accepts, such as a `bytearray`. It begins at the IP header: remove
 the header of Ethernet before. A message is the transport in the packet, header and payload: `found.transport.payload`.
 
-Calls can be made from several threads at the same time. Python 3.8 is needed.
+Calls can be made from several threads at the same time. What the functions return or raise can be pickled. Python 3.8 is needed.
 """
 from __future__ import annotations
 
+import copyreg
 import ctypes
 import enum
 import functools
@@ -59,6 +60,10 @@ class _Number(enum.IntEnum):
         number._name_ = f"UNKNOWN_{value}"
         number._value_ = value
         return number
+
+    def __reduce_ex__(self, protocol: Any) -> tuple:
+        """By its number, since some versions of Python pickle a member by its name, which an unknown number does not have."""
+        return type(self), (int(self),)
 
 
 class Status(_Number):
@@ -467,15 +472,21 @@ def _version_text(number: int) -> str:
 
 @functools.lru_cache(maxsize=None)
 def _library() -> ctypes.CDLL:
-    """The library, which is loaded by the first call. A library with another interface is refused."""
-    library = ctypes.CDLL(os.environ.get("ETHERPARSE_TRANSPORT_LIBRARY") or f"libetherparse_transport.so.{_INTERFACE}")
-    for name, (result, *parameters) in _CALLS.items():
-        call = getattr(library, f"etherparse_{name}")
-        call.restype = result
-        call.argtypes = parameters
-    version = _version_text(library.etherparse_version())
-    if not version.startswith(f"{_INTERFACE}."):
-        raise ImportError(f"the library has version {version}, and this module needs version {_INTERFACE}")
+    """The library, which is loaded by the first call. If it is missing or has another interface, this is an `ImportError`."""
+    path = os.environ.get("ETHERPARSE_TRANSPORT_LIBRARY") or f"libetherparse_transport.so.{_INTERFACE}"
+    try:
+        library = ctypes.CDLL(path)
+        # The version comes first: a library with another interface may lack calls, or have calls of other types.
+        library.etherparse_version.restype = _CALLS["version"][0]
+        version = _version_text(library.etherparse_version())
+        if not version.startswith(f"{_INTERFACE}."):
+            raise ImportError(f"the library has version {version}, and this module needs version {_INTERFACE}", path=path)
+        for name, (result, *parameters) in _CALLS.items():
+            call = getattr(library, f"etherparse_{name}")
+            call.restype = result
+            call.argtypes = parameters
+    except (OSError, AttributeError) as error:
+        raise ImportError(f"the library etherparse_transport {_INTERFACE} cannot be used: {error}", path=path) from error
     return library
 
 
@@ -506,6 +517,10 @@ class Error(ValueError):
         self.layer_start_offset: int = error.layer_start_offset
         self.actual: int = error.actual
         self.max_allowed: int = error.max_allowed
+
+    def __reduce__(self) -> tuple:
+        """The text and the fields. A copy does not call the library."""
+        return copyreg.__newobj__, (type(self), *self.args), vars(self)
 
 
 def _call(name: str, *arguments: Any, results: Collection[int] = (_OK,)) -> int:
@@ -649,7 +664,9 @@ def verdict(packet: Bytes, *, lax: bool = False) -> Verdict:
 
 
 def _packed(address: AnyAddress) -> bytes:
-    """An address in network order, 4 or 16 bytes."""
+    """An address in network order, 4 or 16 bytes. `ip_address` would make 0.0.0.5 of the number 5."""
+    if isinstance(address, int):
+        raise TypeError("a number is no address")
     return ipaddress.ip_address(address).packed
 
 

@@ -6,14 +6,19 @@
 
 Checksums are also computed here, without the library.
 """
+import copy
 import ctypes
 import ipaddress
 import os
 import pathlib
+import pickle
 import re
 import struct
+import subprocess
 import sys
+import tempfile
 import unittest
+from unittest import mock
 
 sys.dont_write_bytecode = True
 import etherparse_transport as ept
@@ -140,6 +145,12 @@ def about(quoted, destination):
     if quoted[0] >> 4 == 4:
         return built("198.51.100.1", destination, Protocol.ICMPV4, struct.pack(">BBHI", 3, 3, 0, 0) + quoted)
     return built("2001:db8::3", destination, Protocol.ICMPV6, struct.pack(">BBHI", 1, 4, 0, 0) + quoted)
+
+
+def copies(it):
+    """What pickle and copy make of it, by each protocol of pickle."""
+    pickled = [pickle.loads(pickle.dumps(it, protocol)) for protocol in range(pickle.HIGHEST_PROTOCOL + 1)]
+    return [*pickled, copy.copy(it), copy.deepcopy(it)]
 
 
 def checked(found):
@@ -372,6 +383,34 @@ class Calls(unittest.TestCase):
             ept.check_udp(PACKET[20:], "192.168.1.1", "::1")
         with self.assertRaises(ValueError):
             ept.check_icmpv6(bytes(8), "192.168.1.1", "192.168.1.2")
+        for number in (5, True):
+            for call in (
+                lambda: ept.check_udp(PACKET[20:], number, "192.168.1.2"), lambda: ept.check_udp(PACKET[20:], "192.168.1.1", number),
+                lambda: ept.answer_echo(REQUEST, source=number), lambda: ept.translate(bytearray(PACKET), destination=number),
+            ):
+                with self.assertRaises(TypeError):
+                    call()
+
+    def test_an_error_can_be_copied(self):
+        for call, packet in ((ept.verdict, PACKET[:-1]), (ept.read_udp, PACKET[20:27]), (ept.transport, b"\x50")):
+            with self.assertRaises(ept.Error) as caught:
+                call(packet)
+            error = caught.exception
+            # A copy does not call the library, which a process that receives it may not have.
+            with mock.patch.object(ept, "_library", side_effect=AssertionError):
+                for copied in copies(error):
+                    self.assertIs(type(copied), ept.Error)
+                    self.assertEqual((str(copied), copied.args, vars(copied)), (str(error), error.args, vars(error)))
+
+    def test_results_can_be_copied(self):
+        tcp = ept.read_tcp(sent("192.168.1.1", 80, "192.168.1.2", Protocol.TCP)[20:])
+        # The kind of the option and the protocol of the last packet have no name.
+        for it in (
+            ept.verdict(PACKET), ept.header_addresses(PACKET), ept.read_udp(PACKET[20:]), tcp, *ept.tcp_options(b"\x4d\x03\x07"),
+            ept.read_icmpv4(REQUEST[20:]), ept.read_icmpv6(REQUEST6[40:]), ept.verdict(PACKET[:9] + bytes([47]) + PACKET[10:]),
+        ):
+            for copied in copies(it):
+                self.assertEqual((copied, repr(copied)), (it, repr(it)))
 
     def test_an_echo_request_is_answered(self):
         for request, host in ((REQUEST, "192.168.1.3"), (REQUEST6, "2001:db8::3")):
@@ -435,7 +474,8 @@ class Calls(unittest.TestCase):
         unknown = REQUEST[:20] + b"\x0f" + REQUEST[21:]
         for packet, source, status in (
             (PACKET, "::1", Status.IP_VERSION), (REQUEST6, "10.0.0.1", Status.IP_VERSION), (b"\x50" + PACKET[1:], None, Status.IP_VERSION),
-            (b"\x46" + PACKET[1:20] + b"\x83\x03\x04\x00" + PACKET[20:], None, Status.TRANSLATE_SOURCE_ROUTE), (PACKET[:27], None, Status.TRANSLATE_HEADER_CUT_OFF),
+            (b"\x46" + PACKET[1:20] + b"\x83\x03\x04\x00" + PACKET[20:], None, Status.TRANSLATE_SOURCE_ROUTE),
+            (PACKET[:27], None, Status.TRANSLATE_HEADER_CUT_OFF),
             (REQUEST6[:6] + b"\x3b" + REQUEST6[7:], None, Status.TRANSLATE_PROTOCOL), (b"", None, Status.IP_HEADER_CUT_OFF),
             (unknown, None, Status.TRANSLATE_ICMP_MESSAGE), (about(REQUEST[:19], "10.0.0.1"), None, Status.TRANSLATE_QUOTED_PACKET),
         ):
@@ -513,6 +553,49 @@ class Calls(unittest.TestCase):
 
     def test_version(self):
         self.assertRegex(ept.library_version(), r"^\d+\.\d+\.\d+$")
+
+
+class OtherLibraries(unittest.TestCase):
+    """A library that the module cannot use is an ImportError, with what the system raised as its cause."""
+
+    @classmethod
+    def setUpClass(cls):
+        # No library is removed before the last test: the system takes a new file with the same inode for the library that it loaded.
+        folder = tempfile.TemporaryDirectory()
+        cls.addClassCleanup(folder.cleanup)
+        cls.folder = pathlib.Path(folder.name)
+
+    def refusal_of(self, path):
+        """The error of the first call with the library at this path."""
+        self.addCleanup(ept._library.cache_clear)
+        ept._library.cache_clear()
+        with mock.patch.dict(os.environ, {"ETHERPARSE_TRANSPORT_LIBRARY": str(path)}), self.assertRaises(ImportError) as caught:
+            ept.transport(PACKET)
+        self.assertEqual(caught.exception.path, str(path))
+        return caught.exception
+
+    def refusal_of_library(self, text):
+        """The error of the first call with a library that consists of this C code."""
+        path = self.folder / f"{len(list(self.folder.iterdir()))}.so"
+        subprocess.run([os.environ.get("CC", "cc"), "-shared", "-fPIC", "-x", "c", "-", "-o", path], input=text.encode(), check=True)
+        return self.refusal_of(path)
+
+    def test_a_missing_library(self):
+        self.assertIsInstance(self.refusal_of("/no/such/library.so").__cause__, OSError)
+
+    def test_a_library_with_another_interface(self):
+        for version, text in (("0x000300", "0.3.0"), ("0x000500", "0.5.0"), ("0x002800", "0.40.0"), ("0x80000400", "32768.4.0")):
+            refusal = self.refusal_of_library(f"unsigned etherparse_version(void) {{ return {version}; }}")
+            self.assertEqual(str(refusal), f"the library has version {text}, and this module needs version {ept._INTERFACE}")
+            self.assertIsNone(refusal.__cause__)
+
+    def test_a_library_without_a_call(self):
+        for text, missing in (
+            ("int other;", "etherparse_version"), ("unsigned etherparse_version(void) { return 0x000400; }", "etherparse_error_text"),
+        ):
+            refusal = self.refusal_of_library(text)
+            self.assertIsInstance(refusal.__cause__, AttributeError)
+            self.assertIn(missing, str(refusal))
 
 
 if __name__ == "__main__":

@@ -1,7 +1,7 @@
 // SPDX-FileCopyrightText: 2026 The etherparse_transport developers
 // SPDX-License-Identifier: MIT OR Apache-2.0
 //! Why a call refused.
-use crate::sys;
+use crate::{Text, sys};
 use core::fmt;
 
 /// Why a call refused what it was given.
@@ -132,9 +132,9 @@ pub enum ErrorKind {
         /// The length that there is.
         len: usize,
     },
-    /// An IPv6 packet ends within an extension header.
+    /// A packet ends within an extension header of IPv6, or within the authentication header of IPv4.
     IpExtensionCutOff {
-        /// The number of the extension header.
+        /// The number of this header in IP.
         protocol: usize,
         /// Where it starts, from the first byte of the packet.
         layer_start_offset: usize,
@@ -334,9 +334,9 @@ impl Error {
             sys::STATUS_IP_JUMBO_PAYLOAD_MISSING => ErrorKind::IpJumboPayloadMissing,
             sys::STATUS_IP_JUMBO_PAYLOAD_LENGTH => ErrorKind::IpJumboPayloadLength { required_len, len },
             sys::STATUS_IP_JUMBO_PAYLOAD_UNEXPECTED => ErrorKind::IpJumboPayloadUnexpected { payload_len: error.actual },
-            sys::STATUS_IP_JUMBO_PAYLOAD_FRAGMENT => ErrorKind::IpJumboPayloadFragment {
-                layer_start_offset: error.layer_start_offset,
-            },
+            sys::STATUS_IP_JUMBO_PAYLOAD_FRAGMENT => {
+                ErrorKind::IpJumboPayloadFragment { layer_start_offset: error.layer_start_offset }
+            }
             sys::STATUS_CHECKSUM_WRONG => ErrorKind::ChecksumWrong,
             sys::STATUS_ECHO_FRAGMENT => ErrorKind::EchoFragment,
             sys::STATUS_ECHO_NO_REQUEST => ErrorKind::EchoNoRequest,
@@ -352,6 +352,26 @@ impl Error {
             sys::STATUS_TRANSLATE_QUOTED_PACKET => ErrorKind::TranslateQuotedPacket,
             status => ErrorKind::Other { status },
         }
+    }
+
+    /// The name of the status in the header in C.
+    ///
+    /// ```
+    /// let error = etherparse_transport_c::udp::Packet::read(&[]).unwrap_err();
+    /// assert_eq!(&*error.status_name(), "ETHERPARSE_STATUS_LENGTH");
+    /// ```
+    pub fn status_name(&self) -> Text {
+        Text::status_name(self.0.status)
+    }
+
+    /// What the status means, in a few words. The text of the error says more.
+    ///
+    /// ```
+    /// let error = etherparse_transport_c::udp::Packet::read(&[]).unwrap_err();
+    /// assert_eq!(error.status_text().to_string(), "a length is too short or too long");
+    /// ```
+    pub fn status_text(&self) -> Text {
+        Text::status_text(self.0.status)
     }
 
     /// The error as the library fills it.

@@ -2,7 +2,7 @@
 // SPDX-License-Identifier: MIT OR Apache-2.0
 //! The way to the transport layer through IP.
 use crate::canonical::Protocol;
-use crate::{Error, Verdict, answer, sys, verdict};
+use crate::{Error, Text, Verdict, answer, sys, verdict};
 
 /// The addresses that a checksum is taken of, or those of the IP header itself.
 #[derive(Clone, Copy, Debug, PartialEq, Eq, Hash)]
@@ -84,10 +84,11 @@ impl<'a> Transport<'a> {
         answer(status, (), error).map(|()| transport(bytes, &found))
     }
 
-    /// The same, but a packet that is cut off is not refused: its payload is what is there. Of a packet whose header states no length all
-    /// bytes are counted, and `is_length_missing` is true.
+    /// Like [`Transport::read`], but also accepts a packet that is cut off, and a packet whose header states no length. The payload of a
+    /// packet that is cut off is the bytes that are there. In a packet without a length all bytes are counted, and `is_length_missing` is
+    /// true: IPv4 with total length 0, and IPv6 with payload length 0, no jumbo payload length and another next header than 59.
     ///
-    /// Errors: as [`Transport::read`], but for `IpPacketCutOff`.
+    /// Errors: as [`Transport::read`], except `IpPacketCutOff`, `IpJumboPayloadMissing`, and `IpTotalLength` with a total length of 0.
     ///
     /// ```
     /// use etherparse_transport_c::ip::Transport;
@@ -165,6 +166,36 @@ impl ChecksumVerdict {
             number => Untested::Other(number),
         })
     }
+
+    /// The number of the verdict in [`sys`].
+    pub const fn number(self) -> u32 {
+        match self {
+            ChecksumVerdict::Right => sys::VERDICT_RIGHT,
+            ChecksumVerdict::Absent => sys::VERDICT_ABSENT,
+            ChecksumVerdict::Wrong { .. } => sys::VERDICT_WRONG,
+            ChecksumVerdict::Partial { .. } => sys::VERDICT_PARTIAL,
+            ChecksumVerdict::Untested(reason) => match reason {
+                Untested::Fragment => sys::VERDICT_UNTESTED_FRAGMENT,
+                Untested::CutOff => sys::VERDICT_UNTESTED_CUT_OFF,
+                Untested::UnknownDestination => sys::VERDICT_UNTESTED_UNKNOWN_DESTINATION,
+                Untested::OtherProtocol => sys::VERDICT_UNTESTED_OTHER_PROTOCOL,
+                Untested::ZeroLength => sys::VERDICT_UNTESTED_ZERO_LENGTH,
+                Untested::TooLong => sys::VERDICT_UNTESTED_TOO_LONG,
+                Untested::Other(number) => number,
+            },
+        }
+    }
+
+    /// The name of the verdict in the header in C.
+    ///
+    /// ```
+    /// use etherparse_transport_c::ip::{ChecksumVerdict, Untested};
+    /// assert_eq!(&*ChecksumVerdict::Right.name(), "ETHERPARSE_VERDICT_RIGHT");
+    /// assert_eq!(&*ChecksumVerdict::Untested(Untested::CutOff).name(), "ETHERPARSE_VERDICT_UNTESTED_CUT_OFF");
+    /// ```
+    pub fn name(self) -> Text {
+        Text::verdict_name(self.number())
+    }
 }
 
 /// An IP packet that was read, and the verdict on its checksum.
@@ -207,9 +238,23 @@ impl<'a> Packet<'a> {
         answer(status, (), error).map(|()| packet(bytes, &found))
     }
 
-    /// The same, but a packet that is cut off is not refused where its header is there. Its checksum is not tested.
+    /// Like [`Packet::read`], but finds the transport as [`Transport::read_lax`] does. UDP in a packet that is cut off is read as by
+    /// [`udp::Packet::read_lax`](crate::udp::Packet::read_lax), and its checksum is not tested. The checksum of a packet without a length is
+    /// tested if a pseudo header can count its bytes.
     ///
-    /// Errors: as [`Packet::read`], but for `IpPacketCutOff`.
+    /// Errors: as [`Transport::read_lax`], and as `read` of the protocol's packet, or `read_lax` of UDP in a packet that is cut off.
+    ///
+    /// ```
+    /// use etherparse_transport_c::ip::{ChecksumVerdict, Packet, Untested};
+    /// let mut bytes = [0x45, 0, 0, 99, 0, 0, 0, 0, 64, 17, 0, 0, 10, 0, 0, 1, 10, 0, 0, 2, 0, 21, 4, 210, 0, 79, 0, 1];
+    /// let packet = Packet::read_lax(&bytes)?;
+    /// assert_eq!((packet.transport.is_cut_off, packet.verdict), (true, ChecksumVerdict::Untested(Untested::CutOff)));
+    /// // Without a length.
+    /// (bytes[3], bytes[25]) = (0, 8);
+    /// let packet = Packet::read_lax(&bytes)?;
+    /// assert_eq!((packet.transport.is_length_missing, packet.verdict), (true, ChecksumVerdict::Wrong { expected: 0xE6F4 }));
+    /// # Ok::<(), etherparse_transport_c::Error>(())
+    /// ```
     pub fn read_lax(bytes: &'a [u8]) -> Result<Packet<'a>, Error> {
         let (mut found, mut error) = (sys::IpPacket::default(), sys::Error::default());
         // SAFETY: as above.

@@ -2,8 +2,9 @@
 // SPDX-License-Identifier: MIT OR Apache-2.0
 //! Safe calls of the static library `etherparse_transport_c`: UDP, TCP, ICMPv4, ICMPv6 and the Internet checksum.
 //!
-//! A packet is read from a `&[u8]`, which begins where the transport header begins and ends where the IP packet ends, as [`ip`] finds it. What is read
-//! borrows its payload and its options from these bytes. A call that can refuse returns a [`Result`], whose [`Error`] says why.
+//! A packet is read from a `&[u8]`, which begins where the transport header begins and ends where the IP packet ends, as [`ip`] finds
+//! it. What is read borrows its payload and its options from these bytes. A call that can refuse returns a [`Result`], whose [`Error`]
+//! says why.
 //!
 //! A `&[u8]` is never null, a `&mut` overlaps nothing, and each struct is set before it is passed. That is all that the library asks
 //! of a caller, so that no function here is `unsafe`. The calls as they are, are in [`sys`].
@@ -40,9 +41,11 @@ pub mod ip;
 #[allow(missing_docs)]
 pub mod sys;
 pub mod tcp;
+mod text;
 pub mod udp;
 
 pub use error::{Error, ErrorKind, Layer, LenSource, ValueType};
+pub use text::Text;
 
 /// What a test of a checksum says.
 #[derive(Clone, Copy, Debug, PartialEq, Eq, Hash)]
