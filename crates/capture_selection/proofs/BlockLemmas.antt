@@ -1,22 +1,27 @@
 -- The blocks of a pcapng file as parts.
-use Rattle.std.proofs.Common.{◌≡◌, ◌≢◌, ◌<◌, ◌++◌, ◌∙◌, ◌⊎◌, ℕ, List, Option, Result, Some, None, Ok, Err, [], ap, append_assoc, arith, inl, inr, length, refl, subst, sym, append-nil}
+use Rattle.std.proofs.Common.{◌≡◌, ◌≢◌, ◌<◌, ◌++◌, ◌∙◌, ◌⊎◌, ℕ, Bool, true, false, if◌then◌else◌, List, Option, OnErr, Result, Some, None, Ok, Err, [], append_assoc, arith, inl, inr, length, refl, subst, sym, append-nil}
 use Rattle.std.proofs.KnownBytes.{Appends-nil, Consumes-trans}
 use Rattle.std.specs.Io.KnownBytes.{Appends, Consumes}
-use Rattle.capture_file.proofs.PcapngLemmas.{block_len_front}
+use Rattle.capture_file.proofs.PcapngLemmas.{block_header_front}
 use Rattle.capture_file.specs.Pcapng.{block_header, block_refusal}
+use Rattle.capture_file.specs.Packets.{long_block}
 use Rattle.capture_file.specs.PcapngReading.{IsLastBlock, IsNextBlock, ReadsAfter}
+use Rattle.capture_file.specs.PcapngSteps.{is_description, is_packet, refused_at}
 use Rattle.capture_texts.specs.declared.byte_order.ByteOrder.{ByteOrder}
 use Rattle.capture_file.specs.declared.pcapng.block.BlockHeader.{BlockHeader}
 use Rattle.capture_file.specs.declared.pcapng.errors.BlockError.{BlockError}
 use Rattle.capture_file.specs.declared.pcapng.errors.BlockError.TheVariants.{CutOff, LastLength, Magic, SectionLength, TotalLength}
 use Rattle.capture_file.specs.declared.pcapng.read.NextBlock.{NextBlock}
 use Rattle.capture_file.specs.declared.pcapng.read.NextBlock.TheVariants as blocks
+use Rattle.capture_file.specs.declared.reader.next_packet.NextPacket.{NextPacket}
+use Rattle.capture_file.specs.declared.reader.next_packet.NextPacket.TheVariants as packets
+use Rattle.capture_file.specs.declared.reader.packet_error.PacketError.TheVariants as errors
 use Rattle.capture_file.specs.declared.reader.packet_error.PlacedPacketError.{PlacedPacketError}
 use Rattle.capture_file.specs.declared.reader.pcapng_reader.PcapngReader.{PcapngReader}
 use Rattle.capture_packet.specs.Frames.{max_packet_len}
 use Rattle.capture_run.specs.declared.parts.Parts.{Parts}
 use Rattle.capture_selection.proofs.PassingLemmas.{ends_by_read, front_of, next_to_end}
-use Rattle.capture_selection.specs.Blocks.{IsBlockPart, IsLongBlock, IsRefusedBlock, StepsTo, block_place, blocks_of, refused_by}
+use Rattle.capture_selection.specs.Blocks.{HasBlockOutcome, IsBlockPart, IsLongBlock, IsRefusedBlock, StepsTo, block_place, blocks_of, refused_by}
 use Rattle.capture_selection.specs.Passing.{IsEndBy, IsFront, IsReadError, IsWriteError, PassesNext, StopsBy, written_by}
 use Rattle.capture_selection.specs.declared.counts.Counts.{Counts}
 use Rattle.capture_selection.specs.declared.outcome.Outcome.{Outcome}
@@ -130,16 +135,43 @@ ends_unread options result state error left middle still_left held counts first 
 
 -- ---- blocks for which the buffer has no room
 
--- the length of the block is in its first bytes
-pub long_block_front : (state : PcapngReader) (first more : List ℕ) (header : BlockHeader) → length first ≡ 12
-    → header ≡ block_header state.section.byte_order first → max_packet_len < header.total_len → IsLongBlock state (first ++ more)
-long_block_front state first more header has_len is beyond =
-    omega (
-      arith,
-      beyond,
-      ap (λ header. header.total_len) is,
-      block_len_front state.section.byte_order first more (omega (arith, has_len)),
+-- length and type of the block are in its first bytes
+long_block_front : (state : PcapngReader) (first more : List ℕ) (header : BlockHeader) → length first ≡ 12
+    → header ≡ block_header state.section.byte_order first → max_packet_len < header.total_len → is_description header.block_type ≡ false
+    → IsLongBlock state (first ++ more)
+long_block_front state first more header has_len is beyond other =
+    let same : header ≡ block_header state.section.byte_order (first ++ more) =
+    is ∙ sym (block_header_front state.section.byte_order first more (omega (arith, has_len))) in (
+      subst (λ given. max_packet_len < given.total_len) same beyond,
+      subst (λ given. is_description given.block_type ≡ false) same other,
     )
+
+-- a rejected block has no outcome
+outcome_by : (options : Parts) (buffer : List ℕ) (description packet : Bool) (offset : ℕ) (header : BlockHeader) (next : Option NextPacket)
+    (outcome : Option Outcome)
+    → next
+    ≡ (if description then Some (refused_at offset (errors.TooLong header.block_type header.total_len))
+    else if packet then Some (packets.TooLong (long_block header)) else None)
+    → HasBlockOutcome options buffer next outcome → description ≡ false
+outcome_by options buffer false packet offset header next outcome is has = refl
+outcome_by options buffer true packet offset header (Some (packets.Refused error)) outcome is has = absurd (cc has.1)
+outcome_by options buffer true packet offset header (Some (packets.Whole found)) outcome is has = absurd (cc is)
+outcome_by options buffer true packet offset header (Some (packets.TooLong found)) outcome is has = absurd (cc is)
+outcome_by options buffer true packet offset header (Some (packets.CutOff required len)) outcome is has = absurd (cc is)
+outcome_by options buffer true packet offset header (Some packets.End) outcome is has = absurd (cc is)
+outcome_by options buffer true packet offset header None outcome is has = absurd (cc is)
+
+-- nothing is written for a block for which the buffer has no room, or the block is not rejected
+pub long_front : (options : Parts) (state after : PcapngReader) (first more buffer written : List ℕ) (header : BlockHeader)
+    (stepped : Result (Option Outcome) PlacedPacketError) (outcome : Option Outcome)
+    → length first ≡ 12 → header ≡ block_header state.section.byte_order first → max_packet_len < header.total_len
+    → StepsTo options state buffer (blocks.TooLong header) after stepped → OnErr stepped (outcome ≡ Some Excluded)
+    → (written_by written outcome ≡ []) ⊎ IsLongBlock state (first ++ more)
+long_front options state after first more buffer written header (Err error) outcome has_len is beyond steps excluded =
+    inl (subst (λ given. written_by written given ≡ []) (sym excluded) refl)
+long_front options state after first more buffer written header (Ok given) outcome has_len is beyond steps excluded =
+    inr (long_block_front state first more header has_len is beyond
+    (outcome_by options buffer (is_description header.block_type) (is_packet header.block_type) state.offset header steps.0 given steps.1.2 steps.2))
 
 -- what is written for two parts of the bytes of a block
 pub written_append : (outcome : Option Outcome) (first middle last : List ℕ)
@@ -150,18 +182,19 @@ written_append (Some Unlisted) first middle last = refl
 written_append (Some Excluded) first middle last = refl
 
 -- what is written for the first bytes of a block is nothing, or the first bytes
-pub front_before : (outcome : Option Outcome) (first middle last : List ℕ) (Long : Type 0) → Long
+pub front_before : (outcome : Option Outcome) (first middle last : List ℕ) (Long : Type 0) → ((written_by (first ++ middle) outcome ≡ []) ⊎ Long)
     → (written_by (first ++ middle) outcome ≡ []) ⊎ (Long × IsFront (written_by (first ++ middle) outcome) (first ++ (middle ++ last)))
-front_before None first middle last Long is = inr (is, (last, grind (arith, append_assoc)))
-front_before (Some Written) first middle last Long is = inr (is, (last, grind (arith, append_assoc)))
-front_before (Some Unlisted) first middle last Long is = inl refl
-front_before (Some Excluded) first middle last Long is = inl refl
+front_before outcome first middle last Long (inl none) = inl none
+front_before None first middle last Long (inr is) = inr (is, (last, grind (arith, append_assoc)))
+front_before (Some Written) first middle last Long (inr is) = inr (is, (last, grind (arith, append_assoc)))
+front_before (Some Unlisted) first middle last Long (inr is) = inl refl
+front_before (Some Excluded) first middle last Long (inr is) = inl refl
 
 -- reading failed after first bytes of a block
 pub long_read_error : {A : Type 0} → (options : Parts) (result : Result A SelectionError) (error : SelectionError) (before after : Blocks)
     (left then_left still_left held now_held : Option (List ℕ)) (counts : Counts) (outcome : Option Outcome) (bytes : List ℕ)
     → IsReadError (block_place before) error → Consumes left then_left bytes → Appends held now_held (written_by bytes outcome)
-    → IsLongBlock before.reader bytes → result ≡ Err error
+    → ((written_by bytes outcome ≡ []) ⊎ IsLongBlock before.reader bytes) → result ≡ Err error
     → PassesNext (blocks_of options) result before after left still_left held now_held counts counts
 long_read_error options result error before after left then_left still_left held now_held counts outcome bytes is consumed appended long fails =
     next_to_end (blocks_of options) result error before after left still_left held now_held counts (record {

@@ -1,5 +1,5 @@
 -- The header of a capture, and a whole selection.
-use Rattle.std.proofs.Common.{◌≡◌, ◌≤◌, ◌<◌, true, IfSome, take, refl, length-take-le, ⊎_elim, ◌++◌, ◌∙◌, ◌⊎◌, ℕ, List, Option, Result, Some, None, Ok, Err, [], ap, arith, length, length-append, subst, sym, append-nil, inl, inr}
+use Rattle.std.proofs.Common.{◌≡◌, ◌≤◌, ◌<◌, Bool, false, IfSome, take, refl, length-take-le, ⊎_elim, ◌++◌, ◌∙◌, ◌⊎◌, ℕ, List, Option, Result, Some, None, Ok, Err, [], ap, arith, length, length-append, subst, sym, append-nil, inl, inr}
 use Rattle.std.proofs.lemmas.List.{nil_from_length, take_all, take_at}
 use Rattle.std.proofs.lemmas.Bool.{cases_lt}
 use Rattle.std.proofs.KnownBytes.{Consumes-trans}
@@ -8,6 +8,7 @@ use Rattle.streams.specs.Streams.{FillsAfter}
 use Rattle.capture_file.specs.Pcapng.{is_section_header}
 use Rattle.capture_file.specs.declared.reader.open_error.OpenError.TheVariants.{Classic, Pcapng}
 use Rattle.capture_run.specs.declared.capture_error.CaptureError.{CaptureError}
+use Rattle.capture_selection.proofs.PassingLemmas.{header_ends_none, header_read_ends_none}
 use Rattle.capture_selection.specs.Blocks.{PassesFile}
 use Rattle.capture_file.specs.Classic.{header_refusal}
 use Rattle.capture_file.specs.Opening.{SaysHeader}
@@ -17,7 +18,7 @@ use Rattle.capture_file.specs.declared.classic.capture_header_error.CaptureHeade
 use Rattle.capture_run.specs.declared.capture_error.CaptureError.TheVariants.{Enough, Header, Read, ReadHeader, RecordCutOff, Refused, TooManyPackets}
 use Rattle.capture_run.specs.declared.parts.Parts.{Parts}
 use Rattle.capture_selection.specs.Captures.{RefusesBytes, SelectsBlocks, SelectsCapture, SelectsRecords}
-use Rattle.capture_selection.specs.Passing.{IsWriteError, PassesTo}
+use Rattle.capture_selection.specs.Passing.{EndsAtLimit, IsWriteError, PassesTo}
 use Rattle.capture_selection.specs.Records.{records_of}
 use Rattle.capture_selection.specs.declared.blocks.Blocks.{Blocks}
 use Rattle.capture_selection.specs.declared.counts.Counts.{Counts}
@@ -64,9 +65,9 @@ selects_capture options (Err (Capture (Refused error))) left still_left held now
 selects_capture options (Err (Capture TooManyPackets)) left still_left held now_held counts now_counts selects = inl selects
 selects_capture options (Err (Capture Enough)) left still_left held now_held counts now_counts selects = inl selects
 selects_capture options (Err (Capture (Header error))) left still_left held now_held counts now_counts selects =
-    absurd (never _ (λ ends. ends.stops.ends) selects.passes)
+    absurd (never _ (λ ends. header_ends_none _ _ _ _ _ _ _ _ _ ends) selects.passes)
 selects_capture options (Err (Capture (ReadHeader error))) left still_left held now_held counts now_counts selects =
-    absurd (never _ (λ ends. ends.stops.ends) selects.passes)
+    absurd (never _ (λ ends. header_read_ends_none _ _ _ _ _ _ _ _ _ ends) selects.passes)
 
 at_write_error : (options : Parts) (error : SelectionError) (left still_left held now_held : Option (List ℕ)) (counts now_counts : Counts)
     → IsWriteError error → SelectsCapture options (Err error) left still_left held now_held counts now_counts
@@ -102,16 +103,16 @@ selects_blocks options (Err (Capture Enough)) left still_left held now_held coun
 selects_blocks options (Err (Capture (Header (Pcapng error)))) left still_left held now_held counts now_counts selects = selects
 selects_blocks options (Err (Capture (Header (Classic error)))) left still_left held now_held counts now_counts selects =
     absurd (no_blocks options (Header (Classic error)) left still_left held now_held counts now_counts (λ is. cc is)
-    (λ start after passes. never _ (λ ends. ends.stops.ends) passes.0) selects)
+    (λ start after passes. never _ (λ ends. header_ends_none _ _ _ _ _ _ _ _ _ ends) passes.0) selects)
 selects_blocks options (Err (Capture (ReadHeader error))) left still_left held now_held counts now_counts selects =
     absurd (no_blocks options (ReadHeader error) left still_left held now_held counts now_counts (λ is. cc is)
-    (λ start after passes. never _ (λ ends. ends.stops.ends) passes.0) selects)
+    (λ start after passes. never _ (λ ends. header_read_ends_none _ _ _ _ _ _ _ _ _ ends) passes.0) selects)
 
--- the first bytes of an input are the type of a section header block
-pub begins_pcapng : (left : Option (List ℕ)) (bytes : List ℕ) → IfSome left (λ all. bytes ≡ take 12 all) → is_section_header bytes ≡ true
-    → IfSome left (λ all. is_section_header (take 12 all) ≡ true)
-begins_pcapng None bytes same is = tt
-begins_pcapng (Some all) bytes same is = subst (λ given. is_section_header given ≡ true) same is
+-- the first bytes of an input are the type of a section header block, or are not
+pub begins_pcapng : (left : Option (List ℕ)) (bytes : List ℕ) (is_pcapng : Bool) → IfSome left (λ all. bytes ≡ take 12 all)
+    → is_section_header bytes ≡ is_pcapng → IfSome left (λ all. is_section_header (take 12 all) ≡ is_pcapng)
+begins_pcapng None bytes is_pcapng same is = tt
+begins_pcapng (Some all) bytes is_pcapng same is = subst (λ given. is_section_header given ≡ is_pcapng) same is
 
 -- the bytes that were read are the first 24 bytes: they are 24 bytes, or all bytes of the input
 first_bytes : (left still_left : Option (List ℕ)) (bytes : List ℕ) → Consumes left still_left bytes → length bytes ≤ 24
@@ -133,9 +134,10 @@ all_consumed left middle still_left begin buffer len consumed fills =
 -- the header of a classic capture is rejected, or could not be read
 pub refuses_capture : (options : Parts) (error : CaptureError) (left middle still_left held : Option (List ℕ)) (counts : Counts) (begin buffer : List ℕ)
     (len : ℕ)
-    → length buffer ≡ 24 → Consumes left middle begin → FillsAfter begin middle still_left buffer len → RefusesBytes (take len buffer) error
+    → length buffer ≡ 24 → Consumes left middle begin → IfSome left (λ all. is_section_header (take 12 all) ≡ false)
+    → FillsAfter begin middle still_left buffer len → RefusesBytes (take len buffer) error
     → SelectsCapture options (Err (Capture error)) left still_left held held counts counts
-refuses_capture options (Header (Classic error)) left middle still_left held counts begin buffer len room consumed fills refused =
+refuses_capture options (Header (Classic error)) left middle still_left held counts begin buffer len room consumed other fills refused =
     let all = all_consumed left middle still_left begin buffer len consumed fills in
     let taken = length-take-le len buffer fills.within in (
       record {
@@ -145,13 +147,25 @@ refuses_capture options (Header (Classic error)) left middle still_left held cou
         consumed = all;
         refused = refused;
       },
+      other,
       (refl, refl),
     )
-refuses_capture options (Header (Pcapng error)) left middle still_left held counts begin buffer len room consumed fills refused = absurd refused
-refuses_capture options (ReadHeader error) left middle still_left held counts begin buffer len room consumed fills refused = (refl, refl)
-refuses_capture options (Read number offset error) left middle still_left held counts begin buffer len room consumed fills refused = absurd refused
-refuses_capture options (RecordCutOff number offset required its_len) left middle still_left held counts begin buffer len room consumed fills refused =
+refuses_capture options (Header (Pcapng error)) left middle still_left held counts begin buffer len room consumed other fills refused = absurd refused
+refuses_capture options (ReadHeader error) left middle still_left held counts begin buffer len room consumed other fills refused = (refl, refl)
+refuses_capture options (Read number offset error) left middle still_left held counts begin buffer len room consumed other fills refused = absurd refused
+refuses_capture options (RecordCutOff number offset required its_len) left middle still_left held counts begin buffer len room consumed other fills refused =
     absurd refused
-refuses_capture options (Refused error) left middle still_left held counts begin buffer len room consumed fills refused = absurd refused
-refuses_capture options TooManyPackets left middle still_left held counts begin buffer len room consumed fills refused = absurd refused
-refuses_capture options Enough left middle still_left held counts begin buffer len room consumed fills refused = absurd refused
+refuses_capture options (Refused error) left middle still_left held counts begin buffer len room consumed other fills refused = absurd refused
+refuses_capture options TooManyPackets left middle still_left held counts begin buffer len room consumed other fills refused = absurd refused
+refuses_capture options Enough left middle still_left held counts begin buffer len room consumed other fills refused = absurd refused
+
+-- nothing is stated of a requested number of packets if the header is rejected or can't be read
+pub refused_at_limit : (limit : Option ℕ) (chosen : ℕ) (bytes : List ℕ) (error : CaptureError) → RefusesBytes bytes error
+    → EndsAtLimit limit chosen (Err (Capture error))
+refused_at_limit limit chosen bytes (Header error) refused = tt
+refused_at_limit limit chosen bytes (ReadHeader error) refused = tt
+refused_at_limit limit chosen bytes (Read number offset error) refused = absurd refused
+refused_at_limit limit chosen bytes (RecordCutOff number offset required len) refused = absurd refused
+refused_at_limit limit chosen bytes (Refused error) refused = absurd refused
+refused_at_limit limit chosen bytes TooManyPackets refused = tt
+refused_at_limit limit chosen bytes Enough refused = absurd refused

@@ -14,10 +14,11 @@ use Rattle.capture_file.specs.declared.reader.packet_error.PacketError.TheVarian
 use Rattle.capture_file.specs.declared.reader.packet_error.PlacedPacketError.{PlacedPacketError}
 use Rattle.capture_file.specs.declared.reader.pcapng_reader.PcapngReader.{PcapngReader}
 use Rattle.capture_run.specs.declared.capture_error.CaptureError.TheVariants.{Enough, Header, Read, ReadHeader, RecordCutOff, Refused, TooManyPackets}
+use Rattle.capture_run.specs.Limits.{is_full}
 use Rattle.capture_run.specs.declared.parts.Parts.{Parts}
-use Rattle.capture_selection.proofs.PassingLemmas.{passes_to_first_error}
+use Rattle.capture_selection.proofs.PassingLemmas.{error_below, header_ends_none, passes_to_first_error}
 use Rattle.capture_selection.specs.Blocks.{IsPastFirst, PassesFile, at_beginning, blocks_of}
-use Rattle.capture_selection.specs.Passing.{AreParts, IsWriteError, Part, Passes, PassesTo, StopsBy}
+use Rattle.capture_selection.specs.Passing.{AreParts, EndsAtLimit, IsWriteError, Part, Passes, PassesTo, StopsBy}
 use Rattle.capture_selection.specs.declared.blocks.Blocks.{Blocks}
 use Rattle.capture_selection.specs.declared.counts.Counts.{Counts}
 use Rattle.capture_selection.specs.declared.selection_error.SelectionError.{SelectionError}
@@ -119,7 +120,7 @@ file_passes options (Err (Write error)) start after left still_left held now_hel
 file_passes options (Err (Capture (Header (Classic error)))) start after left still_left held now_held counts now_counts passes past = (passes, past)
 file_passes options (Err (Capture (Header (Pcapng error)))) start after left still_left held now_held counts now_counts (inl failed) past = absurd failed
 file_passes options (Err (Capture (Header (Pcapng error)))) start after left still_left held now_held counts now_counts (inr ends) past =
-    absurd ends.stops.ends
+    absurd (header_ends_none (blocks_of options) (Pcapng error) start left still_left held now_held counts now_counts ends)
 file_passes options (Err (Capture (ReadHeader error))) start after left still_left held now_held counts now_counts passes past = (passes, past)
 file_passes options (Err (Capture (Read number offset error))) start after left still_left held now_held counts now_counts passes past = (passes, past)
 file_passes options (Err (Capture (RecordCutOff number offset required len))) start after left still_left held now_held counts now_counts passes past =
@@ -147,11 +148,7 @@ first_error options (Capture (Read number offset error)) start after left still_
       counts now_counts (inr (stops, same)) refl,
   tt,
 )
-first_error options (Capture TooManyPackets) start after left still_left held now_held counts now_counts (inr (stops, same)) = (
-  passes_to_first_error {A = Unit {0}} (blocks_of options) (Err (Capture TooManyPackets)) _ start after left still_left held now_held
-      counts now_counts (inr (stops, same)) refl,
-  tt,
-)
+first_error options (Capture TooManyPackets) start after left still_left held now_held counts now_counts (inr (stops, same)) = absurd stops.ends
 first_error options (Capture Enough) start after left still_left held now_held counts now_counts (inr (stops, same)) = (
   passes_to_first_error {A = Unit {0}} (blocks_of options) (Err (Capture Enough)) _ start after left still_left held now_held
       counts now_counts (inr (stops, same)) refl,
@@ -167,3 +164,25 @@ pub file_refused : (options : Parts) (error given : SelectionError) (start after
 file_refused options error given start after left still_left held now_held counts now_counts is stops =
     subst (λ given. PassesFile options (Err given) start after left still_left held now_held counts now_counts) (sym is)
     (first_error options error start after left still_left held now_held counts now_counts stops)
+
+at_beginning_below : (limit : Option ℕ) (chosen : ℕ) (error : SelectionError) → EndsAtLimit limit chosen (Err error)
+    → EndsAtLimit limit chosen (Err (at_beginning error))
+at_beginning_below limit chosen (Write error) ends = tt
+at_beginning_below limit chosen (Capture (Read number offset error)) ends = ends
+at_beginning_below limit chosen (Capture (RecordCutOff number offset required len)) ends = tt
+at_beginning_below limit chosen (Capture (Refused error)) ends = tt
+at_beginning_below limit chosen (Capture (Header error)) ends = tt
+at_beginning_below limit chosen (Capture (ReadHeader error)) ends = tt
+at_beginning_below limit chosen (Capture TooManyPackets) ends = tt
+at_beginning_below limit chosen (Capture Enough) ends = ends
+
+-- the error of the first block, before which fewer packets were chosen than requested
+pub first_below : (options : Parts) (error given : SelectionError) (start : Blocks) (left still_left held now_held : Option (List ℕ))
+    (counts now_counts : Counts)
+    → is_full options.limit counts.chosen ≡ false → given ≡ at_beginning error
+    → (IsWriteError error ⊎ (StopsBy (blocks_of options) error start left still_left held now_held counts × (now_counts ≡ counts)))
+    → EndsAtLimit options.limit now_counts.chosen (Err given)
+first_below options error given start left still_left held now_held counts now_counts below is ends =
+    subst (λ given. EndsAtLimit options.limit now_counts.chosen (Err given)) (sym is)
+    (at_beginning_below options.limit now_counts.chosen error
+    (error_below (blocks_of options) error start left still_left held now_held counts now_counts below ends))

@@ -1,10 +1,10 @@
 -- The blocks of a pcapng file as parts (draft-ietf-opsawg-pcapng, section 3.1). The state is the report's reader, which has a section and
 -- an offset, and the number of the next packet.
-use Rattle.std.specs.Prelude.{◌≡◌, ◌≢◌, ◌<◌, ◌≤◌, ℕ, List, [], length, Option, Some, None, Result, Ok, Err}
+use Rattle.std.specs.Prelude.{◌≡◌, ◌≢◌, ◌<◌, ◌≤◌, ℕ, false, List, [], length, Option, Some, None, Result, Ok, Err}
 use Rattle.capture_file.specs.CapturePackets.{FilePacket, packet_in}
-use Rattle.capture_file.specs.Pcapng.{block_len, block_refusal}
+use Rattle.capture_file.specs.Pcapng.{block_header, block_refusal}
 use Rattle.capture_file.specs.PcapngReading.{IsNextBlock}
-use Rattle.capture_file.specs.PcapngSteps.{IsStep}
+use Rattle.capture_file.specs.PcapngSteps.{IsStep, is_description}
 use Rattle.capture_texts.specs.declared.byte_order.ByteOrder.TheVariants.{BigEndian}
 use Rattle.capture_file.specs.declared.pcapng.errors.BlockError.{BlockError}
 use Rattle.capture_file.specs.declared.pcapng.errors.BlockError.TheVariants.{CutOff}
@@ -50,9 +50,12 @@ pub record IsBlockPart (options : Parts) (before : PcapngReader) (part : Part) (
   pub steps : StepsOver before part.bytes after buffer next
   pub has_outcome : HasBlockOutcome options buffer next part.outcome
 
--- the buffer has no room for the block that begins with these bytes
+-- The buffer has no room for the block that begins with these bytes. The block is neither a section header block nor an interface
+-- description block: the reader rejects such a long block of these two types.
 abbrev pub IsLongBlock : PcapngReader → List ℕ → Type 0
-IsLongBlock state bytes = max_packet_len < block_len state.section.byte_order bytes
+IsLongBlock state bytes =
+    let header = block_header state.section.byte_order bytes in
+    (max_packet_len < header.total_len) × (is_description header.block_type ≡ false)
 
 -- The bytes end within a block. `required` is the length of the block, as far as it is known, and `len` is the number of bytes.
 abbrev pub IsCutBlock : PcapngReader → List ℕ → ℕ → ℕ → Type 0

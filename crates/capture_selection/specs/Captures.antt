@@ -1,5 +1,5 @@
 -- The selection of a whole capture.
-use Rattle.std.specs.Prelude.{◌≡◌, ◌⊎◌, ℕ, true, List, take, ⊤, Option, Some, IfSome, Result, Ok, Err}
+use Rattle.std.specs.Prelude.{◌≡◌, ◌⊎◌, ℕ, true, false, List, take, ⊤, Option, Some, IfSome, Result, Ok, Err}
 use Rattle.std.specs.Io.KnownBytes.{Appends, Consumes}
 use Rattle.capture_file.specs.Classic.{header_refusal}
 use Rattle.capture_file.specs.Opening.{SaysHeader}
@@ -53,12 +53,13 @@ RefusesBytes bytes (Header (Classic error)) = header_refusal bytes ≡ Some erro
 RefusesBytes bytes (ReadHeader error) = Unit {0}
 RefusesBytes bytes other = ⊥
 
--- The selection of a capture. If the header of a classic capture is rejected or can't be read, nothing was written. If a write failed,
--- nothing is known.
+-- The selection of a capture. If the header of a classic capture is rejected or can't be read, nothing was written. The header of a pcapng
+-- file is not rejected as the header of a classic capture. If a write failed, nothing is known.
 abbrev pub SelectsCapture : Parts → Result (Unit {0}) SelectionError → Option (List ℕ) → Option (List ℕ) → Option (List ℕ) → Option (List ℕ)
     → Counts → Counts → Type 0
 SelectsCapture options (Err (Capture (Header (Classic error)))) left still_left held now_held counts now_counts =
-    RefusesHeader left still_left error × SelectsNothing held now_held counts now_counts
+    RefusesHeader left still_left error × IfSome left (λ all. is_section_header (take 12 all) ≡ false)
+    × SelectsNothing held now_held counts now_counts
 SelectsCapture options (Err (Capture (Header (Pcapng error)))) left still_left held now_held counts now_counts =
     SelectsBlocks options (Err (Capture (Header (Pcapng error)))) left still_left held now_held counts now_counts
 SelectsCapture options (Err (Capture (ReadHeader error))) left still_left held now_held counts now_counts =

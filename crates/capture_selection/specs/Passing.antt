@@ -1,9 +1,10 @@
 -- What is read and written, part by part. A part is a record of a classic capture or a block of a pcapng file.
-use Rattle.std.specs.Prelude.{◌≡◌, ◌++◌, ◌⊎◌, ℕ, true, List, [], ◌∷◌, flat_map, fold, length, ⊤, Option, Some, None, Result, Ok, Err}
+use Rattle.std.specs.Prelude.{◌≡◌, ◌≤◌, ◌++◌, ◌⊎◌, ℕ, Bool, true, false, List, [], ◌∷◌, flat_map, fold, length, ⊤, Option, Some, None, Result, Ok, Err}
 use Rattle.std.specs.Io.KnownBytes.{Appends, Consumes, IsAtEnd}
 use Rattle.std.specs.Option.{option_to_list}
 use Rattle.capture_run.specs.declared.capture_error.CaptureError.TheVariants.{Enough, Header, Read, ReadHeader, RecordCutOff, Refused, TooManyPackets}
-use Rattle.capture_run.specs.Limits.{is_full}
+use Rattle.capture_run.specs.Endings.{max_packets}
+use Rattle.capture_run.specs.Limits.{EndsByLimit, is_full}
 use Rattle.capture_file.specs.declared.reader.packet_error.PlacedPacketError.{PlacedPacketError}
 use Rattle.capture_selection.specs.Outcomes.{counted}
 use Rattle.capture_selection.specs.declared.counts.Counts.{Counts}
@@ -45,7 +46,7 @@ pub record Format : Type 1 where
   pub place_of : State → Place
   -- the part is a record or block, and its outcome is right
   pub IsPart : State → Part → State → Type 0
-  -- these first bytes belong to a packet for which the buffer has no room
+  -- these first bytes belong to a part for which the buffer has no room, and which may be written
   pub IsLong : State → List ℕ → Type 0
   -- the capture ends with these bytes, within a part: the length of the part as far as it is known, and the length of the bytes
   pub IsCut : State → List ℕ → ℕ → ℕ → Type 0
@@ -68,6 +69,15 @@ pub record Passes (format : Format) (before after : format.State) (left still_le
   pub consumed : Consumes left still_left (read_of parts)
   pub appended : Appends held now_held (written_of parts)
   pub counted : now_counts ≡ fold counted counts (outcomes_of parts)
+
+-- One part was read, and was written unless its packet is left out. Its outcome was counted.
+pub record PassesOne (format : Format) (before after : format.State) (left still_left held now_held : Option (List ℕ)) (counts now_counts : Counts)
+    : Type 0 where
+  pub part : Part
+  pub is_part : format.IsPart before part after
+  pub consumed : Consumes left still_left part.bytes
+  pub appended : Appends held now_held (written_by part.bytes part.outcome)
+  pub counted : now_counts ≡ fold counted counts (option_to_list part.outcome)
 
 -- ---- errors
 
@@ -101,7 +111,7 @@ IsEndBy format (Capture (Refused error)) state rest then_left still_left counts 
 IsEndBy format (Capture (Read number offset error)) state rest then_left still_left counts = IsAt (format.place_of state) number offset
 IsEndBy format (Capture Enough) state rest then_left still_left counts =
     (rest ≡ []) × (then_left ≡ still_left) × (is_full format.limit counts.chosen ≡ true)
-IsEndBy format (Capture TooManyPackets) state rest then_left still_left counts = (rest ≡ []) × (then_left ≡ still_left)
+IsEndBy format (Capture TooManyPackets) state rest then_left still_left counts = ⊥
 IsEndBy format (Capture (Header error)) state rest then_left still_left counts = ⊥
 IsEndBy format (Capture (ReadHeader error)) state rest then_left still_left counts = ⊥
 IsEndBy format (Write error) state rest then_left still_left counts = ⊥
@@ -110,8 +120,8 @@ IsEndBy format (Write error) state rest then_left still_left counts = ⊥
 abbrev pub IsFront : List ℕ → List ℕ → Type 0
 IsFront front bytes = (more : List ℕ) × (bytes ≡ front ++ more)
 
--- The first bytes of a part were read, and then an error occurred. Nothing was written for this part, unless the buffer has no room for its
--- packet. Then some of its first bytes may have been written.
+-- The first bytes of a part were read, and then an error occurred. Nothing was written for this part, unless the buffer has no room for
+-- it. Then some of its first bytes may have been written.
 pub record StopsBy (format : Format) (error : SelectionError) (state : format.State) (left still_left held now_held : Option (List ℕ))
     (counts : Counts) : Type 0 where
   pub then_left : Option (List ℕ)
@@ -122,7 +132,14 @@ pub record StopsBy (format : Format) (error : SelectionError) (state : format.St
   pub is_front : (front ≡ []) ⊎ (format.IsLong state rest × IsFront front rest)
   pub ends : IsEndBy format error state rest then_left still_left counts
 
--- parts were read and written, and then an error occurred in the next part
+-- The number of these parts reached the limit of 2^64 - 2. Nothing was read or written after them.
+pub record StopsByNumber (error : SelectionError) (parts : List Part) (left still_left held now_held : Option (List ℕ)) : Type 0 where
+  pub is : error ≡ Capture TooManyPackets
+  pub many : max_packets ≤ length parts
+  pub unread : still_left ≡ left
+  pub unwritten : now_held ≡ held
+
+-- Parts were read and written. Then an error occurred in the next part, or the number of parts reached the limit.
 pub record EndsBy (format : Format) (error : SelectionError) (before : format.State) (left still_left held now_held : Option (List ℕ))
     (counts now_counts : Counts) : Type 0 where
   pub after : format.State
@@ -130,6 +147,7 @@ pub record EndsBy (format : Format) (error : SelectionError) (before : format.St
   pub then_held : Option (List ℕ)
   pub passes : Passes format before after left middle held then_held counts now_counts
   pub stops : StopsBy format error after middle still_left then_held now_held now_counts
+      ⊎ StopsByNumber error passes.parts middle still_left then_held now_held
 
 -- What was read and written up to this result. If a write failed, nothing is known.
 abbrev pub PassesTo : {A : Type 0} → (format : Format) → Result A SelectionError → format.State → format.State → Option (List ℕ) → Option (List ℕ)
@@ -139,13 +157,30 @@ PassesTo format (Ok given) before after left still_left held now_held counts now
 PassesTo format (Err error) before after left still_left held now_held counts now_counts =
     IsWriteError error ⊎ EndsBy format error before left still_left held now_held counts now_counts
 
--- What one call read and written, which reads at most one part. If an error occurred in the part, no whole part was passed.
+-- What was read and written by a call that passes one part. If an error occurred in the part, nothing was counted.
 abbrev pub PassesNext : {A : Type 0} → (format : Format) → Result A SelectionError → format.State → format.State → Option (List ℕ) → Option (List ℕ)
     → Option (List ℕ) → Option (List ℕ) → Counts → Counts → Type 0
 PassesNext format (Ok given) before after left still_left held now_held counts now_counts =
-    Passes format before after left still_left held now_held counts now_counts
+    PassesOne format before after left still_left held now_held counts now_counts
 PassesNext format (Err error) before after left still_left held now_held counts now_counts =
     IsWriteError error ⊎ (StopsBy format error before left still_left held now_held counts × (now_counts ≡ counts))
+
+-- The same for a call that returns whether there is a next part. If there is no part, nothing was read, written or counted.
+abbrev pub PassesAny : (format : Format) → Result Bool SelectionError → format.State → format.State → Option (List ℕ) → Option (List ℕ)
+    → Option (List ℕ) → Option (List ℕ) → Counts → Counts → Type 0
+PassesAny format (Ok true) before after left still_left held now_held counts now_counts =
+    PassesOne format before after left still_left held now_held counts now_counts
+PassesAny format (Ok false) before after left still_left held now_held counts now_counts =
+    (after ≡ before) × Consumes left still_left [] × (now_held ≡ held) × (now_counts ≡ counts)
+PassesAny format (Err error) before after left still_left held now_held counts now_counts =
+    IsWriteError error ⊎ (StopsBy format error before left still_left held now_held counts × (now_counts ≡ counts))
+
+-- A selection ended early exactly if as many packets were chosen as are requested. Nothing is stated of a capture whose beginning is
+-- rejected, of a write that failed, or of too many packets.
+abbrev pub EndsAtLimit : Option ℕ → ℕ → Result (Unit {0}) SelectionError → Type 0
+EndsAtLimit limit chosen (Ok done) = EndsByLimit limit chosen (Ok done)
+EndsAtLimit limit chosen (Err (Capture error)) = EndsByLimit limit chosen (Err error)
+EndsAtLimit limit chosen (Err (Write error)) = ⊤
 
 -- ---- bytes that are copied by pieces
 

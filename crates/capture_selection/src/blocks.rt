@@ -1,14 +1,15 @@
 //! The blocks of a pcapng file (draft-ietf-opsawg-pcapng, section 3.1).
 
-ghost use Rattle.std.specs.Prelude.{◌≡◌, ◌<◌, ◌≤◌, ◌+◌, ℕ, List, Ok, OnOk, Option, false, length};
+ghost use Rattle.std.specs.Prelude.{◌≡◌, ◌<◌, ◌≤◌, ◌+◌, ℕ, List, Ok, OnErr, OnOk, Option, Some, false, length};
 ghost use Rattle.std.specs.Io.KnownBytes.{Consumes, IsAtEnd};
 ghost use Rattle.capture_file.specs.PcapngReading.{AreFirst, BeginsBlock};
 ghost use Rattle.capture_file.specs.declared.pcapng.read.NextBlock.TheVariants.{TooLong, Whole};
 ghost use Rattle.capture_packet.specs.Frames.{max_packet_len};
 ghost use Rattle.capture_selection.specs.Blocks.{IsFileStart, IsPastFirst, PassesFile, StepsTo, block_place, blocks_of, number_after};
 ghost use Rattle.capture_run.specs.Limits.{IsWithin, is_full};
-ghost use Rattle.capture_selection.specs.Passing.{PassesNext, PassesTo};
+ghost use Rattle.capture_selection.specs.Passing.{EndsAtLimit, PassesAny, PassesNext, PassesTo};
 ghost use Rattle.capture_selection.specs.declared.outcome.Outcome.{Outcome};
+ghost use Rattle.capture_selection.specs.declared.outcome.Outcome.TheVariants.{Excluded};
 
 use crate::place::Place;
 use crate::transfer::{Buffer, pass_long, read_after, read_into, write_part};
@@ -95,6 +96,7 @@ pub(crate) fn select_blocks<R: Read, W: Write>(
     ensures passes { (left : Option (List ℕ)) → Consumes left (R.remaining input.old) begin.now → PassesFile parts.now result
         file.old file.new left (R.remaining input.new) (W.contents output.old) (W.contents output.new) counts.old counts.new }
     ensures ends { OnOk result (IsAtEnd (R.remaining input.new)) }
+    ensures limit { EndsAtLimit parts.now.limit counts.new.chosen result }
     ensures within { IsWithin parts.now.limit counts.new.chosen }
 {
     match select_block(input, output, buffer, begin, file, parts, counts) {
@@ -116,6 +118,7 @@ fn select_others<R: Read, W: Write>(
         (W.contents output.old) (W.contents output.new) counts.old counts.new }
     ensures ends { OnOk result (IsAtEnd (R.remaining input.new)) }
     ensures past { 1 ≤ file.old.reader.offset → IsPastFirst result }
+    ensures limit { EndsAtLimit parts.now.limit counts.new.chosen result }
     ensures within { IsWithin parts.now.limit counts.old.chosen → IsWithin parts.now.limit counts.new.chosen }
 {
     for _block in 0..u64::MAX {
@@ -139,7 +142,7 @@ fn select_next<R: Read, W: Write>(
     parts: &Parts,
     counts: &mut Counts,
 ) -> Result<bool, SelectionError>
-    ensures passes { PassesNext (blocks_of parts.now) result file.old file.new (R.remaining input.old) (R.remaining input.new)
+    ensures passes { PassesAny (blocks_of parts.now) result file.old file.new (R.remaining input.old) (R.remaining input.new)
         (W.contents output.old) (W.contents output.new) counts.old counts.new }
     ensures ends { result ≡ Ok false → IsAtEnd (R.remaining input.new) }
     ensures one { counts.new.chosen ≤ counts.old.chosen + 1 }
@@ -269,7 +272,8 @@ fn long_outcome(
 
 /// The outcome of a block. Nothing of a rejected block is written.
 fn kept_outcome(stepped: &Result<Option<Outcome>, PlacedPacketError>) -> Option<Outcome>
-    ensures { (outcome : Option Outcome) → stepped.now ≡ Ok outcome → result ≡ outcome }
+    ensures kept { (outcome : Option Outcome) → stepped.now ≡ Ok outcome → result ≡ outcome }
+    ensures refused { OnErr stepped.now (result ≡ Some Excluded) }
 {
     match stepped {
         Ok(outcome) => *outcome,

@@ -1,12 +1,13 @@
 //! The selection of a capture.
 
-ghost use Rattle.std.specs.Prelude.{◌≡◌, ◌≤◌, ℕ, IfErr, IfOk, List, OnOk, Ok, Option, length, true};
+ghost use Rattle.std.specs.Prelude.{◌≡◌, ◌≤◌, ℕ, IfErr, IfOk, IfSome, List, OnOk, Ok, Option, false, length, take, true};
 ghost use Rattle.std.specs.Io.KnownBytes.{Consumes, IsAtEnd};
 ghost use Rattle.capture_file.specs.Opening.{SaysHeader};
 ghost use Rattle.capture_file.specs.Pcapng.{is_section_header};
 ghost use Rattle.capture_file.specs.PcapngReading.{AreFirst};
-ghost use Rattle.capture_run.specs.Limits.{IsWithin};
+ghost use Rattle.capture_run.specs.Limits.{IsWithin, is_full};
 ghost use Rattle.capture_selection.specs.Captures.{RefusesBytes, SelectsCapture};
+ghost use Rattle.capture_selection.specs.Passing.{EndsAtLimit};
 
 use crate::blocks::{Blocks, select_blocks};
 use crate::records::{Records, select_records};
@@ -31,9 +32,10 @@ use streams::{fill, fill_after};
 /// # Errors
 ///
 /// `Capture` states why the capture is rejected, or where it can't be read further, and `Enough` if the requested number of packets is
-/// reached. What was written before is a whole capture, unless the buffer has no room for the last record or block. If the header of a
-/// classic capture is rejected, nothing is written. If the first block of a pcapng file is rejected, the error is `Header`, as in the
-/// report. An error within a later record or block contains its place. `Write` is the error of the first write that fails.
+/// reached. `TooManyPackets` is returned only after 2^64 - 2 records or blocks. What was written before is a whole capture, unless the
+/// buffer has no room for the last record or block. If the header of a classic capture is rejected, nothing is written. If the first block
+/// of a pcapng file is rejected, the error is `Header`, as in the report. An error within a later record or block contains its place.
+/// `Write` is the error of the first write that fails.
 pub fn write_selected<R: Read, W: Write>(
     input: &mut R,
     output: &mut W,
@@ -44,6 +46,8 @@ pub fn write_selected<R: Read, W: Write>(
     ensures selects { SelectsCapture parts.now result (R.remaining input.old) (R.remaining input.new) (W.contents output.old) (W.contents output.new)
         counts.old counts.new }
     ensures ends { OnOk result (IsAtEnd (R.remaining input.new)) }
+    ensures limit { EndsAtLimit parts.now.limit counts.new.chosen result }
+    ensures full { is_full parts.now.limit counts.old.chosen ≡ true → counts.new ≡ counts.old }
     ensures within { IsWithin parts.now.limit counts.old.chosen → IsWithin parts.now.limit counts.new.chosen }
 {
     let mut begin = [0u8; MIN_BLOCK_LEN];
@@ -83,9 +87,12 @@ fn select_capture<R: Read, W: Write>(
     counts: &mut Counts,
 ) -> Result<(), SelectionError>
     requires begin { AreFirst begin.now (R.remaining input.old) }
-    ensures selects { (left : Option (List ℕ)) → Consumes left (R.remaining input.old) begin.now → SelectsCapture parts.now result left
+    ensures selects { (left : Option (List ℕ)) → Consumes left (R.remaining input.old) begin.now
+        → IfSome left (λ all. is_section_header (take 12 all) ≡ false) → SelectsCapture parts.now result left
         (R.remaining input.new) (W.contents output.old) (W.contents output.new) counts.old counts.new }
     ensures ends { OnOk result (IsAtEnd (R.remaining input.new)) }
+    ensures limit { EndsAtLimit parts.now.limit counts.new.chosen result }
+    ensures full { is_full parts.now.limit counts.old.chosen ≡ true → counts.new ≡ counts.old }
     ensures within { IsWithin parts.now.limit counts.old.chosen → IsWithin parts.now.limit counts.new.chosen }
 {
     let mut first = [0u8; CaptureHeader::LEN];

@@ -1,11 +1,11 @@
 //! The records of a classic capture (draft-ietf-opsawg-pcap, section 5).
 
-ghost use Rattle.std.specs.Prelude.{◌≡◌, ◌<◌, ◌≤◌, ◌+◌, ℕ, List, OnOk, Ok, Option, false};
+ghost use Rattle.std.specs.Prelude.{◌≡◌, ◌<◌, ◌≤◌, ◌+◌, ℕ, List, OnOk, Ok, Option, false, true};
 ghost use Rattle.std.specs.Io.KnownBytes.{Consumes, IsAtEnd};
 ghost use Rattle.capture_file.specs.Classic.{record_header};
-ghost use Rattle.capture_run.specs.Limits.{IsWithin};
+ghost use Rattle.capture_run.specs.Limits.{IsWithin, is_full};
 ghost use Rattle.capture_packet.specs.Frames.{max_packet_len};
-ghost use Rattle.capture_selection.specs.Passing.{PassesNext, PassesTo};
+ghost use Rattle.capture_selection.specs.Passing.{EndsAtLimit, PassesAny, PassesNext, PassesTo};
 ghost use Rattle.capture_selection.specs.Records.{first_records, records_after, records_of};
 
 use crate::place::Place;
@@ -62,6 +62,8 @@ pub(crate) fn select_records<R: Read, W: Write>(
     ensures passes { PassesTo (records_of parts.now) result records.old records.new (R.remaining input.old) (R.remaining input.new)
         (W.contents output.old) (W.contents output.new) counts.old counts.new }
     ensures ends { OnOk result (IsAtEnd (R.remaining input.new)) }
+    ensures limit { EndsAtLimit parts.now.limit counts.new.chosen result }
+    ensures full { is_full parts.now.limit counts.old.chosen ≡ true → counts.new ≡ counts.old }
     ensures within { IsWithin parts.now.limit counts.old.chosen → IsWithin parts.now.limit counts.new.chosen }
 {
     for _record in 1..u64::MAX {
@@ -85,7 +87,7 @@ fn select_record<R: Read, W: Write>(
     parts: &Parts,
     counts: &mut Counts,
 ) -> Result<bool, SelectionError>
-    ensures passes { PassesNext (records_of parts.now) result records.old records.new (R.remaining input.old) (R.remaining input.new)
+    ensures passes { PassesAny (records_of parts.now) result records.old records.new (R.remaining input.old) (R.remaining input.new)
         (W.contents output.old) (W.contents output.new) counts.old counts.new }
     ensures ends { result ≡ Ok false → IsAtEnd (R.remaining input.new) }
     ensures one { counts.new.chosen ≤ counts.old.chosen + 1 }

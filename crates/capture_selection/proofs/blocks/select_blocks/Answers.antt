@@ -1,14 +1,21 @@
-use Rattle.capture_selection.proofs.FirstBlockLemmas.{file_passes, file_refused}
-use Rattle.capture_selection.proofs.PassingLemmas.{passes_to_on}
+use Rattle.std.proofs.Common.{None}
+use Rattle.capture_selection.proofs.FirstBlockLemmas.{file_passes, file_refused, first_below}
+use Rattle.capture_selection.proofs.PassingLemmas.{passes_one, passes_to_on}
 use Rattle.capture_selection.proofs.blocks.select_blocks.Goals as goal
 
 pub returns-in-Ok-clause-passes : goal.returns-in-Ok-clause-passes
 returns-in-Ok-clause-passes g c =
     λ left consumed.
     file_passes _ c.select_others.result _ _ _ _ _ _ _ _
-    (passes_to_on _ c.select_others.result _ _ _ _ _ _ _ _ _ _ _ _ (c.in-Ok.ensures.passes left consumed) c.select_others.ensures.passes)
+    (passes_to_on _ c.select_others.result _ _ _ _ _ _ _ _ _ _ _ _ (passes_one _ _ _ _ _ _ _ _ _ (c.in-Ok.ensures.passes left consumed)).0
+    c.select_others.ensures.passes)
     (c.select_others.ensures.past c.in-Ok.ensures.begun)
 
 pub returns-in-Err-clause-passes : goal.returns-in-Err-clause-passes
 returns-in-Err-clause-passes g c =
     λ left consumed. file_refused _ c.in-Err.error _ _ _ _ _ _ _ _ _ c.at_beginning.ensures (c.in-Err.ensures.passes left consumed)
+
+-- what the input contained is not needed here
+pub returns-in-Err-clause-limit : goal.returns-in-Err-clause-limit
+returns-in-Err-clause-limit g c =
+    first_below c.args.parts.now c.in-Err.error _ _ None _ _ _ _ _ c.requires.below c.at_beginning.ensures (c.in-Err.ensures.passes None tt)

@@ -6,7 +6,7 @@ use Rattle.capture_file.proofs.ReaderLemmas.{full}
 use Rattle.capture_file.specs.declared.pcapng.errors.BlockError.TheVariants.{CutOff, LastLength}
 use Rattle.capture_file.specs.declared.pcapng.read.NextBlock.TheVariants.{Refused, TooLong}
 use Rattle.capture_packet.specs.Frames.{max_packet_len}
-use Rattle.capture_selection.proofs.BlockLemmas.{alone, block_part, ends_refused, front_before, long_block_front, long_read_error, next_of, refused_block, written_append}
+use Rattle.capture_selection.proofs.BlockLemmas.{alone, block_part, ends_refused, front_before, long_front, long_read_error, next_of, refused_block, written_append}
 use Rattle.capture_selection.proofs.FirstBlockLemmas.{begun_past}
 use Rattle.capture_selection.proofs.PassingLemmas.{cut_at, front_of, next_long_at, passes_part, read_error_at}
 use Rattle.capture_selection.specs.Blocks.{IsLongBlock, StepsTo, blocks_of, refused_by}
@@ -17,8 +17,9 @@ pub returns-in_err-len-clause-passes : goal.returns-in_err-len-clause-passes
 returns-in_err-len-clause-passes g c =
     λ left consumed.
     next_long_at (blocks_of c.args.parts.now) _ _ c.args.file.now _ left _ _ _ _ _ _ c.args.first.now _ c.place-place.ensures
-    (λ bytes. long_block_front c.args.file.now.reader c.args.first.now bytes c.args.header.now c.requires.header.has_len c.requires.header.is_header
-    c.requires.room)
+    (λ bytes. long_front c.args.parts.now c.args.file.now.reader c.long_outcome-stepped.new.file c.args.first.now bytes c.args.buffer.now
+    (c.args.first.now ++ bytes) c.args.header.now c.long_outcome-stepped.result c.kept_outcome-outcome.result c.requires.header.has_len
+    c.requires.header.is_header c.requires.room (c.long_outcome-stepped.ensures.steps c.args.buffer.now) c.kept_outcome-outcome.ensures.refused)
     consumed c.in_err-len.ensures.passes (search rules)
 
 pub returns-then-len-middle_len-clause-passes : goal.returns-then-len-middle_len-clause-passes
@@ -31,7 +32,9 @@ returns-then-len-middle_len-clause-passes g c =
     let len = 12 + c.in_ok-len.len in
     let section = c.args.file.now.reader.section.byte_order in
     let has_room : length c.args.buffer.now ≡ max_packet_len = search rules in
-    let long = long_block_front c.args.file.now.reader first middle.bytes header c.requires.header.has_len c.requires.header.is_header c.requires.room in
+    let long = long_front c.args.parts.now c.args.file.now.reader c.long_outcome-stepped.new.file first middle.bytes c.args.buffer.now
+    (first ++ middle.bytes) header c.long_outcome-stepped.result outcome c.requires.header.has_len c.requires.header.is_header c.requires.room
+    (c.long_outcome-stepped.ensures.steps c.args.buffer.now) c.kept_outcome-outcome.ensures.refused in
     ends_refused _ _ c.args.file.now (CutOff header.total_len len) left _ _ _ _ (first ++ middle.bytes)
     (written_by (first ++ middle.bytes) outcome) c.args.buffer.now (c.cut_off.ensures ∙ ap (λ place. cut_at place header.total_len len) c.place-place.ensures) has_room
     (Consumes-trans _ _ _ first middle.bytes consumed middle.consumed) middle.appended
@@ -50,7 +53,9 @@ returns-in_err-len-2-clause-passes g c =
     let middle = c.in_ok-len.ensures.passes in
     long_read_error c.args.parts.now _ _ c.args.file.now _ left _ _ _ _ _ c.kept_outcome-outcome.result (first ++ middle.bytes)
     (read_error_at _ _ _ c.place-place.ensures c.in_err-len-2.ensures.failed) (Consumes-trans _ _ _ first middle.bytes consumed middle.consumed) middle.appended
-    (long_block_front c.args.file.now.reader first middle.bytes c.args.header.now c.requires.header.has_len c.requires.header.is_header c.requires.room)
+    (long_front c.args.parts.now c.args.file.now.reader c.long_outcome-stepped.new.file first middle.bytes c.args.buffer.now (first ++ middle.bytes)
+    c.args.header.now c.long_outcome-stepped.result c.kept_outcome-outcome.result c.requires.header.has_len c.requires.header.is_header c.requires.room
+    (c.long_outcome-stepped.ensures.steps c.args.buffer.now) c.kept_outcome-outcome.ensures.refused)
     (search rules)
 
 pub returns-then-len-lt-LAST_LEN-clause-passes : goal.returns-then-len-lt-LAST_LEN-clause-passes
@@ -67,7 +72,9 @@ returns-then-len-lt-LAST_LEN-clause-passes g c =
     let len = 12 + (header.total_len - 12 - 4) + count in
     let section = c.args.file.now.reader.section.byte_order in
     let has_room : length c.args.buffer.now ≡ max_packet_len = search rules in
-    let long = long_block_front c.args.file.now.reader first (middle.bytes ++ last) header c.requires.header.has_len c.requires.header.is_header c.requires.room in
+    let long = long_front c.args.parts.now c.args.file.now.reader c.long_outcome-stepped.new.file first (middle.bytes ++ last) c.args.buffer.now
+    (first ++ middle.bytes) header c.long_outcome-stepped.result outcome c.requires.header.has_len c.requires.header.is_header c.requires.room
+    (c.long_outcome-stepped.ensures.steps c.args.buffer.now) c.kept_outcome-outcome.ensures.refused in
     ends_refused _ _ c.args.file.now (CutOff header.total_len len) left _ _ _ _ (first ++ (middle.bytes ++ last))
     (written_by (first ++ middle.bytes) outcome) c.args.buffer.now (c.cut_off-then-len-lt-LAST_LEN.ensures ∙ ap (λ place. cut_at place header.total_len len) c.place-place.ensures) has_room
     (Consumes-trans _ _ _ first (middle.bytes ++ last) consumed
@@ -93,7 +100,9 @@ returns-then-last_len-header-clause-passes g c =
     let number = c.number-last_len.result in
     let section = c.args.file.now.reader.section.byte_order in
     let has_room : length c.args.buffer.now ≡ max_packet_len = search rules in
-    let long = long_block_front c.args.file.now.reader first (middle.bytes ++ last) header c.requires.header.has_len c.requires.header.is_header c.requires.room in
+    let long = long_front c.args.parts.now c.args.file.now.reader c.long_outcome-stepped.new.file first (middle.bytes ++ last) c.args.buffer.now
+    (first ++ middle.bytes) header c.long_outcome-stepped.result outcome c.requires.header.has_len c.requires.header.is_header c.requires.room
+    (c.long_outcome-stepped.ensures.steps c.args.buffer.now) c.kept_outcome-outcome.ensures.refused in
     let read_last = full _ _ last c.in_ok-len-2.len (omega (arith, four, c.if-len-lt-LAST_LEN.false)) c.in_ok-len-2.ensures.consumed in
     ends_refused _ _ c.args.file.now (LastLength header.total_len number) left _ _ _ _ (first ++ (middle.bytes ++ last))
     (written_by (first ++ middle.bytes) outcome) c.args.buffer.now (c.refused.ensures ∙ ap (λ place. refused_by place (LastLength header.total_len number)) c.place-place.ensures) has_room
@@ -117,7 +126,9 @@ returns-in-Err-clause-passes g c =
     let four : length last ≡ 4 = omega (arith, c.read_into.auto.buffer) in
     let section = c.args.file.now.reader.section.byte_order in
     let has_room : length c.args.buffer.now ≡ max_packet_len = search rules in
-    let long = long_block_front c.args.file.now.reader first (middle.bytes ++ last) header c.requires.header.has_len c.requires.header.is_header c.requires.room in
+    let long = long_front c.args.parts.now c.args.file.now.reader c.long_outcome-stepped.new.file first (middle.bytes ++ last) c.args.buffer.now
+    (first ++ middle.bytes) header c.long_outcome-stepped.result outcome c.requires.header.has_len c.requires.header.is_header c.requires.room
+    (c.long_outcome-stepped.ensures.steps c.args.buffer.now) c.kept_outcome-outcome.ensures.refused in
     let read_last = full _ _ last c.in_ok-len-2.len (omega (arith, four, c.if-len-lt-LAST_LEN.false)) c.in_ok-len-2.ensures.consumed in
     let is_next = next_of section first (middle.bytes ++ last) c.args.buffer.now (TooLong header)
     (passed_over section first middle.bytes last (Some (middle.bytes ++ last)) (Some []) c.args.buffer.now header c.number-last_len.result
@@ -160,7 +171,7 @@ returns-clause-passes g c =
     (omega (arith, c.requires.header.has_len)) c.requires.header.accepted c.requires.header.is_header (alone (middle.bytes ++ last)) four
     (omega (arith, c.requires.header.has_len, middle.has_len, c.in_ok-len.ensures.within, c.if-len-middle_len.false, c.requires.room, length-append first middle.bytes))
     c.number-last_len.ensures (omega (arith, c.if-last_len-header.false)) (omega (arith, has_room, c.requires.room))) in
-    let stepped : c.long_outcome-stepped.result ≡ Ok outcome = c.in_default.is ∙ ap Ok (sym (c.kept_outcome-outcome.ensures c.in_default.field-0 c.in_default.is)) in
+    let stepped : c.long_outcome-stepped.result ≡ Ok outcome = c.in_default.is ∙ ap Ok (sym (c.kept_outcome-outcome.ensures.kept c.in_default.field-0 c.in_default.is)) in
     let steps = subst (StepsTo c.args.parts.now c.args.file.now.reader c.args.buffer.now (TooLong header) c.long_outcome-stepped.new.file) stepped
     (c.long_outcome-stepped.ensures.steps c.args.buffer.now) in
     passes_part _ _ _ left _ _ _ _ _ (record { bytes = first ++ (middle.bytes ++ last); outcome = outcome }) (
@@ -176,7 +187,7 @@ returns-clause-passes g c =
 pub returns-clause-begun : goal.returns-clause-begun
 returns-clause-begun g c =
     let outcome = c.kept_outcome-outcome.result in
-    let stepped : c.long_outcome-stepped.result ≡ Ok outcome = c.in_default.is ∙ ap Ok (sym (c.kept_outcome-outcome.ensures c.in_default.field-0 c.in_default.is)) in
+    let stepped : c.long_outcome-stepped.result ≡ Ok outcome = c.in_default.is ∙ ap Ok (sym (c.kept_outcome-outcome.ensures.kept c.in_default.field-0 c.in_default.is)) in
     let steps = subst (StepsTo c.args.parts.now c.args.file.now.reader c.args.buffer.now (TooLong c.args.header.now) c.long_outcome-stepped.new.file) stepped
     (c.long_outcome-stepped.ensures.steps c.args.buffer.now) in
     begun_past _ _ _ c.requires.header.len.0 steps.1.0

@@ -1,9 +1,17 @@
-use Rattle.std.proofs.Common.{[], rules}
-use Rattle.std.proofs.KnownBytes.{Consumes-nil}
-use Rattle.capture_selection.proofs.PassingLemmas.{next_to_read_error, read_error_at}
+use Rattle.std.proofs.Common.{refl, rules, subst, take}
+use Rattle.std.specs.Io.KnownBytes.{Consumes}
+use Rattle.capture_selection.proofs.PassingLemmas.{any_to_read_error, read_error_at}
 use Rattle.capture_selection.proofs.blocks.select_next.Goals as goal
 
 pub returns-in_err-len-clause-passes : goal.returns-in_err-len-clause-passes
 returns-in_err-len-clause-passes g c =
-    next_to_read_error _ _ _ _ _ _ _ _ _ _ [] (read_error_at _ _ _ c.place.ensures c.in_err-len.ensures.failed)
-    (Consumes-nil _) (search rules)
+    any_to_read_error _ _ _ _ _ _ _ _ _ (read_error_at _ _ _ c.place.ensures c.in_err-len.ensures.failed) (search rules)
+
+pub returns-then-len-eq0-clause-passes : goal.returns-then-len-eq0-clause-passes
+returns-then-len-eq0-clause-passes g c = (
+  refl,
+  subst (λ n. Consumes (g.R.Read.remaining c.args.input.now) (g.R.Read.remaining c.read_into.new.input) (take n c.read_into.new.buffer)) c.if-len-eq0.true
+      c.in_ok-len.ensures.consumed,
+  refl,
+  refl,
+)

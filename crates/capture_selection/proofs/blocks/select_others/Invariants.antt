@@ -1,14 +1,16 @@
-use Rattle.std.proofs.Common.{◌≤◌}
+use Rattle.std.proofs.Common.{◌≤◌, length}
 use Rattle.capture_run.specs.Limits.{IsWithin}
 use Rattle.capture_selection.specs.Blocks.{blocks_of}
 use Rattle.capture_selection.specs.Passing.{Passes}
 use Rattle.capture_selection.proofs.blocks.select_others.Given as goal
 
--- the blocks read so far were passed, the next block is not the first one, and no more packets are chosen than requested
+-- the blocks read so far were passed, each iteration passed a block, the next block is not the first one, and no more packets are chosen
+-- than requested
 abbrev pub invariant-loop-block : goal.invariant-loop-block
 invariant-loop-block g l = record {
-  passes : Passes (blocks_of l.parts) l.initial.file l.file (g.R.Read.remaining l.initial.input) (g.R.Read.remaining l.input)
-      (g.W.Write.contents l.initial.output) (g.W.Write.contents l.output) l.initial.counts l.counts;
+  passes : (passes : Passes (blocks_of l.parts) l.initial.file l.file (g.R.Read.remaining l.initial.input) (g.R.Read.remaining l.input)
+      (g.W.Write.contents l.initial.output) (g.W.Write.contents l.output) l.initial.counts l.counts)
+      × (l._block ≤ length passes.parts);
   past : 1 ≤ l.initial.file.reader.offset → 1 ≤ l.file.reader.offset;
   within : IsWithin l.parts.limit l.initial.counts.chosen → IsWithin l.parts.limit l.counts.chosen;
 }

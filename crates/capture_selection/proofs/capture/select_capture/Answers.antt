@@ -3,22 +3,23 @@ use Rattle.std.proofs.lemmas.List.{take_all}
 use Rattle.std.specs.Io.KnownBytes.{Consumes}
 use Rattle.capture_file.proofs.ReaderLemmas.{fills_whole}
 use Rattle.capture_file.specs.Opening.{SaysHeader}
-use Rattle.capture_selection.proofs.CaptureLemmas.{all_consumed, passes_from, refuses_capture, selects_capture, selects_to_write_error}
+use Rattle.capture_selection.proofs.CaptureLemmas.{all_consumed, passes_from, refused_at_limit, refuses_capture, selects_capture, selects_to_write_error}
+use Rattle.capture_selection.proofs.PassingLemmas.{write_error_at_limit}
 use Rattle.capture_selection.proofs.capture.select_capture.Goals as goal
 
 pub returns-in-Err-header_in-clause-selects : goal.returns-in-Err-header_in-clause-selects
 returns-in-Err-header_in-clause-selects g c =
-    λ left consumed.
+    λ left consumed other.
     let fills = fills_whole 24 c.args.begin.now _ _ c.fill_after.new.buffer c.in-Ok.len (omega (arith, c.requires.begin.0)) c.in-Ok.ensures in
     refuses_capture _ c.in-Err-header_in.error left _ _ _ _ c.args.begin.now c.fill_after.new.buffer c.in-Ok.len (omega (arith, c.fill_after.auto.buffer)) consumed
-    fills c.in-Err-header_in.ensures.refused
+    other fills c.in-Err-header_in.ensures.refused
 
 pub returns-in_err-write-clause-selects : goal.returns-in_err-write-clause-selects
-returns-in_err-write-clause-selects g c = λ left consumed. selects_to_write_error _ _ _ _ _ _ _ _ _ c.in_err-write.ensures.failed (search rules)
+returns-in_err-write-clause-selects g c = λ left consumed other. selects_to_write_error _ _ _ _ _ _ _ _ _ c.in_err-write.ensures.failed (search rules)
 
 pub returns-clause-selects : goal.returns-clause-selects
 returns-clause-selects g c =
-    λ left consumed.
+    λ left consumed other.
     let first = c.fill_after.new.buffer in
     let len = c.in-Ok.len in
     let fills = fills_whole 24 c.args.begin.now _ _ first len (omega (arith, c.requires.begin.0)) c.in-Ok.ensures in
@@ -35,3 +36,12 @@ returns-clause-selects g c =
       after = _;
       passes = passes_from _ _ _ _ _ _ _ _ _ _ _ c.after-records.ensures c.select_records.ensures.passes;
     })
+
+pub returns-in-Err-header_in-clause-limit : goal.returns-in-Err-header_in-clause-limit
+returns-in-Err-header_in-clause-limit g c =
+    refused_at_limit c.args.parts.now.limit c.args.counts.now.chosen (take c.in-Ok.len c.fill_after.new.buffer) c.in-Err-header_in.error
+    c.in-Err-header_in.ensures.refused
+
+pub returns-in_err-write-clause-limit : goal.returns-in_err-write-clause-limit
+returns-in_err-write-clause-limit g c =
+    write_error_at_limit c.args.parts.now.limit c.args.counts.now.chosen c.from_residual.result _ c.in_err-write.ensures.failed (search rules)

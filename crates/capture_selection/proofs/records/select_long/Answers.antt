@@ -1,4 +1,4 @@
-use Rattle.std.proofs.Common.{◌≡◌, ◌+◌, ◌++◌, ◌∙◌, Some, ap, arith, length, length-append, rules, subst, sym}
+use Rattle.std.proofs.Common.{◌≡◌, ◌+◌, ◌++◌, ◌∙◌, Some, ap, arith, inr, length, length-append, rules, subst, sym}
 use Rattle.std.proofs.KnownBytes.{Consumes-trans}
 use Rattle.capture_file.specs.CapturePackets.{too_long}
 use Rattle.capture_file.specs.Packets.{long_record}
@@ -15,7 +15,7 @@ returns-in_err-len-clause-passes g c =
     λ left consumed.
     let captured_len = ap (λ header. header.captured_len) c.requires.header in
     next_long_to_error _ _ _ _ _ left _ _ _ _ _ _ c.args.first.now
-    (λ bytes. long_record_front c.args.records.now.header c.args.first.now bytes (search rules) (omega (arith, captured_len, c.requires.room)))
+    (λ bytes. inr (long_record_front c.args.records.now.header c.args.first.now bytes (search rules) (omega (arith, captured_len, c.requires.room))))
     consumed c.in_err-len.ensures.passes (search rules)
 
 pub returns-then-len-captured_len-clause-passes : goal.returns-then-len-captured_len-clause-passes
@@ -28,7 +28,7 @@ returns-then-len-captured_len-clause-passes g c =
     let long = long_record_front c.args.records.now.header first rest.bytes (search rules) (omega (arith, captured_len, c.requires.room)) in
     ends_cut _ _ _ _ _ left _ _ _ _ (first ++ rest.bytes) (written_by (first ++ rest.bytes) outcome) c.cut_off.ensures
     (Consumes-trans _ _ _ first rest.bytes consumed rest.consumed) rest.appended
-    (front_of outcome (first ++ rest.bytes) (IsLongRecord c.args.records.now.header (first ++ rest.bytes)) long)
+    (front_of outcome (first ++ rest.bytes) (IsLongRecord c.args.records.now.header (first ++ rest.bytes)) (inr long))
     (cut_captured c.args.records.now.header first rest.bytes _ _ (search rules)
     (omega (arith, rest.has_len, captured_len, c.if-len-captured_len.true))
     (omega (arith, captured_len))

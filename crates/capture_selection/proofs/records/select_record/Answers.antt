@@ -1,12 +1,22 @@
-use Rattle.std.proofs.Common.{[], arith, inl, refl, rules, take}
-use Rattle.std.proofs.KnownBytes.{Appends-nil, Consumes-nil}
-use Rattle.capture_selection.proofs.PassingLemmas.{ends_cut, next_to_read_error}
+use Rattle.std.proofs.Common.{arith, inl, refl, rules, subst, take, []}
+use Rattle.std.proofs.KnownBytes.{Appends-nil}
+use Rattle.std.specs.Io.KnownBytes.{Consumes}
+use Rattle.capture_selection.proofs.PassingLemmas.{any_to_read_error, ends_cut}
 use Rattle.capture_selection.proofs.RecordLemmas.{cut_header}
 use Rattle.capture_selection.proofs.records.select_record.Goals as goal
 
 pub returns-in_err-len-clause-passes : goal.returns-in_err-len-clause-passes
 returns-in_err-len-clause-passes g c =
-    next_to_read_error _ _ _ _ _ _ _ _ _ _ [] c.in_err-len.ensures.failed (Consumes-nil _) (search rules)
+    any_to_read_error _ _ _ _ _ _ _ _ _ c.in_err-len.ensures.failed (search rules)
+
+pub returns-then-len-eq0-clause-passes : goal.returns-then-len-eq0-clause-passes
+returns-then-len-eq0-clause-passes g c = (
+  refl,
+  subst (λ n. Consumes (g.R.Read.remaining c.args.input.now) (g.R.Read.remaining c.read_into.new.input) (take n c.read_into.new.buffer)) c.if-len-eq0.true
+      c.in_ok-len.ensures.consumed,
+  refl,
+  refl,
+)
 
 pub returns-then-len-lt-LEN-clause-passes : goal.returns-then-len-lt-LEN-clause-passes
 returns-then-len-lt-LEN-clause-passes g c =
