@@ -1,3 +1,5 @@
 mod ChosenLemmas
 mod CommandLemmas
+mod ConflictLemmas
+mod OutputLemmas
 mod WordLemmas

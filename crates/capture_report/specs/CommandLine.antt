@@ -1,7 +1,7 @@
 -- The command line of the program, as clap reads it.
-use Rattle.std.specs.Prelude.{◌≡◌, ◌-◌, ◌^◌, true, false, List, [], ◌∷◌, ◌++◌, codes, fold, map, pos, Some}
+use Rattle.std.specs.Prelude.{◌≡◌, ◌-◌, ◌^◌, true, List, [], ◌∷◌, ◌++◌, codes, fold, map, pos, Some}
 use Rattle.std.specs.Borrow.{Bor}
-use Rattle.clap.specs.Words.{App, Rule, Text, found_of, matches_of, new_app, new_rule, rows_of, with_rule}
+use Rattle.clap.specs.Words.{App, Rule, Text, fault_of as faults_of, found_of, matches_of, new_app, new_rule, rows_of, with_rule}
 use Rattle.clap.specs.declared.builder.action.ArgAction.TheVariants.{Append, Set, SetTrue}
 use Rattle.clap.specs.declared.builder.value_parser.ValueParser.{ValueParser}
 use Rattle.clap.specs.declared.builder.value_parser.ValueParser.TheVariants as parsers
@@ -25,26 +25,21 @@ parsed_rule name parser = record (value_rule name) { parser = Some parser }
 abbrev pub repeated : Rule → Rule
 repeated rule = record rule { action = Some Append }
 
--- an option that can't be given together with some other option
-abbrev pub conflicting : Rule → Rule
-conflicting rule = record rule { is_free = false }
-
 -- the option for further fields in the lines, `-v` (118)
 abbrev pub verbose_rule : Rule
 verbose_rule = record (flag_rule (codes "verbose")) { short = Some 118 }
 
 -- the options for the parts and the lines of the report
 abbrev pub line_rules : List Rule
-line_rules =
-    conflicting (flag_rule (codes "summary")) ∷ flag_rule (codes "packets") ∷ conflicting (flag_rule (codes "wrong")) ∷ verbose_rule ∷ []
+line_rules = flag_rule (codes "summary") ∷ flag_rule (codes "packets") ∷ flag_rule (codes "wrong") ∷ verbose_rule ∷ []
 
 -- the option for the number of conversations in the summary; the number has at most 64 bits
 abbrev pub top_rule : Rule
-top_rule = conflicting (parsed_rule (codes "top") (parsers.Unsigned 0 (2 ^ 64 - 1)))
+top_rule = parsed_rule (codes "top") (parsers.Unsigned 0 (2 ^ 64 - 1))
 
 -- the options for the form of the report and for its exit status
 abbrev pub form_rules : List Rule
-form_rules = conflicting (flag_rule (codes "absolute")) ∷ flag_rule (codes "check") ∷ flag_rule (codes "json") ∷ top_rule ∷ []
+form_rules = flag_rule (codes "absolute") ∷ flag_rule (codes "check") ∷ flag_rule (codes "json") ∷ top_rule ∷ []
 
 -- the names of protocols
 abbrev pub protocol_names : List Text
@@ -70,7 +65,7 @@ end_rules = count_rule ∷ []
 
 -- the option that writes a capture instead of a report, `-w` (119)
 abbrev pub write_rule : Rule
-write_rule = conflicting (record (value_rule (codes "write")) { short = Some 119 })
+write_rule = record (value_rule (codes "write")) { short = Some 119 }
 
 -- the option for what is written
 abbrev pub output_rules : List Rule
@@ -112,9 +107,10 @@ command_line names = with_rules bare_command (line_rules ++ form_rules ++ choice
 abbrev pub IsCommandLine : App → Type 0
 IsCommandLine app = (names : Bor (List (Bor Text))) × (map (λ name. name.now) names.now ≡ protocol_names) × (app ≡ command_line names)
 
--- these are the matches of these words; the first word is the name of the program
+-- These words fit the command line, and these are their matches. The first word is the name of the program.
 abbrev pub AreMatchesOf : List Text → ArgMatches → Type 0
-AreMatchesOf words matches = (app : App) × IsCommandLine app × (rows_of (found_of matches) ≡ matches_of app words)
+AreMatchesOf words matches =
+    (app : App) × IsCommandLine app × (faults_of app words ≡ []) × (rows_of (found_of matches) ≡ matches_of app words)
 
 -- these words request these options; the first word is the name of the program
 abbrev pub AreRequestedBy : List Text → Options → Type 0

@@ -1,6 +1,7 @@
 pub mod Arguments
 pub mod Chosen
 pub mod CommandLine
+pub mod Conflicts
 pub mod Failures
 pub mod Inputs
 pub mod Options

@@ -1,7 +1,7 @@
 -- The options in the matches of a command line.
 use Rattle.std.specs.Prelude.{◌≡◌, ℕ, Bool, List, ◌++◌, not, if◌then◌else◌, codes, map, None, Some}
 use Rattle.std.specs.Option.{option_map}
-use Rattle.clap.specs.Words.{first_value, found_of}
+use Rattle.clap.specs.Words.{first_value, found_of, rows_of}
 use Rattle.clap.specs.declared.parser.matches.ArgMatches.{ArgMatches}
 use Rattle.capture_run.specs.Lines.{lines_by}
 use Rattle.capture_run.specs.declared.parts.Format.TheVariants as formats
@@ -9,12 +9,14 @@ use Rattle.capture_summary.specs.Ranking.{default_top}
 use Rattle.capture_text.specs.TimeText.{times_by}
 use Rattle.capture_report.specs.Arguments.{HasFlag, HasNumberOr, values_of}
 use Rattle.capture_report.specs.Chosen.{IsChoiceOf, IsRefusal}
+use Rattle.capture_report.specs.Conflicts.{conflict_in}
 use Rattle.capture_report.specs.declared.arguments.Options.{Options}
 use Rattle.capture_report.specs.declared.arguments.OptionsError.{OptionsError}
-use Rattle.capture_report.specs.declared.arguments.OptionsError.TheVariants.{Choice, NoMemory}
+use Rattle.capture_report.specs.declared.arguments.OptionsError.TheVariants.{Choice, Conflict, NoMemory}
 
 -- some matches contain no options for this reason
 abbrev pub IsRefusedBy : ArgMatches → OptionsError → Type 0
+IsRefusedBy matches (Conflict first second) = conflict_in (rows_of (found_of matches)) ≡ Some (first.now, second.now)
 IsRefusedBy matches (Choice error) = IsRefusal matches error
 IsRefusedBy matches (NoMemory error) = Unit {0}
 
@@ -24,6 +26,7 @@ names_of matches = values_of matches (codes "read") ++ values_of matches (codes 
 
 -- the options that some matches contain
 pub record IsOptionsOf (matches : ArgMatches) (options : Options) : Type 0 where
+  pub compatible : conflict_in (rows_of (found_of matches)) ≡ None
   pub lines : (summary wrong : Bool) → HasFlag matches (codes "summary") summary → HasFlag matches (codes "wrong") wrong
       → options.parts.lines ≡ lines_by summary wrong
   pub times : (absolute : Bool) → HasFlag matches (codes "absolute") absolute → options.parts.times ≡ times_by absolute

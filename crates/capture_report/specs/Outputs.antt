@@ -1,10 +1,11 @@
 -- The file to which the packets of a capture are written instead of a report.
-use Rattle.std.specs.Prelude.{◌≡◌, ℕ, ◌==◌, ◌&&◌, not, Bool, false, if◌then◌else◌, List, [], ◌∷◌, codes, map, Option, Some, None, Result, Ok, Err}
+use Rattle.std.specs.Prelude.{◌≡◌, ℕ, ◌==◌, ◌&&◌, ◌++◌, not, Bool, false, if◌then◌else◌, IfOk, IsOk, List, [], ◌∷◌, codes, decimal, map, Option, Some, None, Result, Ok, Err}
 use Rattle.std.specs.Io.KnownBytes.{Keeps}
 use Rattle.std.specs.Option.{option_map}
 use Rattle.std.specs.Str.{bytes_eq}
 use Rattle.std.specs.declared.io.Error.{Error}
 use Rattle.capture_run.specs.Endings.{exit_status}
+use Rattle.capture_run.specs.ErrorLines.{AreEndLines, WritesSome}
 use Rattle.capture_run.specs.declared.exit_status.ExitStatus.{ExitStatus}
 use Rattle.capture_run.specs.declared.exit_status.ExitStatus.TheVariants as statuses
 use Rattle.capture_run.specs.ExitStatuses.{exit_number}
@@ -48,18 +49,48 @@ written_status (Ok done) = Ok statuses.Success
 written_status (Err (Capture error)) = Ok (exit_status error)
 written_status (Err (Write error)) = Err error
 
+-- if writing a packet failed, the run ends with the error of that write
+abbrev pub FailsFirst : {T : Type 0} → Result (Unit {0}) SelectionError → Result T Error → Type 0
+FailsFirst (Err (Write error)) result = result ≡ Err error
+FailsFirst ended result = Unit {0}
+
+-- this is the number of the exit status
+abbrev pub IsStatusOf : Result (Unit {0}) SelectionError → ℕ → Type 0
+IsStatusOf ended number = (status : ExitStatus) × (written_status ended ≡ Ok status) × (number ≡ exit_number status)
+
+-- ---- what is written to standard error
+
+-- the lines of the end of a capture with this name: there is one if the capture could not be read to its end
+abbrev pub AreErrorLines : Option (List ℕ) → Result (Unit {0}) SelectionError → List (List ℕ) → Type 0
+AreErrorLines name (Ok done) lines = AreEndLines name (Ok done) lines
+AreErrorLines name (Err (Capture error)) lines = AreEndLines name (Err error) lines
+AreErrorLines name (Err (Write error)) lines = lines ≡ []
+
+-- the line with the numbers of packets
+abbrev pub counts_line : Counts → List ℕ
+counts_line counts =
+    codes "capture_report: " ++ (decimal counts.read ++ (codes " packets read, " ++ (decimal counts.written ++ codes " written\n")))
+
+-- the same lines, and then the line with the numbers of packets
+abbrev pub AreSelectionLines : Option (List ℕ) → Result (Unit {0}) SelectionError → Counts → List (List ℕ) → Type 0
+AreSelectionLines name ended counts lines =
+    (errors : List (List ℕ)) × AreErrorLines name ended errors × (lines ≡ errors ++ counts_line counts ∷ [])
+
+-- ---- the run
+
 -- no packet
 abbrev pub no_counts : Counts
 no_counts = record { read = 0; chosen = 0; written = 0 }
 
--- The packets of a capture that have a line in the report with these options were written, up to the end of the capture or an error, and
--- then the output was flushed. This is the exit status.
-pub record WritesSelection (options : Parts) (left still_left held now_held : Option (List ℕ)) (status : ℕ) : Type 0 where
+-- The packets of a capture with this name that have a line in the report with these options were written, up to the end of the capture or an
+-- error. Then the output was flushed. Of the lines for standard error a beginning was written, and all of them if the result is no error. If
+-- the result is an error, it may be the error of writing a packet, and then nothing is stated of the output.
+pub record WritesSelection (options : Parts) (name left still_left held now_held told now_told : Option (List ℕ)) (result : Result ℕ Error) : Type 0 where
   pub ended : Result (Unit {0}) SelectionError
   pub counts : Counts
   pub then_held : Option (List ℕ)
   pub selects : SelectsCapture options ended left still_left held then_held no_counts counts
   pub flushed : Keeps then_held now_held
-  pub given : ExitStatus
-  pub ends : written_status ended ≡ Ok given
-  pub numbered : status ≡ exit_number given
+  pub lines : WritesSome told now_told (IsOk result) (AreSelectionLines name ended counts)
+  pub status : IfOk result (IsStatusOf ended)
+  pub failure : FailsFirst ended result

@@ -5,14 +5,16 @@ ghost use Rattle.clap.specs.Words.{IsPlainArg, app_of, kind_of, rule_of};
 ghost use Rattle.clap.specs.declared.error.kind.ErrorKind.TheVariants as ErrorKind;
 ghost use Rattle.capture_report.specs.Arguments.{HasFlag, HasNumberOr};
 ghost use Rattle.capture_report.specs.Options.{IsOptionsOf, IsRefusedBy, names_of};
+ghost use Rattle.capture_report.specs.Conflicts.{conflict_in};
 ghost use Rattle.capture_report.specs.Outputs.{fault_of};
 ghost use Rattle.capture_report.specs.Rejections.{AreRejectedBy};
-ghost use Rattle.capture_report.specs.CommandLine.{AreRequestedBy, IsCommandLine, bare_command, choice_rules, conflicting, count_rule, end_rules, file_rule, file_rules, flag_rule, form_rules, line_buffered_rule, line_rules, numeric_rule, output_rules, protocol_names, read_rule, repeated, top_rule, value_rule, verbose_rule, with_rules, write_rule};
+ghost use Rattle.capture_report.specs.CommandLine.{AreRequestedBy, IsCommandLine, bare_command, choice_rules, count_rule, end_rules, file_rule, file_rules, flag_rule, form_rules, line_buffered_rule, line_rules, numeric_rule, output_rules, protocol_names, read_rule, repeated, top_rule, value_rule, verbose_rule, with_rules, write_rule};
 ghost use Rattle.capture_summary.specs.Ranking.{default_top};
 ghost use Rattle.capture_text.specs.TimeText.{times_by};
 ghost use Rattle.capture_run.specs.declared.parts.Format.TheVariants as Format;
 
 use crate::chosen::{ChoiceError, choice_of};
+use crate::conflicts::{conflict_in, conflict_text};
 use capture_run::{Format, Parts, STANDARD_INPUT, Times};
 use capture_summary::{BUSIEST, MAX_CHOSEN};
 use clap::error::ErrorKind;
@@ -26,8 +28,9 @@ const VERSION: &str = "0.4.0";
 const AFTER_HELP: &str = "\
 --wrong and --check are about packets whose checksum is wrong or whose form is refused.
 
-Exit status: 0 all was read; 1 a capture ends early; 2 no capture, or a wrong argument;
-3 opening, reading or writing failed; 4 a packet has a fault, with --check
+Exit status: 0 all was read, or as much as -c requests; 1 a capture ends early;
+2 no capture, or a wrong argument; 3 opening, reading or writing failed;
+4 a packet has a fault, with --check; 141 the reader of the output ended first
 
 Examples:
   capture_report --host 10.0.0.0/8 --port 53 --wrong capture.pcap
@@ -56,8 +59,9 @@ pub struct Options<'a> {
 ///
 /// # Errors
 ///
-/// An unknown argument is named in the text of the error, whose exit status is 2. A request for help or for the version is also an error.
-/// Its text goes to standard output, and its exit status is 0.
+/// An unknown argument is named in the text of the error, whose exit status is 2. So are two options that are not used together. A request
+/// for help or for the version is also an error. Its text goes to standard output, and its exit status is 0. If no memory is left, the exit
+/// status is 3.
 pub fn requested_options<'a>(alloc: Global, words: &'a [String]) -> Result<Options<'a>, Error>
     ensures options { IfOk result (AreRequestedBy (map (λ word. string_bytes word) words.now)) }
     ensures writable { IfOk result (λ options. fault_of options ≡ None) }
@@ -78,6 +82,7 @@ fn given_options<'a>(alloc: Global, words: &'a [String]) -> Result<Options<'a>, 
     let matches = command(alloc)?.try_get_matches_from(words)?;
     match options_of(alloc, &matches) {
         Ok(options) => Ok(options),
+        Err(OptionsError::Conflict(first, second)) => Err(invalid_pair(alloc, first, second)?),
         Err(OptionsError::Choice(error)) => Err(invalid_choice(alloc, error)?),
         Err(OptionsError::NoMemory(error)) => Err(error.into()),
     }
@@ -85,6 +90,8 @@ fn given_options<'a>(alloc: Global, words: &'a [String]) -> Result<Options<'a>, 
 
 /// Why some matches contain no options.
 pub enum OptionsError<'a> {
+    /// They contain the two options with these names, which are not used together.
+    Conflict(&'static str, &'static str),
     /// They contain no choice of packets.
     Choice(ChoiceError<'a>),
     /// No memory is left.
@@ -96,6 +103,9 @@ fn options_of<'a>(alloc: Global, matches: &ArgMatches<'a>) -> Result<Options<'a>
     ensures options { IfOk result (IsOptionsOf matches.now) }
     ensures refusal { IfErr result (IsRefusedBy matches.now) }
 {
+    if let Some((first, second)) = conflict_in(matches) {
+        return Err(OptionsError::Conflict(first, second));
+    }
     let choice = match choice_of(matches) {
         Ok(choice) => choice,
         Err(error) => return Err(OptionsError::Choice(error)),
@@ -181,6 +191,16 @@ fn count_of(matches: &ArgMatches<'_>) -> Option<u64>
     ensures { HasNumberOr matches.now (codes "count") 64 Some None result }
 {
     matches.get_one("count")
+}
+
+/// The error for two options that are not used together, with the usage.
+fn invalid_pair(alloc: Global, first: &str, second: &str) -> Result<Error, Error>
+    ensures kind { IfOk result (λ error. kind_of error ≡ ErrorKind.ArgumentConflict) }
+    ensures memory { IfErr result (λ error. kind_of error ≡ ErrorKind.OutOfMemory) }
+{
+    let message = conflict_text(alloc, first, second)?;
+    let mut command = command(alloc)?;
+    Ok(command.error(ErrorKind::ArgumentConflict, message.as_str())?)
 }
 
 /// The error for a choice of packets that is not valid, with the usage.
@@ -286,9 +306,9 @@ fn bare<'a>(alloc: Global) -> Command<'a>
 fn with_lines<'a>(alloc: Global, command: Command<'a>) -> Result<Command<'a>, AllocError>
     ensures { IfOk result (λ more. app_of more ≡ with_rules (app_of command.entry) line_rules) }
 {
-    let summary = flag_without(alloc, "summary", "packets")?.help("Write the summary alone");
+    let summary = flag(alloc, "summary").help("Write the summary alone");
     let packets = flag(alloc, "packets").help("Write the lines of packets alone");
-    let wrong = flag_without(alloc, "wrong", "summary")?.help(
+    let wrong = flag(alloc, "wrong").help(
         "Write a line only for a packet whose checksum or form is wrong",
     );
     command
@@ -312,7 +332,7 @@ fn verbose<'a>(alloc: Global) -> Arg<'a>
 fn with_form<'a>(alloc: Global, command: Command<'a>) -> Result<Command<'a>, AllocError>
     ensures { IfOk result (λ more. app_of more ≡ with_rules (app_of command.entry) form_rules) }
 {
-    let absolute = flag_without(alloc, "absolute", "summary")?.help(
+    let absolute = flag(alloc, "absolute").help(
         "Write the date and time of packets, in UTC, in place of the time since the first",
     );
     let check = flag(alloc, "check").help(
@@ -325,13 +345,13 @@ fn with_form<'a>(alloc: Global, command: Command<'a>) -> Result<Command<'a>, All
         .arg(absolute)?
         .arg(check)?
         .arg(json)?
-        .arg(top(alloc)?)
+        .arg(top(alloc))
 }
 
 /// The number of conversations in the summary.
-fn top<'a>(alloc: Global) -> Result<Arg<'a>, AllocError>
-    ensures rule { IfOk result (λ arg. rule_of arg ≡ top_rule) }
-    ensures local { IfOk result (λ arg. arg.global ≡ false) }
+fn top<'a>(alloc: Global) -> Arg<'a>
+    ensures rule { rule_of result ≡ top_rule }
+    ensures local { result.global ≡ false }
 {
     valued(
         alloc,
@@ -340,7 +360,6 @@ fn top<'a>(alloc: Global) -> Result<Arg<'a>, AllocError>
         "Name the N busiest conversations in the summary, in place of 10",
     )
     .value_parser(value_parser!(usize))
-    .conflicts_with("packets")
 }
 
 /// The command line with the options that choose packets.
@@ -398,13 +417,13 @@ fn count<'a>(alloc: Global) -> Arg<'a>
 fn with_output<'a>(alloc: Global, command: Command<'a>) -> Result<Command<'a>, AllocError>
     ensures { IfOk result (λ more. app_of more ≡ with_rules (app_of command.entry) output_rules) }
 {
-    command.arg(write(alloc)?)
+    command.arg(write(alloc))
 }
 
 /// The file for the packets. An option for the form of a report has no effect on them.
-fn write<'a>(alloc: Global) -> Result<Arg<'a>, AllocError>
-    ensures rule { IfOk result (λ arg. rule_of arg ≡ write_rule) }
-    ensures local { IfOk result (λ arg. arg.global ≡ false) }
+fn write<'a>(alloc: Global) -> Arg<'a>
+    ensures rule { rule_of result ≡ write_rule }
+    ensures local { result.global ≡ false }
 {
     valued(
         alloc,
@@ -413,12 +432,6 @@ fn write<'a>(alloc: Global) -> Result<Arg<'a>, AllocError>
         "Write the packets that have a line to a capture of the same format, in place of the report; `-` is standard output",
     )
     .short('w')
-    .conflicts_with("summary")?
-    .conflicts_with("packets")?
-    .conflicts_with("absolute")?
-    .conflicts_with("check")?
-    .conflicts_with("json")?
-    .conflicts_with("top")
 }
 
 /// The command line with the captures, and with the option for writing lines.
@@ -497,14 +510,6 @@ fn valued<'a>(alloc: Global, name: &'a str, value: &'a str, help: &'a str) -> Ar
         .value_name(value)
         .help(help)
         .action(ArgAction::Set)
-}
-
-/// An argument without a value, that is not given together with another one.
-fn flag_without<'a>(alloc: Global, name: &'a str, other: &'a str) -> Result<Arg<'a>, AllocError>
-    ensures rule { IfOk result (λ arg. rule_of arg ≡ conflicting (flag_rule name.entry.now)) }
-    ensures local { IfOk result (λ arg. arg.global ≡ false) }
-{
-    flag(alloc, name).conflicts_with(other)
 }
 
 /// An argument without a value.

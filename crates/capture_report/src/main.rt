@@ -10,16 +10,19 @@
 //! ```
 #![tactic(auto)]
 
-ghost use Rattle.std.specs.Prelude.{◌≡◌, ◌-◌, ◌^◌, IfOk, IsTrue, Ok};
+ghost use Rattle.std.specs.Prelude.{◌≡◌, ◌-◌, ◌^◌, IfOk, IsOk, IsTrue, Ok, option_map, string_bytes};
 ghost use Rattle.std.specs.IoError.{error_kind};
 ghost use Rattle.clap.specs.Words.{kind_of};
+ghost use Rattle.capture_run.specs.ErrorLines.{IsOneLine, IsOpenErrorLine, WritesSome};
+ghost use Rattle.capture_run.specs.Names.{shown_name};
 ghost use Rattle.capture_report.specs.Failures.{failure_number, write_failure_number};
-ghost use Rattle.capture_report.specs.Outputs.{WritesSelection, written_status};
+ghost use Rattle.capture_report.specs.Outputs.{AreErrorLines, AreSelectionLines, FailsFirst, IsStatusOf, WritesSelection, counts_line, written_status};
 ghost use Rattle.capture_report.specs.Progress.{inner_of, next_of};
 ghost use Rattle.capture_report.specs.Rejections.{answer_number};
 
 mod arguments;
 mod chosen;
+mod conflicts;
 mod input;
 mod progress;
 mod words;
@@ -32,18 +35,19 @@ use capture_run::{
 use capture_selection::{Counts, SelectionError, write_selected};
 use input::Input;
 use progress::{Progress, is_shown};
+use std::alloc::{AllocError, Global};
 use std::fs::File;
 use std::hash::RandomState;
 use std::io;
 use std::io::{BufReader, BufWriter, ErrorKind, IsTerminal, LineWriter, Read, Write};
 use std::process::ExitCode;
-use streams::new_buffer;
+use streams::{new_buffer, write_whole};
 use words::{OwnArguments, words_of};
 
 /// The size of the input buffer of a capture and of the buffer of standard output, in bytes.
 const BUFFER_LEN: usize = 1 << 16;
 
-/// The exit status if the reader of standard output ended first. A shell reports it for a program that SIGPIPE ended.
+/// The exit status if the reader of standard output or standard error ended first. A shell reports it for a program that SIGPIPE ended.
 const BROKEN_PIPE: u8 = 128 + 13;
 
 fn main(rt: HostRuntime) -> ExitCode {
@@ -53,8 +57,8 @@ fn main(rt: HostRuntime) -> ExitCode {
     }
 }
 
-/// Writes the error that ends the program, and returns the exit status. Nothing is written if the reader of standard output ended first, as
-/// `head` does.
+/// Writes the error that ends the program, and returns the exit status. Nothing is written if the reader of standard output or standard
+/// error ended first, as `head` does.
 fn failure(rt: &HostRuntime, error: &io::Error) -> u8
     ensures { result ≡ failure_number (error_kind error.now) }
 {
@@ -92,6 +96,9 @@ fn answer(rt: &HostRuntime, error: clap::Error) -> io::Result<u8>
     ensures { IfOk result (λ status. status ≡ answer_number (kind_of error)) }
 {
     error.print(rt)?;
+    if error.kind() == clap::error::ErrorKind::OutOfMemory {
+        return Ok(ExitStatus::Failed.number());
+    }
     Ok(error.exit_code() as u8)
 }
 
@@ -125,7 +132,10 @@ fn write_to(rt: &HostRuntime, options: &Options<'_>, name: &str) -> io::Result<u
     let capture = options.files.as_slice().first().copied();
     let input = match Input::open(rt, capture.unwrap_or(STANDARD_INPUT)) {
         Ok(input) => input,
-        Err(error) => return unopened(rt, capture.unwrap_or(STANDARD_INPUT), &error),
+        Err(error) => {
+            let name = capture.unwrap_or(STANDARD_INPUT);
+            return unopened(&mut rt.stderr(), rt.alloc(), name, &error);
+        }
     };
     if name == STANDARD_INPUT {
         let input = with_progress(rt, input, rt.stdout().is_terminal());
@@ -134,21 +144,32 @@ fn write_to(rt: &HostRuntime, options: &Options<'_>, name: &str) -> io::Result<u
     if input.is_named(rt, name) {
         return answer(rt, arguments::output_is_capture(rt.alloc()));
     }
-    match File::create(rt, name) {
+    match create(rt, name) {
         Ok(output) => {
             let input = with_progress(rt, input, false);
             write_packets(rt, &options.parts, capture, input, output)
         }
-        Err(error) => unopened(rt, name, &error),
+        Err(error) => unopened(&mut rt.stderr(), rt.alloc(), name, &error),
     }
 }
 
+/// Creates the file with this name. A clone of a file has a number above the numbers of the standard streams. If standard error is closed,
+/// the file itself could have its number, and would contain the messages.
+fn create(rt: &HostRuntime, name: &str) -> io::Result<File> {
+    File::create(rt, name)?.try_clone()
+}
+
 /// Writes the error of a file that can't be opened or created, and returns the exit status.
-fn unopened(rt: &HostRuntime, name: &str, error: &io::Error) -> io::Result<u8>
-    ensures { result ≡ Ok 3 }
+fn unopened<E: Write>(
+    errors: &mut E,
+    alloc: Global,
+    name: &str,
+    error: &io::Error,
+) -> io::Result<u8>
+    ensures status { IfOk result (λ status. status ≡ 3) }
+    ensures line { WritesSome (E.contents errors.old) (E.contents errors.new) (IsOk result) (IsOneLine (IsOpenErrorLine name.now)) }
 {
-    // If writing to standard error fails, the exit status still reports the failure.
-    let _ = write_open_error(&mut rt.stderr(), rt.alloc(), name, error);
+    write_open_error(errors, alloc, name, error)?;
     Ok(ExitStatus::Failed.number())
 }
 
@@ -164,55 +185,107 @@ fn write_packets<W: Write + Drop>(
     let mut output = BufWriter::with_capacity(rt.alloc(), BUFFER_LEN, output)?;
     let mut bytes = new_buffer(rt.alloc(), MAX_PACKET_LEN)?;
     let buffer = bytes.as_mut_slice().as_mut_array().unwrap();
-    write_selection(rt, parts, name, &mut input, &mut output, buffer)
+    let mut errors = rt.stderr();
+    write_selection(
+        rt.alloc(),
+        parts,
+        name,
+        &mut input,
+        &mut output,
+        &mut errors,
+        buffer,
+    )
 }
 
-/// Writes the packets of a capture with this name, if it has one, to the output, and then their numbers to standard error. Returns the exit
-/// status.
-fn write_selection<R: Read, W: Write>(
-    rt: &HostRuntime,
+/// Writes the packets of a capture with this name, if it has one, to the output, and then their numbers to `errors`. Returns the exit
+/// status. If the capture can't be read to its end, the error is written before the numbers.
+///
+/// # Errors
+///
+/// The error of writing to the output, or the error of writing to `errors`. All packets are written before anything is written to `errors`.
+fn write_selection<R: Read, W: Write, E: Write>(
+    alloc: Global,
     parts: &Parts,
     name: Option<&str>,
     input: &mut R,
     output: &mut W,
+    errors: &mut E,
     buffer: &mut [u8; MAX_PACKET_LEN],
 ) -> io::Result<u8>
-    ensures { IfOk result (WritesSelection parts.now (R.remaining input.old) (R.remaining input.new) (W.contents output.old)
-        (W.contents output.new)) }
+    ensures { WritesSelection parts.now (option_map (λ text. shown_name text.now) name.entry) (R.remaining input.old) (R.remaining input.new)
+        (W.contents output.old) (W.contents output.new) (E.contents errors.old) (E.contents errors.new) result }
 {
     let mut counts = Counts::NONE;
     let ended = write_selected(input, output, buffer, parts, &mut counts);
     // What was written before an error is part of the output.
     let flushed = output.flush();
-    let status = written_status(rt, name, ended)?;
+    finished(errors, alloc, name, ended, flushed, &counts)
+}
+
+/// Writes the error of a capture with this name, if it has an error, and then the numbers of packets. Returns the exit status. The numbers
+/// are left out if the output could not be flushed.
+fn finished<E: Write>(
+    errors: &mut E,
+    alloc: Global,
+    name: Option<&str>,
+    ended: Result<(), SelectionError>,
+    flushed: io::Result<()>,
+    counts: &Counts,
+) -> io::Result<u8>
+    ensures status { IfOk result (IsStatusOf ended) }
+    ensures flushed { IfOk result (λ status. IsOk flushed) }
+    ensures failure { FailsFirst ended result }
+    ensures lines { WritesSome (E.contents errors.old) (E.contents errors.new) (IsOk result)
+        (AreSelectionLines (option_map (λ text. shown_name text.now) name.entry) ended counts.now) }
+{
+    let status = written_status(errors, alloc, name, ended)?;
     flushed?;
-    let Counts { read, written, .. } = counts;
-    let _ = writeln!(
-        rt.stderr(),
-        "capture_report: {read} packets read, {written} written"
-    );
+    write_counts(errors, alloc, counts)?;
     Ok(status.number())
 }
 
-/// Writes the error of a capture with this name, and returns the exit status.
-fn written_status(
-    rt: &HostRuntime,
+/// Writes the error of a capture with this name, if it has an error, and returns the exit status.
+fn written_status<E: Write>(
+    errors: &mut E,
+    alloc: Global,
     name: Option<&str>,
     ended: Result<(), SelectionError>,
 ) -> io::Result<ExitStatus>
-    ensures { result ≡ written_status ended }
+    ensures status { IfOk result (λ status. written_status ended ≡ Ok status) }
+    ensures failure { FailsFirst ended result }
+    ensures lines { WritesSome (E.contents errors.old) (E.contents errors.new) (IsOk result)
+        (AreErrorLines (option_map (λ text. shown_name text.now) name.entry) ended) }
 {
     match ended {
         Ok(()) | Err(SelectionError::Capture(CaptureError::Enough)) => Ok(ExitStatus::Success),
         Err(SelectionError::Capture(error)) => {
-            let _ = write_error(&mut rt.stderr(), rt.alloc(), name, &error);
+            write_error(errors, alloc, name, &error)?;
             Ok(error.status())
         }
         Err(SelectionError::Write(error)) => Err(error),
     }
 }
 
-/// Writes the error that ends the report, and returns the exit status. Nothing is written if the reader of standard output ended first.
+/// Writes how many packets were read, and how many were written.
+fn write_counts<E: Write>(errors: &mut E, alloc: Global, counts: &Counts) -> io::Result<()>
+    ensures { WritesSome (E.contents errors.old) (E.contents errors.new) (IsOk result) (IsOneLine (λ line. line ≡ counts_line counts.now)) }
+{
+    match counts_line(alloc, counts) {
+        Ok(line) => write_whole(errors, line.as_bytes()),
+        Err(no_memory) => Err(io::Error::from(no_memory)),
+    }
+}
+
+/// The line with the numbers of packets.
+fn counts_line(alloc: Global, counts: &Counts) -> Result<String, AllocError>
+    ensures { IfOk result (λ line. string_bytes line ≡ counts_line counts.now) }
+{
+    let Counts { read, written, .. } = *counts;
+    format!(in alloc; "capture_report: {read} packets read, {written} written\n")
+}
+
+/// Writes the error that ends the report, and returns the exit status. Nothing is written if the reader of standard output or standard error
+/// ended first.
 fn write_failure(rt: &HostRuntime, error: &WriteError) -> u8
     ensures { result ≡ write_failure_number error.now }
 {

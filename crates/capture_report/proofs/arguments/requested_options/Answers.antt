@@ -4,7 +4,7 @@ use Rattle.capture_report.proofs.arguments.requested_options.Goals as goal
 
 -- the packets can't be written to the requested file
 pub returns-in-Some-clause-rejected : goal.returns-in-Some-clause-rejected
-returns-in-Some-clause-rejected c = inr (inr (inr (
+returns-in-Some-clause-rejected c = inr (inr (inr (inr (
   c.in_ok-invalid_output-in-Some.ensures.kind,
   (c.in_ok-options.options, c.in_ok-options.ensures.options, has_fault c.in-Some.fault.now _ c.in-Some.ensures),
-)))
+))))

@@ -6,5 +6,5 @@ use Rattle.capture_report.proofs.arguments.with_output.Goals as goal
 -- one option
 pub returns : goal.returns
 returns c =
-    let one = c.in_ok-write.ensures in
+    let one = c.write.ensures in
     IfOk-weaker _ _ _ (λ more adds. adds_rule _ _ _ _ _ _ adds refl one.local one.rule refl) c.arg.ensures
