@@ -1,6 +1,7 @@
 pub mod BlockLemmas
 pub mod CaptureLemmas
 pub mod CountLemmas
+pub mod OutputLemmas
 pub mod PacketLemmas
 pub mod PassingLemmas
 pub mod RecordLemmas

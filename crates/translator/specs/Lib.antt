@@ -2,6 +2,7 @@ pub mod Blocks
 pub mod Captures
 pub mod Given
 pub mod Outcomes
+pub mod Outputs
 pub mod Packets
 pub mod Passing
 pub mod Reasons

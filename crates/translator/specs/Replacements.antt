@@ -1,5 +1,5 @@
 -- The table of replacements, and what it gives for the addresses and ports of a packet.
-use Rattle.std.specs.Prelude.{ℕ, ◌-◌, ◌^◌, ◌≡◌, ◌==◌, Bool, min, bit_and, bit_or, List, Option, Some, None}
+use Rattle.std.specs.Prelude.{ℕ, ◌-◌, ◌^◌, ◌≡◌, ◌==◌, ◌&&◌, Bool, length, min, bit_and, bit_or, List, Option, Some, None}
 use Rattle.std.specs.Int.{from_be_bytes, to_be_bytes, w32, w128}
 use Rattle.std.specs.List.{find}
 use Rattle.std.specs.Option.{option_map}
@@ -15,10 +15,14 @@ use Rattle.translator.specs.declared.table.Table.{Table}
 
 -- ---- networks
 
+-- the number whose last bits are 1, as many as this, and whose other bits are 0; an address has 128 bits at most
+abbrev pub host_mask : ℕ → ℕ
+host_mask host_bits = min (2 ^ host_bits) (2 ^ 128) - 1
+
 -- the network of the addresses that share all bits with this address, except for this number of bits at the end, which are 0 in the address
 pub record HasHostBits (address host_bits : ℕ) (network : Network) : Type 0 where
   pub first : network.first ≡ address
-  pub mask : network.host_mask ≡ min (2 ^ host_bits) (2 ^ 128) - 1
+  pub mask : network.host_mask ≡ host_mask host_bits
   pub none_set : bit_and address network.host_mask ≡ 0
 
 -- the network contains this address: both have the same bits before those of hosts
@@ -49,6 +53,15 @@ abbrev pub new_ipv6 : Replacements → List ℕ → Option (List ℕ)
 new_ipv6 replacements address = option_map (to_be_bytes w128) (new_address replacements.ipv6.items (from_be_bytes w128 address))
 
 -- ---- the table
+
+-- there is no replacement
+abbrev pub is_empty : Replacements → Bool
+is_empty replacements =
+    length replacements.ipv4.items == 0 && (length replacements.ipv6.items == 0 && length replacements.ports.items == 0)
+
+-- the table contains no replacement
+abbrev pub is_empty_table : Table → Bool
+is_empty_table table = is_empty table.source && is_empty table.destination
 
 -- the new source port, if the packet has ports
 abbrev pub new_source_port : Table → Option (ℕ × ℕ) → Option ℕ

@@ -22,16 +22,17 @@ Example:
 
 Exit status:
   0  The capture was read to its end. Standard error counts the packets.
-  1  The capture can't be read to its end, or has a link type that is not read.
+  1  The capture can't be read to its end, or its version or form is not read.
   2  The input is no capture, or an argument is wrong.
-  3  Opening, reading or writing failed, or no memory was left.";
+  3  Opening, reading or writing failed, or no memory was left.
+  141  The reader of standard output or standard error ended first.";
 
 /// The options in the arguments.
 #[derive(Drop)]
 pub struct Options<'a> {
     /// The replacements.
     pub table: Table,
-    /// The name of the capture, or `None` for standard input.
+    /// The name of the capture. `-` names standard input, which is also read if there is no name.
     pub file: Option<&'a str>,
 }
 
@@ -51,10 +52,7 @@ pub fn requested_options<'a>(alloc: Global, words: &'a [String]) -> Result<Optio
     if table.is_empty() {
         return Err(missing(alloc, "no replacement is given"));
     }
-    let file = match matches.get_str("file") {
-        Some("-") | None => None,
-        Some(name) => Some(name),
-    };
+    let file = matches.get_str("file");
     Ok(Options { table, file })
 }
 

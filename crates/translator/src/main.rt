@@ -9,11 +9,17 @@
 //! ```
 #![tactic(auto)]
 
+ghost use Rattle.std.specs.Prelude.{◌≡◌, IfOk, IsOk, string_bytes};
+ghost use Rattle.std.specs.IoError.{error_kind};
+ghost use Rattle.clap.specs.Words.{kind_of};
+ghost use Rattle.translator.specs.Outputs.{IsOpenErrorLine, WritesText, WritesTranslation, answer_number, failure_number};
+
 mod arguments;
 mod blocks;
 mod capture;
 mod capture_error;
 mod counts;
+mod ending;
 mod ipv4_packet;
 mod ipv6_packet;
 mod network;
@@ -26,16 +32,19 @@ mod replacements;
 mod table;
 mod transfer;
 
-use arguments::Options;
 use capture::translate_capture;
 use capture_error::CaptureError;
 use capture_packet::MAX_PACKET_LEN;
 use counts::Counts;
+use ending::finished;
+use std::alloc::{AllocError, Global};
 use std::fs::File;
-use std::io::{BufReader, BufWriter, IsTerminal, Read, Write};
+use std::io::{BufReader, BufWriter, ErrorKind, IsTerminal, Read, Write};
 use std::process::ExitCode;
 use std::{env, io};
-use streams::new_buffer;
+use streams::{new_buffer, write_whole};
+use table::Table;
+use transfer::Buffer;
 
 /// The size of the buffers of input and output, in bytes.
 const STREAM_LEN: usize = 1 << 16;
@@ -43,15 +52,39 @@ const STREAM_LEN: usize = 1 << 16;
 /// The exit status if opening, reading or writing failed, or no memory was left.
 const FAILED: u8 = 3;
 
+/// The exit status if the reader of standard output or standard error ended first. A shell reports it for a program that SIGPIPE ended.
+const BROKEN_PIPE: u8 = 128 + 13;
+
 fn main(rt: HostRuntime) -> ExitCode {
     match status(&rt) {
         Ok(status) => ExitCode::from(status),
-        Err(error) => {
-            // If writing to standard error fails, the exit status still reports the failure.
-            let _ = writeln!(rt.stderr(), "translator: {error}");
-            ExitCode::from(FAILED)
-        }
+        Err(error) => ExitCode::from(failure(&rt, &error)),
     }
+}
+
+/// Writes the error that ends the program, and returns the exit status. Nothing is written if the reader of standard output or standard
+/// error ended first, as `head` does.
+fn failure(rt: &HostRuntime, error: &io::Error) -> u8
+    ensures { result ≡ failure_number (error_kind error.now) }
+{
+    if error.kind() == ErrorKind::BrokenPipe {
+        return BROKEN_PIPE;
+    }
+    // If writing to standard error fails, the exit status still reports the failure.
+    let _ = writeln!(rt.stderr(), "translator: {error}");
+    FAILED
+}
+
+/// Writes the error of a write that ends the program, and returns the exit status, as `failure` does.
+fn write_failure(rt: &HostRuntime, error: io::Error) -> u8
+    ensures { result ≡ failure_number (error_kind error) }
+{
+    if error.kind() == ErrorKind::BrokenPipe {
+        return BROKEN_PIPE;
+    }
+    let error = CaptureError::Write(error);
+    let _ = writeln!(rt.stderr(), "translator: {error}");
+    FAILED
 }
 
 /// Reads the arguments, translates the capture, and returns the exit status.
@@ -62,49 +95,96 @@ fn status(rt: &HostRuntime) -> io::Result<u8> {
         Err(error) => return answer(rt, error),
     };
     match options.file {
-        Some(name) => translate_file(rt, &options, name),
+        Some("-") => translate(rt, &options.table, rt.stdin()),
+        Some(name) => translate_file(rt, &options.table, name),
         None if rt.stdin().is_terminal() => answer(rt, arguments::no_capture(rt.alloc())),
-        None => translate(rt, &options, rt.stdin()),
+        None => translate(rt, &options.table, rt.stdin()),
     }
 }
 
 /// Writes the error in the arguments, or the text that they request, and returns the exit status.
-fn answer(rt: &HostRuntime, error: clap::Error) -> io::Result<u8> {
+fn answer(rt: &HostRuntime, error: clap::Error) -> io::Result<u8>
+    ensures { IfOk result (λ status. status ≡ answer_number (kind_of error)) }
+{
     error.print(rt)?;
+    if error.kind() == clap::error::ErrorKind::OutOfMemory {
+        return Ok(FAILED);
+    }
     Ok(error.exit_code() as u8)
 }
 
 /// Translates the capture in the file with this name, and returns the exit status.
-fn translate_file(rt: &HostRuntime, options: &Options<'_>, name: &str) -> io::Result<u8> {
+fn translate_file(rt: &HostRuntime, table: &Table, name: &str) -> io::Result<u8> {
     match File::open(rt, name) {
-        Ok(file) => translate(rt, options, file),
-        Err(error) => {
-            let _ = writeln!(rt.stderr(), "translator: {name}: {error}");
-            Ok(FAILED)
-        }
+        Ok(file) => translate(rt, table, file),
+        Err(error) => unopened(&mut rt.stderr(), rt.alloc(), name, &error),
     }
 }
 
+/// Writes the error of a capture that can't be opened, and returns the exit status.
+fn unopened<E: Write>(
+    errors: &mut E,
+    alloc: Global,
+    name: &str,
+    error: &io::Error,
+) -> io::Result<u8>
+    ensures status { IfOk result (λ status. status ≡ 3) }
+    ensures line { WritesText (E.contents errors.old) (E.contents errors.new) (IsOk result) (IsOpenErrorLine name.now) }
+{
+    let line = open_error_line(alloc, name, error)?;
+    write_whole(errors, line.as_bytes())?;
+    Ok(FAILED)
+}
+
+/// The line of a capture that can't be opened: the names of the program and of the capture, and the text of the error.
+fn open_error_line(alloc: Global, name: &str, error: &io::Error) -> Result<String, AllocError>
+    ensures { IfOk result (λ line. IsOpenErrorLine name.now (string_bytes line)) }
+{
+    let text = format!(in alloc; "{error}")?;
+    format!(in alloc; "translator: {name}: {text}\n")
+}
+
 /// Translates a capture, and returns the exit status.
-fn translate<R: Read + Drop>(rt: &HostRuntime, options: &Options<'_>, input: R) -> io::Result<u8> {
+fn translate<R: Read + Drop>(rt: &HostRuntime, table: &Table, input: R) -> io::Result<u8> {
     let mut input = BufReader::with_capacity(rt.alloc(), STREAM_LEN, input)?;
     let mut output = BufWriter::with_capacity(rt.alloc(), STREAM_LEN, rt.stdout())?;
+    let mut errors = rt.stderr();
     let mut bytes = new_buffer(rt.alloc(), MAX_PACKET_LEN)?;
     let buffer = bytes.as_mut_slice().as_mut_array().unwrap();
+    match write_translation(
+        rt.alloc(),
+        table,
+        &mut input,
+        &mut output,
+        &mut errors,
+        buffer,
+    ) {
+        Ok(status) => Ok(status),
+        Err(error) => Ok(write_failure(rt, error)),
+    }
+}
+
+/// Translates a capture to the output, and then writes the counts of packets to `errors`. Returns the exit status. If the capture can't be
+/// read to its end, the error is written before the counts.
+///
+/// # Errors
+///
+/// The error of writing to the output, or the error of writing to `errors`. All bytes are written to the output before anything is written
+/// to `errors`.
+fn write_translation<R: Read, W: Write, E: Write>(
+    alloc: Global,
+    table: &Table,
+    input: &mut R,
+    output: &mut W,
+    errors: &mut E,
+    buffer: &mut Buffer,
+) -> io::Result<u8>
+    ensures { WritesTranslation table.now (R.remaining input.old) (R.remaining input.new) (W.contents output.old) (W.contents output.new)
+        (E.contents errors.old) (E.contents errors.new) result }
+{
     let mut counts = Counts::NONE;
-    let ended = translate_capture(&mut input, &mut output, buffer, &options.table, &mut counts);
+    let ended = translate_capture(input, output, buffer, table, &mut counts);
     // What was written before an error is part of the output.
     let flushed = output.flush();
-    let _ = counts.write_to(&mut rt.stderr());
-    let ended = match (ended, flushed) {
-        (Ok(()), Err(error)) => Err(CaptureError::Write(error)),
-        (ended, _) => ended,
-    };
-    match ended {
-        Ok(()) => Ok(0),
-        Err(error) => {
-            let _ = writeln!(rt.stderr(), "translator: {error}");
-            Ok(error.status())
-        }
-    }
+    finished(errors, alloc, ended, flushed, &counts)
 }

@@ -1,5 +1,5 @@
-ghost use Rattle.std.specs.Prelude.{◌≡◌, IfSome};
-ghost use Rattle.translator.specs.Replacements.{HasHostBits, in_network, is_in};
+ghost use Rattle.std.specs.Prelude.{◌≡◌, ◌≢◌, IfNone, IfSome, bit_and};
+ghost use Rattle.translator.specs.Replacements.{HasHostBits, host_mask, in_network, is_in};
 
 /// A network: the addresses of one IP version that begin with the bits of a prefix. An address is a number of 32 or 128 bits.
 #[derive(Clone, Copy, Debug, PartialEq, Eq)]
@@ -14,7 +14,8 @@ impl Network {
     /// The network of the addresses that begin with the same bits as this address, except for this number of bits at their ends. `None` if
     /// one of these bits is set in the address.
     pub fn new(address: u128, host_bits: u32) -> Option<Network>
-        ensures { IfSome result (HasHostBits address host_bits) }
+        ensures accepted { IfSome result (HasHostBits address host_bits) }
+        ensures refused { IfNone result (bit_and address (host_mask host_bits) ≢ 0) }
     {
         let host_mask = match 2u128.checked_pow(host_bits) {
             Some(count) => count.saturating_sub(1),

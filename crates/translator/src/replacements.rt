@@ -46,7 +46,9 @@ impl Replacements {
     }
 
     /// Whether there is no replacement.
-    pub fn is_empty(&self) -> bool {
+    pub fn is_empty(&self) -> bool
+        ensures { result ≡ specs.is_empty self.now }
+    {
         self.ipv4.is_empty() && self.ipv6.is_empty() && self.ports.is_empty()
     }
 

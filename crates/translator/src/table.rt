@@ -28,7 +28,9 @@ impl Table {
     }
 
     /// Whether the table contains no replacement.
-    pub fn is_empty(&self) -> bool {
+    pub fn is_empty(&self) -> bool
+        ensures { result ≡ specs.is_empty_table self.now }
+    {
         self.source.is_empty() && self.destination.is_empty()
     }
 

@@ -1,0 +1,98 @@
+-- For the text on standard error.
+use Rattle.std.proofs.Common.{◌≡◌, ◌∙◌, ℕ, List, [], ◌++◌, Err, IsErr, IsOk, Ok, OnOk, Option, Result, append_assoc, ap, arith, refl, subst, sym}
+use Rattle.std.proofs.KnownBytes.{Appends-nil, Appends-trans}
+use Rattle.std.specs.Io.KnownBytes.{Appends}
+use Rattle.streams.specs.Streams.{AppendsBeginning}
+use Rattle.std.specs.declared.io.Error.{Error}
+use Rattle.translator.specs.Outcomes.{counts_text}
+use Rattle.translator.specs.Outputs.{IsEndLine, IsEndText, IsFollowedBy, WritesText, counts_after, ended_status}
+use Rattle.translator.specs.declared.capture_error.CaptureError.{CaptureError}
+use Rattle.translator.specs.declared.counts.Counts.{Counts}
+
+-- a result is no error
+pub not_both : {T E : Type 0} (result : Result T E) → IsErr result → IsOk result → ⊥
+not_both (Ok done) fails ok = absurd (grind (arith, fails))
+not_both (Err error) fails ok = absurd (grind (arith, ok))
+
+-- ---- beginnings of a text
+
+-- nothing was written
+pub begins_none : (a : Option (List ℕ)) (text : List ℕ) → AppendsBeginning a a text
+begins_none a text = record { written = []; unwritten = text; parts = refl; appends = Appends-nil a }
+
+-- a beginning of the first part of a text
+begins_more : (a b : Option (List ℕ)) (text more : List ℕ) → AppendsBeginning a b text → AppendsBeginning a b (text ++ more)
+begins_more a b text more begun = record {
+  written = begun.written;
+  unwritten = begun.unwritten ++ more;
+  parts = ap (λ bytes. bytes ++ more) begun.parts ∙ append_assoc begun.written begun.unwritten more;
+  appends = begun.appends;
+}
+
+-- the first part of a text, and a beginning of its second part
+begins_after : (a b c : Option (List ℕ)) (text more : List ℕ) → Appends a b text → AppendsBeginning b c more → AppendsBeginning a c (text ++ more)
+begins_after a b c text more first begun = record {
+  written = text ++ begun.written;
+  unwritten = begun.unwritten;
+  parts = ap (λ bytes. text ++ bytes) begun.parts ∙ sym (append_assoc text begun.written begun.unwritten);
+  appends = Appends-trans a b c text begun.written first begun.appends;
+}
+
+-- ---- a text for which a statement holds
+
+-- the empty text was written
+pub writes_nothing : (a : Option (List ℕ)) (IsWhole : Type 0) (IsText : List ℕ → Type 0) → IsText [] → WritesText a a IsWhole IsText
+writes_nothing a IsWhole IsText is =
+    record { text = []; is_text = is; begun = begins_none a []; whole = λ holds. Appends-nil a }
+
+-- a text was written, or a beginning of it
+pub writes_text : {T E : Type 0} (a b : Option (List ℕ)) (result : Result T E) (IsText : List ℕ → Type 0) (text : List ℕ) → IsText text
+    → OnOk result (Appends a b text) → AppendsBeginning a b text → WritesText a b (IsOk result) IsText
+writes_text a b (Ok done) IsText text is appends begins =
+    record { text = text; is_text = is; begun = begins; whole = λ ok. appends }
+writes_text a b (Err error) IsText text is appends begins =
+    record { text = text; is_text = is; begun = begins; whole = λ ok. absurd (grind (arith, ok)) }
+
+-- nothing was written of a text
+pub loses_text : (a : Option (List ℕ)) (IsWhole : Type 0) (IsText : List ℕ → Type 0) (text : List ℕ) → (IsWhole → ⊥) → IsText text
+    → WritesText a a IsWhole IsText
+loses_text a IsWhole IsText text lost is =
+    record { text = text; is_text = is; begun = begins_none a text; whole = λ holds. absurd (lost holds) }
+
+-- the text is whole if a stronger statement holds
+pub writes_weaker : (a b : Option (List ℕ)) (IsWhole Stronger : Type 0) (IsText : List ℕ → Type 0) → (Stronger → IsWhole)
+    → WritesText a b IsWhole IsText → WritesText a b Stronger IsText
+writes_weaker a b IsWhole Stronger IsText weaker writes =
+    record { text = writes.text; is_text = writes.is_text; begun = writes.begun; whole = λ holds. writes.whole (weaker holds) }
+
+-- ---- two texts
+
+-- the second text was not written
+pub lacks_more : (a b : Option (List ℕ)) (First Both : Type 0) (IsText : List ℕ → Type 0) (more : List ℕ) → (Both → ⊥)
+    → WritesText a b First IsText → WritesText a b Both (IsFollowedBy more IsText)
+lacks_more a b First Both IsText more never first = record {
+  text = first.text ++ more;
+  is_text = (first.text, first.is_text, refl);
+  begun = begins_more a b first.text more first.begun;
+  whole = λ both. absurd (never both);
+}
+
+-- the second text was written, or a beginning of it
+pub writes_more : (a b c : Option (List ℕ)) (First Second Both : Type 0) (IsText : List ℕ → Type 0) (more : List ℕ) → First
+    → (Both → Second) → WritesText a b First IsText → WritesText b c Second (λ text. text ≡ more) → WritesText a c Both (IsFollowedBy more IsText)
+writes_more a b c First Second Both IsText more holds to_second first second = record {
+  text = first.text ++ more;
+  is_text = (first.text, first.is_text, refl);
+  begun = begins_after a b c first.text more (first.whole holds) (rw second.is_text at second.begun);
+  whole = λ both. Appends-trans a b c first.text more (first.whole holds) (rw second.is_text at second.whole (to_second both));
+}
+
+-- the counts were written after the line of the end of a capture, or a beginning of them
+pub counts_follow : (a b c : Option (List ℕ)) (First Second Both : Type 0) (ended : Result (Unit {0}) CaptureError)
+    (flushed : Result (Unit {0}) Error) (counts : Counts) (number : ℕ) → ended_status ended ≡ Ok number → IsOk flushed → First
+    → (Both → Second) → WritesText a b First (IsEndLine ended) → WritesText b c Second (λ text. text ≡ counts_text counts)
+    → WritesText a c Both (IsEndText ended flushed counts)
+counts_follow a b c First Second Both ended (Ok done) counts number is ok holds to_second first second =
+    subst (λ status. WritesText a c Both (IsFollowedBy (counts_after status (Ok done) counts) (IsEndLine ended))) (sym is)
+    (writes_more a b c First Second Both (IsEndLine ended) (counts_text counts) holds to_second first second)
+counts_follow a b c First Second Both ended (Err error) counts number is ok holds to_second first second = absurd (grind (arith, ok))

@@ -1,0 +1,111 @@
+-- The end of a run: what is written to standard error, and the exit status.
+use Rattle.std.specs.Prelude.{◌≡◌, ℕ, ◌+◌, ◌++◌, IfErr, IfOk, IsOk, OnOk, List, [], codes, replicate, Option, Result, Ok, Err}
+use Rattle.std.specs.Io.KnownBytes.{Appends, IsAtEnd, Keeps}
+use Rattle.std.specs.declared.io.Error.{Error}
+use Rattle.std.specs.declared.io.ErrorKind.{ErrorKind}
+use Rattle.std.specs.declared.io.ErrorKind.TheVariants as kinds
+use Rattle.clap.specs.declared.error.kind.ErrorKind.{ErrorKind as AnswerKind}
+use Rattle.clap.specs.declared.error.kind.ErrorKind.TheVariants as answers
+use Rattle.streams.specs.Streams.{AppendsBeginning}
+use Rattle.translator.specs.Captures.{TranslatesCapture}
+use Rattle.translator.specs.Outcomes.{counts_text, status}
+use Rattle.translator.specs.declared.capture_error.CaptureError.{CaptureError}
+use Rattle.translator.specs.declared.capture_error.CaptureError.TheVariants.{Block, Header, Read, RecordCutOff, Write}
+use Rattle.translator.specs.declared.counts.Counts.{Counts}
+use Rattle.translator.specs.declared.table.Table.{Table}
+
+-- ---- exit statuses
+
+-- The exit status after an error that ends the program. If the reader of standard output or standard error ended first, it is the status
+-- that a shell reports for a program that SIGPIPE, signal 13, ended. Otherwise it is 3.
+abbrev pub failure_number : ErrorKind → ℕ
+failure_number kinds.BrokenPipe = 128 + 13
+failure_number kind = 3
+
+-- the exit status after the text for an error in the arguments: 0 for help and for the version, 3 if no memory is left, and otherwise 2
+abbrev pub answer_number : AnswerKind → ℕ
+answer_number answers.DisplayHelp = 0
+answer_number answers.DisplayVersion = 0
+answer_number answers.OutOfMemory = 3
+answer_number kind = 2
+
+-- the exit status after a capture, or the error of a write
+abbrev pub ended_status : Result (Unit {0}) CaptureError → Result ℕ Error
+ended_status (Ok done) = Ok 0
+ended_status (Err (Write error)) = Err error
+ended_status (Err (Header error)) = Ok (status (Header error))
+ended_status (Err (RecordCutOff offset required_len len)) = Ok (status (RecordCutOff offset required_len len))
+ended_status (Err (Block error)) = Ok (status (Block error))
+ended_status (Err (Read offset error)) = Ok (status (Read offset error))
+
+-- if writing the capture failed, the run ends with the error of that write
+abbrev pub FailsFirst : {T : Type 0} → Result (Unit {0}) CaptureError → Result T Error → Type 0
+FailsFirst ended result = IfErr (ended_status ended) (λ error. result ≡ Err error)
+
+-- if the capture was read to its end, but the output could not be flushed, the run ends with the error of the flush
+abbrev pub FailsAfter : {T : Type 0} → Result (Unit {0}) CaptureError → Result (Unit {0}) Error → Result T Error → Type 0
+FailsAfter ended flushed result = IfOk ended (λ done. IfErr flushed (λ error. result ≡ Err error))
+
+-- ---- what is written to standard error
+
+-- the line of an error of a capture
+abbrev pub IsErrorLine : List ℕ → Type 0
+IsErrorLine line = (text : List ℕ) × (line ≡ codes "translator: " ++ (text ++ codes "\n"))
+
+-- the line of a capture with this name that can't be opened
+abbrev pub IsOpenErrorLine : List ℕ → List ℕ → Type 0
+IsOpenErrorLine name line = (text : List ℕ) × (line ≡ codes "translator: " ++ (name ++ (codes ": " ++ (text ++ codes "\n"))))
+
+-- the line of the end of a capture, which is empty unless the capture could not be read to its end
+abbrev pub IsEndLine : Result (Unit {0}) CaptureError → List ℕ → Type 0
+IsEndLine (Ok done) line = line ≡ []
+IsEndLine (Err (Write error)) line = line ≡ []
+IsEndLine (Err (Header error)) line = IsErrorLine line
+IsEndLine (Err (RecordCutOff offset required_len len)) line = IsErrorLine line
+IsEndLine (Err (Block error)) line = IsErrorLine line
+IsEndLine (Err (Read offset error)) line = IsErrorLine line
+
+-- the counts, which are left out if writing or flushing the output failed
+abbrev pub counts_after : Result ℕ Error → Result (Unit {0}) Error → Counts → List ℕ
+counts_after (Ok number) (Ok done) counts = counts_text counts
+counts_after (Ok number) (Err error) counts = []
+counts_after (Err error) flushed counts = []
+
+-- a text for which a statement holds, and then this text
+abbrev pub IsFollowedBy : List ℕ → (List ℕ → Type 0) → List ℕ → Type 0
+IsFollowedBy more IsText whole = (text : List ℕ) × IsText text × (whole ≡ text ++ more)
+
+-- the line of the end of a capture, and then the counts
+abbrev pub IsEndText : Result (Unit {0}) CaptureError → Result (Unit {0}) Error → Counts → List ℕ → Type 0
+IsEndText ended flushed counts text = IsFollowedBy (counts_after (ended_status ended) flushed counts) (IsEndLine ended) text
+
+-- A beginning of a text was written, for which a statement holds. If `IsWhole` holds, the whole text was written.
+pub record WritesText (before after : Option (List ℕ)) (IsWhole : Type 0) (IsText : List ℕ → Type 0) : Type 0 where
+  pub text : List ℕ
+  pub is_text : IsText text
+  pub begun : AppendsBeginning before after text
+  pub whole : IsWhole → Appends before after text
+
+-- ---- the run
+
+-- no packet
+abbrev pub no_counts : Counts
+no_counts = record { translated = 0; unaffected = 0; by_reason = replicate 11 0 }
+
+-- The packets of a capture were translated by a table, up to the end of the capture or an error. Then the output was flushed. A beginning
+-- of the text for standard error was written, and the whole text if the result is no error. The result is the exit status, or an error. If
+-- writing the capture failed, the result is the error of that write, and nothing is stated about the output.
+pub record WritesTranslation (table : Table) (left still_left held now_held told now_told : Option (List ℕ)) (result : Result ℕ Error)
+    : Type 0 where
+  pub ended : Result (Unit {0}) CaptureError
+  pub counts : Counts
+  pub then_held : Option (List ℕ)
+  pub flushed : Result (Unit {0}) Error
+  pub translates : TranslatesCapture table ended left still_left held then_held no_counts counts
+  pub is_at_end : OnOk ended (IsAtEnd still_left)
+  pub kept : Keeps then_held now_held
+  pub text : WritesText told now_told (IsOk result) (IsEndText ended flushed counts)
+  pub status : IfOk result (λ number. ended_status ended ≡ Ok number)
+  pub is_flushed : IfOk result (λ number. IsOk flushed)
+  pub failure : FailsFirst ended result
+  pub flush_failure : FailsAfter ended flushed result
