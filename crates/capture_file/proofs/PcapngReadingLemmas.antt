@@ -11,8 +11,8 @@ use Rattle.capture_file.proofs.PcapngLemmas.{begins_with, block_header_front, bl
 use Rattle.capture_file.proofs.RecordLemmas.{be_number_front}
 use Rattle.capture_texts.specs.Numbers.{le_number, number_at}
 use Rattle.capture_file.specs.Pcapng.{IsBlock, block_header, block_header_refusal, block_len, block_refusal, last_len}
-use Rattle.capture_file.specs.PcapngReading.{AreFirst, IsLastBlock, ReadsAfter, ReadsNextBlock}
-use Rattle.streams.specs.Streams.{FillsAfter}
+use Rattle.capture_file.specs.PcapngReading.{AreFirst, FailsAfter, FailsInBlock, IsLastBlock, ReadsAfter, ReadsNextBlock}
+use Rattle.streams.specs.Streams.{FillsAfter, ReadsFewer}
 use Rattle.capture_texts.specs.declared.byte_order.ByteOrder.{ByteOrder}
 use Rattle.capture_file.specs.declared.pcapng.errors.BlockError.{BlockError}
 use Rattle.capture_file.specs.declared.pcapng.errors.BlockError.TheVariants.{CutOff, LastLength}
@@ -201,19 +201,72 @@ short_refused section first left buffer header error has_len accepted is short r
     refused_after section first [] left left buffer error (Consumes-nil left) (grind (arith, append-nil)) (grind (arith, append-nil))
     (λ required its_len cut. grind (arith, append-nil first, cut_off_short section first []))
 
--- a block that is cut off
+-- a block that is cut off after its header
+cut_off_refusal : (section : ByteOrder) (first bytes : List ℕ) (header : BlockHeader) (len : ℕ) → 12 ≤ length first
+    → block_header_refusal section first ≡ None → header ≡ block_header section first → len ≡ length (first ++ bytes) → len < header.total_len
+    → block_refusal section (first ++ bytes) ≡ Some (CutOff header.total_len len)
+cut_off_refusal section first bytes header len within accepted is has_len short =
+    let total : block_len section first ≡ header.total_len = sym (ap (λ h. h.total_len) is) in
+    refused_by section first bytes within accepted
+    ∙ cut_off_by (block_len section first) (length (first ++ bytes)) _ (omega (arith, total, has_len, short))
+    ∙ ap (λ first_len. Some (CutOff first_len (length (first ++ bytes)))) total
+    ∙ ap (λ its_len. Some (CutOff header.total_len its_len)) (sym has_len)
+
 pub cut_off_after : (section : ByteOrder) (first bytes : List ℕ) (left still_left : Option (List ℕ)) (buffer : List ℕ) (header : BlockHeader)
     (len : ℕ) → 12 ≤ length first → block_header_refusal section first ≡ None → header ≡ block_header section first
     → Consumes left still_left bytes → len ≡ length (first ++ bytes) → len < header.total_len → IsAtEnd still_left
     → ReadsAfter section first left still_left buffer (Refused (CutOff header.total_len len))
 cut_off_after section first bytes left still_left buffer header len within accepted is consumed has_len short end =
-    let total : block_len section first ≡ header.total_len = sym (ap (λ h. h.total_len) is) in
-    let refused = refused_by section first bytes within accepted
-    ∙ cut_off_by (block_len section first) (length (first ++ bytes)) _ (omega (arith, total, has_len, short))
-    ∙ ap (λ first_len. Some (CutOff first_len (length (first ++ bytes)))) total
-    ∙ ap (λ its_len. Some (CutOff header.total_len its_len)) (sym has_len) in
     refused_after section first bytes left still_left buffer (CutOff header.total_len len) consumed
-    (omega (arith, length-append first bytes, within)) refused (λ required its_len same. end)
+    (omega (arith, length-append first bytes, within)) (cut_off_refusal section first bytes header len within accepted is has_len short)
+    (λ required its_len same. end)
+
+-- ---- a read that fails within a block
+
+-- reading failed within the first 12 bytes of a block, or before them
+pub fails_at_first : (section : ByteOrder) (left still_left : Option (List ℕ)) → ReadsFewer left still_left 12
+    → FailsInBlock section left still_left
+fails_at_first section left still_left fails = record {
+  bytes = fails.bytes;
+  consumed = fails.consumed;
+  required = 12;
+  cut_off = grind (arith, nat_tests, fails.fewer);
+}
+
+-- no byte of a block was read
+pub no_byte_read : (section : ByteOrder) (left : Option (List ℕ)) → FailsInBlock section left left
+no_byte_read section left = record { bytes = []; consumed = Consumes-nil left; required = 12; cut_off = refl }
+
+-- reading failed before the end of a block whose header is accepted
+pub fails_within : (section : ByteOrder) (first : List ℕ) (left still_left : Option (List ℕ)) (header : BlockHeader) (count : ℕ)
+    → 12 ≤ length first → block_header_refusal section first ≡ None → header ≡ block_header section first
+    → length first + count ≤ header.total_len → ReadsFewer left still_left count → FailsAfter section first left still_left
+fails_within section first left still_left header count within accepted is most fails = record {
+  bytes = fails.bytes;
+  consumed = fails.consumed;
+  required = header.total_len;
+  cut_off = cut_off_refusal section first fails.bytes header _ within accepted is refl
+      (omega (arith, length-append first fails.bytes, fails.fewer, most));
+}
+
+-- the bytes read after first bytes were read together with them
+abbrev pub fails_with_first : (section : ByteOrder) (left middle still_left : Option (List ℕ)) (first : List ℕ) → Consumes left middle first
+    → FailsAfter section first middle still_left → FailsInBlock section left still_left
+fails_with_first section left middle still_left first consumed fails = record {
+  bytes = first ++ fails.bytes;
+  consumed = Consumes-trans left middle still_left first fails.bytes consumed fails.consumed;
+  required = fails.required;
+  cut_off = fails.cut_off;
+}
+
+-- some bytes were read, and then fewer than a number of bytes
+pub fewer_after : (left middle still_left : Option (List ℕ)) (bytes : List ℕ) (count : ℕ) → Consumes left middle bytes
+    → ReadsFewer middle still_left count → ReadsFewer left still_left (length bytes + count)
+fewer_after left middle still_left bytes count consumed fails = record {
+  bytes = bytes ++ fails.bytes;
+  consumed = Consumes-trans left middle still_left bytes fails.bytes consumed fails.consumed;
+  fewer = omega (arith, length-append bytes fails.bytes, fails.fewer);
+}
 
 -- the last total length of a block with these last four bytes, by its header
 last_of : (section : ByteOrder) (first middle last : List ℕ) (header : BlockHeader) (number : ℕ) → 12 ≤ length first

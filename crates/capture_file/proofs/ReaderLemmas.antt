@@ -1,5 +1,5 @@
 -- For the packets of a capture, whatever the form of its file.
-use Rattle.std.proofs.Common.{ℕ, ◌<◌, ◌≤◌, List, Option, arith, length, subst, take}
+use Rattle.std.proofs.Common.{ℕ, ◌<◌, ◌≤◌, List, Option, Result, Ok, Err, IfErr, arith, length, subst, take}
 use Rattle.std.proofs.Math.Nat.{one-le-pow}
 use Rattle.std.proofs.lemmas.List.{take_all}
 use Rattle.std.specs.Io.KnownBytes.{Consumes}
@@ -7,6 +7,11 @@ use Rattle.capture_file.specs.PcapngBodies.{units_per_second}
 use Rattle.streams.specs.Streams.{FillsAfter}
 use Rattle.capture_file.specs.declared.pcapng.time_resolution.TimeResolution.{TimeResolution}
 use Rattle.capture_file.specs.declared.pcapng.time_resolution.TimeResolution.TheVariants.{PowerOfTen, PowerOfTwo}
+
+-- what is true at each error
+pub at_error : {A E P : Type 0} → (result : Result A E) → P → IfErr result (λ error. P)
+at_error (Ok value) is = tt
+at_error (Err error) is = is
 
 -- a second has a unit at the least
 pub units_positive : (resolution : TimeResolution) → 0 < units_per_second resolution

@@ -1,6 +1,6 @@
 -- For loops that read a capture record by record: the bytes read so far are records. At the end they are the reading of all bytes that the
 -- reader had.
-use Rattle.std.proofs.Common.{◌≡◌, ◌⊎◌, ℕ, List, [], ◌∷◌, ◌++◌, None, Some, Option, IfSome, arith, inl, inr, length, take, sym, ap, ◌∙◌, append_assoc, append-nil, length-append}
+use Rattle.std.proofs.Common.{◌≡◌, ◌⊎◌, ℕ, ◌<◌, ◌≤◌, List, [], ◌∷◌, ◌++◌, None, Some, Option, IfSome, arith, inl, inr, length, take, sym, ap, ◌∙◌, append_assoc, append-nil, length-append, length-take-le}
 use Rattle.std.proofs.lemmas.Bool.Decides.{nat_tests}
 use Rattle.std.proofs.lemmas.List.{drop_at}
 use Rattle.std.proofs.KnownBytes.{Consumes-trans}
@@ -9,7 +9,8 @@ use Rattle.std.specs.Io.KnownBytes.{Consumes, IsAtEnd}
 use Rattle.capture_file.proofs.RecordLemmas.{record_header_front, record_len_front}
 use Rattle.capture_file.specs.Classic.{record_header, IsPartial, IsReading, IsRecord}
 use Rattle.capture_texts.specs.Numbers.{number_at}
-use Rattle.capture_file.specs.Reading.{IsCaptured, IsNext, ReadsCaptured, ReadsNext, ReadsRecords}
+use Rattle.capture_file.specs.Reading.{FailsInRecord, IsCaptured, IsNext, ReadsCaptured, ReadsNext, ReadsRecords}
+use Rattle.streams.specs.Streams.{ReadsFewer}
 use Rattle.capture_texts.specs.declared.byte_order.ByteOrder.{ByteOrder}
 use Rattle.capture_file.specs.declared.classic.read.NextRecord.{NextRecord}
 use Rattle.capture_file.specs.declared.classic.read.NextRecord.TheVariants.{CutOff, End, TooLong, Whole}
@@ -54,6 +55,36 @@ next_after_header order left middle still_left first buffer next has_len consume
   is_next = is_next order first captured.bytes buffer next has_len captured.is_captured;
   is_last = captured.is_last;
 }
+
+-- the input ends within the header of a record
+pub cut_off_in_header : (order : ByteOrder) (left still_left : Option (List ℕ)) (first buffer : List ℕ) (len : ℕ) → len ≤ length first → 1 ≤ len
+    → len < 16 → Consumes left still_left (take len first) → IsAtEnd still_left → ReadsNext order left still_left buffer (CutOff 16 len)
+cut_off_in_header order left still_left first buffer len within some short consumed end =
+    let has_len = length-take-le len first within in
+    record {
+      bytes = take len first;
+      consumed = consumed;
+      is_next = (
+        λ none. omega (arith, ap length none, has_len, some),
+        inl (omega (arith, has_len, short)),
+        grind (arith, nat_tests, has_len, short),
+        omega (arith, has_len),
+      );
+      is_last = end;
+    }
+
+-- reading failed within the captured bytes of a record
+pub fails_after_header : (order : ByteOrder) (left middle still_left : Option (List ℕ)) (first : List ℕ) (header : RecordHeader)
+    → length first ≡ 16 → Consumes left middle first → header ≡ record_header order first → ReadsFewer middle still_left header.captured_len
+    → FailsInRecord order left still_left
+fails_after_header order left middle still_left first header has_len consumed is fails =
+    let total = length-append first fails.bytes in
+    let record_len_is = record_len_front order first fails.bytes (omega (arith, has_len)) in
+    record {
+      bytes = first ++ fails.bytes;
+      consumed = Consumes-trans left middle still_left first fails.bytes consumed fails.consumed;
+      partial = inr (omega (arith, total, record_len_is, has_len, fails.fewer, ap (λ h. h.captured_len) is));
+    }
 
 -- ---- a loop over records
 

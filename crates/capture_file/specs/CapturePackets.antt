@@ -4,8 +4,8 @@ use Rattle.std.specs.List.{AllByRecursion, concat}
 use Rattle.capture_file.specs.Classic.{IsHeaderOf, IsReading, IsRecord, header_refusal, record_header}
 use Rattle.capture_file.specs.Opening.{ReadsFirstBlock}
 use Rattle.capture_file.specs.Packets.{begins_records, long_record, packet_of_record}
-use Rattle.capture_file.specs.PcapngSteps.{HasPassed, ReadsPacket}
-use Rattle.capture_file.specs.Reading.{required_len}
+use Rattle.capture_file.specs.PcapngSteps.{FailsToPass, HasPassed, ReadsPacket}
+use Rattle.capture_file.specs.Reading.{FailsInRecord, required_len}
 use Rattle.capture_texts.specs.declared.byte_order.ByteOrder.{ByteOrder}
 use Rattle.capture_file.specs.declared.classic.capture_header.CaptureHeader.{CaptureHeader}
 use Rattle.capture_file.specs.declared.reader.capture_reader.CaptureReader.{CaptureReader}
@@ -36,6 +36,12 @@ offset_of (Pcapng reader) = reader.offset
 abbrev pub Seeks : ℕ → CaptureReader → Option (List ℕ) → CaptureReader → Type 0
 Seeks room (Classic before) left after = after ≡ Classic before
 Seeks room (Pcapng before) left after = (reader : PcapngReader) × (after ≡ Pcapng reader) × HasPassed room before left reader
+
+-- reading failed within the record or block at the place of the reader; in a pcapng file, after the blocks that are skipped
+abbrev pub FailsToRead : ℕ → CaptureReader → Option (List ℕ) → Option (List ℕ) → CaptureReader → Type 0
+FailsToRead room (Classic before) left still_left after = (after ≡ Classic before) × FailsInRecord before.header.byte_order left still_left
+FailsToRead room (Pcapng before) left still_left after =
+    (reader : PcapngReader) × (after ≡ Pcapng reader) × FailsToPass room before left still_left reader
 
 -- if the next packet is cut off, the statement holds
 abbrev pub IfCutOff : NextPacket → Type 0 → Type 0

@@ -36,6 +36,17 @@ pub record ReadsAfter (section : ByteOrder) (first : List ℕ) (left still_left 
 abbrev pub ReadsNextBlock : ByteOrder → Option (List ℕ) → Option (List ℕ) → List ℕ → NextBlock → Type 0
 ReadsNextBlock section left still_left buffer next = ReadsAfter section [] left still_left buffer next
 
+-- Reading failed within a block: after these bytes, which followed its first bytes. Together they are cut off as a block.
+pub record FailsAfter (section : ByteOrder) (first : List ℕ) (left still_left : Option (List ℕ)) : Type 0 where
+  pub bytes : List ℕ
+  pub consumed : Consumes left still_left bytes
+  pub required : ℕ
+  pub cut_off : block_refusal section (first ++ bytes) ≡ Some (CutOff required (length (first ++ bytes)))
+
+-- reading failed within the next block
+abbrev pub FailsInBlock : ByteOrder → Option (List ℕ) → Option (List ℕ) → Type 0
+FailsInBlock section left still_left = FailsAfter section [] left still_left
+
 -- the first bytes of a block or of a capture were read: 12 bytes, or all bytes of the input if there are fewer
 abbrev pub AreFirst : List ℕ → Option (List ℕ) → Type 0
 AreFirst first left = (length first ≤ 12) × (length first < 12 → IsAtEnd left)

@@ -3,7 +3,7 @@ use Rattle.std.specs.Prelude.{◌≡◌, ℕ, zero, suc, ◌+◌, ◌-◌, ◌^�
 use Rattle.capture_file.specs.BlockTexts.{noted}
 use Rattle.capture_file.specs.Packets.{ReadsRecordPacket, long_block}
 use Rattle.capture_file.specs.PcapngBody.{enhanced_packet_type, interface_description_type, obsolete_packet_type, section_header_type, simple_packet_type}
-use Rattle.capture_file.specs.PcapngReading.{ReadsNextBlock}
+use Rattle.capture_file.specs.PcapngReading.{FailsInBlock, ReadsNextBlock}
 use Rattle.capture_file.specs.Sections.{TakesBlock}
 use Rattle.capture_file.specs.declared.pcapng.errors.BlockError.{BlockError}
 use Rattle.capture_file.specs.declared.pcapng.errors.BlockError.TheVariants.{CutOff}
@@ -79,6 +79,13 @@ PassesBlocks room zero before left still_left after = (after ≡ before) × (sti
 PassesBlocks room (suc count) before left still_left after =
     (reader : PcapngReader) × (middle : Option (List ℕ)) × (buffer : List ℕ) × (length buffer ≡ room)
     × PassesBlocks room count before left middle reader × ReadsStep reader middle still_left after buffer None
+
+-- some blocks were skipped, and reading failed within the next block
+pub record FailsToPass (room : ℕ) (before : PcapngReader) (left still_left : Option (List ℕ)) (after : PcapngReader) : Type 0 where
+  pub count : ℕ
+  pub middle : Option (List ℕ)
+  pub passed : PassesBlocks room count before left middle after
+  pub fails : FailsInBlock after.section.byte_order middle still_left
 
 -- some blocks were skipped
 abbrev pub HasPassed : ℕ → PcapngReader → Option (List ℕ) → PcapngReader → Type 0

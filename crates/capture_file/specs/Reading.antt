@@ -79,6 +79,12 @@ pub record ReadsCaptured (header : RecordHeader) (left still_left : Option (List
   pub is_captured : IsCaptured header bytes buffer next
   pub is_last : IsLast next still_left
 
+-- reading failed within a record: after these bytes, which do not begin with a whole record
+pub record FailsInRecord (order : ByteOrder) (left still_left : Option (List ℕ)) : Type 0 where
+  pub bytes : List ℕ
+  pub consumed : Consumes left still_left bytes
+  pub partial : IsPartial order bytes
+
 -- between two moments the reader gave these records, one after the other
 pub record ReadsRecords (order : ByteOrder) (left still_left : Option (List ℕ)) (records : List (List ℕ)) : Type 0 where
   pub each : AllByRecursion (IsRecord order) records

@@ -58,14 +58,14 @@ not_at_header other packets number offset places at = at
 
 -- after the beginning of a capture its packets were counted
 pub reports_packets : (choice : Choice) (left middle : Option (List ℕ)) (reader : CaptureReader) (ended : Result (Unit {0}) CaptureError)
-    (before after : SummaryTables) (counted : ℕ) (last : CaptureReader) → BeginsInput max_packet_len reader left middle
+    (before after : SummaryTables) (counted : ℕ) (last : CaptureReader) (still_left : Option (List ℕ)) → BeginsInput max_packet_len reader left middle
     → (IsReadToEnd ended → IfSome middle (λ all. CountsCapture choice reader all ended before after))
-    → PlacesEnd reader middle counted last ended
+    → PlacesEnd reader middle still_left counted last ended
     → (ended ≡ Err TooManyPackets → IfSome middle (HasTooManyPackets before.packets reader))
     → IfSome left (λ all. ReportsCapture choice all ended before after)
-reports_packets choice None middle reader ended before after counted last begins counts places many = tt
-reports_packets choice (Some all) None reader ended before after counted last begins counts places many = absurd begins
-reports_packets choice (Some all) (Some rest) reader ended before after counted last begins counts places many =
+reports_packets choice None middle reader ended before after counted last still_left begins counts places many = tt
+reports_packets choice (Some all) None reader ended before after counted last still_left begins counts places many = absurd begins
+reports_packets choice (Some all) (Some rest) reader ended before after counted last still_left begins counts places many =
     let of_file : IsReadToEnd ended → CountsFile choice all ended before after =
     λ is_end. record { reader = reader; rest = rest; begins = begins; counts = counts is_end } in
     record {

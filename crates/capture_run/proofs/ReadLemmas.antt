@@ -1,7 +1,7 @@
 -- For the reader that is left of a capture.
 use Rattle.std.proofs.Common.{◌≡◌, List, None, Option, refl, subst, ℕ}
 use Rattle.std.specs.Prelude.{length}
-use Rattle.capture_file.specs.CapturePackets.{Seeks, packet_in}
+use Rattle.capture_file.specs.CapturePackets.{FailsToRead, Seeks, packet_in}
 use Rattle.capture_file.specs.PcapngSteps.{ReadsPacket}
 use Rattle.capture_file.specs.declared.reader.capture_reader.CaptureReader.{CaptureReader}
 use Rattle.capture_file.specs.declared.reader.capture_reader.CaptureReader.TheVariants.{Classic, Pcapng}
@@ -13,6 +13,13 @@ use Rattle.capture_run.specs.Report.{ReadsEnd}
 pub seeks_itself : (reader : CaptureReader) (left : Option (List ℕ)) → Seeks max_packet_len reader left reader
 seeks_itself (Classic reader) left = refl
 seeks_itself (Pcapng reader) left = (reader, refl, (0, left, (refl, refl)))
+
+-- if reading failed within a record or block, the reader is at its start
+pub fails_seeks : (before after : CaptureReader) (left still_left : Option (List ℕ)) → FailsToRead max_packet_len before left still_left after
+    → Seeks max_packet_len before left after
+fails_seeks (Classic reader) after left still_left fails = fails.0
+fails_seeks (Pcapng reader) after left still_left fails =
+    (fails.0, fails.1, (fails.2.count, fails.2.middle, fails.2.passed))
 
 -- an item that is not a packet was read
 pub reads_end : (before after : CaptureReader) (left still_left : Option (List ℕ)) (buffer : List ℕ) (read next : NextPacket)

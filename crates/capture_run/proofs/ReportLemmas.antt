@@ -46,7 +46,3 @@ counts-cut choice reader left ended before after counts whole all next cut is_cu
     let (packets, cut_next, cut_has, counted, answered) = rw is_cut at counts in
     (packets, packets_before_cut max_packet_len reader whole all next cut packets cut_next has cut_has, counted)
 
--- what is true at each error
-pub at_error : {A E P : Type 0} → (result : Result A E) → P → IfErr result (λ error. P)
-at_error (Ok value) is = tt
-at_error (Err error) is = is

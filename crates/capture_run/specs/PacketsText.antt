@@ -55,7 +55,7 @@ pub record WritesPackets (reader : CaptureReader) (parts : Parts) (first : Optio
   pub packets : List FilePacket
   pub are_first : IfSome left (BeginsWithPackets max_packet_len reader packets)
   pub are_all : IsReadToEnd ended → IfSome left (EndsAfter reader packets ended)
-  pub places : (last : CaptureReader) × PlacesAfter reader left packets before.packets last ended
+  pub places : (last : CaptureReader) × (still_left : Option (List ℕ)) × PlacesAfter reader left still_left packets before.packets last ended
   pub counted : CountsEach parts.choice before packets after
   pub is_text : IsPacketsText parts 1 first packets text
 

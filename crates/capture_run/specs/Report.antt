@@ -1,7 +1,7 @@
 -- What a report counts of a capture: each packet that is chosen once, in their order.
 use Rattle.std.specs.Prelude.{◌≡◌, ◌≤◌, ◌⊎◌, ℕ, ◌+◌, List, length, [], ◌∷◌, nat_lt, Option, Some, None, Result, Ok, Err}
 use Rattle.std.specs.Option.{option_map}
-use Rattle.capture_file.specs.CapturePackets.{Begins, EndsWith, HasPackets, FilePacket, ReadsOne, ReadsPackets, kept, too_long, Seeks, offset_of}
+use Rattle.capture_file.specs.CapturePackets.{Begins, BeginsInput, EndsWith, FailsToRead, HasPackets, FilePacket, ReadsOne, ReadsPackets, kept, too_long, offset_of}
 use Rattle.capture_summary.specs.Choice.{IsChosen}
 use Rattle.capture_run.specs.Endings.{max_packets}
 use Rattle.capture_summary.specs.FlowOf.{IsFlowOf}
@@ -172,22 +172,31 @@ PlacesError packets number offset (Err (ReadHeader error)) = ⊥
 abbrev pub ReadsEnd : CaptureReader → Option (List ℕ) → NextPacket → CaptureReader → Type 0
 ReadsEnd before left next after = (ends : EndsWith max_packet_len before left next) × (after ≡ ends.after)
 
--- The reader that an error within a record or block leaves. It does not skip a record or block that is cut off, so it is at the start of
--- that record or block. If reading failed, it is after blocks that are skipped.
-abbrev pub IsLeftAt : Result (Unit {0}) CaptureError → CaptureReader → Option (List ℕ) → CaptureReader → Type 0
-IsLeftAt (Err (RecordCutOff number offset required len)) before left after = ReadsEnd before left (packets.CutOff required len) after
-IsLeftAt (Err (Read number offset error)) before left after = Seeks max_packet_len before left after
-IsLeftAt other before left after = Unit {0}
+-- The reader that an error within a record or block leaves. The record or block is cut off, or reading failed within it. The reader does not
+-- skip it, so it is at its start.
+abbrev pub IsLeftAt : Result (Unit {0}) CaptureError → CaptureReader → Option (List ℕ) → Option (List ℕ) → CaptureReader → Type 0
+IsLeftAt (Err (RecordCutOff number offset required len)) before left still_left after = ReadsEnd before left (packets.CutOff required len) after
+IsLeftAt (Err (Read number offset error)) before left still_left after = FailsToRead max_packet_len before left still_left after
+IsLeftAt other before left still_left after = Unit {0}
 
 -- After these packets, and the packets that were counted of other captures, an error within a record or block contains the next number,
 -- and the place where the record or block begins. The reader that is left is there.
-pub record PlacesAfter (reader : CaptureReader) (left : Option (List ℕ)) (packets : List FilePacket) (counted : ℕ) (after : CaptureReader) (ended : Result (Unit {0}) CaptureError) : Type 0 where
-  pub still_left : Option (List ℕ)
-  pub still_reader : CaptureReader
-  pub reads : ReadsPackets max_packet_len reader left still_left still_reader packets
+pub record PlacesAfter (reader : CaptureReader) (left still_left : Option (List ℕ)) (packets : List FilePacket) (counted : ℕ) (after : CaptureReader)
+    (ended : Result (Unit {0}) CaptureError) : Type 0 where
+  pub middle : Option (List ℕ)
+  pub before : CaptureReader
+  pub reads : ReadsPackets max_packet_len reader left middle before packets
   pub places : PlacesError (counted + length packets) (length packets + 1) (offset_of after) ended
-  pub left_at : IsLeftAt ended still_reader still_left after
+  pub left_at : IsLeftAt ended before middle still_left after
 
 -- the same after the packets that were read
-abbrev pub PlacesEnd : CaptureReader → Option (List ℕ) → ℕ → CaptureReader → Result (Unit {0}) CaptureError → Type 0
-PlacesEnd reader left counted after ended = (packets : List FilePacket) × PlacesAfter reader left packets counted after ended
+abbrev pub PlacesEnd : CaptureReader → Option (List ℕ) → Option (List ℕ) → ℕ → CaptureReader → Result (Unit {0}) CaptureError → Type 0
+PlacesEnd reader left still_left counted after ended = (packets : List FilePacket) × PlacesAfter reader left still_left packets counted after ended
+
+-- the same after the beginning of a capture
+pub record PlacesInCapture (left still_left : Option (List ℕ)) (counted : ℕ) (ended : Result (Unit {0}) CaptureError) : Type 0 where
+  pub reader : CaptureReader
+  pub after_beginning : Option (List ℕ)
+  pub begins : BeginsInput max_packet_len reader left after_beginning
+  pub after : CaptureReader
+  pub places : PlacesEnd reader after_beginning still_left counted after ended

@@ -1,7 +1,7 @@
 -- The report of a capture.
-use Rattle.std.specs.Prelude.{◌≡◌, ℕ, List, Result, Err}
+use Rattle.std.specs.Prelude.{◌≡◌, ◌⊎◌, ℕ, List, Option, Result, Err}
 use Rattle.capture_run.specs.Endings.{IsRefusedCapture, IsReportOf}
-use Rattle.capture_run.specs.Report.{CountsFile, IsReadToEnd}
+use Rattle.capture_run.specs.Report.{CountsFile, IsReadToEnd, PlacesInCapture}
 use Rattle.capture_summary.specs.SummaryTables.{SummaryTables}
 use Rattle.capture_summary.specs.declared.choice.Choice.{Choice}
 use Rattle.capture_run.specs.declared.capture_error.CaptureError.{CaptureError}
@@ -18,6 +18,11 @@ abbrev pub EndsAtHeader : Result (Unit {0}) CaptureError → Type 0
 EndsAtHeader (Err (Header error)) = Unit {0}
 EndsAtHeader (Err (ReadHeader error)) = Unit {0}
 EndsAtHeader other = ⊥
+
+-- Unless the report ended before the first packet, an error within a record or block contains its number and its place. The input has
+-- this left.
+abbrev pub EndsInPlace : Option (List ℕ) → Option (List ℕ) → ℕ → Result (Unit {0}) CaptureError → Type 0
+EndsInPlace left still_left counted ended = EndsAtHeader ended ⊎ PlacesInCapture left still_left counted ended
 
 -- The report of a capture ended with this result, which is true of the capture. If it was read to its end, its chosen packets were counted
 -- after the counts before, and nothing else. If it ended at the beginning, nothing was counted.

@@ -7,7 +7,7 @@ ghost use Rattle.capture_summary.specs.Ranking.{busiest_of};
 ghost use Rattle.capture_run.specs.ExitStatuses.{final_status, greater};
 ghost use Rattle.capture_run.specs.Limits.{EndsByLimit, IsWithin, is_full, StopsCapture};
 ghost use Rattle.capture_run.specs.ReadCaptures.{IsCaptureAfter, only_capture};
-ghost use Rattle.capture_run.specs.Runs.{EndsAtHeader, ReportsCapture};
+ghost use Rattle.capture_run.specs.Runs.{EndsAtHeader, EndsInPlace, ReportsCapture};
 ghost use Rattle.capture_run.specs.declared.capture_error.CaptureError.TheVariants as CaptureError;
 ghost use Rattle.capture_run.specs.declared.exit_status.ExitStatus.TheVariants as ExitStatus;
 ghost use Rattle.capture_summary.specs.SummaryTables.{empty_tables};
@@ -81,6 +81,7 @@ impl CaptureReports {
     ) -> Result<(CaptureReports, Result<(), CaptureError>), WriteError>
         ensures reports { IfOk result (λ given. IfSome (R.remaining input.old) (λ all.
             ReportsCapture self.parts.choice all given.1 self.summary given.0.summary)) }
+        ensures places { IfOk result (λ given. EndsInPlace (R.remaining input.old) (R.remaining input.new) self.summary.packets given.1) }
         ensures status { IfOk result (λ given. given.0.status ≡ greater self.status (status_of given.1)) }
         ensures parts { IfOk result (λ given. given.0.parts ≡ self.parts) }
         ensures unwritten { IfOk result (λ given. given.0.unwritten ≡ self.unwritten) }

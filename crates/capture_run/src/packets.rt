@@ -9,7 +9,7 @@ ghost use Rattle.capture_run.specs.Limits.{EndsByLimit, EndsWithoutLimit, IsWith
 ghost use Rattle.capture_run.specs.PacketsText.{IsCaptureText, WritesPacket, WritesPackets};
 ghost use Rattle.capture_run.specs.ReadCaptures.{IsLeft, IsReaderOf, LeavesReader};
 ghost use Rattle.capture_run.specs.Report.{CountsCapture, CountsEach, IsLeftAt, IsReadToEnd, PlacesEnd, PlacesError, ReadsWholePackets, ReportsNext};
-ghost use Rattle.capture_run.specs.Runs.{EndsAtHeader, IsUnread, ReportsCapture};
+ghost use Rattle.capture_run.specs.Runs.{EndsAtHeader, EndsInPlace, IsUnread, ReportsCapture};
 ghost use Rattle.capture_text.specs.Written.{AppendsOne};
 ghost use Rattle.capture_run.specs.declared.parts.Lines.TheVariants as Lines;
 ghost use Rattle.capture_run.specs.declared.capture_error.CaptureError.TheVariants as CaptureError;
@@ -38,6 +38,7 @@ pub(crate) fn report_packets<R: Read, W: Write>(
     ensures reports { IfOk result (λ given. IfSome (R.remaining input.old) (λ all. ReportsCapture parts.choice all given.1 summary given.0)) }
     ensures text { IfOk result (λ given. AppendsOne (W.contents output.old) (W.contents output.new)
         (IsCaptureText parts (R.remaining input.old) given.1 summary given.0)) }
+    ensures places { IfOk result (λ given. EndsInPlace (R.remaining input.old) (R.remaining input.new) summary.packets given.1) }
     ensures limit { IfOk result (λ given. EndsByLimit parts.limit given.0.packets given.1) }
     ensures within { IsWithin parts.limit summary.packets → IfOk result (λ given. IsWithin parts.limit given.0.packets) }
     ensures stops { IfOk result (λ given. given.1 ≡ Err CaptureError.Enough
@@ -98,7 +99,7 @@ fn report_each<R: Read, W: Write>(
         → R.remaining input.old ≡ Some (take cut whole) → HasPackets max_packet_len reader.old whole all next
         → (before_cut : List FilePacket) × ArePacketsBeforeCut max_packet_len reader.old whole cut all before_cut
         × CountsEach packets.old.parts.choice packets.old.summary before_cut packets.new.summary) }
-    ensures places { IfOk result (PlacesEnd reader.old (R.remaining input.old) packets.old.summary.packets reader.new) }
+    ensures places { IfOk result (PlacesEnd reader.old (R.remaining input.old) (R.remaining input.new) packets.old.summary.packets reader.new) }
     ensures leaves { IfOk result (λ ended. LeavesReader reader.old (R.remaining input.old) reader.new) }
     ensures too_many { IfOk result (λ ended. ended ≡ Err CaptureError.TooManyPackets
         → IfSome (R.remaining input.old) (HasTooManyPackets packets.old.summary.packets reader.old)) }
@@ -141,7 +142,7 @@ fn report_next<R: Read, W: Write>(
         (R.remaining input.old) (R.remaining input.new) reader.new packets.old.summary packets.new.summary)) }
     ensures nothing { IfOk result (λ ended. IfSome ended (λ done. output.new ≡ output.old)) }
     ensures places { IfOk result (λ ended. IfSome ended (λ done. (packets : ℕ) → PlacesError packets number (offset_of reader.new) done)) }
-    ensures left_at { IfOk result (λ ended. IfSome ended (λ done. IsLeftAt done reader.old (R.remaining input.old) reader.new)) }
+    ensures left_at { IfOk result (λ ended. IfSome ended (λ done. IsLeftAt done reader.old (R.remaining input.old) (R.remaining input.new) reader.new)) }
     ensures leaves { IfOk result (λ ended. IfSome ended (λ done. IsLeft reader.old (R.remaining input.old) reader.new)) }
     ensures unlimited { IfOk result (λ ended. IfSome ended EndsWithoutLimit) }
     ensures after_packet { IfErr result (λ error. (packet : FilePacket)

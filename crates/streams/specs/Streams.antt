@@ -19,6 +19,12 @@ pub record FillsAfter (first : List ℕ) (left still_left : Option (List ℕ)) (
   pub within : len ≤ length buffer
   pub end : len < length buffer → IsAtEnd still_left
 
+-- reading failed after fewer than this number of bytes
+pub record ReadsFewer (left still_left : Option (List ℕ)) (count : ℕ) : Type 0 where
+  pub bytes : List ℕ
+  pub consumed : Consumes left still_left bytes
+  pub fewer : length bytes < count
+
 -- the writer took a beginning of the text
 pub record AppendsBeginning (before after : Option (List ℕ)) (text : List ℕ) : Type 0 where
   pub written : List ℕ

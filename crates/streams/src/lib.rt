@@ -1,9 +1,9 @@
 //! Reads whole parts from a stream, and writes whole texts, for the programs.
 #![tactic(auto)]
 
-ghost use Rattle.std.specs.Prelude.{◌≡◌, ◌<◌, ◌≤◌, IfOk, IfSome, OnOk, length, take};
+ghost use Rattle.std.specs.Prelude.{◌≡◌, ◌<◌, ◌≤◌, ◌-◌, IfOk, IfSome, OnErr, OnOk, length, take};
 ghost use Rattle.std.specs.Io.KnownBytes.{Appends, Consumes, IsAtEnd};
-ghost use Rattle.streams.specs.Streams.{AppendsBeginning, FillsAfter, Skips};
+ghost use Rattle.streams.specs.Streams.{AppendsBeginning, FillsAfter, ReadsFewer, Skips};
 
 use std::alloc::{AllocError, Global};
 use std::io;
@@ -32,6 +32,7 @@ pub fn fill<R: Read>(input: &mut R, buffer: &mut [u8]) -> io::Result<usize>
     ensures bytes { IfOk result (λ len. IfSome (R.remaining input.old)
         (λ all. take len buffer.new ≡ take (length buffer.old) all)) }
     ensures end { IfOk result (λ len. len < length buffer.new → IsAtEnd (R.remaining input.new)) }
+    ensures fails { OnErr result (ReadsFewer (R.remaining input.old) (R.remaining input.new) (length buffer.old)) }
 {
     let mut filled = 0;
     while filled < buffer.len() {
@@ -50,7 +51,8 @@ pub fn fill<R: Read>(input: &mut R, buffer: &mut [u8]) -> io::Result<usize>
 ///
 /// The error of the first read that fails.
 pub fn fill_after<R: Read>(input: &mut R, first: &[u8], buffer: &mut [u8]) -> io::Result<usize>
-    ensures { IfOk result (FillsAfter (take (length buffer.old) first.now) (R.remaining input.old) (R.remaining input.new) buffer.new) }
+    ensures fills { IfOk result (FillsAfter (take (length buffer.old) first.now) (R.remaining input.old) (R.remaining input.new) buffer.new) }
+    ensures fails { OnErr result (ReadsFewer (R.remaining input.old) (R.remaining input.new) (length buffer.old - length first.now)) }
 {
     let room = buffer.len();
     if room < first.len() {
@@ -63,7 +65,8 @@ pub fn fill_after<R: Read>(input: &mut R, first: &[u8], buffer: &mut [u8]) -> io
 /// Copies `first`, which fits the buffer, to the front of `buffer`, and reads the bytes after it.
 fn fill_behind<R: Read>(input: &mut R, first: &[u8], buffer: &mut [u8]) -> io::Result<usize>
     requires { length first.now ≤ length buffer.old }
-    ensures { IfOk result (FillsAfter first.now (R.remaining input.old) (R.remaining input.new) buffer.new) }
+    ensures fills { IfOk result (FillsAfter first.now (R.remaining input.old) (R.remaining input.new) buffer.new) }
+    ensures fails { OnErr result (ReadsFewer (R.remaining input.old) (R.remaining input.new) (length buffer.old - length first.now)) }
 {
     let first_len = first.len();
     buffer[..first_len].copy_from_slice(first);
@@ -80,7 +83,8 @@ const PART_LEN: usize = 4096;
 ///
 /// The error of the first read that fails.
 pub fn skip<R: Read>(input: &mut R, count: usize) -> io::Result<usize>
-    ensures { IfOk result (Skips (R.remaining input.old) (R.remaining input.new) count) }
+    ensures skips { IfOk result (Skips (R.remaining input.old) (R.remaining input.new) count) }
+    ensures fails { OnErr result (ReadsFewer (R.remaining input.old) (R.remaining input.new) count) }
 {
     let mut part = [0u8; PART_LEN];
     let mut skipped = 0;

@@ -1,7 +1,8 @@
-ghost use Rattle.std.specs.Prelude.{IfOk};
+ghost use Rattle.std.specs.Prelude.{IfOk, OnErr};
 ghost use Rattle.capture_file.specs.Opening.{ReadsRestOfHeader};
 ghost use Rattle.capture_file.specs.PcapngReading.{AreFirst};
-ghost use Rattle.capture_file.specs.Reading.{ReadsCaptured, ReadsHeader, ReadsNext};
+ghost use Rattle.capture_file.specs.Reading.{FailsInRecord, ReadsCaptured, ReadsHeader, ReadsNext};
+ghost use Rattle.streams.specs.Streams.{ReadsFewer};
 
 use crate::ByteOrder;
 use crate::classic::{CaptureHeader, CaptureHeaderError, RecordHeader};
@@ -73,7 +74,8 @@ pub fn read_record<R: Read>(
     order: ByteOrder,
     buffer: &mut [u8],
 ) -> io::Result<NextRecord>
-    ensures { IfOk result (ReadsNext order (R.remaining input.old) (R.remaining input.new) buffer.new) }
+    ensures reads { IfOk result (ReadsNext order (R.remaining input.old) (R.remaining input.new) buffer.new) }
+    ensures fails { OnErr result (FailsInRecord order (R.remaining input.old) (R.remaining input.new)) }
 {
     let mut bytes = [0u8; RecordHeader::LEN];
     let len = fill(input, &mut bytes)?;
@@ -93,7 +95,8 @@ fn read_captured<R: Read>(
     header: RecordHeader,
     buffer: &mut [u8],
 ) -> io::Result<NextRecord>
-    ensures { IfOk result (ReadsCaptured header (R.remaining input.old) (R.remaining input.new) buffer.new) }
+    ensures reads { IfOk result (ReadsCaptured header (R.remaining input.old) (R.remaining input.new) buffer.new) }
+    ensures fails { OnErr result (ReadsFewer (R.remaining input.old) (R.remaining input.new) header.captured_len) }
 {
     let captured_len = header.captured_len as usize;
     let required_len = RecordHeader::LEN + captured_len;

@@ -1,5 +1,5 @@
-ghost use Rattle.std.specs.Prelude.{◌<◌, ℕ, IfOk, List, length};
-ghost use Rattle.capture_file.specs.PcapngReading.{AreFirst, BeginsBlock, ReadsAfter, ReadsNextBlock};
+ghost use Rattle.std.specs.Prelude.{◌<◌, ℕ, IfOk, List, OnErr, length};
+ghost use Rattle.capture_file.specs.PcapngReading.{AreFirst, BeginsBlock, FailsAfter, FailsInBlock, ReadsAfter, ReadsNextBlock};
 
 use crate::ByteOrder;
 use crate::pcapng::{Block, BlockError, BlockHeader, MIN_BLOCK_LEN};
@@ -34,7 +34,8 @@ pub fn read_block<R: Read>(
     section: ByteOrder,
     buffer: &mut [u8],
 ) -> io::Result<NextBlock>
-    ensures { IfOk result (ReadsNextBlock section (R.remaining input.old) (R.remaining input.new) buffer.new) }
+    ensures reads { IfOk result (ReadsNextBlock section (R.remaining input.old) (R.remaining input.new) buffer.new) }
+    ensures fails { OnErr result (FailsInBlock section (R.remaining input.old) (R.remaining input.new)) }
 {
     let mut first = [0u8; MIN_BLOCK_LEN];
     let len = fill(input, &mut first)?;
@@ -49,7 +50,8 @@ pub(crate) fn read_rest<R: Read>(
     buffer: &mut [u8],
 ) -> io::Result<NextBlock>
     requires { AreFirst first.now (R.remaining input.old) }
-    ensures { IfOk result (ReadsAfter section first.now (R.remaining input.old) (R.remaining input.new) buffer.new) }
+    ensures reads { IfOk result (ReadsAfter section first.now (R.remaining input.old) (R.remaining input.new) buffer.new) }
+    ensures fails { OnErr result (FailsAfter section first.now (R.remaining input.old) (R.remaining input.new)) }
 {
     if first.is_empty() {
         return Ok(NextBlock::End);
@@ -77,8 +79,9 @@ fn pass_over<R: Read>(
     first: &[u8],
 ) -> io::Result<NextBlock>
     requires { BeginsBlock section first.now header }
-    ensures { IfOk result (λ next. (buffer : List ℕ) → length buffer < header.total_len
+    ensures reads { IfOk result (λ next. (buffer : List ℕ) → length buffer < header.total_len
         → ReadsAfter section first.now (R.remaining input.old) (R.remaining input.new) buffer next) }
+    ensures fails { OnErr result (FailsAfter section first.now (R.remaining input.old) (R.remaining input.new)) }
 {
     let required_len = header.total_len as usize;
     if required_len == MIN_BLOCK_LEN {

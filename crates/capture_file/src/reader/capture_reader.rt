@@ -1,8 +1,9 @@
 ghost use Rattle.std.specs.Prelude.{◌≡◌, IfOk, OnErr, length};
-ghost use Rattle.capture_file.specs.CapturePackets.{IfCutOff, Seeks, offset_of};
+ghost use Rattle.capture_file.specs.CapturePackets.{FailsToRead, IfCutOff, Seeks, offset_of};
 ghost use Rattle.capture_file.specs.Opening.{ReadsBeginning};
 ghost use Rattle.capture_file.specs.Packets.{IsNextWithin, ReadsRecordPacket, begins_records};
 ghost use Rattle.capture_file.specs.PcapngSteps.{ReadsPacket};
+ghost use Rattle.capture_file.specs.Reading.{FailsInRecord};
 
 use crate::PacketTime;
 use crate::classic::{CaptureHeader, NextRecord, RecordHeader, read_header_after, read_record};
@@ -58,8 +59,8 @@ impl CaptureReader {
     ) -> io::Result<NextPacket>
         ensures reads { IfOk result (ReadsPacket self.old (R.remaining input.old) (R.remaining input.new) self.new buffer.new) }
         ensures within { IfOk result (IsNextWithin (length buffer.new)) }
-        // After an error, and if the next packet is cut off, the reader is where this packet begins.
-        ensures fails { OnErr result (Seeks (length buffer.old) self.old (R.remaining input.old) self.new) }
+        // After an error, and if the next packet is cut off, the reader is at the start of the record or block with this packet.
+        ensures fails { OnErr result (FailsToRead (length buffer.old) self.old (R.remaining input.old) (R.remaining input.new) self.new) }
         ensures cut_off { IfOk result (λ next. IfCutOff next (Seeks (length buffer.new) self.old (R.remaining input.old) self.new)) }
     {
         match self {
@@ -109,7 +110,8 @@ impl ClassicReader {
     ) -> io::Result<NextPacket>
         ensures reads { IfOk result (ReadsRecordPacket self.old (R.remaining input.old) (R.remaining input.new) self.new buffer.new) }
         ensures within { IfOk result (IsNextWithin (length buffer.new)) }
-        ensures fails { OnErr result (self.new ≡ self.old) }
+        ensures unchanged { OnErr result (self.new ≡ self.old) }
+        ensures fails { OnErr result (FailsInRecord self.old.header.byte_order (R.remaining input.old) (R.remaining input.new)) }
     {
         let next = read_record(input, self.header.byte_order, buffer)?;
         if let NextRecord::Whole(record) | NextRecord::TooLong(record) = next {

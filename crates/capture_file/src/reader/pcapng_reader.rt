@@ -1,8 +1,8 @@
 ghost use Rattle.std.specs.Prelude.{◌≡◌, ◌+◌, ◌-◌, ℕ, IfOk, IfSome, OnErr, [], length};
 ghost use Rattle.capture_file.specs.Opening.{ReadsRestOfBlock};
 ghost use Rattle.capture_file.specs.Packets.{IsNextWithin, IsWithin};
-ghost use Rattle.capture_file.specs.PcapngReading.{AreFirst};
-ghost use Rattle.capture_file.specs.PcapngSteps.{HasPassed, ReadsBlockPacket, ReadsStep, next_by_too_long};
+ghost use Rattle.capture_file.specs.PcapngReading.{AreFirst, FailsInBlock};
+ghost use Rattle.capture_file.specs.PcapngSteps.{FailsToPass, ReadsBlockPacket, ReadsStep, next_by_too_long};
 ghost use Rattle.capture_file.specs.Sections.{TakesBlock};
 
 use crate::ByteOrder;
@@ -79,7 +79,7 @@ impl PcapngReader {
     ) -> io::Result<NextPacket>
         ensures reads { IfOk result (ReadsBlockPacket self.old (R.remaining input.old) (R.remaining input.new) self.new buffer.new) }
         ensures within { IfOk result (IsNextWithin (length buffer.new)) }
-        ensures fails { OnErr result (HasPassed (length buffer.old) self.old (R.remaining input.old) self.new) }
+        ensures fails { OnErr result (FailsToPass (length buffer.old) self.old (R.remaining input.old) (R.remaining input.new) self.new) }
     {
         for _passed in 0..u64::MAX {
             if let Some(next) = self.read_step(input, buffer)? {
@@ -97,7 +97,8 @@ impl PcapngReader {
     ) -> io::Result<Option<NextPacket>>
         ensures reads { IfOk result (ReadsStep self.old (R.remaining input.old) (R.remaining input.new) self.new buffer.new) }
         ensures within { IfOk result (λ next. IfSome next (IsNextWithin (length buffer.new))) }
-        ensures fails { OnErr result (self.new ≡ self.old) }
+        ensures unchanged { OnErr result (self.new ≡ self.old) }
+        ensures fails { OnErr result (FailsInBlock self.old.section.byte_order (R.remaining input.old) (R.remaining input.new)) }
     {
         let offset = self.offset;
         let refused = |error| Some(NextPacket::Refused(PlacedPacketError { offset, error }));

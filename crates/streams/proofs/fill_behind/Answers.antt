@@ -3,8 +3,8 @@ use Rattle.std.proofs.lemmas.List.{take_at}
 use Rattle.streams.proofs.FillLemmas.{length-written, take-written}
 use Rattle.streams.proofs.fill_behind.Goals as goal
 
-pub returns : goal.returns
-returns g c =
+pub returns-clause-fills : goal.returns-clause-fills
+returns-clause-fills g c =
     let first : List ℕ = c.args.first.now in
     let copied : List ℕ = c.copy_from_slice.new.self in
     let old : List ℕ = copied ++ drop (length first) c.args.buffer.now in

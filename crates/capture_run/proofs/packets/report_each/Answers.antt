@@ -5,7 +5,8 @@ use Rattle.capture_run.proofs.EndingLemmas.{too_many_packets}
 use Rattle.capture_run.proofs.LimitLemmas.{not_by_limit, within_step}
 use Rattle.capture_run.proofs.PacketsTextLemmas.{ends_after, first-push, written-push}
 use Rattle.capture_run.proofs.ReadLemmas.{seeks_itself}
-use Rattle.capture_run.proofs.ReportLemmas.{at_error, counts-cut, counts-push, counts_at_most, counts_capture}
+use Rattle.capture_file.proofs.ReaderLemmas.{at_error}
+use Rattle.capture_run.proofs.ReportLemmas.{counts-cut, counts-push, counts_at_most, counts_capture}
 use Rattle.capture_packet.specs.Frames.{max_packet_len}
 use Rattle.capture_run.proofs.packets.report_each.Goals as goal
 
@@ -85,8 +86,8 @@ returns-in-Some-clause-places g c =
     let (packets, read, counted, number, most, len, parts, silent, within, time, last, wrote) = c.loop-number.invariant in (
       packets,
       record {
-        still_left = g.R.Read.remaining c.loop-number.input;
-        still_reader = c.loop-number.reader;
+        middle = g.R.Read.remaining c.loop-number.input;
+        before = c.loop-number.reader;
         reads = read;
         places = rw number at (rw c.in-Some.is at c.in_ok-ended.ensures.places) (c.args.packets.now.summary.packets + length packets);
         left_at = rw c.in-Some.is at c.in_ok-ended.ensures.left_at;
@@ -98,8 +99,8 @@ returns-clause-places g c =
     let (packets, read, counted, number, most, len, parts, silent, within, time, last, wrote) = c.loop-number.invariant in (
       packets,
       record {
-        still_left = g.R.Read.remaining c.loop-number.input;
-        still_reader = c.loop-number.reader;
+        middle = g.R.Read.remaining c.loop-number.input;
+        before = c.loop-number.reader;
         reads = read;
         places = omega (arith, number, c.packets-room.ensures.packets, ap (λ tables. tables.packets) c.summary.ensures, c.loop-number-test.false);
         left_at = tt;
@@ -111,8 +112,8 @@ returns-then-is_full-clause-places g c =
     let (packets, read, counted, number, most, len, parts, silent, within, time, last, wrote) = c.loop-number.invariant in (
       packets,
       record {
-        still_left = g.R.Read.remaining c.loop-number.input;
-        still_reader = c.loop-number.reader;
+        middle = g.R.Read.remaining c.loop-number.input;
+        before = c.loop-number.reader;
         reads = read;
         places = tt;
         left_at = tt;
@@ -138,7 +139,7 @@ returns-in-Some-clause-text g c =
             ends_after reader first packets ends.next _
             (has_packets max_packet_len reader c.loop-number.reader first left packets ends.next read ends.ends)
             (rw number at ends.answered);
-        places = (_, (returns-in-Some-clause-places g c).1);
+        places = (_, _, (returns-in-Some-clause-places g c).1);
         counted = rw next.0 counted;
         is_text = wrote.1;
       },
@@ -155,7 +156,7 @@ returns-clause-text g c =
         packets = packets;
         are_first = begins_with_packets max_packet_len reader c.loop-number.reader (g.R.Read.remaining c.args.input.now) (g.R.Read.remaining c.loop-number.input) packets read;
         are_all = λ is_end. absurd is_end;
-        places = (_, (returns-clause-places g c).1);
+        places = (_, _, (returns-clause-places g c).1);
         counted = counted;
         is_text = wrote.1;
       },
@@ -173,7 +174,7 @@ returns-then-is_full-clause-text g c =
         packets = packets;
         are_first = begins_with_packets max_packet_len reader c.loop-number.reader (g.R.Read.remaining c.args.input.now) (g.R.Read.remaining c.loop-number.input) packets read;
         are_all = λ is_end. absurd is_end;
-        places = (_, (returns-then-is_full-clause-places g c).1);
+        places = (_, _, (returns-then-is_full-clause-places g c).1);
         counted = counted;
         is_text = wrote.1;
       },

@@ -1,4 +1,4 @@
-use Rattle.std.proofs.Common.{arith, inr, refl, subst}
+use Rattle.std.proofs.Common.{arith, inl, inr, refl, rules, subst}
 use Rattle.std.specs.Prelude.{◌≡◌, ◌+◌, ℕ, List, Option, Some, length, slice_range}
 use Rattle.capture_file.specs.CapturePackets.{FilePacket, ReadsOne, kept, packet_in, too_long}
 use Rattle.capture_file.specs.PcapngSteps.{ReadsPacket}
@@ -6,8 +6,8 @@ use Rattle.capture_file.specs.declared.reader.capture_reader.CaptureReader.{Capt
 use Rattle.capture_file.specs.declared.reader.captured_packet.CapturedPacket.{CapturedPacket}
 use Rattle.capture_file.specs.declared.reader.next_packet.NextPacket.{NextPacket}
 use Rattle.capture_file.specs.declared.reader.next_packet.NextPacket.TheVariants.{CutOff, Refused, TooLong, Whole}
-use Rattle.capture_run.proofs.ReadLemmas.{reads_end}
-use Rattle.capture_run.proofs.ReportLemmas.{at_error}
+use Rattle.capture_run.proofs.ReadLemmas.{fails_seeks, reads_end}
+use Rattle.capture_file.proofs.ReaderLemmas.{at_error}
 use Rattle.capture_packet.specs.Frames.{max_packet_len}
 use Rattle.capture_run.proofs.packets.report_next.Goals as goal
 
@@ -92,6 +92,10 @@ pub returns-in-Ok-CutOff-clause-left_at : goal.returns-in-Ok-CutOff-clause-left_
 returns-in-Ok-CutOff-clause-left_at g c =
     reads_end _ _ _ _ c.next_packet.new.buffer _ (CutOff c.in-Ok-CutOff.required_len c.in-Ok-CutOff.len) (omega arith)
     c.in-Ok-CutOff.field-0-is c.in-Ok-CutOff.ensures.reads refl
+
+pub returns-in-Err-clause-leaves : goal.returns-in-Err-clause-leaves
+returns-in-Err-clause-leaves g c =
+    inl (fails_seeks _ _ _ _ (search rules))
 
 pub returns-in-Ok-Refused-clause-leaves : goal.returns-in-Ok-Refused-clause-leaves
 returns-in-Ok-Refused-clause-leaves g c =

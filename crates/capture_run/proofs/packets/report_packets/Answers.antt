@@ -11,11 +11,25 @@ returns-clause-reports g c =
     rw c.into_summary.ensures (
     reports_packets c.args.parts.choice (g.R.Read.remaining c.args.input.now) (g.R.Read.remaining c.read_header.new.input) c.in-Ok.reader
     c.in_ok-ended.ended c.args.summary c.report_each.new.packets.summary c.args.summary.packets
-    c.report_each.new.reader c.in-Ok.ensures.begins
+    c.report_each.new.reader _ c.in-Ok.ensures.begins
     (rw (c.new-packets.ensures.parts, c.new-packets.ensures.summary) at c.in_ok-ended.ensures.counted)
     (rw c.new-packets.ensures.summary at c.in_ok-ended.ensures.places)
     (rw c.new-packets.ensures.summary at c.in_ok-ended.ensures.too_many)
     )
+
+-- an error after the beginning contains its place
+pub returns-clause-places : goal.returns-clause-places
+returns-clause-places g c =
+    inr (record {
+      reader = c.in-Ok.reader;
+      after_beginning = g.R.Read.remaining c.read_header.new.input;
+      begins = c.in-Ok.ensures.begins;
+      after = c.report_each.new.reader;
+      places = rw c.new-packets.ensures.summary at c.in_ok-ended.ensures.places;
+    })
+
+pub returns-in-Err-clause-places : goal.returns-in-Err-clause-places
+returns-in-Err-clause-places g c = inl c.in-Err.ensures.ends
 
 -- nothing is written if the beginning is not accepted
 pub returns-in-Err-clause-text : goal.returns-in-Err-clause-text

@@ -1,6 +1,6 @@
 use Rattle.std.proofs.Common.{◌∙◌, sym}
 use Rattle.capture_run.proofs.RunLemmas.{run_failed, run_result, tells_all}
-use Rattle.capture_run.proofs.ReportLemmas.{at_error}
+use Rattle.capture_file.proofs.ReaderLemmas.{at_error}
 use Rattle.capture_run.proofs.report.run.Goals as goal
 
 -- all lines of errors were written

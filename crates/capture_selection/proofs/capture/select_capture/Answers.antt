@@ -10,7 +10,7 @@ use Rattle.capture_selection.proofs.capture.select_capture.Goals as goal
 pub returns-in-Err-header_in-clause-selects : goal.returns-in-Err-header_in-clause-selects
 returns-in-Err-header_in-clause-selects g c =
     λ left consumed other.
-    let fills = fills_whole 24 c.args.begin.now _ _ c.fill_after.new.buffer c.in-Ok.len (omega (arith, c.requires.begin.0)) c.in-Ok.ensures in
+    let fills = fills_whole 24 c.args.begin.now _ _ c.fill_after.new.buffer c.in-Ok.len (omega (arith, c.requires.begin.0)) c.in-Ok.ensures.fills in
     refuses_capture _ c.in-Err-header_in.error left _ _ _ _ c.args.begin.now c.fill_after.new.buffer c.in-Ok.len (omega (arith, c.fill_after.auto.buffer)) consumed
     other fills c.in-Err-header_in.ensures.refused
 
@@ -22,7 +22,7 @@ returns-clause-selects g c =
     λ left consumed other.
     let first = c.fill_after.new.buffer in
     let len = c.in-Ok.len in
-    let fills = fills_whole 24 c.args.begin.now _ _ first len (omega (arith, c.requires.begin.0)) c.in-Ok.ensures in
+    let fills = fills_whole 24 c.args.begin.now _ _ first len (omega (arith, c.requires.begin.0)) c.in-Ok.ensures.fills in
     let says : SaysHeader (take len first) (Ok c.in-Ok-header_in.header) = c.in-Ok-header_in.ensures.accepted in
     let whole : take len first ≡ first = take_all len first (omega (arith, says.0, c.fill_after.auto.buffer, fills.within, length-take-le len first fills.within)) in
     selects_capture _ _ left _ _ _ _ _ (record {

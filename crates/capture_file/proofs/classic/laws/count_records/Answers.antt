@@ -7,7 +7,7 @@ use Rattle.capture_file.proofs.classic.laws.count_records.Goals as goal
 pub loop-count-preserved : goal.loop-count-preserved
 loop-count-preserved g c =
     let (records, read, counted) = c.loop-count.invariant in
-    let reads = c.in_ok-read_record.ensures in (
+    let reads = c.in_ok-read_record.ensures.reads in (
       records ++ reads.bytes ∷ [],
       after_record c.args.order _ (g.R.Read.remaining c.loop-count.input) _ records c.read_record.new.buffer c.in_ok-read_record.field-0
           c.in-Whole.is read reads,
@@ -17,7 +17,7 @@ loop-count-preserved g c =
 pub returns-in-End : goal.returns-in-End
 returns-in-End g c =
     let (records, read, counted) = c.loop-count.invariant in
-    let reads = c.in_ok-read_record.ensures in
+    let reads = c.in_ok-read_record.ensures.reads in
     IfSome_then (g.R.Read.remaining c.args.input.now)
     (reading_at_last c.args.order _ (g.R.Read.remaining c.loop-count.input) _ records c.read_record.new.buffer c.in_ok-read_record.field-0
     c.in-End.is read reads)

@@ -1,5 +1,6 @@
 use Rattle.std.proofs.Common.{◌≡◌, ◌+◌, suc, None, arith, length, subst}
 use Rattle.capture_file.specs.PcapngSteps.{PassesBlocks, ReadsStep}
+use Rattle.capture_file.proofs.PcapngReadingLemmas.{no_byte_read}
 use Rattle.capture_file.proofs.reader.pcapng_reader.PcapngReader.next_packet.Goals as goal
 
 pub loop-passed-preserved : goal.loop-passed-preserved
@@ -15,3 +16,12 @@ loop-passed-preserved g c =
       subst (λ count. PassesBlocks (length c.args.buffer.now) count c.args.self.now (remaining c.args.input.now) (remaining c.read_step.new.input) c.read_step.new.self) one_more
           (c.loop-passed.self, remaining c.loop-passed.input, c.read_step.new.buffer, same, c.loop-passed.invariant.1, step),
     )
+
+-- after so many blocks none was read further
+pub returns-clause-fails : goal.returns-clause-fails
+returns-clause-fails g c = record {
+  count = c.loop-passed._passed;
+  middle = g.R.Read.remaining c.loop-passed.input;
+  passed = c.loop-passed.invariant.1;
+  fails = no_byte_read _ _;
+}

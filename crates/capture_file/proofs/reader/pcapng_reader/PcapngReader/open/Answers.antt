@@ -15,7 +15,7 @@ returns g c =
           let accepted : section_header_refusal header.byte_order body ≡ None = search rules in
           record {
             block = c.in_ok-header.field-0;
-            reads = c.in_ok-header.ensures;
+            reads = c.in_ok-header.ensures.reads;
             is_first = subst (λ block. IsFirstBlock c.read_rest.new.buffer block c.match-branch-2.result) (sym w.in-Whole.is)
                 (subst (λ refusal. BeginsUnless refusal header body c.match-branch-2.result) (sym accepted) (
                   _,
