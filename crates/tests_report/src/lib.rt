@@ -1,19 +1,9 @@
-//! Tests of what a report counts and writes, over public names alone.
+//! Tests of the report of captures, and of the selection that `-w` writes, by public names.
 //!
 //! They stand above the libraries, so that a library is proved once, and its edits don't wait for its tests.
 #![tactic(auto)]
 
 #[cfg(test)]
-mod choice;
-#[cfg(test)]
 mod expect;
 #[cfg(test)]
-mod json;
-#[cfg(test)]
-mod kinds;
-#[cfg(test)]
 mod report;
-#[cfg(test)]
-mod summary;
-#[cfg(test)]
-mod text;

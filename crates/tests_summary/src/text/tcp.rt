@@ -1,5 +1,4 @@
 use super::{OVER_IPV4, expect_transport};
-use crate::report::joined;
 use capture_packet::Transport;
 use etherparse_transport::{TcpSlice, TransportSlice, ip_number};
 use std::process::Abort;
@@ -21,7 +20,10 @@ fn expect_segment(
         options,
         &[1, 2],
     ];
-    let bytes = joined(rt.alloc(), &parts)?;
+    let mut bytes = Vec::new(rt.alloc());
+    for part in parts {
+        bytes.extend_from_slice(part)?;
+    }
     let segment = TcpSlice::from_slice(&bytes)?;
     let transport = Transport::Read(TransportSlice::Tcp(segment));
     expect_transport(rt, OVER_IPV4, ip_number::TCP, transport, wanted)

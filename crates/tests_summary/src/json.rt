@@ -7,8 +7,8 @@ use capture_json::{write_packet, write_summary};
 use capture_packet::{
     Content, HopLimit, NetworkProtocol, Packet, Refusal, Transport, Tunnel, Verdict,
 };
-use capture_run::Times;
 use capture_summary::{CaptureInfo, FrameLen, Protocol, RefusalKind, Summary, VerdictKind};
+use capture_text::Times;
 use etherparse_transport::ip::{IpAddresses, IpError};
 use etherparse_transport::{
     ChecksumVerdict, Icmpv4Slice, Icmpv6Slice, IpNumber, Proto, TcpSlice, TransportSlice, UdpSlice,

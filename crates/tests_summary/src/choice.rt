@@ -1,7 +1,6 @@
 use crate::expect::expect_equal;
 use capture_packet::{Content, NetworkProtocol, Packet, Transport, Tunnel, Verdict};
-use capture_run::Choice;
-use capture_summary::{MAX_CHOSEN, Network, NetworkError, Protocols};
+use capture_summary::{Choice, MAX_CHOSEN, Network, NetworkError, Protocols};
 use etherparse_transport::ip::IpAddresses;
 use etherparse_transport::{
     Icmpv4Slice, IpNumber, Proto, TransportSlice, UdpSlice, Untested, ip_number,

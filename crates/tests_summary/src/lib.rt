@@ -1,0 +1,17 @@
+//! Tests of what a report counts, and of its texts and its JSON, by public names.
+//!
+//! They need no capture, so that they are proved next to the crates that read captures.
+#![tactic(auto)]
+
+#[cfg(test)]
+mod choice;
+#[cfg(test)]
+mod expect;
+#[cfg(test)]
+mod json;
+#[cfg(test)]
+mod kinds;
+#[cfg(test)]
+mod summary;
+#[cfg(test)]
+mod text;
