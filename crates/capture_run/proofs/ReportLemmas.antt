@@ -1,5 +1,5 @@
 -- For the loop over the packets of a capture: one more packet is counted, and at the end the whole capture is counted.
-use Rattle.std.proofs.Common.{◌≡◌, ◌+◌, ◌≤◌, ℕ, List, [], ◌∷◌, ◌++◌, Some, None, Ok, Err, Option, Result, IfErr, IfSome, ap, arith, length, refl, subst, take}
+use Rattle.std.proofs.Common.{◌≡◌, ◌+◌, ◌≤◌, ℕ, List, [], ◌∷◌, ◌++◌, Some, None, Option, Result, IfSome, ap, arith, length, refl, subst, take}
 use Rattle.capture_file.proofs.CapturePacketsLaws.{packets_before_cut}
 use Rattle.capture_file.specs.CapturePackets.{ArePacketsBeforeCut, HasPackets, FilePacket}
 use Rattle.capture_file.specs.declared.reader.capture_reader.CaptureReader.{CaptureReader}
@@ -45,4 +45,3 @@ pub counts-cut : (choice : Choice) (reader : CaptureReader) (left : Option (List
 counts-cut choice reader left ended before after counts whole all next cut is_cut has =
     let (packets, cut_next, cut_has, counted, answered) = rw is_cut at counts in
     (packets, packets_before_cut max_packet_len reader whole all next cut packets cut_next has cut_has, counted)
-

@@ -95,7 +95,8 @@ returns-in-Ok-CutOff-clause-left_at g c =
 
 pub returns-in-Err-clause-leaves : goal.returns-in-Err-clause-leaves
 returns-in-Err-clause-leaves g c =
-    inl (fails_seeks _ _ _ _ (search rules))
+    inl (fails_seeks c.args.reader.now c.next_packet.new.self (g.R.Read.remaining c.args.input.now)
+    (g.R.Read.remaining c.next_packet.new.input) (search rules))
 
 pub returns-in-Ok-Refused-clause-leaves : goal.returns-in-Ok-Refused-clause-leaves
 returns-in-Ok-Refused-clause-leaves g c =
