@@ -41,9 +41,10 @@ def header_structs():
 
 
 def prototypes():
-    """The prototype of each call in the header, in one line, without comments and attributes. One that isn't read is an error."""
+    """The prototype of each call in the header, in one line, without comments and attributes, and of the function that the header defines.
+    One that isn't read is an error."""
     text = re.sub(r"/\*.*?\*/", "", HEADER.read_text(), flags=re.S)
-    found = re.findall(r"^\w[\w *]*\betherparse_\w+\([^()]*\)(?=;)", text, re.M)
+    found = re.findall(r"^\w[\w *]*\betherparse_\w+\([^()]*\)(?=;|\n{$)", text, re.M)
     if len(found) != len(re.findall(r"\betherparse_\w+\(", text)):
         raise SystemExit("the header: a prototype was not read")
     return [" ".join(prototype.split()) for prototype in found]

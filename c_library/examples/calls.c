@@ -1256,6 +1256,7 @@ static void nulls(etherparse_error *told)
 
 int main(void)
 {
+    EXPECT(etherparse_processor_is_supported() == 1);
     EXPECT(etherparse_version() == ETHERPARSE_VERSION);
     ip();
     jumbograms();

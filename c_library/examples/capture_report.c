@@ -145,6 +145,10 @@ int main(int argc, char **argv)
     static struct capture capture;
     struct ip_packet ip;
     uint32_t number = 0;
+    if (!etherparse_processor_is_supported()) {
+        fprintf(stderr, "capture_report needs a processor of the level x86-64-v2\n");
+        return 1;
+    }
     if (argc != 2 || !open_capture(&capture, argv[1])) {
         fprintf(stderr, "usage: capture_report capture.pcap\n");
         return 2;

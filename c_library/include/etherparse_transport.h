@@ -90,6 +90,25 @@ extern "C" {
 ETHERPARSE_CHECK_RESULT
 uint32_t etherparse_version(void);
 
+/* ---- processor ----------------------------------------------------------------------------------------------------------- */
+
+#if defined(__GNUC__) || defined(__clang__)
+/*
+ * Returns 1 if the processor has the level x86-64-v2, otherwise 0. On a processor below this level, a call of the library can end the
+ * program by SIGILL. glibc from 2.33 refuses to load the shared library there, and to start a program that GNU ld or gold linked with the
+ * installed static library. A program that is linked with -static or by another linker has to check the level before its first call.
+ *
+ * The compiler puts this function into the program. It is not in the library, and compilers other than gcc and clang do not have it.
+ */
+ETHERPARSE_CHECK_RESULT __attribute__((unused))
+static inline int etherparse_processor_is_supported(void)
+{
+    /* The level is SSE4.2, POPCNT and older instructions that every processor with these two has. */
+    __builtin_cpu_init();
+    return __builtin_cpu_supports("sse4.2") && __builtin_cpu_supports("popcnt");
+}
+#endif
+
 /* ---- statuses and errors ------------------------------------------------------------------------------------------------- */
 
 /* What a call returns: one of the numbers below. */
