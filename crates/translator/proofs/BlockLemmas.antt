@@ -333,6 +333,7 @@ rest_end table state (capture_errors.Block placed) front total_len len is some r
     )
 rest_end table state (capture_errors.Header error) front total_len len is some refused long = absurd is
 rest_end table state (capture_errors.RecordCutOff offset required other) front total_len len is some refused long = absurd is
+rest_end table state capture_errors.TooManyParts front total_len len is some refused long = absurd is
 rest_end table state (capture_errors.Write error) front total_len len is some refused long = absurd is
 
 -- the packet of a long block was translated, and then its rest was copied up to an error
@@ -423,6 +424,7 @@ no_block table state (capture_errors.Header error) is = absurd is
 no_block table state (capture_errors.RecordCutOff offset required len) is = absurd is
 no_block table state (capture_errors.Block placed) is = absurd is
 no_block table state (capture_errors.Read offset error) is = (is, inl (refl, (refl, refl)))
+no_block table state capture_errors.TooManyParts is = absurd is
 no_block table state (capture_errors.Write error) is = absurd is
 
 pub next_unread : {A : Type 0} → (table : Table) (result : Result A CaptureError) (error : CaptureError) (state then_state : Blocks)
@@ -440,6 +442,7 @@ rest_read total_len place len (capture_errors.Header error) is = absurd is
 rest_read total_len place len (capture_errors.RecordCutOff offset required other) is = absurd is
 rest_read total_len place len (capture_errors.Block placed) is = absurd is
 rest_read total_len place len (capture_errors.Read offset error) is = is
+rest_read total_len place len capture_errors.TooManyParts is = absurd is
 rest_read total_len place len (capture_errors.Write error) is = absurd is
 
 -- copying the rest failed

@@ -16,7 +16,7 @@ use Rattle.translator.specs.Captures.{IsNoPcapng, RefusesBytes, TranslatesBlocks
 use Rattle.translator.specs.Passing.{IsReadError, IsWriteError, PassesTo}
 use Rattle.translator.specs.Records.{records_of}
 use Rattle.translator.specs.declared.capture_error.CaptureError.{CaptureError}
-use Rattle.translator.specs.declared.capture_error.CaptureError.TheVariants.{Block, Header, Read, RecordCutOff, Write}
+use Rattle.translator.specs.declared.capture_error.CaptureError.TheVariants.{Block, Header, Read, RecordCutOff, TooManyParts, Write}
 use Rattle.translator.specs.declared.counts.Counts.{Counts}
 use Rattle.translator.specs.declared.table.Table.{Table}
 
@@ -53,11 +53,12 @@ pub translates_records : (table : Table) (result : Result (Unit {0}) CaptureErro
     → TranslatesCapture table result left still_left held now_held counts now_counts
 translates_records table (Ok done) left still_left held now_held counts now_counts translates = inl translates
 translates_records table (Err (Header error)) left still_left held now_held counts now_counts translates =
-    absurd (never _ (λ ends. ends.stops.is_end) translates.passes)
+    absurd (never _ (λ ends. ⊎_elim (λ stops. stops.is_end) (λ number. cc number.is) ends.stops) translates.passes)
 translates_records table (Err (RecordCutOff offset required len)) left still_left held now_held counts now_counts translates = translates
 translates_records table (Err (Block error)) left still_left held now_held counts now_counts translates =
-    absurd (never _ (λ ends. ends.stops.is_end) translates.passes)
+    absurd (never _ (λ ends. ⊎_elim (λ stops. stops.is_end) (λ number. cc number.is) ends.stops) translates.passes)
 translates_records table (Err (Read offset error)) left still_left held now_held counts now_counts translates = inr (inl translates)
+translates_records table (Err TooManyParts) left still_left held now_held counts now_counts translates = inl translates
 translates_records table (Err (Write error)) left still_left held now_held counts now_counts translates = tt
 
 -- blocks of a pcapng file, up to a result
@@ -66,11 +67,12 @@ pub translates_blocks : (table : Table) (result : Result (Unit {0}) CaptureError
     → TranslatesCapture table result left still_left held now_held counts now_counts
 translates_blocks table (Ok done) left still_left held now_held counts now_counts translates = inr translates
 translates_blocks table (Err (Header error)) left still_left held now_held counts now_counts translates =
-    absurd (never _ (λ ends. ends.stops.is_end) translates.passes)
+    absurd (never _ (λ ends. ⊎_elim (λ stops. stops.is_end) (λ number. cc number.is) ends.stops) translates.passes)
 translates_blocks table (Err (RecordCutOff offset required len)) left still_left held now_held counts now_counts translates =
-    absurd (never _ (λ ends. ends.stops.is_end) translates.passes)
+    absurd (never _ (λ ends. ⊎_elim (λ stops. stops.is_end) (λ number. cc number.is) ends.stops) translates.passes)
 translates_blocks table (Err (Block error)) left still_left held now_held counts now_counts translates = translates
 translates_blocks table (Err (Read offset error)) left still_left held now_held counts now_counts translates = inr (inr translates)
+translates_blocks table (Err TooManyParts) left still_left held now_held counts now_counts translates = inr translates
 translates_blocks table (Err (Write error)) left still_left held now_held counts now_counts translates = tt
 
 -- ---- ends before the first record or block
@@ -81,6 +83,7 @@ at_write_error table (Header error) left still_left held now_held counts now_cou
 at_write_error table (RecordCutOff offset required len) left still_left held now_held counts now_counts failed = absurd failed
 at_write_error table (Block error) left still_left held now_held counts now_counts failed = absurd failed
 at_write_error table (Read offset error) left still_left held now_held counts now_counts failed = absurd failed
+at_write_error table TooManyParts left still_left held now_held counts now_counts failed = absurd failed
 at_write_error table (Write error) left still_left held now_held counts now_counts failed = tt
 
 -- writing the header failed
@@ -97,6 +100,7 @@ at_read_error table (Header error) left still_left held counts is = absurd is
 at_read_error table (RecordCutOff offset required len) left still_left held counts is = absurd is
 at_read_error table (Block error) left still_left held counts is = absurd is
 at_read_error table (Read offset error) left still_left held counts is = inl (is, (refl, refl))
+at_read_error table TooManyParts left still_left held counts is = absurd is
 at_read_error table (Write error) left still_left held counts is = absurd is
 
 -- reading the header failed
@@ -145,6 +149,7 @@ at_refusal table (RecordCutOff offset required its_len) left middle still_left h
 at_refusal table (Block error) left middle still_left held counts begin buffer len room consumed fills no_pcapng refused = absurd refused
 at_refusal table (Read offset error) left middle still_left held counts begin buffer len room consumed fills no_pcapng refused =
     inl (refused, (refl, refl))
+at_refusal table TooManyParts left middle still_left held counts begin buffer len room consumed fills no_pcapng refused = absurd refused
 at_refusal table (Write error) left middle still_left held counts begin buffer len room consumed fills no_pcapng refused = absurd refused
 
 -- the header of a classic capture is rejected, or could not be read

@@ -1,13 +1,13 @@
 -- What was read and written, part after part.
-use Rattle.std.proofs.Common.{◌≡◌, ◌≤◌, ◌<◌, ◌+◌, ◌++◌, ◌∙◌, ◌⊎◌, ℕ, List, Option, Result, None, Ok, Err, [], ◌∷◌, ap, arith, fold, inl, inr, length, length-append, length-take-le, append-nil, refl, subst, sym, take}
+use Rattle.std.proofs.Common.{◌≡◌, ◌≤◌, ◌<◌, ◌+◌, ◌++◌, ◌∙◌, ◌⊎◌, ℕ, List, Bool, Option, Result, true, false, Ok, Err, [], ◌∷◌, ap, arith, fold, inl, inr, length, length-append, length-take-le, append-nil, refl, subst, sym, take}
 use Rattle.std.proofs.KnownBytes.{Appends-nil, Appends-trans, Consumes-nil, Consumes-trans}
 use Rattle.std.proofs.lemmas.Grind.{flat_map-append, fold-append}
 use Rattle.std.specs.Io.KnownBytes.{Appends, Consumes}
 use Rattle.std.specs.Option.{option_to_list}
 use Rattle.translator.specs.Outcomes.{counted}
-use Rattle.translator.specs.Passing.{AreParts, Copies, CopiesUpTo, Format, IsReadError, IsWriteError, LeavesAt, Part, Passes, PassesNext, PassesTo, StopsBy, counted_if, outcomes_of, read_of, written_of}
+use Rattle.translator.specs.Passing.{AreParts, Copies, CopiesUpTo, EndsBy, Format, IsReadError, IsWriteError, LeavesAt, Part, Passes, PassesAny, PassesNext, PassesOne, PassesTo, StopsBy, StopsByNumber, counted_if, max_parts, outcomes_of, read_of, written_of}
 use Rattle.translator.specs.declared.capture_error.CaptureError.{CaptureError}
-use Rattle.translator.specs.declared.capture_error.CaptureError.TheVariants.{Block, Header, Read, RecordCutOff, Write}
+use Rattle.translator.specs.declared.capture_error.CaptureError.TheVariants.{Block, Header, Read, RecordCutOff, TooManyParts, Write}
 use Rattle.translator.specs.declared.counts.Counts.{Counts}
 
 -- ---- parts
@@ -22,28 +22,48 @@ passes_nothing format state left held counts = record {
   counted = refl;
 }
 
--- nothing was read into a buffer
-pub passes_no_bytes : (format : Format) (state : format.State) (left still_left held : Option (List ℕ)) (counts : Counts) (buffer : List ℕ) (len : ℕ)
-    → Consumes left still_left (take len buffer) → len ≡ 0 → Passes format state state left still_left held held counts counts
-passes_no_bytes format state left still_left held counts buffer len consumed none = record {
-  parts = [];
-  each = refl;
-  consumed = subst (λ n. Consumes left still_left (take n buffer)) none consumed;
-  appended = Appends-nil held;
-  counted = refl;
-}
-
 -- a part alone
 pub passes_part : (format : Format) (before after : format.State) (left still_left held now_held : Option (List ℕ)) (counts now_counts : Counts)
     (part : Part)
     → format.IsPart before part after → Consumes left still_left part.read → Appends held now_held part.written
-    → now_counts ≡ counted_if counts part.outcome → Passes format before after left still_left held now_held counts now_counts
+    → now_counts ≡ counted_if counts part.outcome → PassesOne format before after left still_left held now_held counts now_counts
 passes_part format before after left still_left held now_held counts now_counts part is consumed appended counts_are = record {
-  parts = part ∷ [];
-  each = (after, is, refl);
-  consumed = subst (Consumes left still_left) (sym (append-nil part.read)) consumed;
-  appended = subst (Appends held now_held) (sym (append-nil part.written)) appended;
-  counted = counts_are ∙ ap (fold counted counts) (sym (append-nil (option_to_list part.outcome)));
+  part = part;
+  is_part = is;
+  consumed = consumed;
+  appended = appended;
+  counted = counts_are;
+}
+
+-- one part is a list of parts
+pub passes_one : (format : Format) (before after : format.State) (left still_left held now_held : Option (List ℕ)) (counts now_counts : Counts)
+    → PassesOne format before after left still_left held now_held counts now_counts
+    → (passes : Passes format before after left still_left held now_held counts now_counts) × (length passes.parts ≡ 1)
+passes_one format before after left still_left held now_held counts now_counts one =
+    let part = one.part in (
+      record {
+        parts = part ∷ [];
+        each = (after, one.is_part, refl);
+        consumed = subst (Consumes left still_left) (sym (append-nil part.read)) one.consumed;
+        appended = subst (Appends held now_held) (sym (append-nil part.written)) one.appended;
+        counted = one.counted ∙ ap (fold counted counts) (sym (append-nil (option_to_list part.outcome)));
+      },
+      refl,
+    )
+
+-- one part or none is a list of parts
+pub passes_any : (format : Format) (is_any : Bool) (before after : format.State) (left still_left held now_held : Option (List ℕ))
+    (counts now_counts : Counts)
+    → PassesAny format (Ok is_any) before after left still_left held now_held counts now_counts
+    → Passes format before after left still_left held now_held counts now_counts
+passes_any format true before after left still_left held now_held counts now_counts one =
+    (passes_one format before after left still_left held now_held counts now_counts one).0
+passes_any format false before after left still_left held now_held counts now_counts (same_state, consumed, same_held, same_counts) = record {
+  parts = [];
+  each = same_state;
+  consumed = consumed;
+  appended = subst (λ given. Appends held given []) (sym same_held) (Appends-nil held);
+  counted = same_counts;
 }
 
 are_parts_append : (format : Format) (before between after : format.State) (parts others : List Part)
@@ -53,26 +73,73 @@ are_parts_append format before between after [] others first second =
 are_parts_append format before between after (part ∷ parts) others first second =
     (first.0, first.1, are_parts_append format first.0 between after parts others first.2 second)
 
+-- parts, and then others, with their number
+passes_both : (format : Format) (before between after : format.State) (left middle still_left held now_held then_held : Option (List ℕ))
+    (counts now_counts then_counts : Counts)
+    → (first : Passes format before between left middle held now_held counts now_counts)
+    → (second : Passes format between after middle still_left now_held then_held now_counts then_counts)
+    → (passes : Passes format before after left still_left held then_held counts then_counts)
+    × (length passes.parts ≡ length first.parts + length second.parts)
+passes_both format before between after left middle still_left held now_held then_held counts now_counts then_counts first second = (
+  record {
+    parts = first.parts ++ second.parts;
+    each = are_parts_append format before between after first.parts second.parts first.each second.each;
+    consumed = subst (Consumes left still_left) (sym (flat_map-append (λ part. part.read) first.parts second.parts))
+        (Consumes-trans left middle still_left (read_of first.parts) (read_of second.parts) first.consumed second.consumed);
+    appended = subst (Appends held then_held) (sym (flat_map-append (λ part. part.written) first.parts second.parts))
+        (Appends-trans held now_held then_held (written_of first.parts) (written_of second.parts) first.appended second.appended);
+    counted = second.counted
+        ∙ ap (λ before. fold counted before (outcomes_of second.parts)) first.counted
+        ∙ sym (fold-append counted counts (outcomes_of first.parts) (outcomes_of second.parts))
+        ∙ ap (fold counted counts) (sym (flat_map-append (λ part. option_to_list part.outcome) first.parts second.parts));
+  },
+  length-append first.parts second.parts,
+)
+
 -- parts, and then others
 pub passes_on : (format : Format) (before between after : format.State) (left middle still_left held now_held then_held : Option (List ℕ))
     (counts now_counts then_counts : Counts)
     → Passes format before between left middle held now_held counts now_counts
     → Passes format between after middle still_left now_held then_held now_counts then_counts
     → Passes format before after left still_left held then_held counts then_counts
-passes_on format before between after left middle still_left held now_held then_held counts now_counts then_counts first second = record {
-  parts = first.parts ++ second.parts;
-  each = are_parts_append format before between after first.parts second.parts first.each second.each;
-  consumed = subst (Consumes left still_left) (sym (flat_map-append (λ part. part.read) first.parts second.parts))
-      (Consumes-trans left middle still_left (read_of first.parts) (read_of second.parts) first.consumed second.consumed);
-  appended = subst (Appends held then_held) (sym (flat_map-append (λ part. part.written) first.parts second.parts))
-      (Appends-trans held now_held then_held (written_of first.parts) (written_of second.parts) first.appended second.appended);
-  counted = second.counted
-      ∙ ap (λ before. fold counted before (outcomes_of second.parts)) first.counted
-      ∙ sym (fold-append counted counts (outcomes_of first.parts) (outcomes_of second.parts))
-      ∙ ap (fold counted counts) (sym (flat_map-append (λ part. option_to_list part.outcome) first.parts second.parts));
-}
+passes_on format before between after left middle still_left held now_held then_held counts now_counts then_counts first second =
+    (passes_both format before between after left middle still_left held now_held then_held counts now_counts then_counts first second).0
+
+-- parts, and then one more
+pub passes_more : (format : Format) (is_any : Bool) (before between after : format.State) (left middle still_left held now_held then_held : Option (List ℕ))
+    (counts now_counts then_counts : Counts)
+    → (first : Passes format before between left middle held now_held counts now_counts)
+    → PassesAny format (Ok is_any) between after middle still_left now_held then_held now_counts then_counts → is_any ≡ true
+    → (passes : Passes format before after left still_left held then_held counts then_counts) × (length passes.parts ≡ length first.parts + 1)
+passes_more format false before between after left middle still_left held now_held then_held counts now_counts then_counts first none is = absurd (cc is)
+passes_more format true before between after left middle still_left held now_held then_held counts now_counts then_counts first one is =
+    let single = passes_one format between after middle still_left now_held then_held now_counts then_counts one in
+    let both = passes_both format before between after left middle still_left held now_held then_held counts now_counts then_counts first single.0 in
+    (both.0, omega (arith, both.1, single.1))
 
 -- ---- results
+
+-- at least as many parts
+more_parts : (error : CaptureError) (parts others : List Part) (left still_left held now_held : Option (List ℕ)) (counts now_counts : Counts)
+    → length parts ≤ length others → StopsByNumber error parts left still_left held now_held counts now_counts
+    → StopsByNumber error others left still_left held now_held counts now_counts
+more_parts error parts others left still_left held now_held counts now_counts more stops = record {
+  is = stops.is;
+  many = omega (arith, more, stops.many);
+  unread = stops.unread;
+  unwritten = stops.unwritten;
+  uncounted = stops.uncounted;
+}
+
+-- the end of parts, after parts before them
+stops_on : (format : Format) (error : CaptureError) (state : format.State) (left still_left held now_held : Option (List ℕ)) (counts now_counts : Counts)
+    (parts others : List Part)
+    → length parts ≤ length others
+    → (StopsBy format error state left still_left held now_held counts now_counts ⊎ StopsByNumber error parts left still_left held now_held counts now_counts)
+    → StopsBy format error state left still_left held now_held counts now_counts ⊎ StopsByNumber error others left still_left held now_held counts now_counts
+stops_on format error state left still_left held now_held counts now_counts parts others more (inl stops) = inl stops
+stops_on format error state left still_left held now_held counts now_counts parts others more (inr stops) =
+    inr (more_parts error parts others left still_left held now_held counts now_counts more stops)
 
 -- parts, and then others up to a result
 pub passes_to_on : {A : Type 0} → (format : Format) (result : Result A CaptureError) (before between after : format.State)
@@ -85,14 +152,29 @@ passes_to_on format (Ok given) before between after left middle still_left held 
 passes_to_on format (Err error) before between after left middle still_left held now_held then_held counts now_counts then_counts first (inl failed) =
     inl failed
 passes_to_on format (Err error) before between after left middle still_left held now_held then_held counts now_counts then_counts first (inr ends) =
+    let both = passes_both _ _ _ _ _ _ _ _ _ _ _ _ _ first ends.passes in
     inr (record {
       after = ends.after;
       middle = ends.middle;
       then_held = ends.then_held;
       then_counts = ends.then_counts;
-      passes = passes_on _ _ _ _ _ _ _ _ _ _ _ _ _ first ends.passes;
-      stops = ends.stops;
+      passes = both.0;
+      stops = stops_on format error ends.after ends.middle still_left ends.then_held then_held ends.then_counts then_counts ends.passes.parts both.0.parts
+          (omega (arith, both.1)) ends.stops;
     })
+
+-- parts, and then the end by their number
+pub ends_by_number : (format : Format) (before after : format.State) (left still_left held now_held : Option (List ℕ)) (counts now_counts : Counts)
+    → (passes : Passes format before after left still_left held now_held counts now_counts) → max_parts ≤ length passes.parts
+    → EndsBy format TooManyParts before left still_left held now_held counts now_counts
+ends_by_number format before after left still_left held now_held counts now_counts passes many = record {
+  after = after;
+  middle = still_left;
+  then_held = now_held;
+  then_counts = now_counts;
+  passes = passes;
+  stops = inr (record { is = refl; many = many; unread = refl; unwritten = refl; uncounted = refl });
+}
 
 -- the end of the next part, as the end of a result with this error
 pub next_to_end : {A : Type 0} → (format : Format) (result : Result A CaptureError) (error : CaptureError) (before after : format.State)
@@ -101,6 +183,14 @@ pub next_to_end : {A : Type 0} → (format : Format) (result : Result A CaptureE
     → PassesNext format result before after left still_left held now_held counts now_counts
 next_to_end format result error before after left still_left held now_held counts now_counts ends fails =
     subst (λ given. PassesNext format given before after left still_left held now_held counts now_counts) (sym fails) ends
+
+-- the same of a call that returns whether there is a next part
+pub any_to_end : (format : Format) (result : Result Bool CaptureError) (error : CaptureError) (before after : format.State)
+    (left still_left held now_held : Option (List ℕ)) (counts now_counts : Counts)
+    → (IsWriteError error ⊎ StopsBy format error before left still_left held now_held counts now_counts) → result ≡ Err error
+    → PassesAny format result before after left still_left held now_held counts now_counts
+any_to_end format result error before after left still_left held now_held counts now_counts ends fails =
+    subst (λ given. PassesAny format given before after left still_left held now_held counts now_counts) (sym fails) ends
 
 -- parts were passed, and then an error came within the next part
 pub passes_on_to_error : {A : Type 0} → (format : Format) (result : Result A CaptureError) (error : CaptureError) (before between after : format.State)
@@ -112,7 +202,7 @@ passes_on_to_error format result error before between after left middle still_le
     subst (λ given. PassesTo format given before after left still_left held then_held counts then_counts) (sym fails) (inl failed)
 passes_on_to_error format result error before between after left middle still_left held now_held then_held counts now_counts then_counts first (inr stops) fails =
     subst (λ given. PassesTo format given before after left still_left held then_held counts then_counts) (sym fails)
-    (inr (record { after = between; middle = middle; then_held = now_held; then_counts = now_counts; passes = first; stops = stops }))
+    (inr (record { after = between; middle = middle; then_held = now_held; then_counts = now_counts; passes = first; stops = inl stops }))
 
 -- no part was passed before an error within the first part
 pub passes_to_first_error : {A : Type 0} → (format : Format) (result : Result A CaptureError) (error : CaptureError) (before after : format.State)
@@ -136,6 +226,7 @@ leaves_at_read place (Header error) then_left still_left is = absurd is
 leaves_at_read place (RecordCutOff offset required len) then_left still_left is = absurd is
 leaves_at_read place (Block error) then_left still_left is = absurd is
 leaves_at_read place (Read offset error) then_left still_left is = tt
+leaves_at_read place TooManyParts then_left still_left is = absurd is
 leaves_at_read place (Write error) then_left still_left is = absurd is
 
 -- reading failed, after these bytes of a part were written
@@ -153,24 +244,6 @@ next_to_read_error format result error before after left then_left still_left he
       appended = appended;
       counted = counts_are;
       leaves = leaves_at_read place error then_left still_left is;
-    })) fails
-
--- the most parts were passed, which is an error of reading
-pub passes_to_most : {A : Type 0} → (format : Format) (result : Result A CaptureError) (error : CaptureError) (before between after : format.State)
-    (left still_left held now_held : Option (List ℕ)) (counts now_counts : Counts) (place : ℕ)
-    → Passes format before between left still_left held now_held counts now_counts → IsReadError place error
-    → format.IsEnd between (record { read = []; written = []; outcome = None }) error → result ≡ Err error
-    → PassesTo format result before after left still_left held now_held counts now_counts
-passes_to_most format result error before between after left still_left held now_held counts now_counts place passes is end fails =
-    passes_on_to_error format result error before between after left still_left still_left held now_held now_held counts now_counts now_counts passes
-    (inr (record {
-      then_left = still_left;
-      front = record { read = []; written = []; outcome = None };
-      is_end = end;
-      consumed = Consumes-nil still_left;
-      appended = Appends-nil now_held;
-      counted = refl;
-      leaves = leaves_at_read place error still_left still_left is;
     })) fails
 
 -- ---- copies

@@ -1,5 +1,5 @@
 -- The records of a classic capture as parts.
-use Rattle.std.proofs.Common.{◌≡◌, ◌≤◌, ◌<◌, ◌+◌, ◌++◌, ◌∙◌, ◌⊎◌, ℕ, Bool, List, Option, Result, Some, None, Err, [], ap, arith, inl, inr, length, length-append, length-take-le, refl, subst, sym, take}
+use Rattle.std.proofs.Common.{◌≡◌, ◌≤◌, ◌<◌, ◌+◌, ◌++◌, ◌∙◌, ◌⊎◌, ℕ, Bool, List, Option, Result, Some, None, Err, ap, arith, inl, inr, length, length-append, length-take-le, refl, subst, sym, take}
 use Rattle.std.proofs.KnownBytes.{Appends-trans, Consumes-trans}
 use Rattle.std.proofs.lemmas.Bool.Decides.{nat_tests}
 use Rattle.std.proofs.lemmas.List.{drop_at, take_at}
@@ -17,7 +17,7 @@ use Rattle.translator.specs.Packets.{TranslatesCaptured}
 use Rattle.translator.specs.Passing.{CopiesFront, IsReadError, IsWriteError, Part, PassesNext, StopsBy}
 use Rattle.translator.specs.Records.{IsCutRecord, IsRecordEnd, IsRecordFront, IsRecordPart, passed, records_after, records_of}
 use Rattle.translator.specs.declared.capture_error.CaptureError.{CaptureError}
-use Rattle.translator.specs.declared.capture_error.CaptureError.TheVariants.{Block, Header, Read, RecordCutOff, Write}
+use Rattle.translator.specs.declared.capture_error.CaptureError.TheVariants.{Block, Header, Read, RecordCutOff, TooManyParts, Write}
 use Rattle.translator.specs.declared.counts.Counts.{Counts}
 use Rattle.translator.specs.declared.reason.Reason.{Reason}
 use Rattle.translator.specs.declared.reason.Reason.TheVariants.{TooLong}
@@ -132,11 +132,8 @@ read_end records part (Header error) is front = absurd is
 read_end records part (RecordCutOff offset required len) is front = absurd is
 read_end records part (Block error) is front = absurd is
 read_end records part (Read offset error) is front = (is, front)
+read_end records part TooManyParts is front = absurd is
 read_end records part (Write error) is front = absurd is
-
--- no bytes of a record, at a read error
-pub no_record : (records : ClassicReader) (error : CaptureError) → IsReadError records.offset error → IsRecordEnd records (copied []) error
-no_record records error is = read_end records (copied []) error is ((refl, refl), inl (omega arith))
 
 -- reading failed, after these bytes of a record were copied
 pub next_front : {A : Type 0} → (table : Table) (result : Result A CaptureError) (error : CaptureError) (records after : ClassicReader)

@@ -129,6 +129,7 @@ IsBlockEnd table blocks part (capture_errors.Block placed) =
 IsBlockEnd table blocks part (capture_errors.Read offset error) = (offset ≡ blocks.offset) × IsBlockFront table blocks.section part
 IsBlockEnd table blocks part (capture_errors.Header error) = ⊥
 IsBlockEnd table blocks part (capture_errors.RecordCutOff offset required len) = ⊥
+IsBlockEnd table blocks part capture_errors.TooManyParts = ⊥
 IsBlockEnd table blocks part (capture_errors.Write error) = ⊥
 
 -- ---- files
@@ -169,6 +170,7 @@ IsRestEnd total_len place len (capture_errors.Block placed) =
     capture_errors.Block placed ≡ cut_at place total_len (max_packet_len + len)
 IsRestEnd total_len place len (capture_errors.Header error) = ⊥
 IsRestEnd total_len place len (capture_errors.RecordCutOff offset required other) = ⊥
+IsRestEnd total_len place len capture_errors.TooManyParts = ⊥
 IsRestEnd total_len place len (capture_errors.Write error) = ⊥
 
 -- the first bytes of the rest were copied, up to an error

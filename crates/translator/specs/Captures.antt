@@ -13,7 +13,7 @@ use Rattle.translator.specs.Passing.{PassesTo}
 use Rattle.translator.specs.Records.{records_of}
 use Rattle.translator.specs.declared.blocks.Blocks.{Blocks}
 use Rattle.translator.specs.declared.capture_error.CaptureError.{CaptureError}
-use Rattle.translator.specs.declared.capture_error.CaptureError.TheVariants.{Block, Header, Read, RecordCutOff, Write}
+use Rattle.translator.specs.declared.capture_error.CaptureError.TheVariants.{Block, Header, Read, RecordCutOff, TooManyParts, Write}
 use Rattle.translator.specs.declared.counts.Counts.{Counts}
 use Rattle.translator.specs.declared.table.Table.{Table}
 
@@ -72,6 +72,8 @@ TranslatesCapture table (Err (RecordCutOff offset required_len len)) left still_
     TranslatesRecords table (Err (RecordCutOff offset required_len len)) left still_left held now_held counts now_counts
 TranslatesCapture table (Err (Block error)) left still_left held now_held counts now_counts =
     TranslatesBlocks table (Err (Block error)) left still_left held now_held counts now_counts
+TranslatesCapture table (Err TooManyParts) left still_left held now_held counts now_counts =
+    TranslatesEither table (Err TooManyParts) left still_left held now_held counts now_counts
 TranslatesCapture table (Err (Write error)) left still_left held now_held counts now_counts = ⊤
 
 -- this error rejects the first bytes of a capture; if reading failed, it states nothing
@@ -80,4 +82,5 @@ RefusesBytes bytes (Header error) = header_refusal bytes ≡ Some error
 RefusesBytes bytes (Read offset error) = offset ≡ 0
 RefusesBytes bytes (RecordCutOff offset required_len len) = ⊥
 RefusesBytes bytes (Block error) = ⊥
+RefusesBytes bytes TooManyParts = ⊥
 RefusesBytes bytes (Write error) = ⊥

@@ -5,7 +5,7 @@ use Rattle.capture_file.specs.declared.classic.capture_header_error.CaptureHeade
 use Rattle.capture_file.specs.declared.reader.packet_error.PacketError.{PacketError}
 use Rattle.capture_file.specs.declared.reader.packet_error.PacketError.TheVariants as packet_errors
 use Rattle.translator.specs.declared.capture_error.CaptureError.{CaptureError}
-use Rattle.translator.specs.declared.capture_error.CaptureError.TheVariants.{Block, Header, Read, RecordCutOff, Write}
+use Rattle.translator.specs.declared.capture_error.CaptureError.TheVariants.{Block, Header, Read, RecordCutOff, TooManyParts, Write}
 use Rattle.translator.specs.declared.counts.Counts.{Counts}
 use Rattle.translator.specs.declared.reason.Reason.{Reason}
 use Rattle.translator.specs.declared.reason.Reason.TheVariants as reasons
@@ -104,4 +104,5 @@ status (Header error) = header_status error
 status (RecordCutOff offset required_len len) = 1
 status (Block placed) = block_status placed.offset placed.error
 status (Read offset error) = 3
+status TooManyParts = 1
 status (Write error) = 3

@@ -10,7 +10,7 @@ use Rattle.streams.specs.Streams.{AppendsBeginning}
 use Rattle.translator.specs.Captures.{TranslatesCapture}
 use Rattle.translator.specs.Outcomes.{counts_text, status}
 use Rattle.translator.specs.declared.capture_error.CaptureError.{CaptureError}
-use Rattle.translator.specs.declared.capture_error.CaptureError.TheVariants.{Block, Header, Read, RecordCutOff, Write}
+use Rattle.translator.specs.declared.capture_error.CaptureError.TheVariants.{Block, Header, Read, RecordCutOff, TooManyParts, Write}
 use Rattle.translator.specs.declared.counts.Counts.{Counts}
 use Rattle.translator.specs.declared.table.Table.{Table}
 
@@ -37,6 +37,7 @@ ended_status (Err (Header error)) = Ok (status (Header error))
 ended_status (Err (RecordCutOff offset required_len len)) = Ok (status (RecordCutOff offset required_len len))
 ended_status (Err (Block error)) = Ok (status (Block error))
 ended_status (Err (Read offset error)) = Ok (status (Read offset error))
+ended_status (Err TooManyParts) = Ok (status TooManyParts)
 
 -- if writing the capture failed, the run ends with the error of that write
 abbrev pub FailsFirst : {T : Type 0} → Result (Unit {0}) CaptureError → Result T Error → Type 0
@@ -64,6 +65,7 @@ IsEndLine (Err (Header error)) line = IsErrorLine line
 IsEndLine (Err (RecordCutOff offset required_len len)) line = IsErrorLine line
 IsEndLine (Err (Block error)) line = IsErrorLine line
 IsEndLine (Err (Read offset error)) line = IsErrorLine line
+IsEndLine (Err TooManyParts) line = IsErrorLine line
 
 -- the counts, which are left out if writing or flushing the output failed
 abbrev pub counts_after : Result ℕ Error → Result (Unit {0}) Error → Counts → List ℕ

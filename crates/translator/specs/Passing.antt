@@ -1,5 +1,5 @@
 -- What the program writes for the bytes that it reads, part after part: a part is a record of a classic capture, or a block of a pcapng file.
-use Rattle.std.specs.Prelude.{◌≡◌, ◌<◌, ◌⊎◌, ℕ, Bool, List, [], ◌∷◌, flat_map, fold, length, ⊤, Option, Result, Ok, Err}
+use Rattle.std.specs.Prelude.{◌≡◌, ◌<◌, ◌≤◌, ◌⊎◌, ℕ, Bool, true, false, List, [], ◌∷◌, flat_map, fold, length, ⊤, Option, Result, Ok, Err}
 use Rattle.std.specs.Io.KnownBytes.{Appends, Consumes, IsAtEnd}
 use Rattle.std.specs.Option.{option_to_list}
 use Rattle.capture_file.specs.declared.pcapng.errors.BlockError.TheVariants as block_errors
@@ -7,7 +7,7 @@ use Rattle.capture_file.specs.declared.reader.packet_error.PacketError.{PacketEr
 use Rattle.capture_file.specs.declared.reader.packet_error.PacketError.TheVariants as errors
 use Rattle.translator.specs.Outcomes.{counted}
 use Rattle.translator.specs.declared.capture_error.CaptureError.{CaptureError}
-use Rattle.translator.specs.declared.capture_error.CaptureError.TheVariants.{Block, Header, Read, RecordCutOff, Write}
+use Rattle.translator.specs.declared.capture_error.CaptureError.TheVariants.{Block, Header, Read, RecordCutOff, TooManyParts, Write}
 use Rattle.translator.specs.declared.counts.Counts.{Counts}
 use Rattle.translator.specs.declared.reason.Reason.{Reason}
 
@@ -61,6 +61,15 @@ pub record Passes (format : Format) (before after : format.State) (left still_le
   pub appended : Appends held now_held (written_of parts)
   pub counted : now_counts ≡ fold counted counts (outcomes_of parts)
 
+-- exactly one part was read and written, and its outcome was counted
+pub record PassesOne (format : Format) (before after : format.State) (left still_left held now_held : Option (List ℕ)) (counts now_counts : Counts)
+    : Type 0 where
+  pub part : Part
+  pub is_part : format.IsPart before part after
+  pub consumed : Consumes left still_left part.read
+  pub appended : Appends held now_held part.written
+  pub counted : now_counts ≡ counted_if counts part.outcome
+
 -- ---- errors
 
 -- reading failed in the record or block at this place
@@ -69,6 +78,7 @@ IsReadError place (Header error) = ⊥
 IsReadError place (RecordCutOff offset required_len len) = ⊥
 IsReadError place (Block error) = ⊥
 IsReadError place (Read offset error) = offset ≡ place
+IsReadError place TooManyParts = ⊥
 IsReadError place (Write error) = ⊥
 
 -- writing failed
@@ -77,6 +87,7 @@ IsWriteError (Header error) = ⊥
 IsWriteError (RecordCutOff offset required_len len) = ⊥
 IsWriteError (Block error) = ⊥
 IsWriteError (Read offset error) = ⊥
+IsWriteError TooManyParts = ⊥
 IsWriteError (Write error) = ⊤
 
 -- if the error is a block that is cut off, the statement holds
@@ -91,6 +102,7 @@ LeavesAt (Header error) then_left still_left = ⊤
 LeavesAt (RecordCutOff offset required_len len) then_left still_left = (then_left ≡ still_left) × IsAtEnd still_left
 LeavesAt (Block placed) then_left still_left = (then_left ≡ still_left) × IfBlockCutOff placed.error (IsAtEnd still_left)
 LeavesAt (Read offset error) then_left still_left = ⊤
+LeavesAt TooManyParts then_left still_left = ⊤
 LeavesAt (Write error) then_left still_left = ⊤
 
 -- the first bytes of a part were read and written up to an error; a packet in them was counted
@@ -104,7 +116,20 @@ pub record StopsBy (format : Format) (error : CaptureError) (state : format.Stat
   pub counted : now_counts ≡ counted_if counts front.outcome
   pub leaves : LeavesAt error then_left still_left
 
--- parts were passed, and then the first bytes of another part up to an error
+-- the number of records or blocks after which no more are read: 2^64 - 1
+abbrev pub max_parts : ℕ
+max_parts = 18446744073709551615
+
+-- the number of these parts reached the limit, and nothing was read, written or counted after them
+pub record StopsByNumber (error : CaptureError) (parts : List Part) (left still_left held now_held : Option (List ℕ)) (counts now_counts : Counts)
+    : Type 0 where
+  pub is : error ≡ TooManyParts
+  pub many : max_parts ≤ length parts
+  pub unread : still_left ≡ left
+  pub unwritten : now_held ≡ held
+  pub uncounted : now_counts ≡ counts
+
+-- parts were passed, and then the first bytes of another part up to an error, unless the number of parts reached the limit
 pub record EndsBy (format : Format) (error : CaptureError) (before : format.State) (left still_left held now_held : Option (List ℕ))
     (counts now_counts : Counts) : Type 0 where
   pub after : format.State
@@ -113,6 +138,7 @@ pub record EndsBy (format : Format) (error : CaptureError) (before : format.Stat
   pub then_counts : Counts
   pub passes : Passes format before after left middle held then_held counts then_counts
   pub stops : StopsBy format error after middle still_left then_held now_held then_counts now_counts
+      ⊎ StopsByNumber error passes.parts middle still_left then_held now_held then_counts now_counts
 
 -- what was passed up to a result; after a write that failed nothing is known
 abbrev pub PassesTo : {A : Type 0} → (format : Format) → Result A CaptureError → format.State → format.State → Option (List ℕ) → Option (List ℕ)
@@ -122,12 +148,22 @@ PassesTo format (Ok given) before after left still_left held now_held counts now
 PassesTo format (Err error) before after left still_left held now_held counts now_counts =
     IsWriteError error ⊎ EndsBy format error before left still_left held now_held counts now_counts
 
--- the same of the next part, if there is one: after an error no part was passed
+-- what a call passed that passes one part; after an error no part was passed
 abbrev pub PassesNext : {A : Type 0} → (format : Format) → Result A CaptureError → format.State → format.State → Option (List ℕ) → Option (List ℕ)
     → Option (List ℕ) → Option (List ℕ) → Counts → Counts → Type 0
 PassesNext format (Ok given) before after left still_left held now_held counts now_counts =
-    Passes format before after left still_left held now_held counts now_counts
+    PassesOne format before after left still_left held now_held counts now_counts
 PassesNext format (Err error) before after left still_left held now_held counts now_counts =
+    IsWriteError error ⊎ StopsBy format error before left still_left held now_held counts now_counts
+
+-- the same for a call that returns whether there is a next part; if there is none, nothing was read, written or counted
+abbrev pub PassesAny : (format : Format) → Result Bool CaptureError → format.State → format.State → Option (List ℕ) → Option (List ℕ)
+    → Option (List ℕ) → Option (List ℕ) → Counts → Counts → Type 0
+PassesAny format (Ok true) before after left still_left held now_held counts now_counts =
+    PassesOne format before after left still_left held now_held counts now_counts
+PassesAny format (Ok false) before after left still_left held now_held counts now_counts =
+    (after ≡ before) × Consumes left still_left [] × (now_held ≡ held) × (now_counts ≡ counts)
+PassesAny format (Err error) before after left still_left held now_held counts now_counts =
     IsWriteError error ⊎ StopsBy format error before left still_left held now_held counts now_counts
 
 -- ---- bytes that are copied by pieces

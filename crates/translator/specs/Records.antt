@@ -11,7 +11,7 @@ use Rattle.capture_packet.specs.Frames.{max_packet_len}
 use Rattle.translator.specs.Packets.{TranslatesCaptured}
 use Rattle.translator.specs.Passing.{Format, IsUnchanged, Part}
 use Rattle.translator.specs.declared.capture_error.CaptureError.{CaptureError}
-use Rattle.translator.specs.declared.capture_error.CaptureError.TheVariants.{Block, Header, Read, RecordCutOff, Write}
+use Rattle.translator.specs.declared.capture_error.CaptureError.TheVariants.{Block, Header, Read, RecordCutOff, TooManyParts, Write}
 use Rattle.translator.specs.declared.reason.Reason.{Reason}
 use Rattle.translator.specs.declared.reason.Reason.TheVariants.{TooLong}
 use Rattle.translator.specs.declared.table.Table.{Table}
@@ -66,6 +66,7 @@ IsRecordEnd records part (RecordCutOff offset required len) = (offset ≡ record
 IsRecordEnd records part (Read offset error) = (offset ≡ records.offset) × IsRecordFront records.header part
 IsRecordEnd records part (Header error) = ⊥
 IsRecordEnd records part (Block error) = ⊥
+IsRecordEnd records part TooManyParts = ⊥
 IsRecordEnd records part (Write error) = ⊥
 
 -- classic captures, whose packets are translated by this table

@@ -7,7 +7,7 @@ ghost use Rattle.capture_file.specs.Pcapng.{block_refusal};
 ghost use Rattle.capture_file.specs.PcapngReading.{AreFirst, BeginsBlock};
 ghost use Rattle.capture_packet.specs.Frames.{max_packet_len};
 ghost use Rattle.translator.specs.Blocks.{CopiesRest, IsFileStart, TranslatesKept, TranslatesWhere, blocks_of, cut_at};
-ghost use Rattle.translator.specs.Passing.{PassesNext, PassesTo};
+ghost use Rattle.translator.specs.Passing.{PassesAny, PassesNext, PassesTo};
 ghost use Rattle.translator.specs.declared.capture_error.CaptureError.TheVariants.{Block as BlockRefused};
 
 use crate::capture_error::CaptureError;
@@ -20,8 +20,7 @@ use capture_file::ByteOrder;
 use capture_file::pcapng::{Block, BlockError, BlockHeader, BodyError, MIN_BLOCK_LEN};
 use capture_file::reader::{CapturedPacket, PacketError, PlacedPacketError, Section};
 use capture_packet::MAX_PACKET_LEN;
-use std::io;
-use std::io::{ErrorKind, Read, Write};
+use std::io::{Read, Write};
 
 /// A pcapng file after some of its blocks.
 #[derive(Drop)]
@@ -44,7 +43,7 @@ impl Blocks {
     }
 }
 
-/// Translates the packets of a pcapng file that begins with these bytes.
+/// Translates the packets of a pcapng file that begins with these bytes. `TooManyParts` is returned only after 2^64 - 1 blocks.
 pub(crate) fn translate_blocks<R: Read, W: Write>(
     input: &mut R,
     output: &mut W,
@@ -64,7 +63,7 @@ pub(crate) fn translate_blocks<R: Read, W: Write>(
     translate_others(input, output, buffer, file, table, counts)
 }
 
-/// Translates the blocks of a pcapng file after its first block.
+/// Translates the blocks of a pcapng file after its first block. `TooManyParts` is returned only after 2^64 - 1 blocks.
 fn translate_others<R: Read, W: Write>(
     input: &mut R,
     output: &mut W,
@@ -83,11 +82,7 @@ fn translate_others<R: Read, W: Write>(
             return Ok(());
         }
     }
-    let error = io::Error::from(ErrorKind::FileTooLarge);
-    Err(CaptureError::Read {
-        offset: file.offset,
-        error,
-    })
+    Err(CaptureError::TooManyParts)
 }
 
 /// Translates the next block. Returns whether there is a block.
@@ -99,7 +94,7 @@ fn translate_next<R: Read, W: Write>(
     table: &Table,
     counts: &mut Counts,
 ) -> Result<bool, CaptureError>
-    ensures passes { PassesNext (blocks_of table.now) result file.old file.new (R.remaining input.old) (R.remaining input.new)
+    ensures passes { PassesAny (blocks_of table.now) result file.old file.new (R.remaining input.old) (R.remaining input.new)
         (W.contents output.old) (W.contents output.new) counts.old counts.new }
     ensures ends { result ≡ Ok false → IsAtEnd (R.remaining input.new) }
 {

@@ -33,6 +33,9 @@ pub enum CaptureError {
         /// The error of the system.
         error: io::Error,
     },
+    /// The limit of 2^64 - 1 records or blocks is reached.
+    #[error("No more records or blocks can be read.")]
+    TooManyParts,
     /// Writing failed.
     #[error("Writing failed: {0}.")]
     Write(io::Error),
@@ -54,8 +57,10 @@ impl CaptureError {
                     error: PacketError::Block(_),
                 },
             ) => 2,
-            CaptureError::Header(_) | CaptureError::RecordCutOff { .. } | CaptureError::Block(_) =>
-                1,
+            CaptureError::Header(_)
+            | CaptureError::RecordCutOff { .. }
+            | CaptureError::Block(_)
+            | CaptureError::TooManyParts => 1,
             CaptureError::Read { .. } | CaptureError::Write(_) => 3,
         }
     }

@@ -5,7 +5,7 @@ ghost use Rattle.std.specs.Io.KnownBytes.{Appends, Consumes, IsAtEnd};
 ghost use Rattle.capture_file.specs.Classic.{record_header};
 ghost use Rattle.capture_packet.specs.Frames.{max_packet_len};
 ghost use Rattle.translator.specs.declared.capture_error.CaptureError.TheVariants.{RecordCutOff};
-ghost use Rattle.translator.specs.Passing.{PassesNext, PassesTo};
+ghost use Rattle.translator.specs.Passing.{PassesAny, PassesNext, PassesTo};
 ghost use Rattle.translator.specs.Records.{passed, records_of};
 
 use crate::capture_error::CaptureError;
@@ -17,10 +17,9 @@ use crate::transfer::{Buffer, copy, read_into, write};
 use capture_file::classic::RecordHeader;
 use capture_file::reader::ClassicReader;
 use capture_packet::MAX_PACKET_LEN;
-use std::io;
-use std::io::{ErrorKind, Read, Write};
+use std::io::{Read, Write};
 
-/// Translates the records after the header of a classic capture.
+/// Translates the records after the header of a classic capture. `TooManyParts` is returned only after 2^64 - 1 records.
 pub(crate) fn translate_records<R: Read, W: Write>(
     input: &mut R,
     output: &mut W,
@@ -39,11 +38,7 @@ pub(crate) fn translate_records<R: Read, W: Write>(
             return Ok(());
         }
     }
-    let error = io::Error::from(ErrorKind::FileTooLarge);
-    Err(CaptureError::Read {
-        offset: records.offset,
-        error,
-    })
+    Err(CaptureError::TooManyParts)
 }
 
 /// Translates the next record. Returns whether there is a record.
@@ -55,7 +50,7 @@ fn translate_record<R: Read, W: Write>(
     table: &Table,
     counts: &mut Counts,
 ) -> Result<bool, CaptureError>
-    ensures passes { PassesNext (records_of table.now) result records.old records.new (R.remaining input.old) (R.remaining input.new)
+    ensures passes { PassesAny (records_of table.now) result records.old records.new (R.remaining input.old) (R.remaining input.new)
         (W.contents output.old) (W.contents output.new) counts.old counts.new }
     ensures ends { result ≡ Ok false → IsAtEnd (R.remaining input.new) }
 {

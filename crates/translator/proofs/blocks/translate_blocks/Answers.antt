@@ -1,5 +1,5 @@
 use Rattle.std.proofs.Common.{rules}
-use Rattle.translator.proofs.PassingLemmas.{passes_to_first_error, passes_to_on}
+use Rattle.translator.proofs.PassingLemmas.{passes_one, passes_to_first_error, passes_to_on}
 use Rattle.translator.proofs.blocks.translate_blocks.Goals as goal
 
 pub returns-in_err-translate_block-clause-passes : goal.returns-in_err-translate_block-clause-passes
@@ -8,5 +8,5 @@ returns-in_err-translate_block-clause-passes g c =
 
 pub returns-clause-passes : goal.returns-clause-passes
 returns-clause-passes g c =
-    λ left consumed. passes_to_on _ c.translate_others.result _ _ _ left _ _ _ _ _ _ _ _ (c.in_ok-translate_block.ensures.passes left consumed)
-    c.translate_others.ensures.passes
+    λ left consumed. passes_to_on _ c.translate_others.result _ _ _ left _ _ _ _ _ _ _ _
+    (passes_one _ _ _ _ _ _ _ _ _ (c.in_ok-translate_block.ensures.passes left consumed)).0 c.translate_others.ensures.passes

@@ -1,9 +1,11 @@
+use Rattle.std.proofs.Common.{◌≤◌, length}
 use Rattle.translator.specs.Blocks.{blocks_of}
 use Rattle.translator.specs.Passing.{Passes}
 use Rattle.translator.proofs.blocks.translate_others.Given as goal
 
--- the blocks read so far were passed
+-- the blocks read so far were passed, and each iteration passed a block
 abbrev pub invariant-loop-block : goal.invariant-loop-block
 invariant-loop-block g l =
-    Passes (blocks_of l.table) l.initial.file l.file (g.R.Read.remaining l.initial.input) (g.R.Read.remaining l.input)
-    (g.W.Write.contents l.initial.output) (g.W.Write.contents l.output) l.initial.counts l.counts
+    (passes : Passes (blocks_of l.table) l.initial.file l.file (g.R.Read.remaining l.initial.input) (g.R.Read.remaining l.input)
+    (g.W.Write.contents l.initial.output) (g.W.Write.contents l.output) l.initial.counts l.counts)
+    × (l._block ≤ length passes.parts)

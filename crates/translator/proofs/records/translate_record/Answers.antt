@@ -1,11 +1,25 @@
-use Rattle.std.proofs.Common.{[], arith, inl, rules, take}
+use Rattle.std.proofs.Common.{[], Err, arith, inl, refl, rules, subst, take}
 use Rattle.std.proofs.KnownBytes.{Appends-nil, Consumes-nil}
+use Rattle.std.specs.Io.KnownBytes.{Consumes}
+use Rattle.translator.proofs.PassingLemmas.{any_to_end}
 use Rattle.translator.proofs.RecordLemmas.{cut_header, ends_cut, next_front}
 use Rattle.translator.proofs.records.translate_record.Goals as goal
 
 pub returns-in_err-len-clause-passes : goal.returns-in_err-len-clause-passes
 returns-in_err-len-clause-passes g c =
-    next_front _ _ _ _ _ _ _ _ _ _ _ [] c.in_err-len.ensures.failed (Consumes-nil _) (Appends-nil _) (inl (omega arith)) (search rules)
+    let error = c.in_err-len.field-0.0 in
+    any_to_end _ _ error _ _ _ _ _ _ _ _
+    (next_front {A = Unit {0}} c.args.table.now (Err error) error c.args.records.now c.args.records.now _ _ _ _ _ _ [] c.in_err-len.ensures.failed
+    (Consumes-nil _) (Appends-nil _) (inl (omega arith)) refl) (search rules)
+
+pub returns-then-len-eq0-clause-passes : goal.returns-then-len-eq0-clause-passes
+returns-then-len-eq0-clause-passes g c = (
+  refl,
+  subst (λ n. Consumes (g.R.Read.remaining c.args.input.now) (g.R.Read.remaining c.read_into.new.input) (take n c.read_into.new.buffer)) c.if-len-eq0.true
+      c.in_ok-len.ensures.consumed,
+  refl,
+  refl,
+)
 
 pub returns-then-len-lt-LEN-clause-passes : goal.returns-then-len-lt-LEN-clause-passes
 returns-then-len-lt-LEN-clause-passes g c =
