@@ -3,10 +3,10 @@ use Rattle.std.proofs.Common.{◌≡◌, ◌≢◌, ◌≤◌, ◌<◌, ◌+◌,
 use Rattle.std.proofs.KnownBytes.{Appends-trans, Consumes-trans, Appends-nil, Consumes-nil}
 use Rattle.std.proofs.lemmas.Bool.{cases_lt}
 use Rattle.std.proofs.lemmas.Bool.Decides.{nat_tests}
-use Rattle.std.proofs.lemmas.List.{drop-append-le, nil_from_length, take-append-le, take_at}
+use Rattle.std.proofs.lemmas.List.{drop-append-le, take-append-le, take_at}
 use Rattle.std.specs.Io.KnownBytes.{Appends, Consumes, IsAtEnd}
 use Rattle.capture_file.proofs.PcapngLemmas.{block_header_front, block_len_front, is_short_section_front, lacks_magic_front}
-use Rattle.capture_file.proofs.PcapngReadingLemmas.{cut_off_after, cut_off_short, whole_block}
+use Rattle.capture_file.proofs.PcapngReadingLemmas.{cut_off_after, cut_off_short, differs_after, passed_over, whole_block}
 use Rattle.capture_file.proofs.RecordLemmas.{be_number_front}
 use Rattle.capture_file.specs.Pcapng.{IsBlock, block_header, block_header_refusal, block_len, block_refusal}
 use Rattle.capture_file.specs.PcapngReading.{AreFirst, IsNextBlock, ReadsAfter}
@@ -20,18 +20,18 @@ use Rattle.capture_file.specs.declared.pcapng.errors.BlockError.{BlockError}
 use Rattle.capture_file.specs.declared.pcapng.errors.BlockError.TheVariants.{CutOff, LastLength, Magic, SectionLength, TotalLength}
 use Rattle.capture_file.specs.declared.pcapng.errors.BodyError.{BodyError}
 use Rattle.capture_file.specs.declared.pcapng.read.NextBlock.{NextBlock}
-use Rattle.capture_file.specs.declared.pcapng.read.NextBlock.TheVariants.{Refused}
+use Rattle.capture_file.specs.declared.pcapng.read.NextBlock.TheVariants.{Refused, TooLong}
 use Rattle.capture_file.specs.declared.reader.captured_packet.CapturedPacket.{CapturedPacket}
 use Rattle.capture_file.specs.declared.reader.packet_error.PacketError.{PacketError}
 use Rattle.capture_file.specs.declared.reader.packet_error.PacketError.TheVariants as errors
 use Rattle.capture_file.specs.declared.reader.pcapng_reader.Section.{Section}
 use Rattle.capture_packet.specs.Frames.{max_packet_len}
 use Rattle.translator.proofs.PacketLemmas.{range_within}
-use Rattle.translator.proofs.PassingLemmas.{leaves_at_read, next_to_end, next_to_read_error, next_to_write_error}
+use Rattle.translator.proofs.PassingLemmas.{leaves_at_read, next_to_end, next_to_read_error, next_to_write_error, passes_part}
 use Rattle.translator.proofs.RecordLemmas.{copied}
-use Rattle.translator.specs.Blocks.{CopiesRest, HasTaken, IsBeyond, IsBlockEnd, IsBlockPart, IsFilled, IsKept, IsLongFront, IsRestEnd, IsWholeBlock, StopsRest, TakesKept, TranslatesBlock, TranslatesKept, TranslatesWhere, blocks_of, cut_at, kept_body}
+use Rattle.translator.specs.Blocks.{CopiesRest, CopiesToEnd, DiffersAtEnd, HasTaken, IsBeyond, IsBlockEnd, IsFilled, IsKept, IsLongFront, IsRestEnd, StopsRest, TakesKept, TranslatesBlock, TranslatesKept, TranslatesWhere, blocks_of, cut_at, kept_body, written_at}
 use Rattle.translator.specs.Packets.{TranslatesCaptured}
-use Rattle.translator.specs.Passing.{Copies, CopiesFront, IfBlockCutOff, IsReadError, IsWriteError, Part, PassesNext, StopsBy, counted_if}
+use Rattle.translator.specs.Passing.{Copies, CopiesFront, IfBlockCutOff, IsReadError, IsWriteError, Part, PassesNext, PassesOne, StopsBy, counted_if}
 use Rattle.translator.specs.declared.blocks.Blocks.{Blocks}
 use Rattle.translator.specs.declared.capture_error.CaptureError.{CaptureError}
 use Rattle.translator.specs.declared.capture_error.CaptureError.TheVariants as capture_errors
@@ -135,26 +135,14 @@ is_long : (section : ByteOrder) (read more : List ℕ) (header : BlockHeader) �
 is_long section read more header within is long =
     omega (arith, long, ap (λ given. given.total_len) is, block_len_front section read more within)
 
--- the whole block, from its first bytes and the rest
-pub is_whole : (section : ByteOrder) (header : BlockHeader) (read more : List ℕ) → 12 ≤ length read → header ≡ block_header section read
-    → block_header_refusal section read ≡ None → length read ≡ min header.total_len max_packet_len → length more ≡ header.total_len - max_packet_len
-    → (header.total_len ≤ max_packet_len → block_refusal section read ≡ None) → IsWholeBlock section (read ++ more)
-is_whole section header read more within is accepted kept rest whole =
+-- a block for which the buffer has room
+short_block : (section : ByteOrder) (header : BlockHeader) (read : List ℕ) → 12 ≤ length read → header ≡ block_header section read
+    → length read ≡ min header.total_len max_packet_len → header.total_len ≤ max_packet_len → block_refusal section read ≡ None → IsBlock section read
+short_block section header read within is kept short accepted =
     let total = ap (λ given. given.total_len) is in
-    ⊎_elim
-    (λ long. inr (
-      (header_refusal_front section read more within ∙ accepted, is_long section read more header within is long),
-      omega (arith, long, kept, rest, total, block_len_front section read more within, length-append read more),
-    ))
-    (λ short.
-    let none : more ≡ [] = nil_from_length more (omega (arith, rest, short)) in
     let empty : length (read ++ []) ≤ block_len section read = omega (arith, short, kept, total, ap length (append-nil read)) in
-    subst (λ bytes. IsWholeBlock section (read ++ bytes)) (sym none)
-    (inl (
-      (whole_block section read [] within empty (ap (block_refusal section) (append-nil read) ∙ whole short)).0,
-      omega (arith, short, kept, ap length (append-nil read)),
-    )))
-    (cases_lt max_packet_len header.total_len)
+    subst (IsBlock section) (append-nil read)
+    (whole_block section read [] within empty (ap (block_refusal section) (append-nil read) ∙ accepted)).0
 
 -- ---- ends within a block
 
@@ -186,18 +174,22 @@ cut_statement (TotalLength total_len) Statement holds = tt
 cut_statement (SectionLength total_len) Statement holds = tt
 cut_statement (LastLength total_len last_len) Statement holds = tt
 
+-- a rejected block
+abbrev rejected : ℕ → List ℕ → Part
+rejected offset bytes = record { read = bytes; written = written_at offset bytes; outcome = None }
+
 -- the bytes at the place of a block are no block, and were copied
 pub ends_refused : (table : Table) (result : CaptureError) (state : Blocks) (left still_left held now_held : Option (List ℕ)) (counts : Counts)
     (bytes : List ℕ) (error : BlockError)
     → result ≡ capture_errors.Block (record { offset = state.offset; error = errors.Block error }) → Consumes left still_left bytes
-    → Appends held now_held bytes → (bytes ≢ []) → block_refusal state.section.byte_order bytes ≡ Some error
+    → Appends held now_held (written_at state.offset bytes) → (bytes ≢ []) → block_refusal state.section.byte_order bytes ≡ Some error
     → (IsFilled state.section.byte_order bytes → ⊥) → ((required len : ℕ) → error ≡ CutOff required len → IsAtEnd still_left)
     → IsWriteError result ⊎ StopsBy (blocks_of table) result state left still_left held now_held counts counts
 ends_refused table result state left still_left held now_held counts bytes error is consumed appended some refused not_filled at_end =
     subst (λ given. IsWriteError given ⊎ StopsBy (blocks_of table) given state left still_left held now_held counts counts) (sym is)
     (inr (record {
       then_left = still_left;
-      front = copied bytes;
+      front = rejected state.offset bytes;
       is_end = (refl, inl (record { reason = error; is_error = refl; some = some; refused = refused; front = inl (not_filled, (refl, refl)) }));
       consumed = consumed;
       appended = appended;
@@ -209,7 +201,7 @@ ends_refused table result state left still_left held now_held counts bytes error
 pub ends_header : (table : Table) (result : CaptureError) (state : Blocks) (left still_left held now_held : Option (List ℕ)) (counts : Counts)
     (first : List ℕ) (error : BlockError)
     → result ≡ capture_errors.Block (record { offset = state.offset; error = errors.Block error }) → Consumes left still_left first
-    → Appends held now_held first → AreFirst first still_left → 1 ≤ length first
+    → Appends held now_held (written_at state.offset first) → AreFirst first still_left → 1 ≤ length first
     → block_header_refusal state.section.byte_order first ≡ Some error
     → IsWriteError result ⊎ StopsBy (blocks_of table) result state left still_left held now_held counts counts
 ends_header table result state left still_left held now_held counts first error is consumed appended are some refused =
@@ -220,7 +212,8 @@ ends_header table result state left still_left held now_held counts first error 
 -- the file ends within the bytes of a block for which the buffer has room
 pub ends_cut : (table : Table) (result : CaptureError) (state : Blocks) (left still_left held now_held : Option (List ℕ)) (counts : Counts)
     (first rest : List ℕ) (header : BlockHeader) (len : ℕ)
-    → result ≡ cut_at state.offset header.total_len len → Consumes left still_left (first ++ rest) → Appends held now_held (first ++ rest)
+    → result ≡ cut_at state.offset header.total_len len → Consumes left still_left (first ++ rest)
+    → Appends held now_held (written_at state.offset (first ++ rest))
     → 12 ≤ length first → block_header_refusal state.section.byte_order first ≡ None → header ≡ block_header state.section.byte_order first
     → len ≡ length (first ++ rest) → len < min header.total_len max_packet_len → IsAtEnd still_left
     → IsWriteError result ⊎ StopsBy (blocks_of table) result state left still_left held now_held counts counts
@@ -233,7 +226,7 @@ ends_cut table result state left still_left held now_held counts first rest head
 pub ends_differs : (table : Table) (result : CaptureError) (state : Blocks) (left still_left held now_held : Option (List ℕ)) (counts : Counts)
     (first rest : List ℕ) (header : BlockHeader) (error : BlockError)
     → result ≡ capture_errors.Block (record { offset = state.offset; error = errors.Block error }) → Consumes left still_left (first ++ rest)
-    → Appends held now_held (first ++ rest) → 12 ≤ length first → block_header_refusal state.section.byte_order first ≡ None
+    → Appends held now_held (written_at state.offset (first ++ rest)) → 12 ≤ length first → block_header_refusal state.section.byte_order first ≡ None
     → header ≡ block_header state.section.byte_order first → header.total_len ≤ max_packet_len → length (first ++ rest) ≡ header.total_len
     → block_refusal state.section.byte_order (first ++ rest) ≡ Some error
     → IsWriteError result ⊎ StopsBy (blocks_of table) result state left still_left held now_held counts counts
@@ -275,20 +268,14 @@ is_kept section header read within is accepted kept whole =
     let total = ap (λ given. given.total_len) is in
     ⊎_elim
     (λ long. inr ((accepted, omega (arith, long, total)), omega (arith, long, kept)))
-    (λ short.
-    let empty : length (read ++ []) ≤ block_len section read = omega (arith, short, kept, total, ap length (append-nil read)) in
-    inl (
-      subst (IsBlock section) (append-nil read)
-          (whole_block section read [] within empty (ap (block_refusal section) (append-nil read) ∙ whole short)).0,
-      omega (arith, short, kept),
-    ))
+    (λ short. inl (short_block section header read within is kept short (whole short), omega (arith, short, kept)))
     (cases_lt max_packet_len header.total_len)
 
 -- the section rejects the block that begins with these bytes, which were copied
 pub ends_rejected : (table : Table) (result : CaptureError) (state : Blocks) (after : Section) (left still_left held now_held : Option (List ℕ)) (counts : Counts)
     (header : BlockHeader) (first bytes read written : List ℕ) (error : PacketError)
     → result ≡ capture_errors.Block (record { offset = state.offset; error = error }) → read ≡ first ++ bytes → Consumes left still_left read
-    → Appends held now_held written → 12 ≤ length first → block_header_refusal state.section.byte_order first ≡ None
+    → Appends held now_held (written_at state.offset written) → 12 ≤ length first → block_header_refusal state.section.byte_order first ≡ None
     → header ≡ block_header state.section.byte_order first → length read ≡ min header.total_len max_packet_len
     → (header.total_len ≤ max_packet_len → block_refusal state.section.byte_order read ≡ None)
     → TranslatesKept table state.section header read written after (Err error)
@@ -302,7 +289,7 @@ ends_rejected table result state after left still_left held now_held counts head
     subst (λ given. IsWriteError given ⊎ StopsBy (blocks_of table) given state left still_left held now_held counts counts) (sym is)
     (inr (record {
       then_left = still_left;
-      front = copied read;
+      front = rejected state.offset read;
       is_end = (
         refl,
         inr (record {
@@ -310,11 +297,11 @@ ends_rejected table result state after left still_left held now_held counts head
           after = after;
           takes = subst (λ given. TakesBlock state.section given (kept_body given read) after (Err error)) read_header translates.0;
           not_beyond = subst (λ total_len. IsBeyond total_len error → ⊥) (ap (λ given. given.total_len) read_header) translates.1;
-          unchanged = (refl, refl);
+          copied = (refl, refl);
         }),
       );
       consumed = consumed;
-      appended = subst (Appends held now_held) translates.2 appended;
+      appended = subst (λ given. Appends held now_held (written_at state.offset given)) translates.2 appended;
       counted = refl;
       leaves = (refl, leaves_rejected state.section after header (kept_body header read) error (IsAtEnd still_left) translates.0);
     }))
@@ -373,48 +360,147 @@ stops_rest table error state after left middle still_left held then_held now_hel
       leaves = stops.leaves;
     }
 
+-- the packet of a long block was translated, and then its rest was copied, but the last total length is another number
+stops_differs : (table : Table) (error : CaptureError) (state : Blocks) (after : Section) (left middle still_left held then_held now_held : Option (List ℕ))
+    (counts now_counts : Counts) (header : BlockHeader) (first bytes read written : List ℕ) (outcome : Option (Result Bool Reason))
+    → read ≡ first ++ bytes → 12 ≤ length first → block_header_refusal state.section.byte_order first ≡ None → header ≡ block_header state.section.byte_order first
+    → 12 ≤ header.total_len → length read ≡ min header.total_len max_packet_len
+    → TranslatesKept table state.section header read written after (Ok outcome) → Consumes left middle read → Appends held then_held written
+    → now_counts ≡ counted_if counts outcome → DiffersAtEnd header state.offset error middle still_left then_held now_held
+    → StopsBy (blocks_of table) error state left still_left held now_held counts now_counts
+stops_differs table error state after left middle still_left held then_held now_held counts now_counts header first bytes read written outcome
+    splits within accepted is_header least kept translates consumed appended counts_are differs =
+    let section = state.section.byte_order in
+    let copies = differs.copies in
+    let more = copies.middle ++ copies.last in
+    let read_within : 12 ≤ length read = omega (arith, kept, least) in
+    let read_header = header_read section first bytes read header splits within is_header in
+    let read_accepted = accepted_read section first bytes read splits within accepted in
+    let total = ap (λ given. given.total_len) read_header in
+    let long : max_packet_len < header.total_len = omega (arith, copies.has_len) in
+    let whole : length (read ++ more) ≡ header.total_len =
+    omega (arith, length-append read more, length-append copies.middle copies.last, kept, long, copies.has_len, copies.four) in
+    let next = next_of section read more [] (Refused (LastLength header.total_len differs.last_len))
+    (differs_after section read copies.middle copies.last (Some more) (Some []) [] header differs.last_len read_within read_accepted read_header
+    (alone more) copies.four (omega (arith, length-append read copies.middle, kept, long, copies.has_len)) copies.is_last differs.differs) in
+    subst (λ given. StopsBy (blocks_of table) given state left still_left held now_held counts now_counts) (sym differs.is_error)
+    (record {
+      then_left = still_left;
+      front = record { read = read ++ more; written = written ++ more; outcome = outcome };
+      is_end = (
+        refl,
+        inl (record {
+          reason = LastLength header.total_len differs.last_len;
+          is_error = refl;
+          some = next.0;
+          refused = next.1;
+          front = inr (
+            ((header_refusal_front section read more read_within ∙ read_accepted, is_long section read more header read_within read_header long), omega (arith, whole, long)),
+            omega (arith, whole, total, block_len_front section read more read_within),
+            after,
+            block_translated table state.section after header read written more outcome read_within read_header least kept translates,
+          );
+        }),
+      );
+      consumed = Consumes-trans left middle still_left read more consumed copies.consumed;
+      appended = Appends-trans held then_held now_held written more appended copies.appended;
+      counted = counts_are;
+      leaves = (refl, tt);
+    })
+
 pub next_rest : {A : Type 0} → (table : Table) (result : Result A CaptureError) (error : CaptureError) (state then_state : Blocks) (after : Section)
     (left middle still_left held then_held now_held : Option (List ℕ))
     (counts now_counts : Counts) (header : BlockHeader) (first bytes read written : List ℕ) (outcome : Option (Result Bool Reason))
     → read ≡ first ++ bytes → 12 ≤ length first → block_header_refusal state.section.byte_order first ≡ None → header ≡ block_header state.section.byte_order first
     → 12 ≤ header.total_len → length read ≡ min header.total_len max_packet_len
     → TranslatesKept table state.section header read written after (Ok outcome) → Consumes left middle read → Appends held then_held written
-    → now_counts ≡ counted_if counts outcome → CopiesRest header.total_len state.offset (Err error) middle still_left then_held now_held
+    → now_counts ≡ counted_if counts outcome → CopiesRest header state.offset (Err error) middle still_left then_held now_held
     → result ≡ Err error → PassesNext (blocks_of table) result state then_state left still_left held now_held counts now_counts
 next_rest table result error state then_state after left middle still_left held then_held now_held counts now_counts header first bytes read written outcome
     splits within accepted is_header least kept translates consumed appended counts_are (inl failed) fails =
     next_to_write_error (blocks_of table) result error state then_state left still_left held now_held counts now_counts failed fails
 next_rest table result error state then_state after left middle still_left held then_held now_held counts now_counts header first bytes read written outcome
-    splits within accepted is_header least kept translates consumed appended counts_are (inr stops) fails =
+    splits within accepted is_header least kept translates consumed appended counts_are (inr (inr differs)) fails =
+    next_to_end (blocks_of table) result error state then_state left still_left held now_held counts now_counts
+    (inr (stops_differs table error state after left middle still_left held then_held now_held counts now_counts header first bytes read written outcome
+    splits within accepted is_header least kept translates consumed appended counts_are differs)) fails
+next_rest table result error state then_state after left middle still_left held then_held now_held counts now_counts header first bytes read written outcome
+    splits within accepted is_header least kept translates consumed appended counts_are (inr (inl stops)) fails =
     next_to_end (blocks_of table) result error state then_state left still_left held now_held counts now_counts
     (inr (stops_rest table error state after left middle still_left held then_held now_held counts now_counts header first bytes read written outcome
     splits within accepted is_header least kept translates consumed appended counts_are stops)) fails
 
 -- ---- whole parts
 
--- the block was passed
-pub block_part : (table : Table) (before after : Section) (header : BlockHeader) (first bytes read written more : List ℕ) (outcome : Option (Result Bool Reason))
-    → read ≡ first ++ bytes → 12 ≤ length first → block_header_refusal before.byte_order first ≡ None → header ≡ block_header before.byte_order first
-    → 12 ≤ header.total_len → length read ≡ min header.total_len max_packet_len
-    → (header.total_len ≤ max_packet_len → block_refusal before.byte_order read ≡ None)
-    → TranslatesKept table before header read written after (Ok outcome) → length more ≡ header.total_len - max_packet_len
-    → IsBlockPart table before (record { read = read ++ more; written = written ++ more; outcome = outcome }) after
-block_part table before after header first bytes read written more outcome splits within accepted is_header least kept whole translates rest =
-    let section = before.byte_order in
-    let read_within : 12 ≤ length read = omega (arith, kept, least) in
-    let read_header = header_read section first bytes read header splits within is_header in
-    record {
-      is_block = is_whole section header read more read_within read_header (accepted_read section first bytes read splits within accepted) kept rest whole;
-      translates = block_translated table before after header read written more outcome read_within read_header least kept translates;
-    }
-
 -- the place after a block
-pub block_offset : (section : ByteOrder) (offset then_offset : ℕ) (header : BlockHeader) (first bytes read more : List ℕ) → read ≡ first ++ bytes
+block_offset : (section : ByteOrder) (offset then_offset : ℕ) (header : BlockHeader) (first bytes read more : List ℕ) → read ≡ first ++ bytes
     → 12 ≤ length first → header ≡ block_header section first → then_offset ≡ offset_after offset header
     → then_offset ≡ offset_after offset (block_header section (read ++ more))
 block_offset section offset then_offset header first bytes read more splits within is_header is =
     is ∙ ap (offset_after offset) (header_read section first bytes read header splits within is_header
     ∙ sym (block_header_front section read more (omega (arith, ap length splits, length-append first bytes, within))))
+
+-- a block without room in the buffer
+long_block : (section : ByteOrder) (header : BlockHeader) (read : List ℕ) (left still_left held now_held : Option (List ℕ)) → 12 ≤ length read
+    → header ≡ block_header section read → block_header_refusal section read ≡ None → length read ≡ min header.total_len max_packet_len
+    → max_packet_len < header.total_len → (copies : CopiesToEnd header header.total_len left still_left held now_held)
+    → IsBlock section (read ++ (copies.middle ++ copies.last))
+long_block section header read left still_left held now_held within is accepted kept long copies =
+    let more = copies.middle ++ copies.last in
+    (next_of section read more [] (TooLong header)
+    (passed_over section read copies.middle copies.last (Some more) (Some []) [] header header.total_len within accepted is (alone more) copies.four
+    (omega (arith, length-append read copies.middle, kept, long, copies.has_len)) copies.is_last refl (omega (arith, long)))).0
+
+-- the block with these first bytes and these bytes after them was passed
+block_part : (table : Table) (state then_state : Blocks) (left middle still_left held then_held now_held : Option (List ℕ)) (counts now_counts : Counts)
+    (header : BlockHeader) (first bytes read written more : List ℕ) (outcome : Option (Result Bool Reason))
+    → read ≡ first ++ bytes → 12 ≤ length first → header ≡ block_header state.section.byte_order first → 12 ≤ header.total_len
+    → length read ≡ min header.total_len max_packet_len → IsBlock state.section.byte_order (read ++ more)
+    → TranslatesKept table state.section header read written then_state.section (Ok outcome) → then_state.offset ≡ offset_after state.offset header
+    → Consumes left middle read → Appends held then_held written → now_counts ≡ counted_if counts outcome → Consumes middle still_left more
+    → Appends then_held now_held more → PassesOne (blocks_of table) state then_state left still_left held now_held counts now_counts
+block_part table state then_state left middle still_left held then_held now_held counts now_counts header first bytes read written more outcome splits within
+    is_header least kept is_block translates is_offset consumed appended counts_are rest_consumed rest_appended =
+    let section = state.section.byte_order in
+    let read_header = header_read section first bytes read header splits within is_header in
+    passes_part (blocks_of table) state then_state left still_left held now_held counts now_counts
+    (record { read = read ++ more; written = written ++ more; outcome = outcome }) (
+      record {
+        is_block = is_block;
+        translates = block_translated table state.section then_state.section header read written more outcome (omega (arith, kept, least)) read_header least kept translates;
+      },
+      block_offset section state.offset then_state.offset header first bytes read more splits within is_header is_offset,
+    )
+    (Consumes-trans left middle still_left read more consumed rest_consumed) (Appends-trans held then_held now_held written more appended rest_appended) counts_are
+
+-- the block was passed, whose rest was copied if the buffer has no room for it
+pub block_passed : (table : Table) (state then_state : Blocks) (left middle still_left held then_held now_held : Option (List ℕ)) (counts now_counts : Counts)
+    (header : BlockHeader) (first bytes read written : List ℕ) (outcome : Option (Result Bool Reason))
+    → read ≡ first ++ bytes → 12 ≤ length first → block_header_refusal state.section.byte_order first ≡ None
+    → header ≡ block_header state.section.byte_order first → 12 ≤ header.total_len → length read ≡ min header.total_len max_packet_len
+    → (header.total_len ≤ max_packet_len → block_refusal state.section.byte_order read ≡ None)
+    → TranslatesKept table state.section header read written then_state.section (Ok outcome) → then_state.offset ≡ offset_after state.offset header
+    → Consumes left middle read → Appends held then_held written → now_counts ≡ counted_if counts outcome
+    → (((header.total_len ≤ max_packet_len) × (still_left ≡ middle) × (now_held ≡ then_held))
+    ⊎ ((max_packet_len < header.total_len) × CopiesToEnd header header.total_len middle still_left then_held now_held))
+    → PassesOne (blocks_of table) state then_state left still_left held now_held counts now_counts
+block_passed table state then_state left middle still_left held then_held now_held counts now_counts header first bytes read written outcome splits within
+    accepted is_header least kept whole translates is_offset consumed appended counts_are (inl (short, same_left, same_held)) =
+    let section = state.section.byte_order in
+    let read_header = header_read section first bytes read header splits within is_header in
+    block_part table state then_state left middle still_left held then_held now_held counts now_counts header first bytes read written [] outcome splits within
+    is_header least kept
+    (subst (IsBlock section) (sym (append-nil read)) (short_block section header read (omega (arith, kept, least)) read_header kept short (whole short)))
+    translates is_offset consumed appended counts_are (subst (λ given. Consumes middle given []) (sym same_left) (Consumes-nil middle))
+    (subst (λ given. Appends then_held given []) (sym same_held) (Appends-nil then_held))
+block_passed table state then_state left middle still_left held then_held now_held counts now_counts header first bytes read written outcome splits within
+    accepted is_header least kept whole translates is_offset consumed appended counts_are (inr (long, copies)) =
+    let section = state.section.byte_order in
+    block_part table state then_state left middle still_left held then_held now_held counts now_counts header first bytes read written
+    (copies.middle ++ copies.last) outcome splits within is_header least kept
+    (long_block section header read middle still_left then_held now_held (omega (arith, kept, least))
+    (header_read section first bytes read header splits within is_header) (accepted_read section first bytes read splits within accepted) kept long copies)
+    translates is_offset consumed appended counts_are copies.consumed copies.appended
 
 -- ---- reading failed before a block
 
@@ -446,36 +532,38 @@ rest_read total_len place len capture_errors.TooManyParts is = absurd is
 rest_read total_len place len (capture_errors.Write error) is = absurd is
 
 -- copying the rest failed
-pub rest_to_error : (total_len place count : ℕ) (result : Result (Unit {0}) CaptureError) (error : CaptureError) (left still_left held now_held : Option (List ℕ))
-    → count ≡ total_len - max_packet_len → (IsWriteError error ⊎ (IsReadError place error × CopiesFront count left held now_held))
-    → result ≡ Err error → CopiesRest total_len place result left still_left held now_held
-rest_to_error total_len place count result error left still_left held now_held rest (inl failed) fails =
-    subst (λ given. CopiesRest total_len place given left still_left held now_held) (sym fails) (inl failed)
-rest_to_error total_len place count result error left still_left held now_held rest (inr (is, front)) fails =
-    subst (λ given. CopiesRest total_len place given left still_left held now_held) (sym fails)
-    (inr (record {
+pub rest_to_error : (header : BlockHeader) (place count : ℕ) (result : Result (Unit {0}) CaptureError) (error : CaptureError) (left still_left held now_held : Option (List ℕ))
+    → count ≤ header.total_len - max_packet_len → (IsWriteError error ⊎ (IsReadError place error × CopiesFront count left held now_held))
+    → result ≡ Err error → CopiesRest header place result left still_left held now_held
+rest_to_error header place count result error left still_left held now_held rest (inl failed) fails =
+    subst (λ given. CopiesRest header place given left still_left held now_held) (sym fails) (inl failed)
+rest_to_error header place count result error left still_left held now_held rest (inr (is, front)) fails =
+    subst (λ given. CopiesRest header place given left still_left held now_held) (sym fails)
+    (inr (inl (record {
       len = front.len;
       within = omega (arith, front.within, rest);
       then_left = front.then_left;
       copies = front.copies;
-      ends = rest_read total_len place front.len error is;
+      ends = rest_read header.total_len place front.len error is;
       leaves = leaves_at_read place error front.then_left still_left is;
-    }))
+    })))
 
 -- the file ends within the rest
-pub rest_cut : (total_len place len kept : ℕ) (error : CaptureError) (left still_left held now_held : Option (List ℕ))
-    → error ≡ cut_at place total_len (kept + len) → kept ≡ min total_len max_packet_len → len < total_len - kept
+pub rest_cut : (header : BlockHeader) (place len all_len : ℕ) (error : CaptureError) (left still_left held now_held : Option (List ℕ))
+    → error ≡ cut_at place header.total_len all_len → all_len ≡ max_packet_len + len → len < header.total_len - max_packet_len
     → Copies left still_left held now_held len → IsAtEnd still_left
-    → IsWriteError error ⊎ StopsRest total_len place error left still_left held now_held
-rest_cut total_len place len kept error left still_left held now_held is is_kept short copies at_end =
-    let all : kept ≡ max_packet_len = omega (arith, is_kept, short) in
-    subst (λ given. IsWriteError given ⊎ StopsRest total_len place given left still_left held now_held)
-    (sym (is ∙ ap (λ front. cut_at place total_len (front + len)) all))
-    (inr (record {
+    → IsWriteError error
+    ⊎ (StopsRest header.total_len place error left still_left held now_held ⊎ DiffersAtEnd header place error left still_left held now_held)
+rest_cut header place len all_len error left still_left held now_held is all short copies at_end =
+    subst
+    (λ given. IsWriteError given
+    ⊎ (StopsRest header.total_len place given left still_left held now_held ⊎ DiffersAtEnd header place given left still_left held now_held))
+    (sym (is ∙ ap (cut_at place header.total_len) all))
+    (inr (inl (record {
       len = len;
-      within = omega (arith, is_kept, short);
+      within = short;
       then_left = still_left;
       copies = copies;
       ends = refl;
       leaves = (refl, at_end);
-    }))
+    })))

@@ -1,10 +1,12 @@
 -- The blocks of a pcapng file as parts (draft-ietf-opsawg-pcapng, section 3.1). The buffer has room for `max_packet_len` bytes. The rest of a
 -- longer block is copied.
-use Rattle.std.specs.Prelude.{◌≡◌, ◌≢◌, ◌+◌, ◌-◌, ◌<◌, ◌≤◌, ◌++◌, ◌⊎◌, ℕ, Bool, List, [], drop, length, min, slice_range, take, Option, Some, None, Result, Ok, Err}
+use Rattle.std.specs.Prelude.{◌≡◌, ◌≢◌, ◌+◌, ◌-◌, ◌<◌, ◌≤◌, ◌++◌, ◌⊎◌, ◌==◌, ℕ, Bool, if◌then◌else◌, List, [], drop, length, min, slice_range, take, Option, Some, None, Result, Ok, Err}
+use Rattle.std.specs.Io.KnownBytes.{Appends, Consumes}
 use Rattle.capture_file.specs.Packets.{IsWithin}
 use Rattle.capture_file.specs.Pcapng.{IsBlock, block_header, block_header_refusal, block_len, block_refusal}
 use Rattle.capture_file.specs.PcapngSteps.{offset_after}
 use Rattle.capture_file.specs.Sections.{TakesBlock}
+use Rattle.capture_texts.specs.Numbers.{number_at}
 use Rattle.capture_texts.specs.declared.byte_order.ByteOrder.{ByteOrder}
 use Rattle.capture_texts.specs.declared.byte_order.ByteOrder.TheVariants.{BigEndian}
 use Rattle.capture_file.specs.declared.pcapng.block.BlockHeader.{BlockHeader}
@@ -66,40 +68,42 @@ pub record TranslatesBlock (table : Table) (before : Section) (part : Part) (aft
 
 -- ---- whole blocks
 
--- the buffer has no room for the block that begins with these bytes, whose header is accepted
-abbrev pub BeginsLongBlock : ByteOrder → List ℕ → Type 0
-BeginsLongBlock section bytes = (block_header_refusal section bytes ≡ None) × (max_packet_len < block_len section bytes)
-
--- a block, with nothing after it; the last total length of a block without room in the buffer is not checked
-abbrev pub IsWholeBlock : ByteOrder → List ℕ → Type 0
-IsWholeBlock section bytes =
-    (IsBlock section bytes × (length bytes ≤ max_packet_len))
-    ⊎ (BeginsLongBlock section bytes × (length bytes ≡ block_len section bytes))
-
 -- exactly one block, with the outcome of its packet
 pub record IsBlockPart (table : Table) (before : Section) (part : Part) (after : Section) : Type 0 where
-  pub is_block : IsWholeBlock before.byte_order part.read
+  pub is_block : IsBlock before.byte_order part.read
   pub translates : TranslatesBlock table before part after
 
 -- ---- ends within a block
+
+-- the buffer has no room for the block that begins with these bytes, whose header is accepted
+abbrev pub BeginsLongBlock : ByteOrder → List ℕ → Type 0
+BeginsLongBlock section bytes = (block_header_refusal section bytes ≡ None) × (max_packet_len < block_len section bytes)
 
 -- at least the bytes of a long block for which the buffer has room
 abbrev pub IsFilled : ByteOrder → List ℕ → Type 0
 IsFilled section bytes = BeginsLongBlock section bytes × (max_packet_len ≤ length bytes)
 
--- the first bytes of a long block, whose packet was translated before the rest was copied
+-- the first bytes of a long block, or all its bytes, whose packet was translated before the rest was copied
 abbrev pub IsLongFront : Table → Section → Part → Type 0
 IsLongFront table before part =
     IsFilled before.byte_order part.read × (length part.read ≤ block_len before.byte_order part.read)
     × (after : Section) × TranslatesBlock table before part after
 
--- the bytes are no block, for this reason, and are copied, except that the packet of a long block that is cut off may have been translated
-pub record IsNoBlock (table : Table) (before : Section) (part : Part) (error : PacketError) : Type 0 where
+-- what is written for a rejected block at this place: the bytes that were read, but nothing if it is the first block of the file
+abbrev pub written_at : ℕ → List ℕ → List ℕ
+written_at offset bytes = if offset == 0 then [] else bytes
+
+-- a rejected block at this place was written, and no packet was counted
+abbrev pub IsCopiedAt : ℕ → Part → Type 0
+IsCopiedAt offset part = (part.written ≡ written_at offset part.read) × (part.outcome ≡ None)
+
+-- the bytes are no block, for this reason, and are copied, except that the packet of a long block may have been translated
+pub record IsNoBlock (table : Table) (blocks : Blocks) (part : Part) (error : PacketError) : Type 0 where
   pub reason : BlockError
   pub is_error : error ≡ errors.Block reason
   pub some : part.read ≢ []
-  pub refused : block_refusal before.byte_order part.read ≡ Some reason
-  pub front : ((IsFilled before.byte_order part.read → ⊥) × IsUnchanged part None) ⊎ IsLongFront table before part
+  pub refused : block_refusal blocks.section.byte_order part.read ≡ Some reason
+  pub front : ((IsFilled blocks.section.byte_order part.read → ⊥) × IsCopiedAt blocks.offset part) ⊎ IsLongFront table blocks.section part
 
 -- a block, or the first bytes of a long block, as many as the buffer has room for
 abbrev pub IsKept : ByteOrder → List ℕ → Type 0
@@ -107,16 +111,16 @@ IsKept section bytes =
     (IsBlock section bytes × (length bytes ≤ max_packet_len)) ⊎ (BeginsLongBlock section bytes × (length bytes ≡ max_packet_len))
 
 -- the section rejects the block that begins with these bytes, which are copied
-pub record IsRejected (before : Section) (part : Part) (error : PacketError) : Type 0 where
-  pub is_kept : IsKept before.byte_order part.read
+pub record IsRejected (blocks : Blocks) (part : Part) (error : PacketError) : Type 0 where
+  pub is_kept : IsKept blocks.section.byte_order part.read
   pub after : Section
-  pub takes : TakesKept before part.read after (Err error)
-  pub not_beyond : IsBeyond (block_len before.byte_order part.read) error → ⊥
-  pub unchanged : IsUnchanged part None
+  pub takes : TakesKept blocks.section part.read after (Err error)
+  pub not_beyond : IsBeyond (block_len blocks.section.byte_order part.read) error → ⊥
+  pub copied : IsCopiedAt blocks.offset part
 
 -- the block that begins with these bytes is rejected
-abbrev pub IsRefusedBlock : Table → Section → Part → PacketError → Type 0
-IsRefusedBlock table before part error = IsNoBlock table before part error ⊎ IsRejected before part error
+abbrev pub IsRefusedBlock : Table → Blocks → Part → PacketError → Type 0
+IsRefusedBlock table blocks part error = IsNoBlock table blocks part error ⊎ IsRejected blocks part error
 
 -- nothing of a block, or the first bytes of a long block, were passed
 abbrev pub IsBlockFront : Table → Section → Part → Type 0
@@ -125,7 +129,7 @@ IsBlockFront table before part = ((part.read ≡ []) × IsUnchanged part None) �
 -- this error ends the file within a block
 abbrev pub IsBlockEnd : Table → Blocks → Part → CaptureError → Type 0
 IsBlockEnd table blocks part (capture_errors.Block placed) =
-    (placed.offset ≡ blocks.offset) × IsRefusedBlock table blocks.section part placed.error
+    (placed.offset ≡ blocks.offset) × IsRefusedBlock table blocks part placed.error
 IsBlockEnd table blocks part (capture_errors.Read offset error) = (offset ≡ blocks.offset) × IsBlockFront table blocks.section part
 IsBlockEnd table blocks part (capture_errors.Header error) = ⊥
 IsBlockEnd table blocks part (capture_errors.RecordCutOff offset required len) = ⊥
@@ -182,8 +186,29 @@ pub record StopsRest (total_len place : ℕ) (error : CaptureError) (left still_
   pub ends : IsRestEnd total_len place len error
   pub leaves : LeavesAt error then_left still_left
 
--- the rest of a block with this length at this place was copied, up to an error if there is one
-abbrev pub CopiesRest : ℕ → ℕ → Result (Unit {0}) CaptureError → Option (List ℕ) → Option (List ℕ) → Option (List ℕ) → Option (List ℕ) → Type 0
-CopiesRest total_len place (Ok done) left still_left held now_held = Copies left still_left held now_held (total_len - max_packet_len)
-CopiesRest total_len place (Err error) left still_left held now_held =
-    IsWriteError error ⊎ StopsRest total_len place error left still_left held now_held
+-- the rest of a block with this header was copied to its end, and this number is in its last four bytes
+pub record CopiesToEnd (header : BlockHeader) (last_len : ℕ) (left still_left held now_held : Option (List ℕ)) : Type 0 where
+  pub middle : List ℕ
+  pub last : List ℕ
+  pub has_len : length middle + 4 ≡ header.total_len - max_packet_len
+  pub four : length last ≡ 4
+  pub is_last : last_len ≡ number_at header.byte_order last 0
+  pub consumed : Consumes left still_left (middle ++ last)
+  pub appended : Appends held now_held (middle ++ last)
+
+-- the rest of a block at this place was copied to its end, and the block is rejected by its last total length
+pub record DiffersAtEnd (header : BlockHeader) (place : ℕ) (error : CaptureError) (left still_left held now_held : Option (List ℕ)) : Type 0 where
+  pub last_len : ℕ
+  pub copies : CopiesToEnd header last_len left still_left held now_held
+  pub differs : last_len ≢ header.total_len
+  pub is_error : error ≡ capture_errors.Block (record { offset = place; error = errors.Block (block_errors.LastLength header.total_len last_len) })
+
+-- The rest of a block with this header at this place was copied, up to an error if there is one. The last total length of the block is its
+-- total length. There is no rest if the buffer has room for the block.
+abbrev pub CopiesRest : BlockHeader → ℕ → Result (Unit {0}) CaptureError → Option (List ℕ) → Option (List ℕ) → Option (List ℕ) → Option (List ℕ) → Type 0
+CopiesRest header place (Ok done) left still_left held now_held =
+    ((header.total_len ≤ max_packet_len) × (still_left ≡ left) × (now_held ≡ held))
+    ⊎ ((max_packet_len < header.total_len) × CopiesToEnd header header.total_len left still_left held now_held)
+CopiesRest header place (Err error) left still_left held now_held =
+    IsWriteError error
+    ⊎ (StopsRest header.total_len place error left still_left held now_held ⊎ DiffersAtEnd header place error left still_left held now_held)

@@ -1,13 +1,13 @@
 //! The blocks of a pcapng file (draft-ietf-opsawg-pcapng, section 3.1).
 
-ghost use Rattle.std.specs.Prelude.{◌≡◌, ◌≤◌, ℕ, IfErr, List, Ok, OnOk, Option, Some, false, length, min};
-ghost use Rattle.std.specs.Io.KnownBytes.{Consumes, IsAtEnd};
+ghost use Rattle.std.specs.Prelude.{◌≡◌, ◌%◌, ◌≤◌, ℕ, IfErr, List, Ok, OnOk, Option, Some, false, length, min};
+ghost use Rattle.std.specs.Io.KnownBytes.{Appends, Consumes, IsAtEnd};
 ghost use Rattle.capture_file.specs.Packets.{IsWithin};
 ghost use Rattle.capture_file.specs.Pcapng.{block_refusal};
 ghost use Rattle.capture_file.specs.PcapngReading.{AreFirst, BeginsBlock};
 ghost use Rattle.capture_packet.specs.Frames.{max_packet_len};
-ghost use Rattle.translator.specs.Blocks.{CopiesRest, IsFileStart, TranslatesKept, TranslatesWhere, blocks_of, cut_at};
-ghost use Rattle.translator.specs.Passing.{PassesAny, PassesNext, PassesTo};
+ghost use Rattle.translator.specs.Blocks.{CopiesRest, IsFileStart, TranslatesKept, TranslatesWhere, blocks_of, cut_at, written_at};
+ghost use Rattle.translator.specs.Passing.{IsWriteError, PassesAny, PassesNext, PassesTo};
 ghost use Rattle.translator.specs.declared.capture_error.CaptureError.TheVariants.{Block as BlockRefused};
 
 use crate::capture_error::CaptureError;
@@ -125,7 +125,7 @@ fn translate_block<R: Read, W: Write>(
     let header = match BlockHeader::from_slice(file.section.byte_order, first) {
         Ok(header) => header,
         Err(error) => {
-            write(output, first)?;
+            write_rejected(output, file.offset, first)?;
             return Err(refused(file.offset, PacketError::Block(error)));
         }
     };
@@ -150,22 +150,36 @@ fn translate_headed<R: Read, W: Write>(
     let kept = &mut buffer[..kept_len(header)];
     let len = read_after(input, first, kept, file.offset)?;
     if len < kept.len() {
-        write(output, &kept[..len])?;
+        write_rejected(output, file.offset, &kept[..len])?;
         return Err(cut_off(file.offset, header, len));
     }
     if let Err(error) = check(header, kept, file.section.byte_order) {
-        write(output, kept)?;
+        write_rejected(output, file.offset, kept)?;
         return Err(refused(file.offset, PacketError::Block(error)));
     }
-    let translated = translate_kept(header, kept, &mut file.section, table);
+    let outcome = match translate_kept(header, kept, &mut file.section, table) {
+        Ok(outcome) => outcome,
+        Err(error) => {
+            write_rejected(output, file.offset, kept)?;
+            return Err(refused(file.offset, error));
+        }
+    };
     write(output, kept)?;
-    match translated {
-        Ok(outcome) => counts.add_if(outcome),
-        Err(error) => return Err(refused(file.offset, error)),
-    }
+    counts.add_if(outcome);
     copy_rest(input, output, buffer, header, file.offset)?;
     file.offset = file.offset.saturating_add(u64::from(header.total_len));
     Ok(())
+}
+
+/// Writes the bytes of a rejected block. Nothing is written if it is the first block of the file.
+fn write_rejected<W: Write>(output: &mut W, offset: u64, bytes: &[u8]) -> Result<(), CaptureError>
+    ensures appends { OnOk result (Appends (W.contents output.old) (W.contents output.new) (written_at offset bytes.now)) }
+    ensures failed { IfErr result IsWriteError }
+{
+    if offset == 0 {
+        return Ok(());
+    }
+    write(output, bytes)
 }
 
 /// The number of bytes of the block with this header for which the buffer has room.
@@ -175,7 +189,7 @@ fn kept_len(header: &BlockHeader) -> usize
     (header.total_len as usize).min(MAX_PACKET_LEN)
 }
 
-/// Checks the block in these bytes. The last total length of a block for which the buffer has no room is not checked.
+/// Checks the block in these bytes, if the buffer has room for it.
 fn check(header: &BlockHeader, bytes: &[u8], order: ByteOrder) -> Result<(), BlockError>
     ensures accepted { OnOk result (header.now.total_len ≤ max_packet_len → block_refusal order bytes.now ≡ None) }
     ensures refused { IfErr result (λ error. (header.now.total_len ≤ max_packet_len) × (block_refusal order bytes.now ≡ Some error)) }
@@ -233,7 +247,10 @@ fn translate_captured(
     translate_captured_frame(packet.link_type, packet.byte_order, frame, table)
 }
 
-/// Copies the bytes of a block for which the buffer has no room.
+/// The length of the last total length of a block, in bytes.
+const LAST_LEN: usize = 4;
+
+/// Copies the bytes of a block for which the buffer has no room, and checks the last total length.
 fn copy_rest<R: Read, W: Write>(
     input: &mut R,
     output: &mut W,
@@ -241,14 +258,34 @@ fn copy_rest<R: Read, W: Write>(
     header: &BlockHeader,
     offset: u64,
 ) -> Result<(), CaptureError>
-    ensures copies { CopiesRest header.now.total_len offset result (R.remaining input.old) (R.remaining input.new)
+    requires words { header.now.total_len % 4 ≡ 0 }
+    ensures copies { CopiesRest header.now offset result (R.remaining input.old) (R.remaining input.new)
         (W.contents output.old) (W.contents output.new) }
 {
     let kept_len = kept_len(header);
     let rest_len = header.total_len as usize - kept_len;
-    let len = copy(input, output, buffer, rest_len, offset)?;
-    if len < rest_len {
+    if rest_len == 0 {
+        return Ok(());
+    }
+    let middle_len = rest_len - LAST_LEN;
+    let len = copy(input, output, buffer, middle_len, offset)?;
+    if len < middle_len {
         return Err(cut_off(offset, header, kept_len + len));
+    }
+    let mut last = [0u8; LAST_LEN];
+    let len = read_into(input, &mut last, offset)?;
+    write(output, &last[..len])?;
+    if len < LAST_LEN {
+        return Err(cut_off(offset, header, kept_len + middle_len + len));
+    }
+    let last_len = header.byte_order.number(last);
+    if last_len != header.total_len {
+        let total_len = header.total_len;
+        let error = BlockError::LastLength {
+            total_len,
+            last_len,
+        };
+        return Err(refused(offset, PacketError::Block(error)));
     }
     Ok(())
 }

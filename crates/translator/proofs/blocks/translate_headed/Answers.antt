@@ -1,11 +1,11 @@
 use Rattle.std.proofs.Common.{◌≡◌, ◌++◌, ◌∙◌, Some, ap, arith, length, length-append, length-take, min, rules, subst, sym}
-use Rattle.std.proofs.KnownBytes.{Appends-trans, Consumes-trans}
+use Rattle.std.proofs.KnownBytes.{Consumes-trans}
 use Rattle.std.proofs.lemmas.List.{take_all}
 use Rattle.std.specs.Io.KnownBytes.{Appends, Consumes}
 use Rattle.capture_file.specs.Pcapng.{block_refusal}
 use Rattle.capture_packet.specs.Frames.{max_packet_len}
-use Rattle.translator.proofs.BlockLemmas.{block_offset, block_part, ends_cut, ends_differs, ends_rejected, next_rest, next_unread}
-use Rattle.translator.proofs.PassingLemmas.{passes_part}
+use Rattle.translator.proofs.BlockLemmas.{block_passed, ends_cut, ends_differs, ends_rejected, next_rest, next_unread}
+use Rattle.translator.specs.Blocks.{written_at}
 use Rattle.translator.proofs.blocks.translate_headed.Goals as goal
 
 pub returns-in_err-len : goal.returns-in_err-len
@@ -26,7 +26,8 @@ returns-then-len-kept g c = record {
       omega (arith, c.read_after.auto.buffer, length-take c.kept_len.result c.args.buffer.now, has_room, c.kept_len.ensures) in
       ends_cut _ _ c.args.file.now left _ _ _ _ first fills.bytes c.args.header.now c.in_ok-len.len c.cut_off.ensures
       (Consumes-trans left _ _ first fills.bytes consumed fills.consumed)
-      (subst (Appends (g.W.Write.contents c.args.output.now) (g.W.Write.contents c.write.new.output)) fills.whole c.in_ok-write.ensures.appends)
+      (subst (λ bytes. Appends (g.W.Write.contents c.args.output.now) (g.W.Write.contents c.write_rejected.new.output) (written_at c.args.file.now.offset bytes))
+      fills.whole c.in_ok-write_rejected.ensures.appends)
       (omega (arith, begins.has_len)) begins.accepted begins.is_header
       (omega (arith, fills.has_len, length-append first fills.bytes)) (omega (arith, c.if-len-kept.true, kept)) (fills.end (omega (arith, c.if-len-kept.true)));
 }
@@ -45,14 +46,15 @@ returns-in-Err g c = record {
       let splits : read ≡ first ++ fills.bytes = sym (take_all c.in_ok-len.len read (omega (arith, c.if-len-kept.false))) ∙ fills.whole in
       ends_differs _ _ c.args.file.now left _ _ _ _ first fills.bytes c.args.header.now c.in-Err.error c.refused.ensures
       (Consumes-trans left _ _ first fills.bytes consumed fills.consumed)
-      (subst (Appends (g.W.Write.contents c.args.output.now) (g.W.Write.contents c.write-in-Err.new.output)) splits c.in_ok-write-2.ensures.appends)
+      (subst (λ bytes. Appends (g.W.Write.contents c.args.output.now) (g.W.Write.contents c.write_rejected-in-Err.new.output) (written_at c.args.file.now.offset bytes))
+      splits c.in_ok-write_rejected-2.ensures.appends)
       (omega (arith, begins.has_len)) begins.accepted begins.is_header c.in-Err.ensures.refused.0
       (omega (arith, ap length splits, kept, c.in-Err.ensures.refused.0))
       (subst (λ bytes. block_refusal c.args.file.now.section.byte_order bytes ≡ Some c.in-Err.error) splits c.in-Err.ensures.refused.1);
 }
 
-pub returns-in-Err-translated : goal.returns-in-Err-translated
-returns-in-Err-translated g c = record {
+pub returns-in-Err-translate_kept : goal.returns-in-Err-translate_kept
+returns-in-Err-translate_kept g c = record {
   passes =
       λ left consumed.
       let first = c.args.first.now in
@@ -63,11 +65,11 @@ returns-in-Err-translated g c = record {
       let kept : length read ≡ min c.args.header.now.total_len max_packet_len =
       omega (arith, c.read_after.auto.buffer, length-take c.kept_len.result c.args.buffer.now, has_room, c.kept_len.ensures) in
       let splits : read ≡ first ++ fills.bytes = sym (take_all c.in_ok-len.len read (omega (arith, c.if-len-kept.false))) ∙ fills.whole in
-      ends_rejected _ _ c.args.file.now c.translate_kept-translated.new.section left _ _ _ _ c.args.header.now first fills.bytes read
-      c.translate_kept-translated.new.bytes c.in-Err-translated.error c.refused-in-Err-translated.ensures splits
+      ends_rejected _ _ c.args.file.now c.translate_kept.new.section left _ _ _ _ c.args.header.now first fills.bytes read
+      c.translate_kept.new.bytes c.in-Err-translate_kept.error c.refused-in-Err-translate_kept.ensures splits
       (subst (Consumes left (g.R.Read.remaining c.read_after.new.input)) (sym splits) (Consumes-trans left _ _ first fills.bytes consumed fills.consumed))
-      c.in_ok-write-3.ensures.appends (omega (arith, begins.has_len)) begins.accepted begins.is_header kept c.in_default.ensures.accepted
-      c.in-Err-translated.ensures.translates;
+      c.in_ok-write_rejected-in-Err-translate_kept.ensures.appends (omega (arith, begins.has_len)) begins.accepted begins.is_header kept c.in_default.ensures.accepted
+      c.in-Err-translate_kept.ensures.translates;
 }
 
 pub returns-in_err-copy_rest : goal.returns-in_err-copy_rest
@@ -82,11 +84,11 @@ returns-in_err-copy_rest g c = record {
       let kept : length read ≡ min c.args.header.now.total_len max_packet_len =
       omega (arith, c.read_after.auto.buffer, length-take c.kept_len.result c.args.buffer.now, has_room, c.kept_len.ensures) in
       let splits : read ≡ first ++ fills.bytes = sym (take_all c.in_ok-len.len read (omega (arith, c.if-len-kept.false))) ∙ fills.whole in
-      next_rest _ _ c.in_err-copy_rest.field-0.0 c.args.file.now _ c.translate_kept-translated.new.section left _ _ _ _ _ _ _ c.args.header.now first fills.bytes read
-      c.translate_kept-translated.new.bytes c.in-Ok.outcome splits (omega (arith, begins.has_len)) begins.accepted begins.is_header begins.len.0 kept
+      next_rest _ _ c.in_err-copy_rest.field-0.0 c.args.file.now _ c.translate_kept.new.section left _ _ _ _ _ _ _ c.args.header.now first fills.bytes read
+      c.translate_kept.new.bytes c.in-Ok.outcome splits (omega (arith, begins.has_len)) begins.accepted begins.is_header begins.len.0 kept
       c.in-Ok.ensures.translates
       (subst (Consumes left (g.R.Read.remaining c.read_after.new.input)) (sym splits) (Consumes-trans left _ _ first fills.bytes consumed fills.consumed))
-      c.in_ok-write-3.ensures.appends c.add_if.ensures c.in_err-copy_rest.ensures.copies (search rules);
+      c.in_ok-write.ensures.appends c.add_if.ensures c.in_err-copy_rest.ensures.copies (search rules);
 }
 
 pub returns : goal.returns
@@ -95,23 +97,14 @@ returns g c = record {
       λ left consumed.
       let first = c.args.first.now in
       let read = c.read_after.new.buffer in
-      let written = c.translate_kept-translated.new.bytes in
       let fills = c.in_ok-len.ensures.fills in
       let begins = c.requires.header in
-      let copies = c.in_ok-copy_rest.ensures.copies in
       let has_room : length c.args.buffer.now ≡ max_packet_len = search rules in
       let kept : length read ≡ min c.args.header.now.total_len max_packet_len =
       omega (arith, c.read_after.auto.buffer, length-take c.kept_len.result c.args.buffer.now, has_room, c.kept_len.ensures) in
       let splits : read ≡ first ++ fills.bytes = sym (take_all c.in_ok-len.len read (omega (arith, c.if-len-kept.false))) ∙ fills.whole in
-      passes_part _ _ _ left _ _ _ _ _ (record { read = read ++ copies.bytes; written = written ++ copies.bytes; outcome = c.in-Ok.outcome }) (
-        block_part c.args.table.now c.args.file.now.section c.translate_kept-translated.new.section c.args.header.now first fills.bytes read written copies.bytes
-            c.in-Ok.outcome splits (omega (arith, begins.has_len)) begins.accepted begins.is_header begins.len.0 kept c.in_default.ensures.accepted
-            c.in-Ok.ensures.translates copies.has_len,
-        block_offset c.args.file.now.section.byte_order c.args.file.now.offset _ c.args.header.now first fills.bytes read copies.bytes splits
-            (omega (arith, begins.has_len)) begins.is_header (search rules),
-      )
-      (Consumes-trans left _ _ read copies.bytes
+      block_passed c.args.table.now c.args.file.now _ left _ _ _ _ _ _ _ c.args.header.now first fills.bytes read c.translate_kept.new.bytes c.in-Ok.outcome splits
+      (omega (arith, begins.has_len)) begins.accepted begins.is_header begins.len.0 kept c.in_default.ensures.accepted c.in-Ok.ensures.translates (search rules)
       (subst (Consumes left (g.R.Read.remaining c.read_after.new.input)) (sym splits) (Consumes-trans left _ _ first fills.bytes consumed fills.consumed))
-      copies.consumed)
-      (Appends-trans _ _ _ written copies.bytes c.in_ok-write-3.ensures.appends copies.appended) c.add_if.ensures;
+      c.in_ok-write.ensures.appends c.add_if.ensures c.in_ok-copy_rest.ensures.copies;
 }
