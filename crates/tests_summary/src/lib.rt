@@ -1,6 +1,6 @@
 //! Tests of what a report counts, and of its texts and its JSON, by public names.
 //!
-//! They need no capture, so that they are proved next to the crates that read captures.
+//! They need no capture file, so that they are proved next to the crate that reads one.
 #![tactic(auto)]
 
 #[cfg(test)]
