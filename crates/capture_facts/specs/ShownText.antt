@@ -4,7 +4,7 @@ use Rattle.std.specs.Char.{encode_utf8, is_control}
 use Rattle.std.specs.Int.{is_in_range}
 use Rattle.std.specs.List.{flat_map}
 use Rattle.std.specs.Str.{chars, is_utf8}
-use Rattle.capture_text.specs.Numbers.{hex_padded}
+use Rattle.capture_words.specs.Numbers.{hex_padded}
 use Rattle.capture_texts.specs.declared.kept_text.KeptText.{KeptText}
 
 -- a character; the number of a control character is written in its place, so that no text can end a line or control a terminal

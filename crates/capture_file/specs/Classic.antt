@@ -7,12 +7,12 @@ use Rattle.net_base.specs.Bytes.{be_number}
 use Rattle.net_base.specs.Refusals.{first_of, refused_if}
 use Rattle.capture_texts.specs.declared.byte_order.ByteOrder.{ByteOrder}
 use Rattle.capture_texts.specs.declared.byte_order.ByteOrder.TheVariants.{BigEndian, LittleEndian}
+use Rattle.capture_texts.specs.LinkTypes.{link_type_with}
 use Rattle.capture_texts.specs.Numbers.{number_at, short_at}
 use Rattle.capture_file.specs.declared.classic.capture_header.CaptureHeader.{CaptureHeader}
 use Rattle.capture_file.specs.declared.classic.capture_header_error.CaptureHeaderError.{CaptureHeaderError}
 use Rattle.capture_file.specs.declared.classic.capture_header_error.CaptureHeaderError.TheVariants.{CutOff, Magic, Modified, Pcapng, Version}
-use Rattle.capture_file.specs.declared.link_type.LinkType.{LinkType}
-use Rattle.capture_file.specs.declared.link_type.LinkType.TheVariants.{Avs, BsdLoopback, CiscoHdlc, Ethernet, FrameRelay, Ieee80211, InfiniBand, Ipnet, LinuxCooked, LinuxCooked2, Nflog, OpenBsdLoopback, Pflog, Pktap, Ppi, Ppp, PppHdlc, PppOverEthernet, Prism, Radiotap, RawIp}
+use Rattle.capture_texts.specs.declared.link_type.LinkType.{LinkType}
 use Rattle.capture_file.specs.declared.classic.record_header.RecordHeader.{RecordHeader}
 use Rattle.capture_file.specs.declared.classic.record_header.Resolution.{Resolution}
 use Rattle.capture_file.specs.declared.classic.record_header.Resolution.TheVariants.{Microseconds, Nanoseconds}
@@ -26,18 +26,6 @@ magic_numbers = (0xA1B2C3D4, Microseconds) ∷ (0xA1B23C4D, Nanoseconds) ∷ []
 -- the resolution with this magic number
 abbrev pub resolution_with : ℕ → Option Resolution
 resolution_with magic = lookup (λ number. magic == number) magic_numbers
-
--- the numbers of the link types that are read
-abbrev pub link_types : List (ℕ × LinkType)
-link_types =
-    (0, BsdLoopback) ∷ (1, Ethernet) ∷ (9, Ppp) ∷ (12, RawIp) ∷ (14, RawIp) ∷ (50, PppHdlc) ∷ (51, PppOverEthernet) ∷ (101, RawIp)
-    ∷ (104, CiscoHdlc) ∷ (105, Ieee80211) ∷ (107, FrameRelay) ∷ (108, OpenBsdLoopback) ∷ (113, LinuxCooked) ∷ (117, Pflog) ∷ (119, Prism)
-    ∷ (127, Radiotap) ∷ (163, Avs) ∷ (192, Ppi) ∷ (226, Ipnet) ∷ (228, RawIp) ∷ (229, RawIp) ∷ (239, Nflog)
-    ∷ (242, InfiniBand) ∷ (258, Pktap) ∷ (276, LinuxCooked2) ∷ []
-
--- the link type with this number
-abbrev pub link_type_with : ℕ → Option LinkType
-link_type_with number = lookup (λ known. number == known) link_types
 
 -- the link type with this number, or the number itself if its link type is not read
 abbrev pub link_type_or_number : ℕ → Result LinkType ℕ

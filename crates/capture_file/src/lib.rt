@@ -17,11 +17,9 @@
 #![tactic(auto)]
 
 pub mod classic;
-mod link_type;
 mod packet_time;
 pub mod pcapng;
 pub mod reader;
 
-pub use capture_texts::ByteOrder;
-pub use link_type::LinkType;
+pub use capture_texts::{ByteOrder, LinkType};
 pub use packet_time::{NANOSECONDS_PER_SECOND, PacketTime, nanoseconds_of};

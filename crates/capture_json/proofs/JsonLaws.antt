@@ -3,8 +3,8 @@ use Rattle.std.specs.Prelude.{ℕ, List, Option}
 use Rattle.std.proofs.Common.{◌≡◌, ◌∙◌, sym}
 use Rattle.capture_json.specs.Members.{Member}
 use Rattle.tcp_part.specs.TcpFormat.{options_of}
-use Rattle.etherparse_transport.specs.declared.transport_slice.TransportSlice.{TransportSlice}
-use Rattle.etherparse_transport.specs.declared.transport_slice.TransportSlice.TheVariants as slices
+use Rattle.transport_part.specs.declared.transport_slice.TransportSlice.{TransportSlice}
+use Rattle.transport_part.specs.declared.transport_slice.TransportSlice.TheVariants as slices
 use Rattle.capture_packet.specs.declared.content.Content.{Content}
 use Rattle.capture_packet.specs.declared.content.Content.TheVariants as contents
 use Rattle.capture_packet.specs.declared.packet.Packet.{Packet}
@@ -12,8 +12,8 @@ use Rattle.capture_packet.specs.declared.transport.Transport.{Transport}
 use Rattle.capture_packet.specs.declared.transport.Transport.TheVariants as transports
 use Rattle.capture_file.specs.declared.packet_time.PacketTime.{PacketTime}
 use Rattle.capture_summary.specs.declared.capture_info.FrameLen.{FrameLen}
-use Rattle.capture_text.proofs.LineLaws.{one_of}
-use Rattle.capture_text.specs.declared.times.Times.{Times}
+use Rattle.capture_words.proofs.TcpTextLaws.{one_of}
+use Rattle.capture_words.specs.declared.times.Times.{Times}
 use Rattle.capture_json.proofs.OptionLaws.{one_options}
 use Rattle.capture_json.specs.JsonPacket.{AreContentMembers, AreReadMembers, AreTcpHeaderMembers, AreTcpMembers, AreTransportMembers, HasOneJsonLine, json_line, tcp_header_members}
 

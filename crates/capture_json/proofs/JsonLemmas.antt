@@ -10,7 +10,7 @@ use Rattle.serde_json.specs.Data.{Data, string}
 use Rattle.ip_part.specs.Addresses.{Addresses, Ipv4, Ipv6}
 use Rattle.capture_packet.specs.Addresses.{destination_text}
 use Rattle.capture_packet.specs.Addresses.{has_destination}
-use Rattle.capture_text.specs.Flags.{NamedFlag}
+use Rattle.capture_words.specs.Flags.{NamedFlag}
 use Rattle.capture_json.specs.JsonPacket.{destination_data, name_if_set, names_of_set}
 use Rattle.capture_json.proofs.TokensLemmas.{items_append}
 

@@ -9,7 +9,7 @@ use Rattle.tcp_part.specs.TcpOptionsReading.{BeginsWith, Item}
 use Rattle.tcp_part.specs.TcpRawOptions.{BeginsWithRaw, RawItem, RawOption, ReadsRaw, element_refusal, raw_spelling}
 use Rattle.tcp_part.specs.declared.tcp_option_element.TcpOptionElement.{TcpOptionElement}
 use Rattle.tcp_part.specs.declared.tcp_raw_option_error.TcpRawOptionError.{TcpRawOptionError}
-use Rattle.capture_text.proofs.LineLaws.{one_of}
+use Rattle.capture_words.proofs.TcpTextLaws.{one_of}
 use Rattle.capture_json.specs.JsonOptions.{AreOptionFields, AreOptionMembers, AreOptionObjects, IsOptionObject, data_fields, element_fields, fault_members, kind_object, option_object}
 use Rattle.capture_json.specs.Members.{Member, array_of}
 

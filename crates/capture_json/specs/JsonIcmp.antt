@@ -2,7 +2,7 @@
 use Rattle.std.specs.Prelude.{ℕ, List, [], ◌∷◌, codes, Option, None, Some}
 use Rattle.std.specs.Net.Text.{ipv4_text}
 use Rattle.capture_json.specs.Members.{Member, whole_number}
-use Rattle.capture_text.specs.Icmpv4Text.{mtu_of, pointer_of}
+use Rattle.capture_words.specs.Icmpv4Text.{mtu_of, pointer_of}
 use Rattle.icmp_part.specs.declared.icmpv4_type.Icmpv4Type.{Icmpv4Type}
 use Rattle.icmp_part.specs.declared.icmpv4_type.Icmpv4Type.TheVariants as icmpv4
 use Rattle.icmp_part.specs.declared.icmpv6_type.Icmpv6Type.{Icmpv6Type}

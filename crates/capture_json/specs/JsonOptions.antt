@@ -2,8 +2,8 @@
 use Rattle.std.specs.Prelude.{◌≡◌, ◌<◌, ◌⊎◌, ℕ, List, [], ◌∷◌, length, slice_index, codes, Option, Some, None, MatchOption}
 use Rattle.std.specs.List.{flat_map}
 use Rattle.capture_json.specs.Members.{Member, array_of, object_of, whole_number}
-use Rattle.capture_text.specs.Numbers.{hex_bytes}
-use Rattle.capture_text.specs.TcpText.{fault_text}
+use Rattle.capture_words.specs.Numbers.{hex_bytes}
+use Rattle.capture_words.specs.TcpText.{fault_text}
 use Rattle.serde_json.specs.Data.{Data, string}
 use Rattle.tcp_part.specs.TcpOptionsReading.{BeginsWith}
 use Rattle.tcp_part.specs.TcpRawOptions.{BeginsWithRaw, RawOption, element_refusal, raw_fault, raw_spelling}

@@ -12,11 +12,11 @@ use Rattle.net_base.specs.Bytes.{be_number}
 use Rattle.serde_json.specs.Data.{Data, null, string}
 use Rattle.serde_json.specs.Written.{compact_text}
 use Rattle.tcp_part.specs.TcpFormat.{flag_of, options_of, urg_flag}
-use Rattle.etherparse_transport.specs.declared.checksum_verdict.ChecksumVerdict.{ChecksumVerdict}
-use Rattle.etherparse_transport.specs.declared.checksum_verdict.ChecksumVerdict.TheVariants as checksums
-use Rattle.etherparse_transport.specs.declared.checksum_verdict.Untested.{Untested}
-use Rattle.etherparse_transport.specs.declared.transport_slice.TransportSlice.{TransportSlice}
-use Rattle.etherparse_transport.specs.declared.transport_slice.TransportSlice.TheVariants as slices
+use Rattle.transport_part.specs.declared.checksum_verdict.ChecksumVerdict.{ChecksumVerdict}
+use Rattle.transport_part.specs.declared.checksum_verdict.ChecksumVerdict.TheVariants as checksums
+use Rattle.transport_part.specs.declared.checksum_verdict.Untested.{Untested}
+use Rattle.transport_part.specs.declared.transport_slice.TransportSlice.{TransportSlice}
+use Rattle.transport_part.specs.declared.transport_slice.TransportSlice.TheVariants as slices
 use Rattle.capture_packet.specs.declared.content.Content.{Content}
 use Rattle.capture_packet.specs.declared.content.Content.TheVariants as contents
 use Rattle.capture_link.specs.declared.network_protocol.NetworkProtocol.{NetworkProtocol}
@@ -43,14 +43,14 @@ use Rattle.capture_json.specs.JsonIcmp.{icmpv4_fields, icmpv6_fields}
 use Rattle.capture_json.specs.JsonOptions.{AreOptionMembers}
 use Rattle.capture_json.specs.JsonTimes.{instant_members}
 use Rattle.capture_json.specs.Words.{with_underscores}
-use Rattle.capture_text.specs.Flags.{NamedFlag}
-use Rattle.capture_text.specs.Icmpv4Text as icmpv4_text
-use Rattle.capture_text.specs.Icmpv6Text as icmpv6_text
+use Rattle.capture_words.specs.Flags.{NamedFlag}
+use Rattle.capture_words.specs.Icmpv4Text as icmpv4_text
+use Rattle.capture_words.specs.Icmpv6Text as icmpv6_text
 use Rattle.capture_protocols.specs.Protocols.{ip_protocol_name, network_protocol_name}
-use Rattle.capture_text.specs.Refusals.{refusal_text}
-use Rattle.capture_text.specs.TcpText.{tcp_flags}
-use Rattle.capture_text.specs.TimeText.{time_text}
-use Rattle.capture_text.specs.declared.times.Times.{Times}
+use Rattle.capture_words.specs.Refusals.{refusal_text}
+use Rattle.capture_words.specs.TcpText.{tcp_flags}
+use Rattle.capture_words.specs.TimeText.{time_text}
+use Rattle.capture_words.specs.declared.times.Times.{Times}
 
 -- the time as in the line of text, and as seconds since 1970 and nanoseconds; `null` alone for a packet without a known time
 abbrev pub time_members : Times → Option PacketTime → Option PacketTime → List Member

@@ -6,9 +6,9 @@ use Rattle.capture_json.specs.Members.{Member, array_of, object_of, whole_number
 use Rattle.serde_json.specs.Data.{Data, string}
 use Rattle.capture_summary.specs.Rates.{average_len, rates_of}
 use Rattle.capture_summary.specs.declared.rates.Rates.{Rates}
-use Rattle.capture_text.specs.AbsoluteTime.{absolute_text}
+use Rattle.capture_words.specs.AbsoluteTime.{absolute_text}
 use Rattle.capture_summary.specs.Conversations.{both}
-use Rattle.capture_text.specs.Elapsed.{elapsed_text}
+use Rattle.capture_words.specs.Elapsed.{elapsed_text}
 use Rattle.capture_file.specs.declared.reader.capture_reader.CaptureReader.{CaptureReader}
 use Rattle.capture_json.specs.JsonFacts.{facts_members}
 use Rattle.capture_json.specs.JsonPacket.{ip_protocol_members, json_line, type_member}

@@ -4,7 +4,7 @@ use Rattle.std.specs.Int.{int_div_euclid, int_rem_euclid}
 use Rattle.capture_file.specs.PacketTimes.{nanoseconds_between, nanoseconds_per_second}
 use Rattle.capture_file.specs.declared.packet_time.PacketTime.{PacketTime}
 use Rattle.capture_json.specs.Members.{Member, integer, whole_number}
-use Rattle.capture_text.specs.AbsoluteTime.{nanoseconds_since_1970}
+use Rattle.capture_words.specs.AbsoluteTime.{nanoseconds_since_1970}
 
 -- the whole seconds from the beginning of 1970, UTC, to a time, rounded down, so that they are negative before 1970
 abbrev pub seconds_since_1970 : PacketTime → ℤ

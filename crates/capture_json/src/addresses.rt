@@ -8,7 +8,7 @@ ghost use Rattle.capture_json.specs.JsonPacket.{address_members, destination_dat
 use crate::Line;
 use crate::text::put_written;
 use capture_packet::{destination_of, source_of};
-use etherparse_transport::ip::IpAddresses;
+use ip_part::IpAddresses;
 use std::alloc::AllocError;
 use std::io;
 use std::io::Write;

@@ -6,14 +6,14 @@ ghost use Rattle.capture_json.specs.Tokens.{put, tokens_in, with_members};
 ghost use Rattle.capture_json.specs.JsonIcmp as specs;
 ghost use Rattle.capture_json.specs.JsonIcmp.{echo_fields, optional_number};
 ghost use Rattle.capture_json.specs.JsonPacket.{icmpv4_content, icmpv4_members, icmpv6_content, icmpv6_members, message_members};
-ghost use Rattle.capture_text.specs.Icmpv4Text.{mtu_of, pointer_of};
+ghost use Rattle.capture_words.specs.Icmpv4Text.{mtu_of, pointer_of};
 ghost use Rattle.serde_json.specs.Data.{string};
 
 use crate::Line;
 use crate::text::put_written;
-use capture_text::{icmpv4, icmpv6};
-use etherparse_transport::icmpv4::{DestUnreachableHeader, ParameterProblemHeader, RedirectHeader};
-use etherparse_transport::{Icmpv4Slice, Icmpv4Type, Icmpv6Slice, Icmpv6Type};
+use capture_words::{icmpv4, icmpv6};
+use icmp_part::icmpv4::{DestUnreachableHeader, ParameterProblemHeader, RedirectHeader};
+use icmp_part::{Icmpv4Slice, Icmpv4Type, Icmpv6Slice, Icmpv6Type};
 use std::alloc::AllocError;
 use std::io;
 use std::io::Write;

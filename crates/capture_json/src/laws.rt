@@ -5,7 +5,7 @@ ghost use Rattle.capture_packet.specs.declared.packet.Packet.{Packet};
 ghost use Rattle.capture_file.specs.declared.packet_time.PacketTime.{PacketTime};
 ghost use Rattle.capture_summary.specs.declared.capture_info.FrameLen.{FrameLen};
 ghost use Rattle.capture_json.specs.JsonPacket.{HasOneJsonLine};
-ghost use Rattle.capture_text.specs.declared.times.Times.{Times};
+ghost use Rattle.capture_words.specs.declared.times.Times.{Times};
 
 /// Equal packets with the same number, time and length have the same line of JSON.
 pub fn one_json_line()

@@ -4,7 +4,7 @@ ghost use Rattle.std.specs.Prelude.{◌≡◌, OnOk};
 ghost use Rattle.ip_part.specs.Addresses.{by_value};
 ghost use Rattle.capture_json.specs.Tokens.{PutsOne, tokens_in, with_members};
 ghost use Rattle.capture_json.specs.JsonPacket.{AreContentMembers, ArePacketMembers, AreReadMembers, AreTransportMembers, IsJsonLine, frame_members, hop_limit_members, time_members, udp_members};
-ghost use Rattle.capture_text.specs.Written.{AppendsOne};
+ghost use Rattle.capture_words.specs.Written.{AppendsOne};
 
 use crate::addresses::{put_addresses, put_payload_len, put_ports};
 use crate::icmp::{put_icmpv4, put_icmpv6};
@@ -20,11 +20,12 @@ use crate::{Line, WriteError};
 use capture_file::PacketTime;
 use capture_packet::{Content, HopLimit, Packet, Transport};
 use capture_summary::FrameLen;
-use capture_text::{Times, write_time};
-use etherparse_transport::{TransportSlice, UdpSlice};
+use capture_words::{Times, write_time};
 use std::alloc::{AllocError, Global};
 use std::io;
 use std::io::Write;
+use transport_part::TransportSlice;
+use udp_part::UdpSlice;
 
 /// The bytes that most texts in a line fit into.
 const TEXT_ROOM: usize = 64;

@@ -7,7 +7,8 @@ ghost use Rattle.capture_json.specs.Tokens.{tokens_in, with_members};
 
 use crate::Line;
 use capture_summary::ip_protocol_name;
-use etherparse_transport::{IpNumber, Proto};
+use ip_part::Proto;
+use net_base::IpNumber;
 use std::alloc::AllocError;
 
 /// Writes the number of a protocol over IP, and its name.

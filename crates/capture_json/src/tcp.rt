@@ -5,15 +5,15 @@ ghost use Rattle.capture_json.specs.Members.{texts_data};
 ghost use Rattle.capture_json.specs.Tokens.{PutsOne, put, tokens_in, with_items, with_members};
 ghost use Rattle.serde_json.specs.Data.{string};
 ghost use Rattle.capture_json.specs.JsonPacket.{AreTcpHeaderMembers, AreTcpMembers, name_if_set, names_of_set, tcp_number_members, urgent_members};
-ghost use Rattle.capture_text.specs.TcpText.{tcp_flags};
+ghost use Rattle.capture_words.specs.TcpText.{tcp_flags};
 
 use crate::Line;
 use crate::addresses::put_ports;
 use crate::tcp_options::put_options;
-use capture_text::named_flags;
-use etherparse_transport::TcpSlice;
+use capture_words::tcp::named_flags;
 use std::alloc::AllocError;
 use std::io;
+use tcp_part::TcpSlice;
 
 /// Writes the ports and the header of a segment.
 pub fn put_tcp(line: &mut Line, room: &mut Vec<u8>, segment: &TcpSlice) -> io::Result<()>

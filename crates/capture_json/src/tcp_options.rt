@@ -4,18 +4,16 @@ ghost use Rattle.std.specs.Prelude.{◌≡◌, IfOk, OnOk, codes};
 ghost use Rattle.std.specs.List.{flat_map};
 ghost use Rattle.capture_json.specs.JsonOptions.{AreOptionFields, AreOptionMembers, IsOptionObject, block_data, blocks_data, data_fields, element_fields, fault_members, kind_object, other_block};
 ghost use Rattle.capture_json.specs.Tokens.{PushesItem, PushesOptions, PutsOne, push, put, tokens_in, with_items, with_members};
-ghost use Rattle.capture_text.specs.Numbers.{hex_bytes};
+ghost use Rattle.capture_words.specs.Numbers.{hex_bytes};
 ghost use Rattle.tcp_part.specs.TcpFormat.{options_of};
 
 use crate::Line;
 use crate::text::put_written;
-use capture_text::write_fault;
-use etherparse_transport::{
-    TcpOptionElement, TcpRawOption, TcpRawOptionError, TcpSlice, tcp_option,
-};
+use capture_words::write_fault;
 use std::alloc::AllocError;
 use std::io;
 use std::io::Write;
+use tcp_part::{TcpOptionElement, TcpRawOption, TcpRawOptionError, TcpSlice, tcp_option};
 
 /// Writes the options of a header: an array of an object for each option, and the reason if the next option can't be read.
 pub fn put_options(line: &mut Line, room: &mut Vec<u8>, segment: &TcpSlice) -> io::Result<()>

@@ -8,7 +8,7 @@ ghost use Rattle.capture_json.specs.Tokens.{tokens_in, with_members};
 
 use crate::Line;
 use capture_file::{NANOSECONDS_PER_SECOND, PacketTime};
-use capture_text::nanoseconds_since_1970;
+use capture_words::nanoseconds_since_1970;
 use jiff_core::num::div_rem_floor;
 use std::alloc::AllocError;
 

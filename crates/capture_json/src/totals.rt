@@ -3,8 +3,8 @@
 ghost use Rattle.std.specs.Prelude.{◌≡◌, ◌-◌, ◌^◌, OnOk, codes, min};
 ghost use Rattle.capture_json.specs.Tokens.{put, tokens_in, with_members};
 ghost use Rattle.serde_json.specs.Data.{string};
-ghost use Rattle.capture_text.specs.AbsoluteTime.{absolute_text};
-ghost use Rattle.capture_text.specs.Elapsed.{elapsed_text};
+ghost use Rattle.capture_words.specs.AbsoluteTime.{absolute_text};
+ghost use Rattle.capture_words.specs.Elapsed.{elapsed_text};
 ghost use Rattle.capture_json.specs.JsonSummary.{average_members, rates_members, span_members, totals_members};
 ghost use Rattle.capture_json.specs.JsonTimes.{duration_members};
 ghost use Rattle.capture_file.specs.PacketTimes.{nanoseconds_between};
@@ -14,7 +14,7 @@ use crate::text::put_written;
 use crate::times::put_instant;
 use capture_file::{NANOSECONDS_PER_SECOND, PacketTime, nanoseconds_of};
 use capture_summary::{Rates, Summary, TimeSpan};
-use capture_text::{write_absolute, write_elapsed};
+use capture_words::{write_absolute, write_elapsed};
 use std::alloc::AllocError;
 use std::io;
 

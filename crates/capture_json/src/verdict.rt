@@ -9,9 +9,9 @@ use crate::Line;
 use crate::text::{fill_with_underscores, put_written};
 use capture_packet::{Refusal, Verdict};
 use capture_summary::VerdictKind;
-use capture_text::{write_refusal, write_zero_length};
-use etherparse_transport::{ChecksumVerdict, Untested};
+use capture_words::{write_refusal, write_zero_length};
 use std::io;
+use transport_part::{ChecksumVerdict, Untested};
 
 /// Writes the verdict on a packet.
 pub fn put_verdict(line: &mut Line, room: &mut Vec<u8>, verdict: &Verdict) -> io::Result<()>

@@ -2,15 +2,15 @@
 -- tcpdump.org.
 use Rattle.std.specs.Prelude.{ℕ, ◌+◌, ◌*◌, ◌/◌, ◌==◌, ◌||◌, ◌&&◌, Bool, nat_le, nat_lt, if◌then◌else◌, List, slice_index, Option, Some, None, Result, Ok}
 use Rattle.net_base.specs.Bytes.{be_number}
-use Rattle.capture_file.specs.Classic.{link_type_with}
+use Rattle.capture_texts.specs.LinkTypes.{link_type_with}
 use Rattle.capture_texts.specs.Numbers.{number_at, short_at}
 use Rattle.capture_link.specs.AddressFamilies.{family_at, is_ip_family}
 use Rattle.capture_link.specs.EtherHeaders.{ethernet_at}
 use Rattle.capture_link.specs.Ieee80211.{frame_at}
 use Rattle.capture_link.specs.LinkHeaders.{unread, with_bytes}
 use Rattle.capture_texts.specs.declared.byte_order.ByteOrder.TheVariants.{LittleEndian}
-use Rattle.capture_file.specs.declared.link_type.LinkType.{LinkType}
-use Rattle.capture_file.specs.declared.link_type.LinkType.TheVariants.{BsdLoopback, Ethernet, Ieee80211, RawIp}
+use Rattle.capture_texts.specs.declared.link_type.LinkType.{LinkType}
+use Rattle.capture_texts.specs.declared.link_type.LinkType.TheVariants.{BsdLoopback, Ethernet, Ieee80211, RawIp}
 use Rattle.capture_link.specs.declared.link.LinkHeaderCutOff.{LinkHeaderCutOff}
 use Rattle.capture_link.specs.declared.link.header.FirstHeader.{FirstHeader}
 use Rattle.capture_link.specs.declared.link.header.FirstHeader.TheVariants.{Whole}

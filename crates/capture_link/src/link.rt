@@ -33,7 +33,7 @@ use crate::link::metadata::{
 use crate::link::mpls::stack_at;
 use crate::link::nflog::log_header;
 use crate::link::ppp::{ppp_header, session_at};
-use capture_file::{ByteOrder, LinkType};
+use capture_texts::{ByteOrder, LinkType};
 
 /// The content of a frame after its link header.
 #[derive(Debug, PartialEq, Eq, Drop)]

@@ -8,8 +8,8 @@ use Rattle.ip_part.specs.declared.transport.TransportInIp.{TransportInIp}
 use Rattle.net_base.specs.Bytes.{be_number}
 use Rattle.net_base.specs.IpHeaders.{version}
 use Rattle.net_base.specs.declared.err.tcp.header_slice_error.HeaderSliceError.{HeaderSliceError}
-use Rattle.etherparse_transport.specs.Transports.{kept, refusal}
-use Rattle.etherparse_transport.specs.declared.transport_slice.TransportSlice.{TransportSlice}
+use Rattle.transport_part.specs.Transports.{kept, refusal}
+use Rattle.transport_part.specs.declared.transport_slice.TransportSlice.{TransportSlice}
 use Rattle.capture_packet.specs.Payloads.{counted_payload_len, payload_len}
 use Rattle.capture_packet.specs.declared.content.Content.{Content}
 use Rattle.capture_packet.specs.declared.content.Content.TheVariants.{Ip, IpHeader, NotIp, Unread}

@@ -3,9 +3,9 @@ use Rattle.std.specs.Prelude.{◌≡◌, ◌⊎◌, ◌&&◌, ℕ, Bool, true, f
 use Rattle.ip_part.specs.Ip.{Carries, IsAfterHeaders, lacks_len, lax_refusal, refusal}
 use Rattle.ip_part.specs.declared.ip_error.IpError.{IpError}
 use Rattle.ip_part.specs.declared.transport.TransportInIp.{TransportInIp}
-use Rattle.etherparse_transport.specs.declared.checksum_verdict.Untested.TheVariants.{CutOff, OtherProtocol}
+use Rattle.transport_part.specs.declared.checksum_verdict.Untested.TheVariants.{CutOff, OtherProtocol}
 use Rattle.capture_texts.specs.declared.byte_order.ByteOrder.{ByteOrder}
-use Rattle.capture_file.specs.declared.link_type.LinkType.{LinkType}
+use Rattle.capture_texts.specs.declared.link_type.LinkType.{LinkType}
 use Rattle.capture_packet.specs.Contents.{Shows, ShowsRefused}
 use Rattle.capture_link.specs.Link.{HasLinkHeader, IsFoundAfter, NeedsLinkHeader}
 use Rattle.capture_packet.specs.HopLimits.{hop_limit_of}

@@ -3,10 +3,10 @@ use Rattle.std.specs.Prelude.{ℕ, ◌-◌, min, nat_lt, if◌then◌else◌, Li
 use Rattle.ip_part.specs.Ip.{counted_len}
 use Rattle.ip_part.specs.declared.transport.TransportInIp.{TransportInIp}
 use Rattle.udp_part.specs.UdpSlice.{length_field}
-use Rattle.etherparse_transport.specs.Formats.{layout_of}
-use Rattle.etherparse_transport.specs.Transports.{bytes_of, payload_of, proto_of}
-use Rattle.etherparse_transport.specs.declared.transport_slice.TransportSlice.{TransportSlice}
-use Rattle.etherparse_transport.specs.declared.transport_slice.TransportSlice.TheVariants.{Icmpv4, Icmpv6, Tcp, Udp}
+use Rattle.transport_part.specs.Layouts.{layout_of}
+use Rattle.transport_part.specs.Transports.{bytes_of, payload_of, proto_of}
+use Rattle.transport_part.specs.declared.transport_slice.TransportSlice.{TransportSlice}
+use Rattle.transport_part.specs.declared.transport_slice.TransportSlice.TheVariants.{Icmpv4, Icmpv6, Tcp, Udp}
 use Rattle.capture_packet.specs.declared.transport.Transport.{Transport}
 use Rattle.capture_packet.specs.declared.transport.Transport.TheVariants.{Ports, Read, Unread}
 

@@ -8,7 +8,7 @@ use Rattle.ip_part.specs.Protocols.{proto_over}
 use Rattle.ip_part.specs.declared.ip_error.IpError.{IpError}
 use Rattle.ip_part.specs.declared.proto.Proto.{Proto}
 use Rattle.ip_part.specs.declared.transport.TransportInIp.{TransportInIp}
-use Rattle.etherparse_transport.specs.Transports as transport_slices
+use Rattle.transport_part.specs.Transports as transport_slices
 use Rattle.capture_packet.specs.Contents.{ports_at}
 use Rattle.capture_packet.specs.declared.quoted_packet.QuotedPacket.{QuotedPacket}
 use Rattle.capture_packet.specs.declared.transport.Transport.{Transport}

@@ -12,11 +12,11 @@ use Rattle.net_base.specs.declared.err.layer.Layer.TheVariants as layers
 use Rattle.net_base.specs.declared.err.len_source.LenSource.TheVariants.{UdpHeaderLen}
 use Rattle.net_base.specs.declared.err.tcp.header_slice_error.HeaderSliceError.{HeaderSliceError}
 use Rattle.net_base.specs.declared.err.tcp.header_slice_error.HeaderSliceError.TheVariants.{Content, Len}
-use Rattle.etherparse_transport.specs.Transports as transports
-use Rattle.etherparse_transport.specs.Verdicts.{JudgesFound}
-use Rattle.etherparse_transport.specs.declared.checksum_verdict.ChecksumVerdict.TheVariants as checksums
-use Rattle.etherparse_transport.specs.declared.checksum_verdict.Untested.{Untested}
-use Rattle.etherparse_transport.specs.declared.checksum_verdict.Untested.TheVariants.{CutOff, Fragment, OtherProtocol, TooLong as TooLongToTest, UnknownDestination, ZeroLength}
+use Rattle.transport_part.specs.Transports as transports
+use Rattle.transport_part.specs.Verdicts.{JudgesFound}
+use Rattle.transport_part.specs.declared.checksum_verdict.ChecksumVerdict.TheVariants as checksums
+use Rattle.transport_part.specs.declared.checksum_verdict.Untested.{Untested}
+use Rattle.transport_part.specs.declared.checksum_verdict.Untested.TheVariants.{CutOff, Fragment, OtherProtocol, TooLong as TooLongToTest, UnknownDestination, ZeroLength}
 use Rattle.capture_packet.specs.declared.refusal.Refusal.{Refusal}
 use Rattle.capture_packet.specs.declared.refusal.Refusal.TheVariants as refusals
 use Rattle.capture_packet.specs.declared.verdict.Verdict.{Verdict}

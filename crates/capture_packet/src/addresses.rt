@@ -3,7 +3,7 @@ ghost use Rattle.std.specs.Net.Text.{ip_text};
 ghost use Rattle.ip_part.specs.Addresses.{by_value};
 ghost use Rattle.capture_packet.specs.Addresses.{IsDestination, IsSource, destination_text, has_destination, source_text};
 
-use etherparse_transport::ip::IpAddresses;
+use ip_part::IpAddresses;
 use std::net::IpAddr;
 
 /// The address of the sender.

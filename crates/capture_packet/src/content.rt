@@ -1,7 +1,7 @@
 use crate::Transport;
 use capture_link::NetworkProtocol;
-use etherparse_transport::ip::IpAddresses;
-use etherparse_transport::{IpNumber, Proto};
+use ip_part::{IpAddresses, Proto};
+use net_base::IpNumber;
 
 /// The content of a packet, as far as it can be read.
 #[derive(Debug, PartialEq, Eq, Drop)]

@@ -6,7 +6,7 @@ ghost use Rattle.capture_packet.specs.HopLimits.{hop_limit_of};
 ghost use Rattle.capture_packet.specs.Tunnels.{packet_of_version};
 
 use crate::HopLimit;
-use etherparse_transport::ip::IpAddresses;
+use ip_part::IpAddresses;
 
 /// The length of an IPv4 header without options, in bytes (RFC 791, section 3.1).
 const IPV4_LEN: usize = 20;

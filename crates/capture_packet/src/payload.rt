@@ -5,8 +5,9 @@ ghost use Rattle.ip_part.specs.Ip.{Carries, lacks_len, lax_refusal};
 ghost use Rattle.capture_packet.specs.Payloads as specs;
 
 use crate::Transport;
-use etherparse_transport::ip::{IpError, TransportInIp, transport_in_ip};
-use etherparse_transport::{TransportSlice, UdpHeader};
+use ip_part::{IpError, TransportInIp, transport_in_ip};
+use transport_part::TransportSlice;
+use udp_part::UdpHeader;
 
 /// The number of bytes after the headers of an IP packet that the IP header counts. If the packet is cut off, fewer bytes are present.
 pub(crate) fn counted_payload_len(packet: &[u8], found: &TransportInIp<'_>) -> usize

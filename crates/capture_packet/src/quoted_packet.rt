@@ -3,8 +3,8 @@ ghost use Rattle.std.specs.Option.{option_map};
 ghost use Rattle.capture_packet.specs.Quotes.{by_value, quoted_at, quoted_by};
 
 use crate::transport::ports_in;
-use etherparse_transport::ip::{IpAddresses, TransportInIp, transport_in_ip_lax};
-use etherparse_transport::{IpNumber, Proto};
+use ip_part::{IpAddresses, Proto, TransportInIp, transport_in_ip_lax};
+use net_base::IpNumber;
 
 /// The packet that an ICMP error is about, by the first bytes of it that the error quotes (RFC 792; RFC 4443, section 3; RFC 4884,
 /// section 4).

@@ -13,10 +13,10 @@ use crate::transport::{is_transport_cut_off, read_transport};
 use crate::tunnel::packet_in_payload;
 use crate::{Content, Packet, Refusal, Tunnel, Tunnels, Verdict};
 use arrayvec::ArrayVec;
-use capture_file::{ByteOrder, LinkType};
 use capture_link::{Frame, LinkHeaderCutOff, network_packet};
-use etherparse_transport::Untested;
-use etherparse_transport::ip::{IpError, TransportInIp, transport_in_ip, transport_in_ip_lax};
+use capture_texts::{ByteOrder, LinkType};
+use ip_part::{IpError, TransportInIp, transport_in_ip, transport_in_ip_lax};
+use transport_part::Untested;
 
 /// The maximum length in bytes of a packet that is read, and of a block of a pcapng file. It is twice the maximum that libpcap captures of
 /// a packet.

@@ -1,7 +1,6 @@
 use capture_link::LinkHeaderCutOff;
-use etherparse_transport::Proto;
-use etherparse_transport::err::tcp::HeaderSliceError;
-use etherparse_transport::ip::IpError;
+use ip_part::{IpError, Proto};
+use net_base::err::tcp::HeaderSliceError;
 
 /// Why a packet is rejected.
 #[derive(Clone, Debug, PartialEq, Eq, Drop)]

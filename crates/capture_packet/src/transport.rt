@@ -1,7 +1,7 @@
 ghost use Rattle.std.specs.Prelude.{◌≡◌, None, Some};
 ghost use Rattle.ip_part.specs.Addresses.{by_value};
 ghost use Rattle.ip_part.specs.Protocols.{proto_over};
-ghost use Rattle.etherparse_transport.specs.Transports.{kept, refusal};
+ghost use Rattle.transport_part.specs.Transports.{kept, refusal};
 ghost use Rattle.capture_packet.specs.Contents as contents;
 ghost use Rattle.capture_packet.specs.Contents.{Holds, read_in};
 ghost use Rattle.capture_packet.specs.Verdicts.{JudgesAccepted, JudgesTransport};
@@ -9,9 +9,10 @@ ghost use Rattle.capture_packet.specs.Verdicts as specs;
 
 use crate::quoted_packet::read_quoted_packet;
 use crate::{QuotedPacket, Refusal, Verdict};
-use etherparse_transport::err::tcp::HeaderSliceError;
-use etherparse_transport::ip::{TransportInIp, proto_in_ip, transport_slice};
-use etherparse_transport::{Proto, TransportSlice, Untested};
+use ip_part::{Proto, TransportInIp};
+use net_base::err::tcp::HeaderSliceError;
+use transport_part::ip::{proto_in_ip, transport_slice};
+use transport_part::{TransportSlice, Untested};
 
 /// The transport of an IP packet.
 #[derive(Debug, PartialEq, Eq, Drop)]

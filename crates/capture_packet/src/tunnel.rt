@@ -7,8 +7,8 @@ ghost use Rattle.capture_packet.specs.Tunnels.{packet_in, payload_packet};
 use crate::fixed_header::{ipv4_packet, ipv6_packet};
 use crate::gre::packet_after_gre;
 use arrayvec::ArrayVec;
-use etherparse_transport::IpNumber;
-use etherparse_transport::ip::{IpAddresses, TransportInIp};
+use ip_part::{IpAddresses, TransportInIp};
+use net_base::IpNumber;
 
 /// The maximum number of tunnels that are read.
 pub const MAX_TUNNELS: usize = 4;

@@ -2,7 +2,7 @@ ghost use Rattle.std.specs.Prelude.{◌≡◌};
 ghost use Rattle.capture_packet.specs.Verdicts as specs;
 
 use crate::Refusal;
-use etherparse_transport::{ChecksumVerdict, Untested};
+use transport_part::{ChecksumVerdict, Untested};
 
 /// The verdict on the checksum of a packet.
 ///

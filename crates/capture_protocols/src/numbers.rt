@@ -7,7 +7,8 @@ ghost use Rattle.capture_protocols.specs.Protocols.{ether_types, ip_protocols, n
 
 use crate::protocol::Protocol;
 use capture_packet::NetworkProtocol;
-use etherparse_transport::{IpNumber, Proto};
+use ip_part::Proto;
+use net_base::IpNumber;
 
 /// The service access point of the spanning tree protocol (IEEE 802.1D, clause 7.12.3).
 const STP: u8 = 0x42;

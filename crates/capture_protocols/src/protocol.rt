@@ -4,7 +4,7 @@ ghost use Rattle.capture_protocols.specs.declared.protocol.Protocol.{Protocol};
 
 use crate::numbers::{ip_protocol, network_protocol};
 use capture_packet::Content;
-use etherparse_transport::Proto;
+use ip_part::Proto;
 
 /// The protocol of a packet: a row of the table of protocols.
 #[derive(Clone, Copy, Debug, PartialEq, Eq)]

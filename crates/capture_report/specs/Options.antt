@@ -6,7 +6,7 @@ use Rattle.clap.specs.declared.parser.matches.ArgMatches.{ArgMatches}
 use Rattle.capture_run.specs.Lines.{lines_by}
 use Rattle.capture_run.specs.declared.parts.Format.TheVariants as formats
 use Rattle.capture_summary.specs.Ranking.{default_top}
-use Rattle.capture_text.specs.TimeText.{times_by}
+use Rattle.capture_words.specs.TimeText.{times_by}
 use Rattle.capture_report.specs.Arguments.{HasFlag, HasNumberOr, values_of}
 use Rattle.capture_report.specs.Chosen.{IsChoiceOf, IsRefusal}
 use Rattle.capture_report.specs.Conflicts.{conflict_in}

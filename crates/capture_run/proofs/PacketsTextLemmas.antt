@@ -10,7 +10,7 @@ use Rattle.capture_file.specs.declared.packet_time.PacketTime.{PacketTime}
 use Rattle.capture_packet.specs.Frames.{max_packet_len}
 use Rattle.capture_run.specs.PacketsText.{EndsAfter, IsPacketText, IsPacketsText, first_time}
 use Rattle.capture_run.specs.Report.{IsAnsweredBy, packet_time}
-use Rattle.capture_text.specs.Written.{AppendsOne}
+use Rattle.capture_words.specs.Written.{AppendsOne}
 use Rattle.capture_run.specs.declared.parts.Parts.{Parts}
 use Rattle.capture_run.specs.declared.capture_error.CaptureError.{CaptureError}
 

@@ -10,7 +10,7 @@ use Rattle.capture_text.specs.PacketLine.{IsLine}
 use Rattle.capture_run.specs.declared.parts.Format.{Format}
 use Rattle.capture_run.specs.declared.parts.Format.TheVariants as formats
 use Rattle.capture_run.specs.declared.parts.Parts.{Parts}
-use Rattle.capture_text.specs.declared.times.Times.{Times}
+use Rattle.capture_words.specs.declared.times.Times.{Times}
 
 -- the line of a packet in a format; JSON has all details whether the line is verbose or not
 abbrev pub IsLineIn : Format → Times → Bool → ℕ → Option PacketTime → CaptureInfo → Packet → List ℕ → Type 0

@@ -13,7 +13,7 @@ ghost use Rattle.capture_run.specs.declared.exit_status.ExitStatus.TheVariants a
 ghost use Rattle.capture_summary.specs.SummaryTables.{empty_tables};
 ghost use Rattle.capture_facts.specs.FactsText.{facts_text};
 ghost use Rattle.capture_text.specs.SummaryText.{tables_text};
-ghost use Rattle.capture_text.specs.Written.{AppendsOne};
+ghost use Rattle.capture_words.specs.Written.{AppendsOne};
 ghost use Rattle.capture_run.specs.declared.parts.Lines.TheVariants as Lines;
 
 use crate::packet_report::is_full;

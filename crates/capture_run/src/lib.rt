@@ -20,7 +20,7 @@ pub use capture_error::{CaptureError, write_error, write_open_error};
 pub use capture_json::WriteError;
 pub use capture_packet::MAX_PACKET_LEN;
 pub use capture_summary::Choice;
-pub use capture_text::Times;
+pub use capture_words::Times;
 pub use compression::Compression;
 pub use exit_status::ExitStatus;
 pub use open::Open;

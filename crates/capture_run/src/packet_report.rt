@@ -5,7 +5,7 @@ ghost use Rattle.capture_run.specs.Lines.{HasNoLine, IfNoLine, has_line};
 ghost use Rattle.capture_run.specs.Report.{CountsChosen, CountsRead, CountsPacket, IsReadAs, IsTooLong, captured_info, too_long_info};
 ghost use Rattle.capture_text.specs.PacketLine.{IsLine};
 ghost use Rattle.capture_run.specs.ReportText.{IsLineIn, IsTextOf, IsTextOfChosen, IsTextOfOne};
-ghost use Rattle.capture_text.specs.Written.{AppendsOne};
+ghost use Rattle.capture_words.specs.Written.{AppendsOne};
 ghost use Rattle.capture_run.specs.declared.parts.Lines.TheVariants as Lines;
 
 use crate::{Format, Parts, WriteError};
@@ -17,9 +17,9 @@ use capture_summary::{
     CaptureInfo, FrameLen, Protocol, RefusalKind, Summary, VerdictKind, flow_of,
 };
 use capture_text::write_packet_line;
-use etherparse_transport::Untested;
 use std::alloc::Global;
 use std::io::Write;
+use transport_part::Untested;
 
 /// The report so far: the state that is kept from packet to packet.
 #[derive(Drop)]

@@ -10,7 +10,7 @@ ghost use Rattle.capture_run.specs.PacketsText.{IsCaptureText, WritesPacket, Wri
 ghost use Rattle.capture_run.specs.ReadCaptures.{IsLeft, IsReaderOf, LeavesReader};
 ghost use Rattle.capture_run.specs.Report.{CountsCapture, CountsEach, IsLeftAt, IsReadToEnd, PlacesEnd, PlacesError, ReadsWholePackets, ReportsNext};
 ghost use Rattle.capture_run.specs.Runs.{EndsAtHeader, EndsInPlace, IsUnread, ReportsCapture};
-ghost use Rattle.capture_text.specs.Written.{AppendsOne};
+ghost use Rattle.capture_words.specs.Written.{AppendsOne};
 ghost use Rattle.capture_run.specs.declared.parts.Lines.TheVariants as Lines;
 ghost use Rattle.capture_run.specs.declared.capture_error.CaptureError.TheVariants as CaptureError;
 

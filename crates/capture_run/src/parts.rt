@@ -4,7 +4,7 @@ ghost use Rattle.std.specs.Prelude.{◌≡◌, None, false, not};
 ghost use Rattle.capture_summary.specs.Choice.{every_packet};
 ghost use Rattle.capture_run.specs.Lines.{has_line, lines_by};
 ghost use Rattle.capture_summary.specs.Ranking.{default_top};
-ghost use Rattle.capture_text.specs.declared.times.Times.TheVariants.{SinceFirst};
+ghost use Rattle.capture_words.specs.declared.times.Times.TheVariants.{SinceFirst};
 ghost use Rattle.capture_run.specs.declared.parts.Format.TheVariants as Format;
 
 use crate::{Choice, Times};

@@ -6,7 +6,7 @@ use Rattle.ip_part.specs.Addresses.{by_value}
 use Rattle.ip_part.specs.declared.proto.Proto.{Proto}
 use Rattle.ip_part.specs.declared.proto.Proto.TheVariants as protos
 use Rattle.net_base.specs.Bytes.{be_number}
-use Rattle.etherparse_transport.specs.declared.transport_slice.TransportSlice.TheVariants as slices
+use Rattle.transport_part.specs.declared.transport_slice.TransportSlice.TheVariants as slices
 use Rattle.capture_packet.specs.declared.content.Content.{Content}
 use Rattle.capture_packet.specs.declared.content.Content.TheVariants as contents
 use Rattle.capture_packet.specs.declared.transport.Transport.{Transport}

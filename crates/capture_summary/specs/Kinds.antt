@@ -6,11 +6,11 @@ use Rattle.ip_part.specs.declared.proto.Proto.{Proto}
 use Rattle.ip_part.specs.declared.proto.Proto.TheVariants as protos
 use Rattle.net_base.specs.IpNumbers.{tcp_number, udp_number}
 use Rattle.net_base.specs.declared.err.tcp.header_slice_error.HeaderSliceError.TheVariants as tcp_errors
-use Rattle.etherparse_transport.specs.declared.checksum_verdict.ChecksumVerdict.TheVariants as checksums
-use Rattle.etherparse_transport.specs.declared.checksum_verdict.Untested.{Untested}
-use Rattle.etherparse_transport.specs.declared.checksum_verdict.Untested.TheVariants as reasons
-use Rattle.capture_file.specs.declared.link_type.LinkType.{LinkType}
-use Rattle.capture_file.specs.declared.link_type.LinkType.TheVariants as link_types
+use Rattle.transport_part.specs.declared.checksum_verdict.ChecksumVerdict.TheVariants as checksums
+use Rattle.transport_part.specs.declared.checksum_verdict.Untested.{Untested}
+use Rattle.transport_part.specs.declared.checksum_verdict.Untested.TheVariants as reasons
+use Rattle.capture_texts.specs.declared.link_type.LinkType.{LinkType}
+use Rattle.capture_texts.specs.declared.link_type.LinkType.TheVariants as link_types
 use Rattle.capture_packet.specs.Verdicts.{refusal_of}
 use Rattle.capture_packet.specs.declared.content.Content.TheVariants as contents
 use Rattle.capture_packet.specs.declared.refusal.Refusal.{Refusal}

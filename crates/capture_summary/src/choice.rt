@@ -8,7 +8,7 @@ ghost use Rattle.capture_summary.specs.FlowOf.{ports_of};
 use crate::packet_flow::ports;
 use crate::{FlowProtocol, Network, Protocol};
 use capture_packet::{Content, Packet, Transport, Tunnel};
-use etherparse_transport::ip::IpAddresses;
+use ip_part::IpAddresses;
 
 /// The most hosts of a choice, and the most ports.
 pub const MAX_CHOSEN: usize = 16;

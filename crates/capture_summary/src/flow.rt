@@ -3,7 +3,8 @@ ghost use Rattle.std.specs.contracts.net.socket_addr.SocketAddrPartialEq.TheImpl
 ghost use Rattle.capture_summary.specs.Kinds.{flow_proto, flow_protocol_number, flow_protocol_word};
 ghost use Rattle.capture_summary.specs.Conversations.{canonical, is_same_flow, reversed};
 
-use etherparse_transport::{IpNumber, Proto, ip_number};
+use ip_part::Proto;
+use net_base::{IpNumber, ip_number};
 use std::net::SocketAddr;
 
 /// The protocol of a flow.

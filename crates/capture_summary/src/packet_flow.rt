@@ -4,8 +4,9 @@ ghost use Rattle.capture_summary.specs.FlowOf.{IsFlowOf, ports_of};
 
 use crate::{Flow, FlowProtocol};
 use capture_packet::{Content, Packet, Transport, destination_of, source_of};
-use etherparse_transport::{Proto, TransportSlice};
+use ip_part::Proto;
 use std::net::SocketAddr;
+use transport_part::TransportSlice;
 
 /// The flow of a packet, if its ports and addresses are known.
 pub fn flow_of(packet: &Packet<'_>) -> Option<Flow>

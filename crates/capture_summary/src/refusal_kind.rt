@@ -5,9 +5,9 @@ ghost use Rattle.capture_summary.specs.declared.refusal_kind.RefusalKind.{Refusa
 ghost use Rattle.capture_packet.specs.declared.refusal.Refusal.TheVariants as refusals;
 
 use capture_packet::{Refusal, Verdict};
-use etherparse_transport::err::tcp::HeaderSliceError;
-use etherparse_transport::ip::IpError;
-use etherparse_transport::{ChecksumVerdict, Proto, Untested};
+use ip_part::{IpError, Proto};
+use net_base::err::tcp::HeaderSliceError;
+use transport_part::{ChecksumVerdict, Untested};
 
 /// The kind of a rejection, without its fields: a row of the table of rejections.
 #[derive(Clone, Copy, Debug, PartialEq, Eq)]

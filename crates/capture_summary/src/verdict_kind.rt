@@ -5,7 +5,7 @@ ghost use Rattle.capture_summary.specs.declared.verdict_kind.VerdictKind.{Verdic
 ghost use Rattle.capture_summary.specs.declared.verdict_kind.VerdictKind.TheVariants as kinds;
 
 use capture_packet::Verdict;
-use etherparse_transport::{ChecksumVerdict, Untested};
+use transport_part::{ChecksumVerdict, Untested};
 
 /// The kind of a verdict, without its fields: a row of the table of checksums.
 #[derive(Clone, Copy, Debug, PartialEq, Eq)]

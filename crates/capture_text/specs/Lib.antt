@@ -1,16 +1,5 @@
-pub mod AbsoluteTime
 pub mod AddressText
-pub mod Elapsed
-pub mod Flags
-pub mod IcmpText
-pub mod Icmpv4Text
-pub mod Icmpv6Text
-pub mod Numbers
 pub mod PacketLine
-pub mod Refusals
 pub mod SummaryText
-pub mod TcpText
-pub mod TimeText
 pub mod TotalsText
 pub mod VerdictText
-pub mod Written

@@ -6,7 +6,7 @@ use Rattle.icmp_part.specs.Icmpv6Format as icmpv6
 use Rattle.ip_part.specs.Addresses.{Addresses, by_value}
 use Rattle.ip_part.specs.declared.proto.Proto.{Proto}
 use Rattle.net_base.specs.Bytes.{be_number}
-use Rattle.etherparse_transport.specs.declared.transport_slice.TransportSlice.TheVariants as slices
+use Rattle.transport_part.specs.declared.transport_slice.TransportSlice.TheVariants as slices
 use Rattle.capture_packet.specs.Payloads.{payload_in}
 use Rattle.capture_packet.specs.Quotes.{Quoted, quoted_in}
 use Rattle.capture_packet.specs.declared.content.Content.{Content}
@@ -22,15 +22,15 @@ use Rattle.capture_packet.specs.declared.tunnel.Tunnel.{Tunnel}
 use Rattle.capture_packet.specs.declared.verdict.Verdict.{Verdict}
 use Rattle.capture_file.specs.declared.packet_time.PacketTime.{PacketTime}
 use Rattle.capture_text.specs.AddressText.{addresses_text, endpoints_text}
-use Rattle.capture_text.specs.Icmpv4Text as icmpv4_text
-use Rattle.capture_text.specs.Icmpv6Text as icmpv6_text
-use Rattle.capture_text.specs.Numbers.{hex_padded}
+use Rattle.capture_words.specs.Icmpv4Text as icmpv4_text
+use Rattle.capture_words.specs.Icmpv6Text as icmpv6_text
+use Rattle.capture_words.specs.Numbers.{hex_padded}
 use Rattle.capture_protocols.specs.Protocols.{ip_protocol_name, network_protocol_name}
 use Rattle.capture_summary.specs.declared.capture_info.FrameLen.{FrameLen}
-use Rattle.capture_text.specs.TcpText.{IsHeaderText}
-use Rattle.capture_text.specs.TimeText.{time_text}
+use Rattle.capture_words.specs.TcpText.{IsHeaderText}
+use Rattle.capture_words.specs.TimeText.{time_text}
 use Rattle.capture_text.specs.VerdictText.{is_other_protocol, verdict_text}
-use Rattle.capture_text.specs.declared.times.Times.{Times}
+use Rattle.capture_words.specs.declared.times.Times.{Times}
 
 -- the number of bytes that were captured, if it is not this length
 abbrev pub captured_text : ℕ → ℕ → List ℕ

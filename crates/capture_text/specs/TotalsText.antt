@@ -1,8 +1,8 @@
 -- The totals of the summary, before its tables.
 use Rattle.std.specs.Prelude.{ℕ, List, [], ◌++◌, length, codes, decimal, Option, Some, None}
 use Rattle.capture_file.specs.declared.packet_time.PacketTime.{PacketTime}
-use Rattle.capture_text.specs.AbsoluteTime.{absolute_text}
-use Rattle.capture_text.specs.Elapsed.{elapsed_text}
+use Rattle.capture_words.specs.AbsoluteTime.{absolute_text}
+use Rattle.capture_words.specs.Elapsed.{elapsed_text}
 use Rattle.capture_summary.specs.Rates.{average_len, rates_of}
 use Rattle.capture_summary.specs.SummaryTables.{SummaryTables}
 use Rattle.capture_summary.specs.declared.rates.Rates.{Rates}

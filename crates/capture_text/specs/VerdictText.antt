@@ -1,9 +1,9 @@
 -- The verdict at the end of a line.
 use Rattle.std.specs.Prelude.{ℕ, Bool, true, false, List, ◌++◌, codes, decimal}
-use Rattle.etherparse_transport.specs.declared.checksum_verdict.ChecksumVerdict.{ChecksumVerdict}
-use Rattle.etherparse_transport.specs.declared.checksum_verdict.ChecksumVerdict.TheVariants as checksums
-use Rattle.etherparse_transport.specs.declared.checksum_verdict.Untested.{Untested}
-use Rattle.etherparse_transport.specs.declared.checksum_verdict.Untested.TheVariants as reasons
+use Rattle.transport_part.specs.declared.checksum_verdict.ChecksumVerdict.{ChecksumVerdict}
+use Rattle.transport_part.specs.declared.checksum_verdict.ChecksumVerdict.TheVariants as checksums
+use Rattle.transport_part.specs.declared.checksum_verdict.Untested.{Untested}
+use Rattle.transport_part.specs.declared.checksum_verdict.Untested.TheVariants as reasons
 use Rattle.capture_packet.specs.Frames.{max_packet_len}
 use Rattle.capture_packet.specs.Verdicts.{zero_length}
 use Rattle.capture_packet.specs.declared.verdict.Verdict.{Verdict}
@@ -11,8 +11,8 @@ use Rattle.capture_packet.specs.declared.verdict.Verdict.TheVariants as verdicts
 use Rattle.capture_summary.specs.Kinds.{verdict_word}
 use Rattle.capture_summary.specs.declared.verdict_kind.VerdictKind.{VerdictKind}
 use Rattle.capture_summary.specs.declared.verdict_kind.VerdictKind.TheVariants as kinds
-use Rattle.capture_text.specs.Numbers.{hex_padded}
-use Rattle.capture_text.specs.Refusals.{refusal_text}
+use Rattle.capture_words.specs.Numbers.{hex_padded}
+use Rattle.capture_words.specs.Refusals.{refusal_text}
 
 -- why a checksum is not tested; a UDP packet without a length is rejected
 abbrev pub untested_text : Untested → List ℕ

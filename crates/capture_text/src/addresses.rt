@@ -6,7 +6,7 @@ ghost use Rattle.ip_part.specs.Addresses.{by_value};
 ghost use Rattle.capture_text.specs.AddressText.{addresses_text, endpoints_text};
 
 use capture_packet::{destination_of, source_of};
-use etherparse_transport::ip::IpAddresses;
+use ip_part::IpAddresses;
 use std::io;
 use std::io::Write;
 use std::net::SocketAddr;

@@ -7,24 +7,24 @@ ghost use Rattle.std.specs.Option.{option_map};
 ghost use Rattle.ip_part.specs.Addresses.{by_value};
 ghost use Rattle.capture_packet.specs.Quotes.{by_value as quoted_by_value};
 ghost use Rattle.capture_text.specs.PacketLine.{IsContentText, IsLine, IsTcpText, IsTransportText, captured_text, details_text, end_text, frame_text, icmpv4_line, icmpv6_line, known_endpoints, name_or_number, network_number, network_text, payload_text, quoted_text, tunnel_text, udp_text, unread_text, verdict_part};
-ghost use Rattle.capture_text.specs.Written.{AppendsOne};
+ghost use Rattle.capture_words.specs.Written.{AppendsOne};
 
 use crate::addresses::{write_addresses, write_endpoints};
-use crate::time::write_time;
-use crate::times::Times;
 use crate::verdict::{is_other_protocol, write_verdict};
-use crate::{icmpv4, icmpv6, tcp};
 use capture_file::PacketTime;
 use capture_packet::{
     Content, HopLimit, NetworkProtocol, Packet, QuotedPacket, Transport, Tunnel, Verdict,
 };
 use capture_summary::{FrameLen, ip_protocol_name, network_protocol_name};
-use etherparse_transport::ip::IpAddresses;
-use etherparse_transport::{
-    Icmpv4Slice, Icmpv6Slice, IpNumber, Proto, TcpSlice, TransportSlice, UdpSlice,
-};
+use capture_words::{Times, icmpv4, icmpv6, tcp, write_time};
+use icmp_part::{Icmpv4Slice, Icmpv6Slice};
+use ip_part::{IpAddresses, Proto};
+use net_base::IpNumber;
 use std::io;
 use std::io::Write;
+use tcp_part::TcpSlice;
+use transport_part::TransportSlice;
+use udp_part::UdpSlice;
 
 /// Writes the line of a packet: its number, its time, the length of its frame, its tunnels, its addresses, its content, and its verdict. A
 /// bar follows each tunnel. A verbose line also has the hop limit or the time to live of the packet, if its IP header was captured.

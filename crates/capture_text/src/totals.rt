@@ -4,9 +4,9 @@ ghost use Rattle.std.specs.Prelude.{OnOk};
 ghost use Rattle.std.specs.Io.KnownBytes.{Appends};
 ghost use Rattle.capture_text.specs.TotalsText as specs;
 
-use crate::{write_absolute, write_elapsed};
 use capture_file::PacketTime;
 use capture_summary::{Rates, Summary, TimeSpan};
+use capture_words::{write_absolute, write_elapsed};
 use std::io;
 use std::io::Write;
 

@@ -1,3 +1,4 @@
+pub mod LinkTypes
 pub mod Numbers
 pub mod Options
 pub mod Texts

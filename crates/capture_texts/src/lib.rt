@@ -1,7 +1,7 @@
 //! The texts of a pcapng file that say what it is: names, descriptions and comments (draft-ietf-opsawg-pcapng, sections 3.5, 4.1 and 4.2).
 //!
-//! `ByteOrder` reads the numbers of a capture, and `option_value` an option of a block. `FileTexts` keeps the texts of the section
-//! that is read, up to `MAX_TEXT_LEN` bytes of each. Nothing is allocated.
+//! `ByteOrder` reads the numbers of a capture, `LinkType` is the kind of its frames, and `option_value` reads an option of a block. `FileTexts`
+//! keeps the texts of the section that is read, up to `MAX_TEXT_LEN` bytes of each. Nothing is allocated.
 //!
 //! ```
 //! let mut texts = FileTexts::new();
@@ -13,9 +13,11 @@
 mod byte_order;
 mod file_texts;
 mod kept_text;
+mod link_type;
 mod options;
 
 pub use byte_order::ByteOrder;
 pub use file_texts::{FileTexts, InterfaceTexts, MAX_INTERFACES};
 pub use kept_text::{KeptText, MAX_TEXT_LEN};
+pub use link_type::LinkType;
 pub use options::option_value;

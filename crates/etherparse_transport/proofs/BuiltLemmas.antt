@@ -41,17 +41,17 @@ use Rattle.word_sum.specs.Checksum.{checksum_of, total}
 use Rattle.etherparse_transport.specs.Formats.{IsReadBack, proto_of, wire}
 use Rattle.etherparse_transport.specs.Headers.{Counts, IsValidOverIpv4, IsValidOverIpv6}
 use Rattle.etherparse_transport.specs.Packets.{IsFoundAs, IsReadAs, ipv4_fields, ipv4_message_refusal, ipv4_packet, ipv4_start, ipv6_message_refusal, ipv6_packet, max_message_len_ipv4, max_message_len_ipv6, message_len, number_of, other_version_ipv4, other_version_ipv6, payload_above, sent_over_ipv4, sent_over_ipv6, timestamp_refusal}
-use Rattle.etherparse_transport.specs.Transports.{bytes_of, kept, kept_by, proto_in, refusal_by}
-use Rattle.etherparse_transport.specs.Verdicts.{Judges, JudgesOver, JudgesOverIpv4, JudgesOverIpv6, is_too_long_over_ipv4, lacks_length}
-use Rattle.etherparse_transport.specs.declared.checksum_verdict.ChecksumVerdict.TheVariants.{Right, Untested}
-use Rattle.etherparse_transport.specs.declared.checksum_verdict.Untested.TheVariants.{CutOff, Fragment, OtherProtocol, TooLong, ZeroLength}
+use Rattle.transport_part.specs.Transports.{bytes_of, kept, kept_by, proto_in, refusal_by}
+use Rattle.transport_part.specs.Verdicts.{Judges, JudgesOver, JudgesOverIpv4, JudgesOverIpv6, is_too_long_over_ipv4, lacks_length}
+use Rattle.transport_part.specs.declared.checksum_verdict.ChecksumVerdict.TheVariants.{Right, Untested}
+use Rattle.transport_part.specs.declared.checksum_verdict.Untested.TheVariants.{CutOff, Fragment, OtherProtocol, TooLong, ZeroLength}
 use Rattle.etherparse_transport.specs.declared.err.packet.build_slice_write_error.BuildSliceWriteError.TheVariants.{TimestampLen}
 use Rattle.etherparse_transport.specs.declared.transport_header.TransportHeader.{TransportHeader}
 use Rattle.etherparse_transport.specs.declared.transport_header.TransportHeader.TheVariants as headers
-use Rattle.etherparse_transport.specs.declared.transport_slice.TransportSlice.{TransportSlice}
-use Rattle.etherparse_transport.specs.declared.transport_slice.TransportSlice.TheVariants as slices
+use Rattle.transport_part.specs.declared.transport_slice.TransportSlice.{TransportSlice}
+use Rattle.transport_part.specs.declared.transport_slice.TransportSlice.TheVariants as slices
 use Rattle.etherparse_transport.proofs.PacketLemmas.{HasMessage, Start, StartIpv6, front_ipv4, front_ipv6, message_over_ipv4, message_over_ipv6}
-use Rattle.etherparse_transport.proofs.VerdictLemmas.{some_udp}
+use Rattle.transport_part.proofs.VerdictLemmas.{some_udp}
 
 -- ---- rules without errors
 

@@ -18,7 +18,8 @@ use Rattle.icmp_part.specs.Icmpv4Format as icmpv4
 use Rattle.icmp_part.proofs.Icmpv4FormatLemmas as icmpv4_laws
 use Rattle.icmp_part.specs.Icmpv6Format as icmpv6
 use Rattle.icmp_part.proofs.Icmpv6FormatLemmas as icmpv6_laws
-use Rattle.etherparse_transport.specs.Formats.{DecodesAs, IsCanonical, WritesDecoded, canonical, layout_of, proto_of, refusal}
+use Rattle.etherparse_transport.specs.Formats.{DecodesAs, IsCanonical, WritesDecoded, canonical, proto_of, refusal}
+use Rattle.transport_part.specs.Layouts.{layout_of}
 use Rattle.etherparse_transport.specs.declared.transport_header.TransportHeader.{TransportHeader}
 use Rattle.etherparse_transport.specs.declared.transport_header.TransportHeader.TheVariants as headers
 

@@ -5,7 +5,6 @@ pub mod EchoRequestLemmas
 pub mod FragmentLemmas
 pub mod Ipv4ThereAndBack
 pub mod Ipv6ThereAndBack
-pub mod OneVerdict
 pub mod PacketLemmas
 pub mod ReplacedBytes
 pub mod ReplyToLemmas
@@ -14,7 +13,5 @@ pub mod TranslatedAgain
 pub mod TranslationLemmas
 pub mod TranslationReading
 pub mod TranslationSums
-pub mod ValidityLaw
 pub mod UpdatedAlike
-pub mod VerdictLemmas
 pub mod WorkedExamples

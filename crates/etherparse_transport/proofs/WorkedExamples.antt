@@ -14,7 +14,8 @@ use Rattle.etherparse_transport.specs.EchoReplies.{answer_refusal, reply}
 use Rattle.etherparse_transport.specs.Ipv4Translations.{ipv4_translated}
 use Rattle.etherparse_transport.specs.WaysBack.{ipv4_way_back}
 use Rattle.etherparse_transport.specs.declared.ip.ipv4_translation.Ipv4Translation.{Ipv4Translation}
-use Rattle.etherparse_transport.specs.Formats.{canonical, layout_of, refusal}
+use Rattle.etherparse_transport.specs.Formats.{canonical, refusal}
+use Rattle.transport_part.specs.Layouts.{layout_of}
 
 udp_of_seven_bytes : refusal Udp (replicate 7 0)
     ≡ Some (Len (record { required_len = 8; len = 7; len_source = Slice; layer = layers.UdpHeader; layer_start_offset = 0 }))

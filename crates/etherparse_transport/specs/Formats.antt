@@ -3,7 +3,6 @@ use Rattle.std.specs.Prelude.{◌≡◌, ℕ, List, ◌++◌, Option, None}
 use Rattle.std.specs.Option.{option_map}
 use Rattle.ip_part.specs.declared.proto.Proto.{Proto}
 use Rattle.ip_part.specs.declared.proto.Proto.TheVariants.{Udp, Tcp, Icmpv4, Icmpv6}
-use Rattle.net_base.specs.Bytes.{HeaderLayout}
 use Rattle.net_base.specs.Refusals as refusals
 use Rattle.net_base.specs.declared.err.layer.Layer.{Layer}
 use Rattle.net_base.specs.declared.err.layer.Layer.TheVariants as layers
@@ -29,13 +28,6 @@ proto_of (headers.Icmpv6 header) = Icmpv6
 -- the longest header of the four protocols, in bytes: a TCP header, whose data offset counts at most 15 words of four bytes
 abbrev pub max_header_len : ℕ
 max_header_len = tcp.max_header_len
-
--- the length of a packet's header, and its meaningful bits
-abbrev pub layout_of : Proto → List ℕ → HeaderLayout
-layout_of Udp bytes = udp.layout
-layout_of Tcp bytes = tcp.layout_of bytes
-layout_of Icmpv4 bytes = icmpv4.layout_of bytes
-layout_of Icmpv6 bytes = icmpv6.layout_of bytes
 
 -- the first rule of the protocol that the bytes break
 abbrev pub refusal : Proto → List ℕ → Option HeaderSliceError

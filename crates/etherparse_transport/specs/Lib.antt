@@ -14,6 +14,9 @@ pub use Rattle.icmp_part.specs.Icmpv6Validity
 pub use Rattle.ip_part.specs.declared.proto.Proto
 pub use Rattle.tcp_part.specs.TcpFormat
 pub use Rattle.tcp_part.specs.TcpValidity
+pub use Rattle.transport_part.specs.Layouts
+pub use Rattle.transport_part.specs.Transports
+pub use Rattle.transport_part.specs.Verdicts
 pub use Rattle.udp_part.specs.UdpFormat
 pub use Rattle.udp_part.specs.UdpSlice
 pub use Rattle.udp_part.specs.UdpValidity
@@ -26,6 +29,4 @@ pub mod Ipv6Translations
 pub mod Packets
 pub mod ReplyTo
 pub mod Translations
-pub mod Transports
-pub mod Verdicts
 pub mod WaysBack

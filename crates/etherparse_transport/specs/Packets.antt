@@ -15,9 +15,9 @@ use Rattle.net_base.specs.Refusals.{first_of, refused_if}
 use Rattle.word_sum.specs.Checksum.{checksum_of, total}
 use Rattle.etherparse_transport.specs.Formats.{IsReadBack, proto_of, wire}
 use Rattle.etherparse_transport.specs.Headers.{checksum_over_ipv4, checksum_over_ipv6, with_checksum_field}
-use Rattle.etherparse_transport.specs.Transports.{proto_in, refusal}
-use Rattle.etherparse_transport.specs.Verdicts.{JudgesFound}
-use Rattle.etherparse_transport.specs.declared.checksum_verdict.ChecksumVerdict.TheVariants.{Right}
+use Rattle.transport_part.specs.Transports.{proto_in, refusal}
+use Rattle.transport_part.specs.Verdicts.{JudgesFound}
+use Rattle.transport_part.specs.declared.checksum_verdict.ChecksumVerdict.TheVariants.{Right}
 use Rattle.etherparse_transport.specs.declared.err.packet.build_slice_write_error.BuildSliceWriteError.{BuildSliceWriteError}
 use Rattle.etherparse_transport.specs.declared.err.packet.build_slice_write_error.BuildSliceWriteError.TheVariants.{Icmpv4InIpv6, Icmpv6InIpv4, PayloadLen, Space, TimestampLen}
 use Rattle.etherparse_transport.specs.declared.transport_header.TransportHeader.{TransportHeader}

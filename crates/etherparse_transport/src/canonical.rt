@@ -1,6 +1,7 @@
 ghost use Rattle.std.specs.Prelude.{◌≡◌, ◌≤◌, ◌++◌, IfOk, length, drop, take};
 ghost use Rattle.net_base.specs.Refusals.{RefusesExactly};
-ghost use Rattle.etherparse_transport.specs.Formats.{IsCanonical, WritesDecoded, canonical, layout_of, max_header_len, refusal};
+ghost use Rattle.etherparse_transport.specs.Formats.{IsCanonical, WritesDecoded, canonical, max_header_len, refusal};
+ghost use Rattle.transport_part.specs.Layouts.{layout_of};
 
 use crate::err::tcp::HeaderSliceError;
 use crate::{Icmpv4Header, Icmpv6Header, Proto, UdpHeader};

@@ -7,13 +7,10 @@ mod ip_header;
 mod ipv4_translation;
 mod ipv6_translation;
 mod message_place;
-mod proto;
 mod reply_to;
-mod slice;
 mod translated_ipv4;
 mod translated_ipv6;
 mod translated_message;
-mod verdict;
 mod write_packet;
 
 pub use echo_reply::{answer_echo, answer_echo_ipv4, answer_echo_ipv6};
@@ -22,10 +19,8 @@ pub use ip_part::{
 };
 pub use ipv4_translation::Ipv4Translation;
 pub use ipv6_translation::Ipv6Translation;
-pub use proto::proto_in_ip;
 pub use reply_to::is_reply_to;
-pub use slice::transport_slice;
 pub use translated_ipv4::translate_ipv4;
 pub use translated_ipv6::translate_ipv6;
-pub use verdict::checksum_verdict;
+pub use transport_part::ip::{checksum_verdict, proto_in_ip, transport_slice};
 pub use write_packet::{write_packet_ipv4, write_packet_ipv6};

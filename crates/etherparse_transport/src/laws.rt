@@ -7,25 +7,9 @@
 
 ghost use Rattle.std.specs.Prelude.{◌≡◌, ◌↔◌, IsTrue, IsOkAnd};
 
+use crate::TransportHeader;
 use crate::err::packet::{AnswerEchoError, BuildSliceWriteError, TransportChecksumError};
-use crate::{ChecksumVerdict, TransportHeader, TransportSlice, Untested};
 use std::alloc::AllocError;
-
-/// A clone of a `TransportSlice` is the same value.
-pub fn cloned_transport_slice<'a>(
-    transport: &TransportSlice<'a>,
-) -> Result<TransportSlice<'a>, AllocError>
-    ensures same { IsOkAnd result (λ copy. copy ≡ transport.now) }
-{
-    transport.clone()
-}
-
-/// Two values of `TransportSlice` are equal exactly if they are the same.
-pub fn equal_transport_slice<'a>(a: &TransportSlice<'a>, b: &TransportSlice<'a>) -> bool
-    ensures same { IsTrue result ↔ (a.now ≡ b.now) }
-{
-    a == b
-}
 
 /// A clone of a `TransportHeader` is the same value.
 pub fn cloned_transport_header(header: &TransportHeader) -> Result<TransportHeader, AllocError>
@@ -86,34 +70,6 @@ pub fn cloned_answer_echo_error(error: &AnswerEchoError) -> Result<AnswerEchoErr
 /// Two values of `AnswerEchoError` are equal exactly if they are the same.
 pub fn equal_answer_echo_error(a: &AnswerEchoError, b: &AnswerEchoError) -> bool
     ensures { IsTrue result ↔ (a.now ≡ b.now) }
-{
-    a == b
-}
-
-/// A clone of a `ChecksumVerdict` is the same value.
-pub fn cloned_checksum_verdict(verdict: &ChecksumVerdict) -> Result<ChecksumVerdict, AllocError>
-    ensures same { IsOkAnd result (λ copy. copy ≡ verdict.now) }
-{
-    verdict.clone()
-}
-
-/// Two values of `ChecksumVerdict` are equal exactly if they are the same.
-pub fn equal_checksum_verdict(a: &ChecksumVerdict, b: &ChecksumVerdict) -> bool
-    ensures same { IsTrue result ↔ (a.now ≡ b.now) }
-{
-    a == b
-}
-
-/// A clone of an `Untested` is the same value.
-pub fn cloned_untested(why: &Untested) -> Result<Untested, AllocError>
-    ensures same { IsOkAnd result (λ copy. copy ≡ why.now) }
-{
-    why.clone()
-}
-
-/// Two values of `Untested` are equal exactly if they are the same.
-pub fn equal_untested(a: &Untested, b: &Untested) -> bool
-    ensures same { IsTrue result ↔ (a.now ≡ b.now) }
 {
     a == b
 }

@@ -18,17 +18,12 @@
 #![tactic(auto)]
 
 mod canonical;
-mod checksum_verdict;
 pub mod err;
-mod expected;
 pub mod ip;
 pub mod laws;
 mod transport_header;
-mod transport_slice;
-mod verdict;
 
 pub use canonical::canonical_header;
-pub use checksum_verdict::{ChecksumVerdict, Untested};
 pub use icmp_part::{
     IcmpEchoHeader, Icmpv4Header, Icmpv4Slice, Icmpv4Type, Icmpv6Header, Icmpv6Slice, Icmpv6Type,
     icmpv4, icmpv6,
@@ -46,6 +41,6 @@ pub use tcp_part::{
     TcpRawOptionError, TcpRawOptionsIterator, TcpSlice, tcp_option,
 };
 pub use transport_header::TransportHeader;
-pub use transport_slice::TransportSlice;
+pub use transport_part::{ChecksumVerdict, TransportSlice, Untested};
 pub use udp_part::{UdpHeader, UdpHeaderSlice, UdpSlice};
 pub use word_sum::{checksum, checksum_change};

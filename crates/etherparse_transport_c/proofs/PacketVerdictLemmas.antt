@@ -1,7 +1,7 @@
 -- Laws of the refusal of what an IP packet carries.
 use Rattle.std.proofs.Common.{◌≡◌, List, ℕ, refl, ap, ◌∙◌}
 use Rattle.std.specs.Option.{option_map}
-use Rattle.etherparse_transport.specs.Transports as transports
+use Rattle.transport_part.specs.Transports as transports
 use Rattle.ip_part.specs.Ip.{Carries, headers_of}
 use Rattle.ip_part.specs.declared.transport.TransportInIp.{TransportInIp}
 use Rattle.etherparse_transport_c.specs.Ip.{found, transport_in}

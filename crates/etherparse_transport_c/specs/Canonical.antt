@@ -4,6 +4,7 @@ use Rattle.std.specs.Option.{option_map}
 use Rattle.ip_part.specs.declared.proto.Proto.{Proto}
 use Rattle.ip_part.specs.declared.proto.Proto.TheVariants.{Udp, Tcp, Icmpv4, Icmpv6}
 use Rattle.etherparse_transport.specs.Formats as formats
+use Rattle.etherparse_transport.specs.Layouts.{layout_of}
 use Rattle.etherparse_transport_c.specs.Errors.{first_refusal, no_room, of_header_slice, of_protocol}
 use Rattle.etherparse_transport_c.specs.Numbers as numbers
 use Rattle.etherparse_transport_c.specs.declared.error.EtherparseError.{EtherparseError}
@@ -20,7 +21,7 @@ protocol_of number =
 -- the canonical header of accepted bytes
 abbrev pub canonical_bytes : Option Proto → List ℕ → List ℕ
 canonical_bytes None bytes = []
-canonical_bytes (Some protocol) bytes = take ((formats.layout_of protocol bytes).header_len) (formats.canonical protocol bytes)
+canonical_bytes (Some protocol) bytes = take ((layout_of protocol bytes).header_len) (formats.canonical protocol bytes)
 
 -- no such protocol; the header is refused; a buffer that is too small: in this order
 abbrev pub refusal : ℕ → Option Proto → List ℕ → ℕ → Option EtherparseError

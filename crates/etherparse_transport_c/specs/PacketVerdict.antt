@@ -1,13 +1,13 @@
 -- An IP packet and the verdict on its checksum as C has them.
 use Rattle.std.specs.Prelude.{◌≡◌, ℕ, Bool, false, Option, None, Some, if◌then◌else◌, List, drop, Result, Ok, Err}
 use Rattle.std.specs.Option.{option_map}
-use Rattle.etherparse_transport.specs.Transports.{kept, proto_of, refusal_by}
-use Rattle.etherparse_transport.specs.Verdicts.{JudgesFound}
-use Rattle.etherparse_transport.specs.declared.checksum_verdict.ChecksumVerdict.{ChecksumVerdict}
-use Rattle.etherparse_transport.specs.declared.checksum_verdict.ChecksumVerdict.TheVariants.{Absent, Partial, Right, Untested, Wrong}
-use Rattle.etherparse_transport.specs.declared.checksum_verdict.Untested as reasons
-use Rattle.etherparse_transport.specs.declared.checksum_verdict.Untested.TheVariants.{CutOff, Fragment, OtherProtocol, TooLong, UnknownDestination, ZeroLength}
-use Rattle.etherparse_transport.specs.declared.transport_slice.TransportSlice.{TransportSlice}
+use Rattle.transport_part.specs.Transports.{kept, proto_of, refusal_by}
+use Rattle.transport_part.specs.Verdicts.{JudgesFound}
+use Rattle.transport_part.specs.declared.checksum_verdict.ChecksumVerdict.{ChecksumVerdict}
+use Rattle.transport_part.specs.declared.checksum_verdict.ChecksumVerdict.TheVariants.{Absent, Partial, Right, Untested, Wrong}
+use Rattle.transport_part.specs.declared.checksum_verdict.Untested as reasons
+use Rattle.transport_part.specs.declared.checksum_verdict.Untested.TheVariants.{CutOff, Fragment, OtherProtocol, TooLong, UnknownDestination, ZeroLength}
+use Rattle.transport_part.specs.declared.transport_slice.TransportSlice.{TransportSlice}
 use Rattle.ip_part.specs.Ip.{Carries, counted, headers_of, is_cut_off, lacks_len}
 use Rattle.ip_part.specs.Headers.{Headers}
 use Rattle.ip_part.specs.Protocols.{proto_over}

@@ -1,6 +1,6 @@
 ghost use Rattle.std.specs.Prelude.{◌≡◌, ℕ, List, None, false, unwrap_or};
-ghost use Rattle.etherparse_transport.specs.Transports as transports;
-ghost use Rattle.etherparse_transport.specs.Transports.{kept};
+ghost use Rattle.transport_part.specs.Transports as transports;
+ghost use Rattle.transport_part.specs.Transports.{kept};
 ghost use Rattle.ip_part.specs.Ip.{Carries, lacks_len};
 ghost use Rattle.etherparse_transport_c.specs.Errors.{Leaves, status_of};
 ghost use Rattle.etherparse_transport_c.specs.PacketVerdict as specs;

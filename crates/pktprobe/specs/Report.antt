@@ -4,7 +4,8 @@ use Rattle.std.specs.List.{ends_with, starts_with}
 use Rattle.std.specs.Option.{option_or}
 use Rattle.hex.specs.Hex.{decode_of, encode_lower}
 use Rattle.hex.specs.declared.error.FromHexError.{FromHexError}
-use Rattle.etherparse_transport.specs.Formats.{canonical, layout_of, refusal}
+use Rattle.etherparse_transport.specs.Formats.{canonical, refusal}
+use Rattle.etherparse_transport.specs.Layouts.{layout_of}
 use Rattle.etherparse_transport.specs.HeaderError.TheVariants.{DataOffsetTooSmall}
 use Rattle.etherparse_transport.specs.HeaderSliceError.{HeaderSliceError}
 use Rattle.etherparse_transport.specs.HeaderSliceError.TheVariants.{Len, Content}

@@ -8,7 +8,7 @@ use capture_packet::{
     Content, HopLimit, NetworkProtocol, Packet, Refusal, Transport, Tunnel, Verdict,
 };
 use capture_summary::{CaptureInfo, FrameLen, Protocol, RefusalKind, Summary, VerdictKind};
-use capture_text::Times;
+use capture_words::Times;
 use etherparse_transport::ip::{IpAddresses, IpError};
 use etherparse_transport::{
     ChecksumVerdict, Icmpv4Slice, Icmpv6Slice, IpNumber, Proto, TcpSlice, TransportSlice, UdpSlice,

@@ -6,7 +6,7 @@ ghost use Rattle.capture_link.specs.LinkHeaders.{cut_off, unread};
 
 use crate::NetworkProtocol;
 use crate::link::LinkHeaderCutOff;
-use capture_file::ByteOrder;
+use capture_texts::ByteOrder;
 
 /// A whole link header.
 #[derive(Clone, Copy)]

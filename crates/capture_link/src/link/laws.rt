@@ -2,7 +2,7 @@
 ghost use Rattle.std.specs.Prelude.{◌≡◌, ℕ, List, Option};
 ghost use Rattle.capture_link.specs.Link.{HasLinkHeader, NeedsLinkHeader};
 ghost use Rattle.capture_texts.specs.declared.byte_order.ByteOrder.{ByteOrder};
-ghost use Rattle.capture_file.specs.declared.link_type.LinkType.{LinkType};
+ghost use Rattle.capture_texts.specs.declared.link_type.LinkType.{LinkType};
 ghost use Rattle.capture_link.specs.declared.network_protocol.NetworkProtocol.{NetworkProtocol};
 
 /// A frame has at most one link header. A frame that ends within its link header has none. The number of missing bytes is the same in any

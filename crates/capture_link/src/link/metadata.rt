@@ -8,7 +8,7 @@ use crate::NetworkProtocol;
 use crate::link::header::{FirstHeader, LinkHeader, expect_len, little_endian_short_at, number_at};
 use crate::link::ieee80211::frame_at;
 use crate::link::{LinkHeaderCutOff, ethernet_at, family_at, is_ip_family};
-use capture_file::{ByteOrder, LinkType};
+use capture_texts::{ByteOrder, LinkType};
 
 /// The numbers of the link types LINKTYPE_PFLOG, LINKTYPE_IEEE802_11_PRISM, LINKTYPE_IEEE802_11_AVS, LINKTYPE_PPI and LINKTYPE_PKTAP.
 const PFLOG: u16 = 117;

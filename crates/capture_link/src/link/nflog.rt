@@ -9,7 +9,7 @@ ghost use Rattle.capture_link.specs.Nflog.{IsWithin};
 use crate::link::LinkHeaderCutOff;
 use crate::link::header::{FirstHeader, expect_len, little_endian_short_at, short_at};
 use crate::link::metadata::{padded, with_family};
-use capture_file::ByteOrder;
+use capture_texts::ByteOrder;
 
 /// The number of the link type LINKTYPE_NFLOG.
 const NFLOG: u16 = 239;

@@ -13,7 +13,7 @@ ghost use Rattle.etherparse_transport.specs.declared.err.packet.build_slice_writ
 ghost use Rattle.etherparse_transport.specs.declared.transport_header.TransportHeader.TheVariants as headers;
 ghost use Rattle.etherparse_transport.specs.Packets as specs;
 ghost use Rattle.etherparse_transport.specs.Packets.{IsReadAs, ipv4_message_refusal, ipv4_packet, ipv4_write_refusal, ipv6_message_refusal, ipv6_packet, ipv6_write_refusal, max_message_len_ipv6, number_of, payload_above};
-ghost use Rattle.etherparse_transport.specs.Verdicts.{max_length_field};
+ghost use Rattle.transport_part.specs.Verdicts.{max_length_field};
 
 use crate::err::Layer;
 use crate::err::packet::BuildSliceWriteError;

@@ -8,7 +8,8 @@ use capture_packet::{
     Content, HopLimit, NetworkProtocol, Packet, Refusal, Transport, Tunnel, Verdict,
 };
 use capture_summary::FrameLen;
-use capture_text::{Times, write_packet_line};
+use capture_text::write_packet_line;
+use capture_words::Times;
 use etherparse_transport::err::tcp::{HeaderError, HeaderSliceError};
 use etherparse_transport::err::{Layer, LenError, LenSource};
 use etherparse_transport::ip::{IpAddresses, IpError};

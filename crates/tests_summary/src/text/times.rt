@@ -2,7 +2,7 @@ use crate::expect::expect_text;
 use capture_file::PacketTime;
 use capture_file::classic::{Resolution, Time};
 use capture_file::pcapng::TimeResolution;
-use capture_text::{write_absolute, write_since};
+use capture_words::{write_absolute, write_since};
 use std::process::Abort;
 use std::test::Fail;
 

@@ -1,5 +1,5 @@
 use Rattle.std.proofs.Common.{append_assoc}
-use Rattle.capture_text.proofs.WrittenLemmas.{written_3}
+use Rattle.capture_words.proofs.WrittenLemmas.{written_3}
 use Rattle.capture_facts.proofs.facts.write_classic.Goals as goal
 
 pub returns : goal.returns

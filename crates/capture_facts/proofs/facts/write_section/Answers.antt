@@ -1,6 +1,6 @@
 use Rattle.std.proofs.Common.{◌≡◌, ◌∙◌, ap, ap₂, length}
 use Rattle.std.specs.Prelude.{decimal}
-use Rattle.capture_text.proofs.WrittenLemmas.{written_3}
+use Rattle.capture_words.proofs.WrittenLemmas.{written_3}
 use Rattle.capture_facts.proofs.FactsLemmas.{section_parts}
 use Rattle.capture_facts.specs.FactsText.{byte_order_word, interfaces_text, pcapng_text, section_text}
 use Rattle.capture_facts.specs.TextsText.{texts_text}

@@ -1,6 +1,6 @@
 use Rattle.capture_facts.proofs.ShownLemmas.{shown_other, shown_utf8}
 use Rattle.capture_facts.proofs.shown_text.write_bytes.Goals as goal
-use Rattle.capture_text.proofs.WrittenLemmas.{written_1}
+use Rattle.capture_words.proofs.WrittenLemmas.{written_1}
 
 -- bytes that are UTF-8
 pub returns-in-Ok : goal.returns-in-Ok

@@ -1,5 +1,5 @@
 use Rattle.std.proofs.Common.{◌++◌, ap}
-use Rattle.capture_text.proofs.WrittenLemmas.{written_2}
+use Rattle.capture_words.proofs.WrittenLemmas.{written_2}
 use Rattle.capture_facts.specs.ShownText.{end_text, shown_bytes}
 use Rattle.capture_facts.proofs.shown_text.write_shown.Goals as goal
 

@@ -1,5 +1,5 @@
 use Rattle.std.proofs.Common.{◌∙◌, ap}
-use Rattle.capture_text.proofs.WrittenLemmas.{written_1}
+use Rattle.capture_words.proofs.WrittenLemmas.{written_1}
 use Rattle.capture_json.specs.JsonPacket.{file_members}
 use Rattle.capture_json.specs.Tokens.{line_text}
 use Rattle.capture_json.proofs.TokensLemmas.{line_is}

@@ -1,6 +1,6 @@
 use Rattle.std.proofs.Common.{◌∙◌, ap}
 use Rattle.json.specs.Print.{print}
-use Rattle.capture_text.proofs.WrittenLemmas.{written_1}
+use Rattle.capture_words.proofs.WrittenLemmas.{written_1}
 use Rattle.capture_json.specs.JsonSummary.{conversation_data}
 use Rattle.capture_json.specs.Tokens.{push}
 use Rattle.capture_json.proofs.TokensLemmas.{row_is}

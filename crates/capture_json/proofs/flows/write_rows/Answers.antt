@@ -3,7 +3,7 @@ use Rattle.std.proofs.KnownBytes.{Appends-trans}
 use Rattle.std.specs.Io.KnownBytes.{Appends}
 use Rattle.std.specs.List.{flat_map}
 use Rattle.serde_json.specs.Written.{compact_text}
-use Rattle.capture_text.proofs.WrittenLemmas.{each_more}
+use Rattle.capture_words.proofs.WrittenLemmas.{each_more}
 use Rattle.capture_json.specs.JsonSummary.{conversation_data}
 use Rattle.capture_json.specs.Tokens.{later_row, rows_text}
 use Rattle.capture_json.proofs.flows.write_rows.Goals as goal

@@ -1,6 +1,6 @@
 use Rattle.std.proofs.Common.{◌∙◌}
 use Rattle.std.specs.Prelude.{codes}
-use Rattle.capture_text.proofs.WrittenLemmas.{written_3}
+use Rattle.capture_words.proofs.WrittenLemmas.{written_3}
 use Rattle.capture_json.specs.JsonSummary.{conversation_members, tables_members, uncounted_members}
 use Rattle.capture_json.proofs.TokensLemmas.{line_by_rows}
 use Rattle.capture_json.proofs.summary.write_summary.Goals as goal

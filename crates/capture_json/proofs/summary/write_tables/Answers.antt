@@ -2,7 +2,7 @@ use Rattle.std.proofs.Common.{[], ◌∷◌, ◌++◌, ◌∙◌, ap}
 use Rattle.std.specs.Prelude.{codes}
 use Rattle.json.specs.Print.{print}
 use Rattle.json.specs.Token.{begin_object}
-use Rattle.capture_text.proofs.WrittenLemmas.{written_1}
+use Rattle.capture_words.proofs.WrittenLemmas.{written_1}
 use Rattle.capture_json.specs.JsonSummary.{tables_members}
 use Rattle.capture_json.specs.Tokens.{array_begun, with_members}
 use Rattle.capture_json.proofs.summary.write_tables.Goals as goal

@@ -4,7 +4,7 @@ use Rattle.std.specs.Prelude.{codes}
 use Rattle.capture_json.specs.Tokens.{array_begun, array_ended, tokens_in, with_items}
 use Rattle.serde_json.specs.Data.{string}
 use Rattle.capture_json.specs.JsonPacket.{name_if_set, names_of_set}
-use Rattle.capture_text.specs.TcpText.{tcp_flags}
+use Rattle.capture_words.specs.TcpText.{tcp_flags}
 use Rattle.std.proofs.lemmas.List.Folds.{flat_map-map}
 use Rattle.capture_json.proofs.TokensLemmas.{listed}
 use Rattle.capture_json.proofs.tcp.put_flags.Goals as goal

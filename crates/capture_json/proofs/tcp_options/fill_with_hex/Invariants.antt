@@ -1,5 +1,5 @@
 use Rattle.std.proofs.Common.{◌≡◌, take}
-use Rattle.capture_text.specs.Numbers.{hex_bytes}
+use Rattle.capture_words.specs.Numbers.{hex_bytes}
 use Rattle.capture_json.proofs.tcp_options.fill_with_hex.Given as goal
 
 -- the digits so far

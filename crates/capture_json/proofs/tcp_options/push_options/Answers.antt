@@ -3,7 +3,7 @@ use Rattle.tcp_part.specs.TcpOptionsReading.{Ends}
 use Rattle.tcp_part.specs.TcpRawOptions.{BeginsWithRaw, ReadsRawNext, raw_fault}
 use Rattle.capture_json.specs.JsonOptions.{AreOptionObjects, kind_object}
 use Rattle.capture_json.proofs.JsonLemmas.{one_more_item}
-use Rattle.capture_text.proofs.TcpTextLemmas.{ends_at_zero, is_nil}
+use Rattle.capture_words.proofs.TcpTextLemmas.{ends_at_zero, is_nil}
 use Rattle.capture_json.proofs.tcp_options.push_options.Goals as goal
 
 -- the fault ends the options

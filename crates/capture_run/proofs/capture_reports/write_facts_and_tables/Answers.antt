@@ -1,4 +1,4 @@
-use Rattle.capture_text.proofs.WrittenLemmas.{written_then}
+use Rattle.capture_words.proofs.WrittenLemmas.{written_then}
 use Rattle.capture_run.proofs.capture_reports.write_facts_and_tables.Goals as goal
 
 -- the tables after what the capture is

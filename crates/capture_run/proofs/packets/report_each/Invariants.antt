@@ -4,7 +4,7 @@ use Rattle.capture_packet.specs.Frames.{max_packet_len}
 use Rattle.capture_run.specs.Limits.{EndsWithRequested, IsWithin}
 use Rattle.capture_run.specs.PacketsText.{IsPacketsText, first_time}
 use Rattle.capture_run.specs.Report.{CountsEach}
-use Rattle.capture_text.specs.Written.{AppendsOne}
+use Rattle.capture_words.specs.Written.{AppendsOne}
 use Rattle.capture_run.specs.declared.parts.Lines.TheVariants as lines
 use Rattle.capture_run.proofs.packets.report_each.Given as goal
 

@@ -4,7 +4,7 @@ use Rattle.std.specs.Net.Text.{socket_text}
 use Rattle.ip_part.specs.Addresses.{by_value}
 use Rattle.capture_text.specs.AddressText.{destination_endpoint, source_endpoint}
 use Rattle.capture_text.proofs.AddressLemmas.{destination_shown, source_shown}
-use Rattle.capture_text.proofs.WrittenLemmas.{written_1}
+use Rattle.capture_words.proofs.WrittenLemmas.{written_1}
 use Rattle.capture_text.proofs.addresses.write_endpoints.Goals as goal
 
 pub returns-in-None : goal.returns-in-None

@@ -1,5 +1,5 @@
 use Rattle.std.proofs.Common.{refl}
-use Rattle.capture_text.proofs.WrittenLemmas.{one_then}
+use Rattle.capture_words.proofs.WrittenLemmas.{one_then}
 use Rattle.capture_text.proofs.packet_line.write_content.Goals as goal
 
 pub returns-in_ok-write_transport-in-Ip : goal.returns-in_ok-write_transport-in-Ip

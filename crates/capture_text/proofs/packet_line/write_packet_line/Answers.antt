@@ -1,6 +1,6 @@
 use Rattle.std.proofs.Common.{append_assoc}
 use Rattle.std.proofs.KnownBytes.{Appends-trans}
-use Rattle.capture_text.proofs.WrittenLemmas.{one_then}
+use Rattle.capture_words.proofs.WrittenLemmas.{one_then}
 use Rattle.capture_text.proofs.packet_line.write_packet_line.Goals as goal
 
 pub returns : goal.returns

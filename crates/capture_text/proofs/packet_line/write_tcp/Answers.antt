@@ -1,6 +1,6 @@
 use Rattle.std.proofs.Common.{append_assoc}
 use Rattle.std.proofs.KnownBytes.{Appends-trans}
-use Rattle.capture_text.proofs.WrittenLemmas.{then_one}
+use Rattle.capture_words.proofs.WrittenLemmas.{then_one}
 use Rattle.capture_text.proofs.packet_line.write_tcp.Goals as goal
 
 pub returns : goal.returns

@@ -1,6 +1,6 @@
 use Rattle.std.proofs.Common.{rules}
 use Rattle.std.proofs.KnownBytes.{Appends-trans}
-use Rattle.capture_text.proofs.WrittenLemmas.{each_more}
+use Rattle.capture_words.proofs.WrittenLemmas.{each_more}
 use Rattle.capture_text.proofs.packet_line.write_tunnels.Goals as goal
 
 -- one more tunnel

@@ -1,5 +1,5 @@
 use Rattle.std.proofs.Common.{refl}
-use Rattle.capture_text.proofs.WrittenLemmas.{written_2}
+use Rattle.capture_words.proofs.WrittenLemmas.{written_2}
 use Rattle.capture_text.proofs.packet_line.write_unread.Goals as goal
 
 pub returns : goal.returns

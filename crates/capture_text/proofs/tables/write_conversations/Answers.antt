@@ -2,7 +2,7 @@ use Rattle.std.proofs.Common.{◌≡◌, ◌∙◌, [], ap₂, append_assoc, ari
 use Rattle.std.proofs.lemmas.Grind.{common_steps}
 use Rattle.std.proofs.KnownBytes.{Appends-trans}
 use Rattle.capture_text.specs.SummaryText.{conversation_rows}
-use Rattle.capture_text.proofs.WrittenLemmas.{each_more, written_3}
+use Rattle.capture_words.proofs.WrittenLemmas.{each_more, written_3}
 use Rattle.capture_text.proofs.tables.write_conversations.Goals as goal
 
 -- one more row

@@ -1,7 +1,7 @@
 use Rattle.std.proofs.Common.{◌∙◌, ap, ap₂, map}
 use Rattle.std.specs.Prelude.{codes}
 use Rattle.capture_text.specs.SummaryText.{conversations_table, counts_table, packets_table}
-use Rattle.capture_text.proofs.WrittenLemmas.{appended, written_1, written_then}
+use Rattle.capture_words.proofs.WrittenLemmas.{appended, written_1, written_then}
 use Rattle.capture_text.proofs.tables.write_summary.Goals as goal
 
 pub returns : goal.returns

@@ -1,7 +1,7 @@
 use Rattle.std.proofs.Common.{arith, rules}
 use Rattle.std.proofs.lemmas.Grind.{common_steps}
 use Rattle.std.proofs.lemmas.List.Folds.{flat_map-map}
-use Rattle.capture_text.proofs.WrittenLemmas.{each_more}
+use Rattle.capture_words.proofs.WrittenLemmas.{each_more}
 use Rattle.capture_text.proofs.tables.write_table.Goals as goal
 
 -- one more row

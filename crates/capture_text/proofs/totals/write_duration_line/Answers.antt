@@ -1,6 +1,6 @@
 use Rattle.std.proofs.Common.{append_assoc}
 use Rattle.std.proofs.KnownBytes.{Appends-trans}
-use Rattle.capture_text.proofs.WrittenLemmas.{written_3}
+use Rattle.capture_words.proofs.WrittenLemmas.{written_3}
 use Rattle.capture_text.proofs.totals.write_duration_line.Goals as goal
 
 pub returns : goal.returns

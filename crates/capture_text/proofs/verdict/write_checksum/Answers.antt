@@ -1,5 +1,5 @@
 use Rattle.std.proofs.Common.{refl}
-use Rattle.capture_text.proofs.WrittenLemmas.{written_2}
+use Rattle.capture_words.proofs.WrittenLemmas.{written_2}
 use Rattle.capture_text.proofs.verdict.write_checksum.Goals as goal
 
 pub returns-in_ok-write_word-in-Wrong : goal.returns-in_ok-write_word-in-Wrong

@@ -1,5 +1,5 @@
 use Rattle.std.proofs.Common.{◌≡◌, None, refl, sym, ap, ◌∙◌, subst}
-use Rattle.etherparse_transport.specs.Transports as transports
+use Rattle.transport_part.specs.Transports as transports
 use Rattle.etherparse_transport_c.specs.Ip.{HasPayload}
 use Rattle.etherparse_transport_c.specs.PacketVerdict.{of_transport}
 use Rattle.etherparse_transport_c.proofs.IpLemmas.{has_payload}

@@ -1,7 +1,0 @@
-use Rattle.capture_text.proofs.WrittenLemmas.{written_2}
-use Rattle.capture_text.proofs.icmpv4.write_problem.Goals as goal
-
-pub returns : goal.returns
-returns g c =
-    written_2 _ _ _ _ _ _ _ c.in_ok-write_named_message.ensures c.write_optional_field.ensures
-    (simp (c.code_u8.ensures.written, c.problem_name.ensures, c.pointer_of.ensures))

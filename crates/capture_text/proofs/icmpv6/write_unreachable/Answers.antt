@@ -1,5 +1,0 @@
-use Rattle.capture_text.proofs.WrittenLemmas.{written_1}
-use Rattle.capture_text.proofs.icmpv6.write_unreachable.Goals as goal
-
-pub returns : goal.returns
-returns g c = written_1 _ _ _ _ _ c.write_named_message.ensures (simp (c.code_u8.ensures.written, c.unreachable_reason.ensures))

@@ -1,0 +1,5 @@
+pub mod AbsoluteTimeLemmas
+pub mod FlagLemmas
+pub mod TcpTextLaws
+pub mod TcpTextLemmas
+pub mod WrittenLemmas

@@ -1,0 +1,11 @@
+pub mod AbsoluteTime
+pub mod Elapsed
+pub mod Flags
+pub mod IcmpText
+pub mod Icmpv4Text
+pub mod Icmpv6Text
+pub mod Numbers
+pub mod Refusals
+pub mod TcpText
+pub mod TimeText
+pub mod Written

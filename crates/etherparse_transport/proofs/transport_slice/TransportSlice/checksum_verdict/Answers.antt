@@ -1,6 +1,0 @@
-use Rattle.ip_part.specs.Addresses.{by_value}
-use Rattle.etherparse_transport.proofs.OneVerdict.{one_verdict}
-use Rattle.etherparse_transport.proofs.transport_slice.TransportSlice.checksum_verdict.Goals as goal
-
-pub returns-clause-one_verdict : goal.returns-clause-one_verdict
-returns-clause-one_verdict c = one_verdict (by_value c.args.addresses) c.args.self.now c.lacks_length.ensures.long

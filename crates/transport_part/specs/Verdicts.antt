@@ -1,0 +1,170 @@
+-- The verdict on a checksum: whether it is right, and the right checksum if it is wrong.
+use Rattle.std.specs.Prelude.{⊤, ◌≡◌, ◌≢◌, ℕ, ◌+◌, ◌<◌, ◌≤◌, ◌==◌, ◌&&◌, not, nat_lt, Bool, false, List, length, Some, None, MatchBool, MatchOption}
+use Rattle.icmp_part.specs.Icmpv4Validity.{IsValidIcmpv4}
+use Rattle.icmp_part.specs.Icmpv6Validity.{IsValidIcmpv6}
+use Rattle.ip_part.specs.Addresses.{Addresses, Ipv4, Ipv6, by_value}
+use Rattle.ip_part.specs.declared.transport.TransportInIp.{TransportInIp}
+use Rattle.net_base.specs.Bytes.{be_number}
+use Rattle.net_base.specs.IpNumbers.{icmpv6_number, tcp_number, udp_number}
+use Rattle.net_base.specs.PseudoHeader.{ipv4_pseudo_header, ipv6_pseudo_header, max_len_over_ipv4, max_len_over_ipv6}
+use Rattle.net_base.specs.StoredChecksum.{icmp_checksum_place, tcp_checksum_place, udp_checksum_place, with_checksum}
+use Rattle.tcp_part.specs.TcpValidity.{IsValidTcpIpv4, IsValidTcpIpv6}
+use Rattle.udp_part.specs.UdpSlice.{length_field}
+use Rattle.udp_part.specs.UdpValidity.{IsValidUdpIpv4, IsValidUdpIpv6, SumsUpOverIpv4, checksum_field}
+use Rattle.word_sum.specs.Checksum.{Verifies, folded, total}
+use Rattle.transport_part.specs.Transports.{bytes_of, kept}
+use Rattle.transport_part.specs.declared.checksum_verdict.ChecksumVerdict.{ChecksumVerdict}
+use Rattle.transport_part.specs.declared.checksum_verdict.ChecksumVerdict.TheVariants.{Absent, Partial, Right, Untested, Wrong}
+use Rattle.transport_part.specs.declared.checksum_verdict.Untested.TheVariants.{CutOff, Fragment, OtherProtocol, TooLong, UnknownDestination, ZeroLength}
+use Rattle.transport_part.specs.declared.transport_slice.TransportSlice.{TransportSlice}
+use Rattle.transport_part.specs.declared.transport_slice.TransportSlice.TheVariants.{Icmpv4, Icmpv6, Tcp, Udp}
+
+-- ---- the stored checksum
+
+-- the sum of only the pseudo header: source, destination, protocol and length; a host stores it for its network card,
+-- which adds the rest and takes the complement
+abbrev pub partial_over_ipv4 : List ℕ → List ℕ → ℕ → List ℕ → ℕ
+partial_over_ipv4 source destination protocol packet = folded (total (ipv4_pseudo_header source destination protocol (length packet)))
+
+abbrev pub partial_over_ipv6 : List ℕ → List ℕ → ℕ → List ℕ → ℕ
+partial_over_ipv6 source destination protocol packet = folded (total (ipv6_pseudo_header source destination protocol (length packet)))
+
+-- the sum of a packet and a pseudo header with this sum, without the checksum stored at this place
+abbrev pub sum_without : ℕ → ℕ → List ℕ → ℕ
+sum_without pseudo_header place packet = folded (pseudo_header + total (with_checksum place packet 0))
+
+-- a packet of at most this length is valid over the pseudo header that counts its bytes
+abbrev pub VerifiesUpTo : ℕ → (ℕ → List ℕ) → List ℕ → Type 0
+VerifiesUpTo max_len pseudo_header_of packet = (length packet ≤ max_len) × Verifies (pseudo_header_of (length packet)) packet
+
+-- ---- the verdict by the protocol
+
+-- the packet is not valid, and is valid with the expected checksum instead. 0 and 65535 give the same sum. If both
+-- are valid, 0 is the expected value
+abbrev pub IsWrong : (List ℕ → Type 0) → ℕ → List ℕ → ℕ → Type 0
+IsWrong IsValid place packet expected = (¬ IsValid packet) × IsValid (with_checksum place packet expected)
+    × (expected ≡ 65535 → ¬ IsValid (with_checksum place packet 0))
+
+-- the verdict by the validity of a packet and the sum of its pseudo header: right exactly if the packet is valid,
+-- partial if it is wrong and that sum is stored, otherwise wrong
+abbrev pub JudgesBy : (List ℕ → Type 0) → ℕ → ℕ → List ℕ → ChecksumVerdict → Type 0
+JudgesBy IsValid partial place packet Right = IsValid packet
+JudgesBy IsValid partial place packet (Wrong expected) = (be_number packet place 2 ≢ partial) × IsWrong IsValid place packet expected
+JudgesBy IsValid partial place packet (Partial expected) = (be_number packet place 2 ≡ partial) × IsWrong IsValid place packet expected
+JudgesBy IsValid partial place packet Absent = ⊥
+JudgesBy IsValid partial place packet (Untested why) = ⊥
+
+-- the same for a UDP packet over IPv4: a checksum of 0 means that there is none (RFC 768), and 0 is never expected
+abbrev pub IsWrongUdpIpv4 : List ℕ → List ℕ → List ℕ → ℕ → Type 0
+IsWrongUdpIpv4 source destination packet expected = (checksum_field packet ≢ 0) × ((¬ SumsUpOverIpv4 source destination packet)
+    × ((expected ≢ 0) × SumsUpOverIpv4 source destination (with_checksum udp_checksum_place packet expected)))
+
+abbrev pub JudgesUdpIpv4 : List ℕ → List ℕ → List ℕ → ChecksumVerdict → Type 0
+JudgesUdpIpv4 source destination packet Right = (checksum_field packet ≢ 0) × SumsUpOverIpv4 source destination packet
+JudgesUdpIpv4 source destination packet (Wrong expected) =
+    (checksum_field packet ≢ partial_over_ipv4 source destination udp_number packet) × IsWrongUdpIpv4 source destination packet expected
+JudgesUdpIpv4 source destination packet (Partial expected) =
+    (checksum_field packet ≡ partial_over_ipv4 source destination udp_number packet) × IsWrongUdpIpv4 source destination packet expected
+JudgesUdpIpv4 source destination packet Absent = checksum_field packet ≡ 0
+JudgesUdpIpv4 source destination packet (Untested why) = ⊥
+
+-- an ICMPv4 message has no pseudo header
+abbrev pub JudgesIcmpv4 : List ℕ → ChecksumVerdict → Type 0
+JudgesIcmpv4 message Right = IsValidIcmpv4 message
+JudgesIcmpv4 message (Wrong expected) = IsWrong IsValidIcmpv4 icmp_checksum_place message expected
+JudgesIcmpv4 message (Partial expected) = ⊥
+JudgesIcmpv4 message Absent = ⊥
+JudgesIcmpv4 message (Untested why) = ⊥
+
+-- over IPv4 and over IPv6
+abbrev pub JudgesOverIpv4 : List ℕ → List ℕ → TransportSlice → ChecksumVerdict → Type 0
+JudgesOverIpv4 source destination (Udp packet) verdict = JudgesUdpIpv4 source destination packet verdict
+JudgesOverIpv4 source destination (Tcp segment) verdict =
+    JudgesBy (IsValidTcpIpv4 source destination) (partial_over_ipv4 source destination tcp_number segment) tcp_checksum_place segment verdict
+JudgesOverIpv4 source destination (Icmpv4 message) verdict = JudgesIcmpv4 message verdict
+JudgesOverIpv4 source destination (Icmpv6 message) verdict = verdict ≡ Untested OtherProtocol
+
+abbrev pub JudgesOverIpv6 : List ℕ → List ℕ → TransportSlice → ChecksumVerdict → Type 0
+JudgesOverIpv6 source destination (Udp packet) verdict =
+    JudgesBy (IsValidUdpIpv6 source destination) (partial_over_ipv6 source destination udp_number packet) udp_checksum_place packet verdict
+JudgesOverIpv6 source destination (Tcp segment) verdict =
+    JudgesBy (IsValidTcpIpv6 source destination) (partial_over_ipv6 source destination tcp_number segment) tcp_checksum_place segment verdict
+JudgesOverIpv6 source destination (Icmpv4 message) verdict = verdict ≡ Untested OtherProtocol
+JudgesOverIpv6 source destination (Icmpv6 message) verdict =
+    JudgesBy (IsValidIcmpv6 source destination) (partial_over_ipv6 source destination icmpv6_number message) icmp_checksum_place message verdict
+
+-- ---- the verdict by the addresses
+
+-- The packet is too long for a pseudo header over IPv4, whose length is 16 bits (RFC 768). An ICMPv4 message has no pseudo header.
+abbrev pub is_too_long_over_ipv4 : TransportSlice → Bool
+is_too_long_over_ipv4 (Udp packet) = nat_lt max_len_over_ipv4 (length packet)
+is_too_long_over_ipv4 (Tcp segment) = nat_lt max_len_over_ipv4 (length segment)
+is_too_long_over_ipv4 (Icmpv4 message) = false
+is_too_long_over_ipv4 (Icmpv6 message) = false
+
+-- A packet too long for a pseudo header is not tested, nor over IPv6 a packet without a final destination (RFC 8200, section 8.1).
+abbrev pub JudgesOver : Addresses → TransportSlice → ChecksumVerdict → Type 0
+JudgesOver (Ipv4 source destination) transport verdict =
+    MatchBool (is_too_long_over_ipv4 transport) (verdict ≡ Untested TooLong) (JudgesOverIpv4 source destination transport verdict)
+JudgesOver (Ipv6 source (Some destination)) transport verdict =
+    MatchBool (nat_lt max_len_over_ipv6 (length (bytes_of transport))) (verdict ≡ Untested TooLong) (JudgesOverIpv6 source destination transport verdict)
+JudgesOver (Ipv6 source None) transport verdict = verdict ≡ Untested UnknownDestination
+
+-- the longest packet that the length field of UDP can count (RFC 768)
+abbrev pub max_length_field : ℕ
+max_length_field = 65535
+
+-- a UDP packet whose length field is 0 although it could count the packet: it is malformed (RFC 768); in a jumbogram,
+-- which is longer, the field is 0 (RFC 2675, section 4)
+abbrev pub lacks_length : TransportSlice → Bool
+lacks_length (Udp packet) = (length_field packet == 0) && not (nat_lt max_length_field (length packet))
+lacks_length (Tcp segment) = false
+lacks_length (Icmpv4 message) = false
+lacks_length (Icmpv6 message) = false
+
+abbrev pub Judges : Addresses → TransportSlice → ChecksumVerdict → Type 0
+Judges addresses transport verdict = MatchBool (lacks_length transport) (verdict ≡ Untested ZeroLength) (JudgesOver addresses transport verdict)
+
+-- a checksum in a verdict is a number of 16 bits
+abbrev pub HasChecksum : ChecksumVerdict → Type 0
+HasChecksum (Wrong expected) = expected < 65536
+HasChecksum (Partial expected) = expected < 65536
+HasChecksum Right = ⊤
+HasChecksum Absent = ⊤
+HasChecksum (Untested why) = ⊤
+
+-- any two verdicts for which this is true are equal
+abbrev pub AreOne : (ChecksumVerdict → Type 0) → Type 0
+AreOne IsTrueOf = (a b : ChecksumVerdict) → HasChecksum a → HasChecksum b → IsTrueOf a → IsTrueOf b → a ≡ b
+
+-- ---- the verdict on the transport of an IP packet
+
+-- The reasons not to test a checksum, in their order: a fragment, since a checksum covers all fragments; a packet
+-- that is cut off, since a checksum covers all bytes; another protocol; a UDP length field of 0 (`Judges`); over IPv6
+-- an unknown destination; a packet that is too long (`JudgesOver`). ICMP of the other IP version is another protocol.
+abbrev pub JudgesFound : TransportInIp → ChecksumVerdict → Type 0
+JudgesFound found verdict = MatchBool found.is_fragment (verdict ≡ Untested Fragment) (
+    MatchBool found.is_cut_off (verdict ≡ Untested CutOff) (
+    MatchOption (kept found) (verdict ≡ Untested OtherProtocol) (λ transport. Judges (by_value found.addresses) transport verdict)))
+
+-- ---- in short
+
+-- a receiver's check over these addresses, by protocol
+abbrev pub IsValidOver : Addresses → TransportSlice → Type 0
+IsValidOver (Ipv4 source destination) (Udp packet) = IsValidUdpIpv4 source destination packet
+IsValidOver (Ipv4 source destination) (Tcp segment) = IsValidTcpIpv4 source destination segment
+IsValidOver (Ipv4 source destination) (Icmpv4 message) = IsValidIcmpv4 message
+IsValidOver (Ipv4 source destination) (Icmpv6 message) = ⊥
+IsValidOver (Ipv6 source (Some destination)) (Udp packet) = IsValidUdpIpv6 source destination packet
+IsValidOver (Ipv6 source (Some destination)) (Tcp segment) = IsValidTcpIpv6 source destination segment
+IsValidOver (Ipv6 source (Some destination)) (Icmpv4 message) = ⊥
+IsValidOver (Ipv6 source (Some destination)) (Icmpv6 message) = IsValidIcmpv6 source destination message
+IsValidOver (Ipv6 source None) transport = ⊥
+
+-- a tested packet passes the test exactly if its checksum is right or absent
+abbrev pub SaysWhether : Type 0 → ChecksumVerdict → Type 0
+SaysWhether IsValid Right = IsValid
+SaysWhether IsValid Absent = IsValid
+SaysWhether IsValid (Wrong expected) = ¬ IsValid
+SaysWhether IsValid (Partial expected) = ¬ IsValid
+SaysWhether IsValid (Untested why) = ⊤

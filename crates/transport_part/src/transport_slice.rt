@@ -1,0 +1,119 @@
+use crate::verdict::{lacks_length, verdict_over};
+use crate::{ChecksumVerdict, Untested};
+use icmp_part::{Icmpv4Slice, Icmpv6Slice};
+use ip_part::{IpAddresses, Proto};
+use tcp_part::TcpSlice;
+use udp_part::UdpSlice;
+
+/// The transport of an IP packet, header and payload in one slice.
+///
+/// ```
+/// use etherparse_transport::TransportSlice;
+/// use etherparse_transport::ip::{transport_in_ip, transport_slice};
+///
+/// let packet = [
+///     0x45, 0, 0, 29, 0, 0, 0, 0, 64, 17, 0, 0, 192, 168, 1, 1, 192, 168, 1, 2, // IPv4
+///     0x00, 0x15, 0x04, 0xD2, 0x00, 0x09, 0x00, 0x00, b'a', // UDP
+/// ];
+/// let transport = transport_slice(&transport_in_ip(&packet)?)?;
+/// assert!(rt; matches!(&transport, Some(TransportSlice::Udp(udp)) if udp.source_port() == 21));
+/// ```
+#[derive(Clone, Debug, PartialEq, Eq, Drop)]
+pub enum TransportSlice<'a> {
+    /// A UDP packet (RFC 768).
+    Udp(UdpSlice<'a>),
+    /// A TCP segment (RFC 9293, section 3.1).
+    Tcp(TcpSlice<'a>),
+    /// An ICMPv4 message (RFC 792).
+    Icmpv4(Icmpv4Slice<'a>),
+    /// An ICMPv6 message (RFC 4443, section 2.1).
+    Icmpv6(Icmpv6Slice<'a>),
+}
+
+impl<'a> TransportSlice<'a> {
+    ghost use Rattle.std.specs.Prelude.{◌≡◌, ◌≤◌, length};
+    ghost use Rattle.std.specs.Option.{option_map};
+    ghost use Rattle.ip_part.specs.Addresses.{by_value};
+    ghost use Rattle.transport_part.specs.Layouts.{layout_of};
+    ghost use Rattle.transport_part.specs.Transports.{bytes_of, min_len, payload_of, proto_of, quoted_by};
+    ghost use Rattle.transport_part.specs.Verdicts.{AreOne, IsValidOver, Judges, SaysWhether};
+
+    /// The protocol.
+    pub fn proto(&self) -> Proto
+        ensures { result ≡ proto_of self.now }
+    {
+        match self {
+            TransportSlice::Udp(_) => Proto::Udp,
+            TransportSlice::Tcp(_) => Proto::Tcp,
+            TransportSlice::Icmpv4(_) => Proto::Icmpv4,
+            TransportSlice::Icmpv6(_) => Proto::Icmpv6,
+        }
+    }
+
+    /// The bytes of header and payload.
+    pub fn slice(&self) -> &'a [u8]
+        ensures bytes { result.now ≡ bytes_of self.now }
+        ensures long { min_len self.now ≤ length result.now }
+    {
+        match self {
+            TransportSlice::Udp(packet) => packet.slice(),
+            TransportSlice::Tcp(segment) => segment.slice(),
+            TransportSlice::Icmpv4(message) => message.slice(),
+            TransportSlice::Icmpv6(message) => message.slice(),
+        }
+    }
+
+    /// The length of the header, in bytes: 20 to 60 for TCP, 20 for an ICMPv4 timestamp message or its reply, of code
+    /// 0, otherwise 8.
+    pub fn header_len(&self) -> usize
+        ensures { result ≡ (layout_of (proto_of self.now) (bytes_of self.now)).header_len }
+    {
+        match self {
+            TransportSlice::Udp(packet) => packet.header_len(),
+            TransportSlice::Tcp(segment) => segment.header_len(),
+            TransportSlice::Icmpv4(message) => message.header_len(),
+            TransportSlice::Icmpv6(message) => message.header_len(),
+        }
+    }
+
+    /// The bytes after the header.
+    pub fn payload(&self) -> &'a [u8]
+        ensures { result.now ≡ payload_of self.now }
+    {
+        match self {
+            TransportSlice::Udp(packet) => packet.payload(),
+            TransportSlice::Tcp(segment) => segment.payload(),
+            TransportSlice::Icmpv4(message) => message.payload(),
+            TransportSlice::Icmpv6(message) => message.payload(),
+        }
+    }
+
+    /// The packet that an ICMP error is about, from its IP header on, as far as the error contains it. None if this is not an ICMP error.
+    /// `ip::transport_in_ip_lax` reads the quoted packet, of which usually only the beginning is there.
+    pub fn quoted_packet(&self) -> Option<&'a [u8]>
+        ensures { option_map (λ packet. packet.now) result ≡ quoted_by self.now }
+    {
+        match self {
+            TransportSlice::Udp(_) | TransportSlice::Tcp(_) => None,
+            TransportSlice::Icmpv4(message) => message.quoted_packet(),
+            TransportSlice::Icmpv6(message) => message.quoted_packet(),
+        }
+    }
+
+    /// Whether the checksum over these addresses is right, and the right checksum if it is wrong (RFC 1071, section 1).
+    /// The slice must contain the whole packet, which must not be a fragment: `ip::checksum_verdict` also checks that.
+    #[inline(always)]
+    #[tactic(auto, using(crate::proofs::ValidityLaw::says_over))]
+    pub fn checksum_verdict(&self, addresses: IpAddresses<'_>) -> ChecksumVerdict
+        ensures judged { Judges (by_value addresses.entry) self.now result }
+        // In short: a tested packet passes its protocol's test exactly if the verdict is `Right` or `Absent`.
+        ensures valid { SaysWhether (IsValidOver (by_value addresses.entry) self.now) result }
+        // No other verdict on the packet is true.
+        ensures one_verdict { AreOne (Judges (by_value addresses.entry) self.now) }
+    {
+        if lacks_length(self) {
+            return ChecksumVerdict::Untested(Untested::ZeroLength);
+        }
+        verdict_over(addresses, self)
+    }
+}
