@@ -13,6 +13,10 @@ use tcp_part::TcpSlice;
 
 /// Writes the fields of a header after its ports, except the checksum: flags, numbers and window. The urgent pointer is written if the flag
 /// URG is set, and the options if there are any.
+///
+/// # Errors
+///
+/// The error of the writer, if writing fails.
 pub fn write_header<W: Write>(output: &mut W, segment: &TcpSlice) -> io::Result<()>
     ensures { OnOk result (AppendsOne (W.contents output.old) (W.contents output.new) (IsHeaderText segment.now)) }
 {
