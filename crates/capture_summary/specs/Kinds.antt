@@ -12,7 +12,6 @@ use Rattle.transport_part.specs.declared.checksum_verdict.Untested.TheVariants a
 use Rattle.capture_texts.specs.declared.link_type.LinkType.{LinkType}
 use Rattle.capture_texts.specs.declared.link_type.LinkType.TheVariants as link_types
 use Rattle.capture_packet.specs.Verdicts.{refusal_of}
-use Rattle.capture_packet.specs.declared.content.Content.TheVariants as contents
 use Rattle.capture_packet.specs.declared.refusal.Refusal.{Refusal}
 use Rattle.capture_packet.specs.declared.refusal.Refusal.TheVariants as refusals
 use Rattle.capture_packet.specs.declared.verdict.Verdict.{Verdict}

@@ -1,5 +1,5 @@
 -- A packet has exactly one line.
-use Rattle.std.specs.Prelude.{ℕ, List, Option, length}
+use Rattle.std.specs.Prelude.{ℕ, List, Option}
 use Rattle.std.proofs.Common.{◌≡◌, Bool, ◌∙◌, sym}
 use Rattle.transport_part.specs.declared.transport_slice.TransportSlice.TheVariants as slices
 use Rattle.ip_part.specs.Addresses.{Addresses, by_value}
