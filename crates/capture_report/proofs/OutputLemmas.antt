@@ -4,7 +4,7 @@ use Rattle.std.proofs.KnownBytes.{Appends-nil, Appends-trans}
 use Rattle.std.proofs.lemmas.List.Folds.{concat-append}
 use Rattle.std.specs.Io.KnownBytes.{Appends}
 use Rattle.streams.specs.Streams.{AppendsBeginning}
-use Rattle.capture_run.specs.ErrorLines.{AreBegun, IsOneLine, WritesLines, WritesSome}
+use Rattle.capture_request.specs.ErrorLines.{AreBegun, IsOneLine, WritesLines, WritesSome}
 
 -- a result is no error
 pub not_both : {T E : Type 0} (result : Result T E) → IsErr result → IsOk result → ⊥

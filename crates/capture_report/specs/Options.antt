@@ -3,8 +3,8 @@ use Rattle.std.specs.Prelude.{◌≡◌, ℕ, Bool, List, ◌++◌, not, if◌th
 use Rattle.std.specs.Option.{option_map}
 use Rattle.clap.specs.Words.{first_value, found_of, rows_of}
 use Rattle.clap.specs.declared.parser.matches.ArgMatches.{ArgMatches}
-use Rattle.capture_run.specs.Lines.{lines_by}
-use Rattle.capture_run.specs.declared.parts.Format.TheVariants as formats
+use Rattle.capture_request.specs.Lines.{lines_by}
+use Rattle.capture_request.specs.declared.parts.Format.TheVariants as formats
 use Rattle.capture_summary.specs.Ranking.{default_top}
 use Rattle.capture_words.specs.TimeText.{times_by}
 use Rattle.capture_report.specs.Arguments.{HasFlag, HasNumberOr, values_of}

@@ -4,12 +4,12 @@ use Rattle.std.specs.Io.KnownBytes.{Keeps}
 use Rattle.std.specs.Option.{option_map}
 use Rattle.std.specs.Str.{bytes_eq}
 use Rattle.std.specs.declared.io.Error.{Error}
-use Rattle.capture_run.specs.Endings.{exit_status}
-use Rattle.capture_run.specs.ErrorLines.{AreEndLines, WritesSome}
-use Rattle.capture_run.specs.declared.exit_status.ExitStatus.{ExitStatus}
-use Rattle.capture_run.specs.declared.exit_status.ExitStatus.TheVariants as statuses
-use Rattle.capture_run.specs.ExitStatuses.{exit_number}
-use Rattle.capture_run.specs.declared.parts.Parts.{Parts}
+use Rattle.capture_request.specs.Endings.{exit_status}
+use Rattle.capture_request.specs.ErrorLines.{AreEndLines, WritesSome}
+use Rattle.capture_request.specs.declared.exit_status.ExitStatus.{ExitStatus}
+use Rattle.capture_request.specs.declared.exit_status.ExitStatus.TheVariants as statuses
+use Rattle.capture_request.specs.ExitStatuses.{exit_number}
+use Rattle.capture_request.specs.declared.parts.Parts.{Parts}
 use Rattle.capture_selection.specs.Captures.{SelectsCapture}
 use Rattle.capture_selection.specs.declared.counts.Counts.{Counts}
 use Rattle.capture_selection.specs.declared.selection_error.SelectionError.{SelectionError}

@@ -11,7 +11,7 @@ ghost use Rattle.capture_report.specs.Rejections.{AreRejectedBy};
 ghost use Rattle.capture_report.specs.CommandLine.{AreRequestedBy, IsCommandLine, bare_command, choice_rules, count_rule, end_rules, file_rule, file_rules, flag_rule, form_rules, line_buffered_rule, line_rules, numeric_rule, output_rules, protocol_names, read_rule, repeated, top_rule, value_rule, verbose_rule, with_rules, write_rule};
 ghost use Rattle.capture_summary.specs.Ranking.{default_top};
 ghost use Rattle.capture_words.specs.TimeText.{times_by};
-ghost use Rattle.capture_run.specs.declared.parts.Format.TheVariants as Format;
+ghost use Rattle.capture_request.specs.declared.parts.Format.TheVariants as Format;
 
 use crate::chosen::{ChoiceError, choice_of};
 use crate::conflicts::{conflict_in, conflict_text};

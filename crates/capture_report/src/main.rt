@@ -13,8 +13,8 @@
 ghost use Rattle.std.specs.Prelude.{◌≡◌, ◌-◌, ◌^◌, IfOk, IsOk, IsTrue, Ok, option_map, string_bytes};
 ghost use Rattle.std.specs.IoError.{error_kind};
 ghost use Rattle.clap.specs.Words.{kind_of};
-ghost use Rattle.capture_run.specs.ErrorLines.{IsOneLine, IsOpenErrorLine, WritesSome};
-ghost use Rattle.capture_run.specs.Names.{shown_name};
+ghost use Rattle.capture_request.specs.ErrorLines.{IsOneLine, IsOpenErrorLine, WritesSome};
+ghost use Rattle.capture_request.specs.Names.{shown_name};
 ghost use Rattle.capture_report.specs.Failures.{failure_number, write_failure_number};
 ghost use Rattle.capture_report.specs.Outputs.{AreErrorLines, AreSelectionLines, FailsFirst, IsStatusOf, WritesSelection, counts_line, written_status};
 ghost use Rattle.capture_report.specs.Progress.{inner_of, next_of};

@@ -1,16 +1,16 @@
 -- For the end of a report: what its error states about the capture.
 use Rattle.std.proofs.Common.{◌≡◌, ◌≤◌, ◌+◌, ℕ, List, length, Some, None, Ok, Err, Result, Option, IfSome, refl, subst}
 use Rattle.capture_file.specs.CapturePackets.{BeginsInput, BeginsWithPackets, FilePacket, HasPackets, offset_of}
-use Rattle.capture_run.specs.Endings.{HasTooManyPackets, IsCapture, IsReportOf, IsTooLongCapture, max_packets}
+use Rattle.capture_request.specs.Endings.{HasTooManyPackets, IsCapture, IsReportOf, IsTooLongCapture, max_packets}
 use Rattle.capture_packet.specs.Frames.{max_packet_len}
-use Rattle.capture_run.specs.Report.{CountsCapture, CountsFile, IsReadToEnd, PlacesEnd, PlacesError}
+use Rattle.capture_request.specs.Report.{CountsCapture, CountsFile, IsReadToEnd, PlacesEnd, PlacesError}
 use Rattle.capture_run.specs.Runs.{EndsAtHeader, ReportsCapture}
 use Rattle.capture_summary.specs.SummaryTables.{SummaryTables}
 use Rattle.capture_file.specs.declared.reader.capture_reader.CaptureReader.{CaptureReader}
 use Rattle.capture_file.specs.declared.reader.next_packet.NextPacket.{NextPacket}
 use Rattle.capture_summary.specs.declared.choice.Choice.{Choice}
-use Rattle.capture_run.specs.declared.capture_error.CaptureError.{CaptureError}
-use Rattle.capture_run.specs.declared.capture_error.CaptureError.TheVariants.{Enough, Header, Read, ReadHeader, RecordCutOff, Refused, TooManyPackets}
+use Rattle.capture_request.specs.declared.capture_error.CaptureError.{CaptureError}
+use Rattle.capture_request.specs.declared.capture_error.CaptureError.TheVariants.{Enough, Header, Read, ReadHeader, RecordCutOff, Refused, TooManyPackets}
 
 -- too many packets were read
 pub too_many_packets : (counted : ℕ) (reader : CaptureReader) (left : Option (List ℕ)) (packets : List FilePacket)

@@ -1,6 +1,5 @@
 mod EndingLemmas
 mod LimitLemmas
-mod LineLemmas
 mod PacketsTextLemmas
 mod ReadLemmas
 mod ReportLemmas

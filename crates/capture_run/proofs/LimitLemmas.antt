@@ -1,14 +1,14 @@
 -- For a requested number of packets.
 use Rattle.std.proofs.Common.{◌≡◌, ◌≤◌, ◌+◌, ℕ, [], ◌∷◌, false, Err, None, Ok, Option, Result, Some, arith, refl}
 use Rattle.capture_run.proofs.ReportLemmas.{counts_at_most}
-use Rattle.capture_run.specs.Limits.{EndsByLimit, EndsWithoutLimit, IsWithin, is_full}
-use Rattle.capture_run.specs.Report.{CountsCaptured}
+use Rattle.capture_request.specs.Limits.{EndsByLimit, EndsWithoutLimit, IsWithin, is_full}
+use Rattle.capture_request.specs.Report.{CountsCaptured}
 use Rattle.capture_run.specs.Runs.{EndsAtHeader}
 use Rattle.capture_file.specs.CapturePackets.{FilePacket}
 use Rattle.capture_summary.specs.SummaryTables.{SummaryTables}
 use Rattle.capture_summary.specs.declared.choice.Choice.{Choice}
-use Rattle.capture_run.specs.declared.capture_error.CaptureError.{CaptureError}
-use Rattle.capture_run.specs.declared.capture_error.CaptureError.TheVariants.{Enough, Header, Read, ReadHeader, RecordCutOff, Refused, TooManyPackets}
+use Rattle.capture_request.specs.declared.capture_error.CaptureError.{CaptureError}
+use Rattle.capture_request.specs.declared.capture_error.CaptureError.TheVariants.{Enough, Header, Read, ReadHeader, RecordCutOff, Refused, TooManyPackets}
 
 -- one more packet, before the limit is reached
 within_more : (limit : Option ℕ) (counted now : ℕ) → is_full limit counted ≡ false → now ≤ counted + 1 → IsWithin limit now

@@ -9,10 +9,10 @@ use Rattle.capture_file.specs.declared.reader.next_packet.NextPacket.{NextPacket
 use Rattle.capture_file.specs.declared.packet_time.PacketTime.{PacketTime}
 use Rattle.capture_packet.specs.Frames.{max_packet_len}
 use Rattle.capture_run.specs.PacketsText.{EndsAfter, IsPacketText, IsPacketsText, first_time}
-use Rattle.capture_run.specs.Report.{IsAnsweredBy, packet_time}
+use Rattle.capture_request.specs.Report.{IsAnsweredBy, packet_time}
 use Rattle.capture_words.specs.Written.{AppendsOne}
-use Rattle.capture_run.specs.declared.parts.Parts.{Parts}
-use Rattle.capture_run.specs.declared.capture_error.CaptureError.{CaptureError}
+use Rattle.capture_request.specs.declared.parts.Parts.{Parts}
+use Rattle.capture_request.specs.declared.capture_error.CaptureError.{CaptureError}
 
 -- a packet after others
 pub text-push : (parts : Parts) (number now : ℕ) (first : Option PacketTime) (packets : List FilePacket) (packet : FilePacket) (text line : List ℕ)

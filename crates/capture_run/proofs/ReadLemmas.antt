@@ -7,7 +7,7 @@ use Rattle.capture_file.specs.declared.reader.capture_reader.CaptureReader.{Capt
 use Rattle.capture_file.specs.declared.reader.capture_reader.CaptureReader.TheVariants.{Classic, Pcapng}
 use Rattle.capture_file.specs.declared.reader.next_packet.NextPacket.{NextPacket}
 use Rattle.capture_packet.specs.Frames.{max_packet_len}
-use Rattle.capture_run.specs.Report.{ReadsEnd}
+use Rattle.capture_request.specs.Report.{ReadsEnd}
 
 -- a reader is where the next packet begins, or before the blocks that are skipped
 pub seeks_itself : (reader : CaptureReader) (left : Option (List ℕ)) → Seeks max_packet_len reader left reader

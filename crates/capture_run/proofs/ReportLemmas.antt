@@ -5,10 +5,10 @@ use Rattle.capture_file.specs.CapturePackets.{ArePacketsBeforeCut, HasPackets, F
 use Rattle.capture_file.specs.declared.reader.capture_reader.CaptureReader.{CaptureReader}
 use Rattle.capture_file.specs.declared.reader.next_packet.NextPacket.{NextPacket}
 use Rattle.capture_packet.specs.Frames.{max_packet_len}
-use Rattle.capture_run.specs.Report.{CountsCapture, CountsCaptured, CountsEach, IsAnsweredBy}
+use Rattle.capture_request.specs.Report.{CountsCapture, CountsCaptured, CountsEach, IsAnsweredBy}
 use Rattle.capture_summary.specs.SummaryTables.{SummaryTables}
 use Rattle.capture_summary.specs.declared.choice.Choice.{Choice}
-use Rattle.capture_run.specs.declared.capture_error.CaptureError.{CaptureError}
+use Rattle.capture_request.specs.declared.capture_error.CaptureError.{CaptureError}
 
 -- a packet after others
 pub counts-push : (choice : Choice) (before between after : SummaryTables) (packets : List FilePacket) (packet : FilePacket)

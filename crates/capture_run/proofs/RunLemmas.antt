@@ -6,16 +6,16 @@ use Rattle.std.specs.Io.KnownBytes.{Appends}
 use Rattle.std.specs.List.{concat}
 use Rattle.capture_json.specs.declared.write_error.WriteError.{WriteError}
 use Rattle.capture_summary.specs.SummaryTables.{empty_tables}
-use Rattle.capture_run.proofs.LineLemmas.{writes-more, writes-nothing, writes-weaker}
+use Rattle.capture_request.proofs.LineLemmas.{writes-more, writes-nothing, writes-weaker}
 use Rattle.capture_run.specs.Captures.{Given, IsRun, Progress, ReportsEach, ReportsHeaded, ReportsNamed, TellsFirst, WritesReport, WritesRun, at_start, captures_of, heading_of, progress_of}
-use Rattle.capture_run.specs.ErrorLines.{line_name}
-use Rattle.capture_run.specs.ExitStatuses.{final_status}
-use Rattle.capture_run.specs.Limits.{is_full}
+use Rattle.capture_request.specs.ErrorLines.{line_name}
+use Rattle.capture_request.specs.ExitStatuses.{final_status}
+use Rattle.capture_request.specs.Limits.{is_full}
 use Rattle.capture_run.specs.PacketsText.{end_text}
 use Rattle.capture_run.specs.declared.capture_reports.CaptureReports.{CaptureReports}
-use Rattle.capture_run.specs.declared.exit_status.ExitStatus.{ExitStatus}
-use Rattle.capture_run.specs.declared.exit_status.ExitStatus.TheVariants.{Success}
-use Rattle.capture_run.specs.declared.parts.Parts.{Parts}
+use Rattle.capture_request.specs.declared.exit_status.ExitStatus.{ExitStatus}
+use Rattle.capture_request.specs.declared.exit_status.ExitStatus.TheVariants.{Success}
+use Rattle.capture_request.specs.declared.parts.Parts.{Parts}
 
 -- a capture after others
 reports-push : (Reads : List ℕ → Given → Type 0) (parts : Parts) (count place now : ℕ) (names : List (List ℕ)) (name : List ℕ)

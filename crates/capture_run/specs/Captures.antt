@@ -5,23 +5,23 @@ use Rattle.std.specs.List.{concat}
 use Rattle.capture_file.specs.declared.reader.capture_reader.CaptureReader.{CaptureReader}
 use Rattle.capture_json.specs.JsonPacket.{file_members, json_line}
 use Rattle.capture_summary.specs.SummaryTables.{SummaryTables, empty_tables}
-use Rattle.capture_run.specs.Endings.{status_of}
-use Rattle.capture_run.specs.ErrorLines.{AreEndLines, IsOneLine, IsOpenErrorLine, WritesLines, line_name}
-use Rattle.capture_run.specs.ExitStatuses.{final_status, greater}
-use Rattle.capture_run.specs.Limits.{EndsByLimit, IsWithin, is_full}
-use Rattle.capture_run.specs.Names.{shown_name, without_mark}
+use Rattle.capture_request.specs.Endings.{status_of}
+use Rattle.capture_request.specs.ErrorLines.{AreEndLines, IsOneLine, IsOpenErrorLine, WritesLines, line_name}
+use Rattle.capture_request.specs.ExitStatuses.{final_status, greater}
+use Rattle.capture_request.specs.Limits.{EndsByLimit, IsWithin, is_full}
+use Rattle.capture_request.specs.Names.{shown_name, without_mark}
 use Rattle.capture_run.specs.PacketsText.{IsCaptureText, end_text}
 use Rattle.capture_run.specs.ReadCaptures.{IsCaptureAfter}
 use Rattle.capture_run.specs.Runs.{EndsAtHeader, ReportsCapture}
 use Rattle.capture_run.specs.declared.capture_reports.CaptureReports.{CaptureReports}
-use Rattle.capture_run.specs.declared.exit_status.ExitStatus.{ExitStatus}
-use Rattle.capture_run.specs.declared.exit_status.ExitStatus.TheVariants.{Failed, Success}
-use Rattle.capture_run.specs.declared.parts.Format.{Format}
-use Rattle.capture_run.specs.declared.parts.Format.TheVariants as formats
-use Rattle.capture_run.specs.declared.parts.Lines.{Lines}
-use Rattle.capture_run.specs.declared.parts.Lines.TheVariants as lines
-use Rattle.capture_run.specs.declared.parts.Parts.{Parts}
-use Rattle.capture_run.specs.declared.capture_error.CaptureError.{CaptureError}
+use Rattle.capture_request.specs.declared.exit_status.ExitStatus.{ExitStatus}
+use Rattle.capture_request.specs.declared.exit_status.ExitStatus.TheVariants.{Failed, Success}
+use Rattle.capture_request.specs.declared.parts.Format.{Format}
+use Rattle.capture_request.specs.declared.parts.Format.TheVariants as formats
+use Rattle.capture_request.specs.declared.parts.Lines.{Lines}
+use Rattle.capture_request.specs.declared.parts.Lines.TheVariants as lines
+use Rattle.capture_request.specs.declared.parts.Parts.{Parts}
+use Rattle.capture_request.specs.declared.capture_error.CaptureError.{CaptureError}
 
 -- ---- one capture
 

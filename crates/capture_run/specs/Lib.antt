@@ -1,13 +1,5 @@
 pub mod Captures
-pub mod Compressions
-pub mod Endings
-pub mod ErrorLines
-pub mod ExitStatuses
-pub mod Limits
-pub mod Lines
-pub mod Names
 pub mod PacketsText
 pub mod ReadCaptures
-pub mod Report
 pub mod ReportText
 pub mod Runs

@@ -9,17 +9,17 @@ use Rattle.capture_file.specs.declared.packet_time.PacketTime.{PacketTime}
 use Rattle.capture_facts.specs.FactsText.{facts_text}
 use Rattle.capture_packet.specs.Frames.{max_packet_len}
 use Rattle.capture_json.specs.JsonSummary.{json_summary}
-use Rattle.capture_run.specs.Report.{CountsEach, IsAnsweredBy, IsPacketOf, IsReadToEnd, PlacesAfter, ReportsOne, info_of, packet_time}
+use Rattle.capture_request.specs.Report.{CountsEach, IsAnsweredBy, IsPacketOf, IsReadToEnd, PlacesAfter, ReportsOne, info_of, packet_time}
 use Rattle.capture_run.specs.ReportText.{IsTextOfOne}
 use Rattle.capture_run.specs.Runs.{EndsAtHeader}
 use Rattle.capture_summary.specs.SummaryTables.{SummaryTables}
 use Rattle.capture_text.specs.SummaryText.{summary_text}
-use Rattle.capture_run.specs.declared.parts.Format.{Format}
-use Rattle.capture_run.specs.declared.parts.Format.TheVariants as formats
-use Rattle.capture_run.specs.declared.parts.Lines.{Lines}
-use Rattle.capture_run.specs.declared.parts.Lines.TheVariants as lines
-use Rattle.capture_run.specs.declared.parts.Parts.{Parts}
-use Rattle.capture_run.specs.declared.capture_error.CaptureError.{CaptureError}
+use Rattle.capture_request.specs.declared.parts.Format.{Format}
+use Rattle.capture_request.specs.declared.parts.Format.TheVariants as formats
+use Rattle.capture_request.specs.declared.parts.Lines.{Lines}
+use Rattle.capture_request.specs.declared.parts.Lines.TheVariants as lines
+use Rattle.capture_request.specs.declared.parts.Parts.{Parts}
+use Rattle.capture_request.specs.declared.capture_error.CaptureError.{CaptureError}
 
 -- the text of a packet of a capture: its line with this number, its time and its length, if it is chosen and has a line
 abbrev pub IsPacketText : Parts → ℕ → Option PacketTime → FilePacket → List ℕ → Type 0

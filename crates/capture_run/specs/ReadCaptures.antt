@@ -4,9 +4,9 @@ use Rattle.capture_file.specs.CapturePackets.{BeginsInput, FilePacket, ReadsPack
 use Rattle.capture_file.specs.declared.reader.capture_reader.CaptureReader.{CaptureReader}
 use Rattle.capture_file.specs.declared.reader.next_packet.NextPacket.{NextPacket}
 use Rattle.capture_packet.specs.Frames.{max_packet_len}
-use Rattle.capture_run.specs.Report.{ReadsEnd}
+use Rattle.capture_request.specs.Report.{ReadsEnd}
 use Rattle.capture_run.specs.Runs.{EndsAtHeader}
-use Rattle.capture_run.specs.declared.capture_error.CaptureError.{CaptureError}
+use Rattle.capture_request.specs.declared.capture_error.CaptureError.{CaptureError}
 
 -- the next item was read, and it is not a packet; this is the reader after it
 abbrev pub HasEnded : CaptureReader → Option (List ℕ) → CaptureReader → Type 0

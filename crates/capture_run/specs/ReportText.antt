@@ -3,13 +3,13 @@ use Rattle.std.specs.Prelude.{◌≡◌, ◌⊎◌, ℕ, List, [], Bool, MatchBo
 use Rattle.capture_packet.specs.declared.packet.Packet.{Packet}
 use Rattle.capture_summary.specs.Choice.{IsChosen}
 use Rattle.capture_summary.specs.declared.capture_info.CaptureInfo.{CaptureInfo}
-use Rattle.capture_run.specs.Lines.{has_line}
+use Rattle.capture_request.specs.Lines.{has_line}
 use Rattle.capture_file.specs.declared.packet_time.PacketTime.{PacketTime}
 use Rattle.capture_json.specs.JsonPacket.{IsJsonLine}
 use Rattle.capture_text.specs.PacketLine.{IsLine}
-use Rattle.capture_run.specs.declared.parts.Format.{Format}
-use Rattle.capture_run.specs.declared.parts.Format.TheVariants as formats
-use Rattle.capture_run.specs.declared.parts.Parts.{Parts}
+use Rattle.capture_request.specs.declared.parts.Format.{Format}
+use Rattle.capture_request.specs.declared.parts.Format.TheVariants as formats
+use Rattle.capture_request.specs.declared.parts.Parts.{Parts}
 use Rattle.capture_words.specs.declared.times.Times.{Times}
 
 -- the line of a packet in a format; JSON has all details whether the line is verbose or not

@@ -1,11 +1,11 @@
 -- The report of a capture.
 use Rattle.std.specs.Prelude.{◌≡◌, ◌⊎◌, ℕ, List, Option, Result, Err}
-use Rattle.capture_run.specs.Endings.{IsRefusedCapture, IsReportOf}
-use Rattle.capture_run.specs.Report.{CountsFile, IsReadToEnd, PlacesInCapture}
+use Rattle.capture_request.specs.Endings.{IsRefusedCapture, IsReportOf}
+use Rattle.capture_request.specs.Report.{CountsFile, IsReadToEnd, PlacesInCapture}
 use Rattle.capture_summary.specs.SummaryTables.{SummaryTables}
 use Rattle.capture_summary.specs.declared.choice.Choice.{Choice}
-use Rattle.capture_run.specs.declared.capture_error.CaptureError.{CaptureError}
-use Rattle.capture_run.specs.declared.capture_error.CaptureError.TheVariants.{Header, ReadHeader}
+use Rattle.capture_request.specs.declared.capture_error.CaptureError.{CaptureError}
+use Rattle.capture_request.specs.declared.capture_error.CaptureError.TheVariants.{Header, ReadHeader}
 
 -- this error rejects the beginning of the capture, or reading the beginning failed
 abbrev pub IsUnread : List ℕ → CaptureError → Type 0

@@ -1,20 +1,20 @@
 ghost use Rattle.std.specs.Prelude.{◌≡◌, ◌↔◌, ◌++◌, Err, IfOk, IfSome, IsNone, IsOk, IsTrue, None, OnOk, [], if◌then◌else◌, true};
 ghost use Rattle.std.specs.Io.KnownBytes.{Appends};
 ghost use Rattle.capture_run.specs.Captures.{progress_of};
-ghost use Rattle.capture_run.specs.Endings.{status_of};
+ghost use Rattle.capture_request.specs.Endings.{status_of};
 ghost use Rattle.capture_run.specs.PacketsText.{IsCaptureText, empty_line, end_text, summary_in};
 ghost use Rattle.capture_summary.specs.Ranking.{busiest_of};
-ghost use Rattle.capture_run.specs.ExitStatuses.{final_status, greater};
-ghost use Rattle.capture_run.specs.Limits.{EndsByLimit, IsWithin, is_full, StopsCapture};
+ghost use Rattle.capture_request.specs.ExitStatuses.{final_status, greater};
+ghost use Rattle.capture_request.specs.Limits.{EndsByLimit, IsWithin, is_full, StopsCapture};
 ghost use Rattle.capture_run.specs.ReadCaptures.{IsCaptureAfter, only_capture};
 ghost use Rattle.capture_run.specs.Runs.{EndsAtHeader, EndsInPlace, ReportsCapture};
-ghost use Rattle.capture_run.specs.declared.capture_error.CaptureError.TheVariants as CaptureError;
-ghost use Rattle.capture_run.specs.declared.exit_status.ExitStatus.TheVariants as ExitStatus;
+ghost use Rattle.capture_request.specs.declared.capture_error.CaptureError.TheVariants as CaptureError;
+ghost use Rattle.capture_request.specs.declared.exit_status.ExitStatus.TheVariants as ExitStatus;
 ghost use Rattle.capture_summary.specs.SummaryTables.{empty_tables};
 ghost use Rattle.capture_facts.specs.FactsText.{facts_text};
 ghost use Rattle.capture_text.specs.SummaryText.{tables_text};
 ghost use Rattle.capture_words.specs.Written.{AppendsOne};
-ghost use Rattle.capture_run.specs.declared.parts.Lines.TheVariants as Lines;
+ghost use Rattle.capture_request.specs.declared.parts.Lines.TheVariants as Lines;
 
 use crate::packet_report::is_full;
 use crate::packets::report_packets;

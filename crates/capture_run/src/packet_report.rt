@@ -1,25 +1,24 @@
 ghost use Rattle.std.specs.Prelude.{◌≡◌, ◌-◌, ◌^◌, ◌<◌, None, OnOk, false};
 ghost use Rattle.std.specs.Option.{option_or};
-ghost use Rattle.capture_run.specs.Limits.{is_full};
-ghost use Rattle.capture_run.specs.Lines.{HasNoLine, IfNoLine, has_line};
-ghost use Rattle.capture_run.specs.Report.{CountsChosen, CountsRead, CountsPacket, IsReadAs, IsTooLong, captured_info, too_long_info};
+ghost use Rattle.capture_request.specs.Limits.{is_full};
+ghost use Rattle.capture_request.specs.Lines.{HasNoLine, IfNoLine, has_line};
+ghost use Rattle.capture_request.specs.Report.{CountsChosen, CountsRead, CountsPacket, IsReadAs, IsTooLong, captured_info, too_long_info};
 ghost use Rattle.capture_text.specs.PacketLine.{IsLine};
 ghost use Rattle.capture_run.specs.ReportText.{IsLineIn, IsTextOf, IsTextOfChosen, IsTextOfOne};
 ghost use Rattle.capture_words.specs.Written.{AppendsOne};
-ghost use Rattle.capture_run.specs.declared.parts.Lines.TheVariants as Lines;
+ghost use Rattle.capture_request.specs.declared.parts.Lines.TheVariants as Lines;
 
-use crate::{Format, Parts, WriteError};
+use crate::{Format, Parts, WriteError, packet_in_frame, packet_without_room};
 use capture_file::PacketTime;
 use capture_file::reader::{CapturedPacket, TooLongPacket};
 use capture_json::write_packet;
-use capture_packet::{Content, NetworkProtocol, Packet, Verdict, read_packet};
+use capture_packet::Packet;
 use capture_summary::{
     CaptureInfo, FrameLen, Protocol, RefusalKind, Summary, VerdictKind, flow_of,
 };
 use capture_text::write_packet_line;
 use std::alloc::Global;
 use std::io::Write;
-use transport_part::Untested;
 
 /// The report so far: the state that is kept from packet to packet.
 #[derive(Drop)]
@@ -186,27 +185,6 @@ fn too_long_info(captured: &TooLongPacket) -> CaptureInfo
         link_type: captured.link_type,
         time: captured.time,
         len: captured.original_len.map(frame_len),
-    }
-}
-
-/// A packet that is not read, since the buffer has no room for its `required_len` bytes.
-pub fn packet_without_room<'a>(required_len: u32) -> Packet<'a>
-    ensures { IsTooLong required_len result }
-{
-    Packet::in_no_tunnel(Content::Unread, Verdict::TooLong { required_len })
-}
-
-/// The packet in a frame, which is read according to the link type of its capture or interface. A frame of a link type that is not read
-/// contains no IP packet.
-pub fn packet_in_frame<'a>(captured: &CapturedPacket, frame: &'a [u8]) -> Packet<'a>
-    ensures { IsReadAs captured.now.link_type captured.now frame.now result }
-{
-    match captured.link_type {
-        Ok(link_type) => read_packet(link_type, captured.byte_order, frame, captured.is_cut()),
-        Err(number) => Packet::in_no_tunnel(
-            Content::NotIp(NetworkProtocol::LinkType(number)),
-            Verdict::untested(Untested::OtherProtocol),
-        ),
     }
 }
 

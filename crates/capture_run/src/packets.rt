@@ -3,16 +3,16 @@
 ghost use Rattle.std.specs.Prelude.{◌≡◌, ◌<◌, ◌-◌, ◌^◌, ℕ, List, Err, IfErr, IfOk, IfSome, IsNone, Some, length, take};
 ghost use Rattle.capture_file.specs.CapturePackets.{ArePacketsBeforeCut, BeginsInput, HasPackets, FilePacket, ReadsOne, offset_of};
 ghost use Rattle.capture_file.specs.declared.reader.next_packet.NextPacket.{NextPacket};
-ghost use Rattle.capture_run.specs.Endings.{HasTooManyPackets};
+ghost use Rattle.capture_request.specs.Endings.{HasTooManyPackets};
 ghost use Rattle.capture_packet.specs.Frames.{max_packet_len};
-ghost use Rattle.capture_run.specs.Limits.{EndsByLimit, EndsWithoutLimit, IsWithin, StopsAtLimit, StopsCapture};
+ghost use Rattle.capture_request.specs.Limits.{EndsByLimit, EndsWithoutLimit, IsWithin, StopsAtLimit, StopsCapture};
 ghost use Rattle.capture_run.specs.PacketsText.{IsCaptureText, WritesPacket, WritesPackets};
 ghost use Rattle.capture_run.specs.ReadCaptures.{IsLeft, IsReaderOf, LeavesReader};
-ghost use Rattle.capture_run.specs.Report.{CountsCapture, CountsEach, IsLeftAt, IsReadToEnd, PlacesEnd, PlacesError, ReadsWholePackets, ReportsNext};
+ghost use Rattle.capture_request.specs.Report.{CountsCapture, CountsEach, IsLeftAt, IsReadToEnd, PlacesEnd, PlacesError, ReadsWholePackets, ReportsNext};
 ghost use Rattle.capture_run.specs.Runs.{EndsAtHeader, EndsInPlace, IsUnread, ReportsCapture};
 ghost use Rattle.capture_words.specs.Written.{AppendsOne};
-ghost use Rattle.capture_run.specs.declared.parts.Lines.TheVariants as Lines;
-ghost use Rattle.capture_run.specs.declared.capture_error.CaptureError.TheVariants as CaptureError;
+ghost use Rattle.capture_request.specs.declared.parts.Lines.TheVariants as Lines;
+ghost use Rattle.capture_request.specs.declared.capture_error.CaptureError.TheVariants as CaptureError;
 
 use crate::packet_report::PacketReport;
 use crate::{CaptureError, MAX_PACKET_LEN, Parts, WriteError};

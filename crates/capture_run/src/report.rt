@@ -5,22 +5,18 @@ ghost use Rattle.std.specs.Io.KnownBytes.{Appends};
 ghost use Rattle.std.specs.Option.{option_map};
 ghost use Rattle.capture_run.specs.Captures as specs;
 ghost use Rattle.capture_run.specs.Captures.{Gives, IsRun, ReportsEach, ReportsHeaded, ReportsNamed, TellsFirst, WritesReport, WritesRun, at_start, heading_in, heading_of, progress_of, text_heading};
-ghost use Rattle.capture_run.specs.ErrorLines.{line_name};
-ghost use Rattle.capture_run.specs.Names.{shown_name};
+ghost use Rattle.capture_request.specs.ErrorLines.{line_name};
+ghost use Rattle.capture_request.specs.Names.{shown_name};
 
-use crate::capture_error::{write_end, write_open_error};
 use crate::capture_reports::CaptureReports;
-use crate::shown_name::without_mark;
-use crate::{ExitStatus, Format, Lines, Open, Parts, WriteError};
+use crate::{ExitStatus, Format, Lines, Open, Parts, STANDARD_INPUT, WriteError};
 use capture_facts::ShownText;
 use capture_json::write_file_name;
+use capture_request::{without_mark, write_end, write_open_error};
 use std::alloc::Global;
 use std::hash::RandomState;
 use std::io;
 use std::io::Write;
-
-/// The name of standard input among the captures.
-pub const STANDARD_INPUT: &str = "-";
 
 /// Reports the captures with these names, one after the other, or standard input if there is no name. Then it writes the summary of all
 /// captures, and returns the exit status. `state` provides the keys of the hashes that find a flow. With random keys, no capture can be

@@ -19,7 +19,7 @@ use Rattle.capture_file.specs.declared.reader.packet_error.PacketError.TheVarian
 use Rattle.capture_file.specs.declared.reader.packet_error.PlacedPacketError.{PlacedPacketError}
 use Rattle.capture_file.specs.declared.reader.pcapng_reader.PcapngReader.{PcapngReader}
 use Rattle.capture_packet.specs.Frames.{max_packet_len}
-use Rattle.capture_run.specs.declared.parts.Parts.{Parts}
+use Rattle.capture_request.specs.declared.parts.Parts.{Parts}
 use Rattle.capture_selection.proofs.PassingLemmas.{ends_by_read, front_of, next_to_end}
 use Rattle.capture_selection.specs.Blocks.{HasBlockOutcome, IsBlockPart, IsLongBlock, IsRefusedBlock, StepsTo, block_place, blocks_of, refused_by}
 use Rattle.capture_selection.specs.Passing.{IsEndBy, IsFront, IsReadError, IsWriteError, PassesNext, StopsBy, written_by}

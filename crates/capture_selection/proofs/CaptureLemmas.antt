@@ -7,7 +7,7 @@ use Rattle.std.specs.Io.KnownBytes.{Consumes, IsAtEnd}
 use Rattle.streams.specs.Streams.{FillsAfter}
 use Rattle.capture_file.specs.Pcapng.{is_section_header}
 use Rattle.capture_file.specs.declared.reader.open_error.OpenError.TheVariants.{Classic, Pcapng}
-use Rattle.capture_run.specs.declared.capture_error.CaptureError.{CaptureError}
+use Rattle.capture_request.specs.declared.capture_error.CaptureError.{CaptureError}
 use Rattle.capture_selection.proofs.PassingLemmas.{header_ends_none, header_read_ends_none}
 use Rattle.capture_selection.specs.Blocks.{PassesFile}
 use Rattle.capture_file.specs.Classic.{header_refusal}
@@ -15,8 +15,8 @@ use Rattle.capture_file.specs.Opening.{SaysHeader}
 use Rattle.capture_file.specs.Reading.{ReadsHeader}
 use Rattle.capture_file.specs.declared.classic.capture_header.CaptureHeader.{CaptureHeader}
 use Rattle.capture_file.specs.declared.classic.capture_header_error.CaptureHeaderError.{CaptureHeaderError}
-use Rattle.capture_run.specs.declared.capture_error.CaptureError.TheVariants.{Enough, Header, Read, ReadHeader, RecordCutOff, Refused, TooManyPackets}
-use Rattle.capture_run.specs.declared.parts.Parts.{Parts}
+use Rattle.capture_request.specs.declared.capture_error.CaptureError.TheVariants.{Enough, Header, Read, ReadHeader, RecordCutOff, Refused, TooManyPackets}
+use Rattle.capture_request.specs.declared.parts.Parts.{Parts}
 use Rattle.capture_selection.specs.Captures.{RefusesBytes, SelectsBlocks, SelectsCapture, SelectsRecords}
 use Rattle.capture_selection.specs.Passing.{EndsAtLimit, IsWriteError, PassesTo}
 use Rattle.capture_selection.specs.Records.{records_of}

@@ -13,9 +13,9 @@ use Rattle.capture_file.specs.declared.reader.open_error.OpenError.TheVariants.{
 use Rattle.capture_file.specs.declared.reader.packet_error.PacketError.TheVariants as errors
 use Rattle.capture_file.specs.declared.reader.packet_error.PlacedPacketError.{PlacedPacketError}
 use Rattle.capture_file.specs.declared.reader.pcapng_reader.PcapngReader.{PcapngReader}
-use Rattle.capture_run.specs.declared.capture_error.CaptureError.TheVariants.{Enough, Header, Read, ReadHeader, RecordCutOff, Refused, TooManyPackets}
-use Rattle.capture_run.specs.Limits.{is_full}
-use Rattle.capture_run.specs.declared.parts.Parts.{Parts}
+use Rattle.capture_request.specs.declared.capture_error.CaptureError.TheVariants.{Enough, Header, Read, ReadHeader, RecordCutOff, Refused, TooManyPackets}
+use Rattle.capture_request.specs.Limits.{is_full}
+use Rattle.capture_request.specs.declared.parts.Parts.{Parts}
 use Rattle.capture_selection.proofs.PassingLemmas.{error_below, header_ends_none, passes_to_first_error}
 use Rattle.capture_selection.specs.Blocks.{IsPastFirst, PassesFile, at_beginning, blocks_of}
 use Rattle.capture_selection.specs.Passing.{AreParts, EndsAtLimit, IsWriteError, Part, Passes, PassesTo, StopsBy}

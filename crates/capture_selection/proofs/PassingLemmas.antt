@@ -14,11 +14,11 @@ use Rattle.capture_selection.specs.declared.counts.Counts.{Counts}
 use Rattle.capture_selection.specs.declared.outcome.Outcome.{Outcome}
 use Rattle.capture_selection.specs.declared.outcome.Outcome.TheVariants.{Excluded, Unlisted, Written}
 use Rattle.capture_selection.specs.declared.place.Place.{Place}
-use Rattle.capture_run.specs.Endings.{max_packets}
-use Rattle.capture_run.specs.Limits.{IsWithin, is_full}
+use Rattle.capture_request.specs.Endings.{max_packets}
+use Rattle.capture_request.specs.Limits.{IsWithin, is_full}
 use Rattle.capture_selection.specs.declared.selection_error.SelectionError.{SelectionError}
 use Rattle.capture_selection.specs.declared.selection_error.SelectionError.TheVariants.{Capture, Write}
-use Rattle.capture_run.specs.declared.capture_error.CaptureError.TheVariants.{Enough, Header, Read, ReadHeader, RecordCutOff, Refused, TooManyPackets}
+use Rattle.capture_request.specs.declared.capture_error.CaptureError.TheVariants.{Enough, Header, Read, ReadHeader, RecordCutOff, Refused, TooManyPackets}
 
 -- ---- parts
 

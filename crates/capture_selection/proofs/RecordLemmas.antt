@@ -11,8 +11,8 @@ use Rattle.capture_texts.specs.declared.byte_order.ByteOrder.{ByteOrder}
 use Rattle.capture_file.specs.declared.classic.capture_header.CaptureHeader.{CaptureHeader}
 use Rattle.capture_packet.specs.Frames.{max_packet_len}
 use Rattle.capture_packet.specs.declared.packet.Packet.{Packet}
-use Rattle.capture_run.specs.Report.{IsPacketOf}
-use Rattle.capture_run.specs.declared.parts.Parts.{Parts}
+use Rattle.capture_request.specs.Report.{IsPacketOf}
+use Rattle.capture_request.specs.declared.parts.Parts.{Parts}
 use Rattle.capture_selection.specs.Outcomes.{IsOutcomeOf}
 use Rattle.capture_selection.specs.Records.{IsCutRecord, IsLongRecord, IsRecordPart}
 use Rattle.capture_selection.specs.declared.outcome.Outcome.{Outcome}

@@ -17,9 +17,9 @@ use Rattle.capture_file.specs.declared.reader.packet_error.PacketError.TheVarian
 use Rattle.capture_file.specs.declared.reader.packet_error.PlacedPacketError.{PlacedPacketError}
 use Rattle.capture_file.specs.declared.reader.pcapng_reader.PcapngReader.{PcapngReader}
 use Rattle.capture_packet.specs.Frames.{max_packet_len}
-use Rattle.capture_run.specs.Report.{IsPacketOf}
-use Rattle.capture_run.specs.declared.capture_error.CaptureError.TheVariants.{Header, RecordCutOff, Refused}
-use Rattle.capture_run.specs.declared.parts.Parts.{Parts}
+use Rattle.capture_request.specs.Report.{IsPacketOf}
+use Rattle.capture_request.specs.declared.capture_error.CaptureError.TheVariants.{Header, RecordCutOff, Refused}
+use Rattle.capture_request.specs.declared.parts.Parts.{Parts}
 use Rattle.capture_selection.specs.Outcomes.{HasOutcome, one_more}
 use Rattle.capture_selection.specs.Passing.{Format, Part, PassesTo, StopsBy}
 use Rattle.capture_selection.specs.declared.blocks.Blocks.{Blocks}

@@ -6,10 +6,10 @@ use Rattle.capture_file.specs.Opening.{SaysHeader}
 use Rattle.capture_file.specs.Reading.{RefusesHeader}
 use Rattle.capture_file.specs.declared.classic.capture_header.CaptureHeader.{CaptureHeader}
 use Rattle.capture_file.specs.declared.reader.open_error.OpenError.TheVariants.{Classic, Pcapng}
-use Rattle.capture_run.specs.declared.capture_error.CaptureError.{CaptureError}
-use Rattle.capture_run.specs.declared.capture_error.CaptureError.TheVariants.{Enough, Header, ReadHeader}
-use Rattle.capture_run.specs.Limits.{is_full}
-use Rattle.capture_run.specs.declared.parts.Parts.{Parts}
+use Rattle.capture_request.specs.declared.capture_error.CaptureError.{CaptureError}
+use Rattle.capture_request.specs.declared.capture_error.CaptureError.TheVariants.{Enough, Header, ReadHeader}
+use Rattle.capture_request.specs.Limits.{is_full}
+use Rattle.capture_request.specs.declared.parts.Parts.{Parts}
 use Rattle.capture_file.specs.Pcapng.{is_section_header}
 use Rattle.capture_selection.specs.Blocks.{IsFileStart, PassesFile}
 use Rattle.capture_selection.specs.Passing.{PassesTo}

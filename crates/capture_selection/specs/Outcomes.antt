@@ -2,8 +2,8 @@
 use Rattle.std.specs.Prelude.{◌≡◌, ◌+◌, ◌-◌, ◌^◌, ℕ, true, false, min, Option, Some}
 use Rattle.capture_packet.specs.declared.packet.Packet.{Packet}
 use Rattle.capture_summary.specs.Choice.{IsChosen}
-use Rattle.capture_run.specs.Lines.{has_line}
-use Rattle.capture_run.specs.declared.parts.Parts.{Parts}
+use Rattle.capture_request.specs.Lines.{has_line}
+use Rattle.capture_request.specs.declared.parts.Parts.{Parts}
 use Rattle.capture_selection.specs.declared.counts.Counts.{Counts}
 use Rattle.capture_selection.specs.declared.outcome.Outcome.{Outcome}
 use Rattle.capture_selection.specs.declared.outcome.Outcome.TheVariants.{Excluded, Unlisted, Written}

@@ -6,8 +6,8 @@ use Rattle.capture_texts.specs.Numbers.{number_at}
 use Rattle.capture_file.specs.Reading.{required_len}
 use Rattle.capture_file.specs.declared.classic.capture_header.CaptureHeader.{CaptureHeader}
 use Rattle.capture_packet.specs.Frames.{max_packet_len}
-use Rattle.capture_run.specs.Report.{IsPacketOf}
-use Rattle.capture_run.specs.declared.parts.Parts.{Parts}
+use Rattle.capture_request.specs.Report.{IsPacketOf}
+use Rattle.capture_request.specs.declared.parts.Parts.{Parts}
 use Rattle.capture_selection.specs.Outcomes.{HasOutcome, one_more}
 use Rattle.capture_selection.specs.Passing.{Format, Part}
 use Rattle.capture_selection.specs.declared.place.Place.{Place}

@@ -6,7 +6,7 @@ ghost use Rattle.capture_file.specs.PcapngReading.{AreFirst, BeginsBlock};
 ghost use Rattle.capture_file.specs.declared.pcapng.read.NextBlock.TheVariants.{TooLong, Whole};
 ghost use Rattle.capture_packet.specs.Frames.{max_packet_len};
 ghost use Rattle.capture_selection.specs.Blocks.{IsFileStart, IsPastFirst, PassesFile, StepsTo, block_place, blocks_of, number_after};
-ghost use Rattle.capture_run.specs.Limits.{IsWithin, is_full};
+ghost use Rattle.capture_request.specs.Limits.{IsWithin, is_full};
 ghost use Rattle.capture_selection.specs.Passing.{EndsAtLimit, PassesAny, PassesNext, PassesTo};
 ghost use Rattle.capture_selection.specs.declared.outcome.Outcome.{Outcome};
 ghost use Rattle.capture_selection.specs.declared.outcome.Outcome.TheVariants.{Excluded};
@@ -18,7 +18,7 @@ use capture_file::ByteOrder;
 use capture_file::pcapng::{Block, BlockError, BlockHeader, MIN_BLOCK_LEN, SECTION_HEADER};
 use capture_file::reader::{PacketError, PcapngReader, PlacedPacketError, Section};
 use capture_packet::MAX_PACKET_LEN;
-use capture_run::{CaptureError, Parts, packet_in_frame, packet_without_room};
+use capture_request::{CaptureError, Parts, packet_in_frame, packet_without_room};
 use capture_texts::FileTexts;
 use std::io::{Read, Write};
 

@@ -5,7 +5,7 @@ ghost use Rattle.std.specs.Io.KnownBytes.{Consumes, IsAtEnd};
 ghost use Rattle.capture_file.specs.Opening.{SaysHeader};
 ghost use Rattle.capture_file.specs.Pcapng.{is_section_header};
 ghost use Rattle.capture_file.specs.PcapngReading.{AreFirst};
-ghost use Rattle.capture_run.specs.Limits.{IsWithin, is_full};
+ghost use Rattle.capture_request.specs.Limits.{IsWithin, is_full};
 ghost use Rattle.capture_selection.specs.Captures.{RefusesBytes, SelectsCapture};
 ghost use Rattle.capture_selection.specs.Passing.{EndsAtLimit};
 
@@ -17,7 +17,7 @@ use capture_file::ByteOrder;
 use capture_file::classic::{CaptureHeader, read_capture_header};
 use capture_file::pcapng::{MIN_BLOCK_LEN, SECTION_HEADER};
 use capture_file::reader::OpenError;
-use capture_run::{CaptureError, Parts};
+use capture_request::{CaptureError, Parts};
 use std::io::{Read, Write};
 use streams::{fill, fill_after};
 

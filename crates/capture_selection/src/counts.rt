@@ -1,6 +1,6 @@
 ghost use Rattle.std.specs.Prelude.{◌≡◌, ◌≤◌, ◌+◌, fold};
 ghost use Rattle.std.specs.Option.{option_to_list};
-ghost use Rattle.capture_run.specs.Limits.{is_full};
+ghost use Rattle.capture_request.specs.Limits.{is_full};
 ghost use Rattle.capture_selection.specs.Outcomes.{counted};
 
 use crate::Outcome;

@@ -1,7 +1,7 @@
 ghost use Rattle.capture_selection.specs.Outcomes.{IsOutcomeOf};
 
 use capture_packet::Packet;
-use capture_run::Parts;
+use capture_request::Parts;
 
 /// What is done with a packet of a capture.
 #[derive(Clone, Copy, Debug, PartialEq, Eq)]

@@ -1,13 +1,13 @@
 ghost use Rattle.std.specs.Prelude.{◌≡◌};
 ghost use Rattle.capture_selection.specs.Blocks.{refused_by};
 ghost use Rattle.capture_selection.specs.Passing.{IsReadError};
-ghost use Rattle.capture_run.specs.declared.capture_error.CaptureError.TheVariants.{RecordCutOff};
+ghost use Rattle.capture_request.specs.declared.capture_error.CaptureError.TheVariants.{RecordCutOff};
 ghost use Rattle.capture_selection.specs.declared.selection_error.SelectionError.TheVariants.{Capture};
 
 use crate::SelectionError;
 use capture_file::pcapng::BlockError;
 use capture_file::reader::{PacketError, PlacedPacketError};
-use capture_run::CaptureError;
+use capture_request::CaptureError;
 use std::io;
 
 /// The place of a record or block in a capture.

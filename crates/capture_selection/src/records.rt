@@ -3,7 +3,7 @@
 ghost use Rattle.std.specs.Prelude.{◌≡◌, ◌<◌, ◌≤◌, ◌+◌, ℕ, List, OnOk, Ok, Option, false, true};
 ghost use Rattle.std.specs.Io.KnownBytes.{Consumes, IsAtEnd};
 ghost use Rattle.capture_file.specs.Classic.{record_header};
-ghost use Rattle.capture_run.specs.Limits.{IsWithin, is_full};
+ghost use Rattle.capture_request.specs.Limits.{IsWithin, is_full};
 ghost use Rattle.capture_packet.specs.Frames.{max_packet_len};
 ghost use Rattle.capture_selection.specs.Passing.{EndsAtLimit, PassesAny, PassesNext, PassesTo};
 ghost use Rattle.capture_selection.specs.Records.{first_records, records_after, records_of};
@@ -14,7 +14,7 @@ use crate::{Counts, SelectionError, outcome_of};
 use capture_file::classic::{CaptureHeader, RecordHeader};
 use capture_file::reader::CapturedPacket;
 use capture_packet::MAX_PACKET_LEN;
-use capture_run::{CaptureError, Parts, packet_in_frame, packet_without_room};
+use capture_request::{CaptureError, Parts, packet_in_frame, packet_without_room};
 use std::io::{Read, Write};
 
 /// A classic capture after some of its records.

@@ -1,12 +1,12 @@
 ghost use Rattle.std.specs.Prelude.{◌≡◌};
 ghost use Rattle.capture_file.specs.declared.reader.open_error.OpenError.TheVariants.{Pcapng};
-ghost use Rattle.capture_run.specs.declared.capture_error.CaptureError.TheVariants.{Header};
+ghost use Rattle.capture_request.specs.declared.capture_error.CaptureError.TheVariants.{Header};
 ghost use Rattle.capture_selection.specs.Blocks.{at_beginning};
 ghost use Rattle.capture_selection.specs.declared.selection_error.SelectionError.TheVariants.{Capture};
 
 use capture_file::pcapng::BlockError;
 use capture_file::reader::{OpenError, PacketError};
-use capture_run::CaptureError;
+use capture_request::CaptureError;
 use std::io;
 use thiserror::Error;
 

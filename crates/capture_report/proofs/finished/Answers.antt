@@ -1,6 +1,6 @@
 use Rattle.std.proofs.Common.{rules}
 use Rattle.std.specs.Option.{option_map}
-use Rattle.capture_run.specs.Names.{shown_name}
+use Rattle.capture_request.specs.Names.{shown_name}
 use Rattle.capture_report.specs.Outputs.{AreErrorLines, counts_line}
 use Rattle.capture_report.proofs.OutputLemmas.{lacks_more, not_both, writes_more}
 use Rattle.capture_report.proofs.finished.Goals as goal

@@ -1,4 +1,4 @@
-use Rattle.capture_run.specs.ErrorLines.{IsOneLine, IsOpenErrorLine}
+use Rattle.capture_request.specs.ErrorLines.{IsOneLine, IsOpenErrorLine}
 use Rattle.capture_report.proofs.OutputLemmas.{not_both, writes_weaker}
 use Rattle.capture_report.proofs.unopened.Goals as goal
 

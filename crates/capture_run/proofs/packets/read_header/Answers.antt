@@ -2,7 +2,7 @@ use Rattle.std.proofs.Common.{Err, IfSome, None, Option, Some, arith, List, ℕ,
 use Rattle.capture_file.proofs.CapturePacketsLemmas.{begins_input}
 use Rattle.capture_file.specs.Opening.{ReadsBeginning}
 use Rattle.capture_file.specs.declared.reader.open_error.OpenError.{OpenError}
-use Rattle.capture_run.specs.Endings.{IsRefusedCapture}
+use Rattle.capture_request.specs.Endings.{IsRefusedCapture}
 use Rattle.capture_packet.specs.Frames.{max_packet_len}
 use Rattle.capture_run.proofs.packets.read_header.Goals as goal
 

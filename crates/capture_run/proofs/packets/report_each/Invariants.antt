@@ -1,11 +1,11 @@
 use Rattle.std.proofs.Common.{◌≡◌, ◌+◌, ◌≤◌, List, length}
 use Rattle.capture_file.specs.CapturePackets.{FilePacket, ReadsPackets}
 use Rattle.capture_packet.specs.Frames.{max_packet_len}
-use Rattle.capture_run.specs.Limits.{EndsWithRequested, IsWithin}
+use Rattle.capture_request.specs.Limits.{EndsWithRequested, IsWithin}
 use Rattle.capture_run.specs.PacketsText.{IsPacketsText, first_time}
-use Rattle.capture_run.specs.Report.{CountsEach}
+use Rattle.capture_request.specs.Report.{CountsEach}
 use Rattle.capture_words.specs.Written.{AppendsOne}
-use Rattle.capture_run.specs.declared.parts.Lines.TheVariants as lines
+use Rattle.capture_request.specs.declared.parts.Lines.TheVariants as lines
 use Rattle.capture_run.proofs.packets.report_each.Given as goal
 
 -- the packets read are counted, their text is written, and the next number is one more than their number

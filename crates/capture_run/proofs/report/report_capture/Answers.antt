@@ -1,7 +1,7 @@
 use Rattle.std.proofs.Common.{◌∙◌, [], None, Some, ap, refl}
 use Rattle.std.proofs.KnownBytes.{Appends-nil}
 use Rattle.capture_run.specs.Captures.{progress_of}
-use Rattle.capture_run.proofs.LineLemmas.{writes-weaker}
+use Rattle.capture_request.proofs.LineLemmas.{writes-weaker}
 use Rattle.capture_run.proofs.report.report_capture.Goals as goal
 
 -- of a capture that can't be opened only the line of the error is written

@@ -1,6 +1,6 @@
 use Rattle.std.proofs.Common.{◌∙◌, [], ap, refl, rules}
 use Rattle.std.proofs.KnownBytes.{Appends-nil}
-use Rattle.capture_run.proofs.LineLemmas.{writes-nothing}
+use Rattle.capture_request.proofs.LineLemmas.{writes-nothing}
 use Rattle.capture_file.proofs.ReaderLemmas.{at_error}
 use Rattle.capture_run.proofs.RunLemmas.{one-more, tells_first}
 use Rattle.capture_run.proofs.report.report_each.Goals as goal

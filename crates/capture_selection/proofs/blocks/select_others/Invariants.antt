@@ -1,5 +1,5 @@
 use Rattle.std.proofs.Common.{◌≤◌, length}
-use Rattle.capture_run.specs.Limits.{IsWithin}
+use Rattle.capture_request.specs.Limits.{IsWithin}
 use Rattle.capture_selection.specs.Blocks.{blocks_of}
 use Rattle.capture_selection.specs.Passing.{Passes}
 use Rattle.capture_selection.proofs.blocks.select_others.Given as goal

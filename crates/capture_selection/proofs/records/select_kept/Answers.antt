@@ -4,7 +4,7 @@ use Rattle.capture_file.proofs.ReaderLemmas.{full}
 use Rattle.capture_file.specs.CapturePackets.{kept}
 use Rattle.capture_file.specs.Packets.{packet_of_record}
 use Rattle.capture_packet.specs.Frames.{max_packet_len}
-use Rattle.capture_run.specs.Report.{IsPacketOf}
+use Rattle.capture_request.specs.Report.{IsPacketOf}
 use Rattle.capture_selection.proofs.PassingLemmas.{ends_cut, next_to_read_error, passes_part}
 use Rattle.capture_selection.proofs.RecordLemmas.{cut_captured, record_packet_kept, record_part}
 use Rattle.capture_selection.specs.Records.{records_after}

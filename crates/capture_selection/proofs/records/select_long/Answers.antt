@@ -3,7 +3,7 @@ use Rattle.std.proofs.KnownBytes.{Consumes-trans}
 use Rattle.capture_file.specs.CapturePackets.{too_long}
 use Rattle.capture_file.specs.Packets.{long_record}
 use Rattle.capture_packet.specs.Frames.{max_packet_len}
-use Rattle.capture_run.specs.Report.{IsPacketOf}
+use Rattle.capture_request.specs.Report.{IsPacketOf}
 use Rattle.capture_selection.proofs.PassingLemmas.{ends_cut, front_of, next_long_to_error, passes_part}
 use Rattle.capture_selection.proofs.RecordLemmas.{cut_captured, long_record_front, record_packet_long, record_part}
 use Rattle.capture_selection.specs.Passing.{written_by}

@@ -1,0 +1,60 @@
+-- A requested number of packets, after which a report ends.
+use Rattle.std.specs.Prelude.{◌≡◌, ◌⊎◌, ◌≤◌, ℕ, Bool, true, false, nat_lt, not, List, [], ◌∷◌, ◌++◌, Option, Some, None, Result, Ok, Err}
+use Rattle.capture_file.specs.CapturePackets.{BeginsInput, FilePacket, ReadsPackets}
+use Rattle.capture_file.specs.declared.reader.capture_reader.CaptureReader.{CaptureReader}
+use Rattle.capture_packet.specs.Frames.{max_packet_len}
+use Rattle.capture_request.specs.Report.{CountsEach}
+use Rattle.capture_summary.specs.SummaryTables.{SummaryTables}
+use Rattle.capture_summary.specs.declared.choice.Choice.{Choice}
+use Rattle.capture_request.specs.declared.capture_error.CaptureError.{CaptureError}
+use Rattle.capture_request.specs.declared.capture_error.CaptureError.TheVariants.{Enough, Header, Read, ReadHeader, RecordCutOff, Refused, TooManyPackets}
+
+-- as many packets were counted as are requested
+abbrev pub is_full : Option ℕ → ℕ → Bool
+is_full None counted = false
+is_full (Some limit) counted = not (nat_lt counted limit)
+
+-- no more packets were counted than are requested
+abbrev pub IsWithin : Option ℕ → ℕ → Type 0
+IsWithin None counted = Unit {0}
+IsWithin (Some limit) counted = counted ≤ limit
+
+-- The report of a capture ended early exactly if as many packets were counted as are requested. Nothing is stated of a capture whose
+-- beginning is not accepted, or with which no more packets can be counted.
+abbrev pub EndsByLimit : Option ℕ → ℕ → Result (Unit {0}) CaptureError → Type 0
+EndsByLimit limit counted (Ok done) = is_full limit counted ≡ false
+EndsByLimit limit counted (Err Enough) = is_full limit counted ≡ true
+EndsByLimit limit counted (Err (RecordCutOff number offset required len)) = is_full limit counted ≡ false
+EndsByLimit limit counted (Err (Refused error)) = is_full limit counted ≡ false
+EndsByLimit limit counted (Err (Read number offset error)) = is_full limit counted ≡ false
+EndsByLimit limit counted (Err TooManyPackets) = Unit {0}
+EndsByLimit limit counted (Err (Header error)) = Unit {0}
+EndsByLimit limit counted (Err (ReadHeader error)) = Unit {0}
+
+-- the report of a capture did not end for a requested number of packets
+abbrev pub EndsWithoutLimit : Result (Unit {0}) CaptureError → Type 0
+EndsWithoutLimit (Err Enough) = ⊥
+EndsWithoutLimit other = Unit {0}
+
+-- fewer packets than are requested were counted before the last of these packets, if there is one
+abbrev pub EndsWithRequested : Option ℕ → Choice → SummaryTables → List FilePacket → Type 0
+EndsWithRequested limit choice before packets =
+    (packets ≡ [])
+    ⊎ ((earlier : List FilePacket) × (last : FilePacket) × (between : SummaryTables) × (packets ≡ earlier ++ last ∷ [])
+    × CountsEach choice before earlier between × (is_full limit between.packets ≡ false))
+
+-- These packets were read, and the chosen packets were counted, up to the last packet that is requested. The input was not read further:
+-- its next byte is the byte after the record or block of that packet.
+pub record StopsAtLimit (limit : Option ℕ) (choice : Choice) (reader : CaptureReader) (left still_left : Option (List ℕ)) (before after : SummaryTables) : Type 0 where
+  pub packets : List FilePacket
+  pub still_reader : CaptureReader
+  pub reads : ReadsPackets max_packet_len reader left still_left still_reader packets
+  pub counted : CountsEach choice before packets after
+  pub last : EndsWithRequested limit choice before packets
+
+-- the same of a capture, after its beginning
+pub record StopsCapture (limit : Option ℕ) (choice : Choice) (left still_left : Option (List ℕ)) (before after : SummaryTables) : Type 0 where
+  pub reader : CaptureReader
+  pub after_beginning : Option (List ℕ)
+  pub begins : BeginsInput max_packet_len reader left after_beginning
+  pub stops : StopsAtLimit limit choice reader after_beginning still_left before after

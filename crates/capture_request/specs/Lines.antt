@@ -1,0 +1,35 @@
+-- The packets that have a line.
+use Rattle.std.specs.Prelude.{◌≡◌, ◌⊎◌, ◌==◌, ◌||◌, Bool, true, false, if◌then◌else◌}
+use Rattle.capture_summary.specs.Choice.{IsChosen}
+use Rattle.capture_request.specs.declared.parts.Lines.{Lines}
+use Rattle.capture_request.specs.declared.parts.Lines.TheVariants as lines
+use Rattle.capture_request.specs.declared.parts.Parts.{Parts}
+use Rattle.capture_packet.specs.declared.packet.Packet.{Packet}
+use Rattle.capture_packet.specs.declared.verdict.Verdict.{Verdict}
+use Rattle.capture_summary.specs.Kinds.{verdict_kind, verdict_place}
+use Rattle.capture_summary.specs.declared.verdict_kind.VerdictKind.{VerdictKind}
+use Rattle.capture_summary.specs.declared.verdict_kind.VerdictKind.TheVariants.{Refused, Wrong}
+
+-- the checksum is wrong, or the packet is rejected
+abbrev pub is_fault : VerdictKind → Bool
+is_fault kind = verdict_place kind == verdict_place Wrong || verdict_place kind == verdict_place Refused
+
+-- whether a packet with this verdict has a line, if it is chosen
+abbrev pub has_line : Lines → Verdict → Bool
+has_line lines.All verdict = true
+has_line lines.Wrong verdict = is_fault (verdict_kind verdict)
+has_line lines.None verdict = false
+
+-- a packet has no line: it is not chosen, or its verdict excludes it
+abbrev pub HasNoLine : Parts → Packet → Type 0
+HasNoLine parts packet = (IsChosen parts.choice packet → ⊥) ⊎ (has_line parts.lines packet.verdict ≡ false)
+
+-- the statement holds if one of these packets has no line
+pub record IfNoLine (IsPacket : Packet → Type 0) (parts : Parts) (Statement : Type 0) : Type 0 where
+  pub packet : Packet
+  pub is_packet : IsPacket packet
+  pub holds : HasNoLine parts packet → Statement
+
+-- the packets that have a line: no packet, if only the summary is requested
+abbrev pub lines_by : Bool → Bool → Lines
+lines_by summary_alone wrong_alone = if summary_alone then lines.None else if wrong_alone then lines.Wrong else lines.All

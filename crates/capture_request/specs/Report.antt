@@ -1,0 +1,202 @@
+-- What a report counts of a capture: each packet that is chosen once, in their order.
+use Rattle.std.specs.Prelude.{◌≡◌, ◌≤◌, ◌⊎◌, ℕ, ◌+◌, List, length, [], ◌∷◌, nat_lt, Option, Some, None, Result, Ok, Err}
+use Rattle.std.specs.Option.{option_map}
+use Rattle.capture_file.specs.CapturePackets.{Begins, BeginsInput, EndsWith, FailsToRead, HasPackets, FilePacket, ReadsOne, ReadsPackets, kept, too_long, offset_of}
+use Rattle.capture_summary.specs.Choice.{IsChosen}
+use Rattle.capture_request.specs.Endings.{max_packets}
+use Rattle.capture_summary.specs.FlowOf.{IsFlowOf}
+use Rattle.capture_packet.specs.Frames.{IsRead, max_packet_len}
+use Rattle.capture_packet.specs.Packets.{in_no_tunnel}
+use Rattle.capture_packet.specs.Verdicts.{untested}
+use Rattle.capture_protocols.specs.Protocols.{content_protocol}
+use Rattle.capture_summary.specs.Kinds.{verdict_kind, verdict_refusal_kind}
+use Rattle.capture_summary.specs.SummaryTables.{CountsOne, SummaryTables}
+use Rattle.capture_texts.specs.declared.link_type.LinkType.{LinkType}
+use Rattle.capture_packet.specs.declared.content.Content.TheVariants.{NotIp, Unread}
+use Rattle.capture_link.specs.declared.network_protocol.NetworkProtocol.TheVariants as protocols
+use Rattle.capture_packet.specs.declared.packet.Packet.{Packet}
+use Rattle.capture_packet.specs.declared.verdict.Verdict.TheVariants.{TooLong}
+use Rattle.transport_part.specs.declared.checksum_verdict.Untested.TheVariants.{OtherProtocol}
+use Rattle.capture_file.specs.declared.reader.capture_reader.CaptureReader.{CaptureReader}
+use Rattle.capture_file.specs.declared.reader.captured_packet.CapturedPacket.{CapturedPacket}
+use Rattle.capture_file.specs.declared.reader.next_packet.NextPacket.{NextPacket}
+use Rattle.capture_file.specs.declared.reader.next_packet.NextPacket.TheVariants as packets
+use Rattle.capture_file.specs.declared.reader.next_packet.TooLongPacket.{TooLongPacket}
+use Rattle.capture_file.specs.declared.packet_time.PacketTime.{PacketTime}
+use Rattle.capture_summary.specs.declared.choice.Choice.{Choice}
+use Rattle.capture_request.specs.declared.capture_error.CaptureError.{CaptureError}
+use Rattle.capture_request.specs.declared.capture_error.CaptureError.TheVariants.{Enough, Header, Read, ReadHeader, RecordCutOff, Refused, TooManyPackets}
+use Rattle.capture_summary.specs.declared.capture_info.CaptureInfo.{CaptureInfo}
+use Rattle.capture_summary.specs.declared.flow.Flow.{Flow}
+
+-- a packet of which the capture says this was counted, once in each table: in the rows of its content and of the verdict on it, and in
+-- that of its flow
+pub record CountsRead (packet : Packet) (info : CaptureInfo) (before after : SummaryTables) : Type 0 where
+  pub flow : Option Flow
+  pub is_flow : IsFlowOf packet.content flow
+  pub counts : CountsOne before (content_protocol packet.content) (verdict_kind packet.verdict) (verdict_refusal_kind packet.verdict) flow info after
+
+-- it was counted if it is chosen, and else nothing was
+abbrev pub CountsChosen : Choice → Packet → CaptureInfo → SummaryTables → SummaryTables → Type 0
+CountsChosen choice packet info before after =
+    (IsChosen choice packet × CountsRead packet info before after) ⊎ ((IsChosen choice packet → ⊥) × (after ≡ before))
+
+-- one of these packets was counted, if it is chosen
+pub record CountsPacket (choice : Choice) (IsPacket : Packet → Type 0) (info : CaptureInfo) (before after : SummaryTables) : Type 0 where
+  pub packet : Packet
+  pub is_packet : IsPacket packet
+  pub counts : CountsChosen choice packet info before after
+
+-- ---- what a packet is
+
+-- a packet that is too long is not read
+abbrev pub IsTooLong : ℕ → Packet → Type 0
+IsTooLong required_len packet = packet ≡ in_no_tunnel Unread (TooLong required_len)
+
+-- what captured bytes are read as, by their link type; where they are fewer than those of the packet, it was cut
+abbrev pub IsReadAs : Result LinkType ℕ → CapturedPacket → List ℕ → Packet → Type 0
+IsReadAs (Ok link_type) captured frame packet =
+    IsRead link_type captured.byte_order frame (nat_lt captured.captured_len captured.original_len) packet
+IsReadAs (Err number) captured frame packet =
+    packet ≡ in_no_tunnel (NotIp (protocols.LinkType number)) (untested OtherProtocol)
+
+-- what a packet of a capture is
+abbrev pub IsPacketOf : FilePacket → Packet → Type 0
+IsPacketOf (kept captured frame) packet = IsReadAs captured.link_type captured frame packet
+IsPacketOf (too_long captured) packet = IsTooLong captured.required_len packet
+
+-- when it was captured, where the capture says it
+abbrev pub packet_time : FilePacket → Option PacketTime
+packet_time (kept packet frame) = packet.time
+packet_time (too_long packet) = packet.time
+
+-- the data about a packet in its capture: its link type, its time, and the length of its frame
+abbrev pub captured_info : CapturedPacket → CaptureInfo
+captured_info packet = record {
+  link_type = Some packet.link_type;
+  time = packet.time;
+  len = Some (record { original = packet.original_len; captured = packet.captured_len });
+}
+
+-- the data about a packet that is too long, as far as its capture contains them. A record of a classic capture contains the original
+-- length, and requires as many bytes as were captured. A block of a pcapng file is not read.
+abbrev pub too_long_info : TooLongPacket → CaptureInfo
+too_long_info packet = record {
+  link_type = packet.link_type;
+  time = packet.time;
+  len = option_map (λ original. record { original = original; captured = packet.required_len }) packet.original_len;
+}
+
+-- the data about a packet of a capture
+abbrev pub info_of : FilePacket → CaptureInfo
+info_of (kept packet frame) = captured_info packet
+info_of (too_long packet) = too_long_info packet
+
+-- ---- what is counted
+
+-- a packet of a capture was counted, if it is chosen
+abbrev pub CountsCaptured : Choice → FilePacket → SummaryTables → SummaryTables → Type 0
+CountsCaptured choice packet before after = CountsPacket choice (IsPacketOf packet) (info_of packet) before after
+
+-- those of these packets that are chosen were counted one after the other
+abbrev pub CountsEach : Choice → SummaryTables → List FilePacket → SummaryTables → Type 0
+CountsEach choice before [] after = after ≡ before
+CountsEach choice before (packet ∷ packets) after =
+    (between : SummaryTables) × CountsCaptured choice packet before between × CountsEach choice between packets after
+
+-- the packets were read to the end of the input, or to a record or block that is cut off or can't be read
+abbrev pub IsReadToEnd : Result (Unit {0}) CaptureError → Type 0
+IsReadToEnd (Ok done) = Unit {0}
+IsReadToEnd (Err (RecordCutOff number offset required_len len)) = Unit {0}
+IsReadToEnd (Err (Refused error)) = Unit {0}
+IsReadToEnd other = ⊥
+
+-- how what comes after the last packet is answered, where the next one has this number: the end is no error, and an error says what is cut
+-- off or why a block can't be read
+abbrev pub IsAnsweredBy : NextPacket → ℕ → Result (Unit {0}) CaptureError → Type 0
+IsAnsweredBy next number (Ok done) = next ≡ packets.End
+IsAnsweredBy next number (Err (RecordCutOff its_number offset required len)) = (next ≡ packets.CutOff required len) × (its_number ≡ number)
+IsAnsweredBy next number (Err (Refused error)) = next ≡ packets.Refused error
+IsAnsweredBy next number other = ⊥
+
+-- no packet was left
+pub record EndsAt (before : CaptureReader) (left : Option (List ℕ)) (number : ℕ) (ended : Result (Unit {0}) CaptureError) : Type 0 where
+  pub next : NextPacket
+  pub ends : EndsWith max_packet_len before left next
+  pub answered : IsAnsweredBy next number ended
+
+-- one packet was read, and counted if it is chosen
+pub record ReportsOne (choice : Choice) (reader : CaptureReader) (left still_left : Option (List ℕ)) (still_reader : CaptureReader) (before after : SummaryTables) : Type 0 where
+  pub packet : FilePacket
+  pub reads : ReadsOne max_packet_len reader left still_left still_reader packet
+  pub counted : CountsCaptured choice packet before after
+
+-- the next packet, which has this number, or that there is none
+abbrev pub ReportsNext : Choice → ℕ → CaptureReader → Option (List ℕ) → Option (List ℕ) → CaptureReader → SummaryTables → SummaryTables → Option (Result (Unit {0}) CaptureError) → Type 0
+ReportsNext choice number reader left still_left still_reader before after None = ReportsOne choice reader left still_left still_reader before after
+ReportsNext choice number reader left still_left still_reader before after (Some ended) =
+    (after ≡ before) × (IsReadToEnd ended → EndsAt reader left number ended)
+
+-- packets were read, and nothing after them
+abbrev pub ReadsWholePackets : CaptureReader → Option (List ℕ) → Option (List ℕ) → CaptureReader → Type 0
+ReadsWholePackets reader left still_left still_reader =
+    (packets : List FilePacket) × ReadsPackets max_packet_len reader left still_left still_reader packets
+
+-- of a capture with these bytes after its beginning all packets that are chosen were counted, and nothing else; the answer says what came
+-- after the packets
+abbrev pub CountsCapture : Choice → CaptureReader → List ℕ → Result (Unit {0}) CaptureError → SummaryTables → SummaryTables → Type 0
+CountsCapture choice reader bytes ended before after =
+    (packets : List FilePacket) × (next : NextPacket) × HasPackets max_packet_len reader bytes packets next × CountsEach choice before packets after
+    × IsAnsweredBy next (length packets + 1) ended
+
+-- the bytes begin a capture, all whose packets that are chosen were counted after what was counted before, and nothing else
+pub record CountsFile (choice : Choice) (bytes : List ℕ) (ended : Result (Unit {0}) CaptureError) (before after : SummaryTables) : Type 0 where
+  pub reader : CaptureReader
+  pub rest : List ℕ
+  pub begins : Begins max_packet_len reader bytes rest
+  pub counts : CountsCapture choice reader rest ended before after
+
+-- where there are so many packets, an error of a record or block names it by this number, and the place where it begins; there are too many
+-- packets only after 2^64 - 2
+abbrev pub PlacesError : ℕ → ℕ → ℕ → Result (Unit {0}) CaptureError → Type 0
+PlacesError packets number offset (Ok done) = Unit {0}
+PlacesError packets number offset (Err (RecordCutOff its_number its_offset required len)) = (its_number ≡ number) × (its_offset ≡ offset)
+PlacesError packets number offset (Err (Read its_number its_offset error)) = (its_number ≡ number) × (its_offset ≡ offset)
+PlacesError packets number offset (Err (Refused error)) = Unit {0}
+PlacesError packets number offset (Err TooManyPackets) = max_packets ≤ packets
+PlacesError packets number offset (Err Enough) = Unit {0}
+PlacesError packets number offset (Err (Header error)) = ⊥
+PlacesError packets number offset (Err (ReadHeader error)) = ⊥
+
+-- no packet is left: this next item was read, and this is the reader after it
+abbrev pub ReadsEnd : CaptureReader → Option (List ℕ) → NextPacket → CaptureReader → Type 0
+ReadsEnd before left next after = (ends : EndsWith max_packet_len before left next) × (after ≡ ends.after)
+
+-- The reader that an error within a record or block leaves. The record or block is cut off, or reading failed within it. The reader does not
+-- skip it, so it is at its start.
+abbrev pub IsLeftAt : Result (Unit {0}) CaptureError → CaptureReader → Option (List ℕ) → Option (List ℕ) → CaptureReader → Type 0
+IsLeftAt (Err (RecordCutOff number offset required len)) before left still_left after = ReadsEnd before left (packets.CutOff required len) after
+IsLeftAt (Err (Read number offset error)) before left still_left after = FailsToRead max_packet_len before left still_left after
+IsLeftAt other before left still_left after = Unit {0}
+
+-- After these packets, and the packets that were counted of other captures, an error within a record or block contains the next number,
+-- and the place where the record or block begins. The reader that is left is there.
+pub record PlacesAfter (reader : CaptureReader) (left still_left : Option (List ℕ)) (packets : List FilePacket) (counted : ℕ) (after : CaptureReader)
+    (ended : Result (Unit {0}) CaptureError) : Type 0 where
+  pub middle : Option (List ℕ)
+  pub before : CaptureReader
+  pub reads : ReadsPackets max_packet_len reader left middle before packets
+  pub places : PlacesError (counted + length packets) (length packets + 1) (offset_of after) ended
+  pub left_at : IsLeftAt ended before middle still_left after
+
+-- the same after the packets that were read
+abbrev pub PlacesEnd : CaptureReader → Option (List ℕ) → Option (List ℕ) → ℕ → CaptureReader → Result (Unit {0}) CaptureError → Type 0
+PlacesEnd reader left still_left counted after ended = (packets : List FilePacket) × PlacesAfter reader left still_left packets counted after ended
+
+-- the same after the beginning of a capture
+pub record PlacesInCapture (left still_left : Option (List ℕ)) (counted : ℕ) (ended : Result (Unit {0}) CaptureError) : Type 0 where
+  pub reader : CaptureReader
+  pub after_beginning : Option (List ℕ)
+  pub begins : BeginsInput max_packet_len reader left after_beginning
+  pub after : CaptureReader
+  pub places : PlacesEnd reader after_beginning still_left counted after ended

@@ -1,0 +1,236 @@
+ghost use Rattle.std.specs.Prelude.{◌≡◌, IfOk, IsOk, string_bytes};
+ghost use Rattle.std.specs.Option.{option_map};
+ghost use Rattle.capture_request.specs.Compressions.{compression_of};
+ghost use Rattle.capture_request.specs.Endings.{exit_status};
+ghost use Rattle.capture_request.specs.ErrorLines.{AreEndLines, IsErrorText, IsLineOf, IsOneLine, IsOpenErrorLine, WritesSome, first_word, hint_of};
+ghost use Rattle.capture_request.specs.Names.{shown_name};
+
+use crate::ExitStatus;
+use crate::compression::Compression;
+use crate::shown_name::without_mark;
+use capture_facts::ShownText;
+use capture_file::classic::CaptureHeaderError;
+use capture_file::reader::{OpenError, PacketError, PlacedPacketError};
+use std::alloc::{AllocError, Global};
+use std::io;
+use std::io::Write;
+use streams::write_whole;
+use thiserror::Error;
+
+/// Why the report of a capture ends before the capture does.
+#[derive(Debug, Error, Drop)]
+pub enum CaptureError {
+    /// The input is not a capture, or it is a capture of another format.
+    #[error(transparent)]
+    Header(OpenError),
+    /// The input ends within a record, or within a block of a pcapng file.
+    #[error("Packet {number}, at byte {offset} of the capture: its record has at least {required_len} bytes, and {len} are left.")]
+    RecordCutOff {
+        /// The number of the packet. The first packet of a capture is number 1.
+        number: u64,
+        /// The start of the record or block, in bytes from the start of the capture.
+        offset: u64,
+        /// The length of the record or block in bytes, as far as it is known.
+        required_len: usize,
+        /// The number of bytes that are present.
+        len: usize,
+    },
+    /// A block of a pcapng file can't be read.
+    #[error(transparent)]
+    Refused(PlacedPacketError),
+    /// Reading failed within the beginning of the capture.
+    #[error("The header of the capture: reading failed: {0}.")]
+    ReadHeader(io::Error),
+    /// Reading failed within a record.
+    #[error("Packet {number}, at byte {offset} of the capture: reading failed: {error}.")]
+    Read {
+        /// The number of the packet. The first packet of a capture is number 1.
+        number: u64,
+        /// The start of the record or block, in bytes from the start of the capture.
+        offset: u64,
+        /// The error of the system.
+        error: io::Error,
+    },
+    /// The limit of 2^64 - 2 counted packets is reached.
+    #[error("No more packets can be counted.")]
+    TooManyPackets,
+    /// As many packets were counted as are requested. The rest of the capture is not read. The report is complete.
+    #[error("The requested number of packets is reached.")]
+    Enough,
+}
+
+impl CaptureError {
+    /// Returns the exit status of a report that ends with this error.
+    pub fn status(&self) -> ExitStatus
+        ensures { result ≡ exit_status self.now }
+    {
+        match self {
+            CaptureError::Header(OpenError::Classic(error)) => match error {
+                CaptureHeaderError::Pcapng
+                | CaptureHeaderError::Modified
+                | CaptureHeaderError::Version { .. } => { ExitStatus::Unfinished }
+                CaptureHeaderError::CutOff { .. } | CaptureHeaderError::Magic { .. } => {
+                    ExitStatus::NoCapture
+                }
+            },
+            CaptureError::Header(OpenError::Pcapng(PacketError::Block(_))) => ExitStatus::NoCapture,
+            CaptureError::Header(OpenError::Pcapng(_)) => ExitStatus::Unfinished,
+            CaptureError::RecordCutOff { .. }
+            | CaptureError::Refused(_)
+            | CaptureError::TooManyPackets => ExitStatus::Unfinished,
+            CaptureError::ReadHeader(_) | CaptureError::Read { .. } => ExitStatus::Failed,
+            CaptureError::Enough => ExitStatus::Success,
+        }
+    }
+
+    /// The compression of the capture, if the capture was rejected because it is compressed.
+    fn compression(&self) -> Option<Compression>
+        ensures { result ≡ compression_of self.now }
+    {
+        match self {
+            CaptureError::Header(OpenError::Classic(CaptureHeaderError::Magic { magic })) =>
+                Compression::from_magic(*magic),
+            _ => None,
+        }
+    }
+}
+
+/// Writes the line of the error with which the report of a capture ended. Nothing is written if the capture was read to its end, or to the
+/// last packet that is requested.
+pub fn write_end<E: Write>(
+    errors: &mut E,
+    alloc: Global,
+    name: Option<&str>,
+    ended: &Result<(), CaptureError>,
+) -> io::Result<()>
+    ensures { WritesSome (E.contents errors.old) (E.contents errors.new) (IsOk result)
+        (AreEndLines (option_map (λ text. shown_name text.now) name.entry) ended.now) }
+{
+    match ended {
+        Ok(()) | Err(CaptureError::Enough) => Ok(()),
+        Err(error) => write_error(errors, alloc, name, error),
+    }
+}
+
+/// Writes the line of an error: the names of the program and of the capture, if it has one, and the text of the error.
+///
+/// # Errors
+///
+/// The error of the first write that fails, and `OutOfMemory` if no memory is left. Then at most a beginning of the line was written.
+pub fn write_error<E: Write>(
+    errors: &mut E,
+    alloc: Global,
+    name: Option<&str>,
+    error: &CaptureError,
+) -> io::Result<()>
+    ensures { WritesSome (E.contents errors.old) (E.contents errors.new) (IsOk result)
+        (IsOneLine (IsLineOf (option_map (λ text. shown_name text.now) name.entry) (IsErrorText error.now))) }
+{
+    match error_line(alloc, name, error) {
+        Ok(line) => write_whole(errors, line.as_bytes()),
+        Err(no_memory) => Err(io::Error::from(no_memory)),
+    }
+}
+
+/// The line of an error: the names of the program and of the capture, if it has one, and the text of the error.
+fn error_line(alloc: Global, name: Option<&str>, error: &CaptureError) -> Result<String, AllocError>
+    ensures { IfOk result (λ line. IsLineOf (option_map (λ text. shown_name text.now) name.entry) (IsErrorText error.now) (string_bytes line)) }
+{
+    let text = text_of(alloc, error)?;
+    match name {
+        Some(name) => {
+            let shown = ShownText(without_mark(name));
+            format!(in alloc; "capture_report: {shown}: {text}\n")
+        }
+        None => format!(in alloc; "capture_report: {text}\n"),
+    }
+}
+
+/// The text of an error. For a compressed capture it contains the command that decompresses it.
+fn text_of(alloc: Global, error: &CaptureError) -> Result<String, AllocError>
+    ensures { IfOk result (λ text. IsErrorText error.now (string_bytes text)) }
+{
+    match error.compression() {
+        Some(compression) => {
+            let command = compression.command();
+            format!(in alloc;
+                "The capture is compressed, and is read by {command} -dc FILE | capture_report."
+            )
+        }
+        None => format!(in alloc; "{error}"),
+    }
+}
+
+/// The words with which filters of tcpdump begin (pcap-filter(7)).
+static FILTER_WORDS: [&str; 16] = [
+    "tcp",
+    "udp",
+    "icmp",
+    "icmp6",
+    "ip",
+    "ip6",
+    "arp",
+    "ether",
+    "host",
+    "net",
+    "port",
+    "portrange",
+    "src",
+    "dst",
+    "not",
+    "proto",
+];
+
+/// The text for such a word, which is no filter here.
+const FILTER_HINT: &str = "; filters are --host, --port and --protocol";
+
+/// Writes the line of a capture that can't be opened: the names of the program and of the capture, and the text of the error. If the name
+/// begins with a word of a filter, as `tcp port 80` does, the options that select packets follow.
+///
+/// # Errors
+///
+/// The error of the first write that fails, and `OutOfMemory` if no memory is left. Then at most a beginning of the line was written.
+pub fn write_open_error<E: Write>(
+    errors: &mut E,
+    alloc: Global,
+    name: &str,
+    error: &io::Error,
+) -> io::Result<()>
+    ensures { WritesSome (E.contents errors.old) (E.contents errors.new) (IsOk result) (IsOneLine (IsOpenErrorLine name.now)) }
+{
+    match open_error_line(alloc, name, error) {
+        Ok(line) => write_whole(errors, line.as_bytes()),
+        Err(no_memory) => Err(io::Error::from(no_memory)),
+    }
+}
+
+/// The line of a capture that can't be opened: the names of the program and of the capture, and the text of the error. If the name begins
+/// with a word of a filter, the options that select packets follow.
+fn open_error_line(alloc: Global, name: &str, error: &io::Error) -> Result<String, AllocError>
+    ensures { IfOk result (λ line. IsOpenErrorLine name.now (string_bytes line)) }
+{
+    let text = format!(in alloc; "{error}")?;
+    let shown = ShownText(without_mark(name));
+    let hint = hint_of(name);
+    format!(in alloc; "capture_report: {shown}: {text}{hint}\n")
+}
+
+/// The text for the name of a capture whose first word is a word of a filter. It is empty for every other name.
+fn hint_of(name: &str) -> &'static str
+    ensures { result.now ≡ hint_of name.now }
+{
+    if FILTER_WORDS.contains(&first_word(name)) {
+        return FILTER_HINT;
+    }
+    ""
+}
+
+/// The part of a name before its first space, or the whole name.
+fn first_word(name: &str) -> &str
+    ensures { result.now ≡ first_word name.now }
+{
+    match name.split_once(' ') {
+        Some((word, _)) => word,
+        None => name,
+    }
+}

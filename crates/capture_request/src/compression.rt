@@ -1,0 +1,74 @@
+ghost use Rattle.std.specs.Prelude.{◌≡◌};
+ghost use Rattle.capture_request.specs.Compressions.{compression_name, compression_with};
+
+/// A compression format of files. A compressed capture is not read.
+#[derive(Clone, Copy, Debug, PartialEq, Eq)]
+pub enum Compression {
+    /// The format of `gzip` (RFC 1952).
+    Gzip,
+    /// The format of `compress`, which `gzip` reads.
+    Compress,
+    /// The format of `zstd` (RFC 8878).
+    Zstandard,
+    /// The format of `xz`.
+    Xz,
+    /// The format of `bzip2`.
+    Bzip2,
+    /// The frame format of `lz4`.
+    Lz4,
+}
+
+/// The first two bytes of a file of `gzip` (RFC 1952, section 2.3.1).
+const GZIP_MAGIC: u32 = 0x1F8B;
+
+/// The first two bytes of a file of `compress`.
+const COMPRESS_MAGIC: u32 = 0x1F9D;
+
+/// The first four bytes of a Zstandard frame (RFC 8878, section 3.1.1).
+const ZSTANDARD_MAGIC: u32 = 0x28B5_2FFD;
+
+/// The first four of the six bytes that begin a file of `xz` (the .xz file format, section 2.1.1.1).
+const XZ_MAGIC: u32 = 0xFD37_7A58;
+
+/// The first four bytes of an LZ4 frame (LZ4 frame format, general structure): 184D2204, the least significant byte first.
+const LZ4_MAGIC: u32 = 0x0422_4D18;
+
+/// The first four bytes of a file of `bzip2`: `BZh`, and the size of its blocks, a digit from 1 to 9.
+const FIRST_BZIP2_MAGIC: u32 = 0x425A_6831;
+
+const LAST_BZIP2_MAGIC: u32 = 0x425A_6839;
+
+impl Compression {
+    /// The compression of a file whose first four bytes are this big-endian number, or `None` if it is none of these.
+    pub fn from_magic(magic: u32) -> Option<Compression>
+        ensures { result ≡ compression_with magic }
+    {
+        match magic / 0x1_0000 {
+            GZIP_MAGIC => return Some(Compression::Gzip),
+            COMPRESS_MAGIC => return Some(Compression::Compress),
+            _ => {}
+        }
+        match magic {
+            ZSTANDARD_MAGIC => Some(Compression::Zstandard),
+            XZ_MAGIC => Some(Compression::Xz),
+            LZ4_MAGIC => Some(Compression::Lz4),
+            _ if magic >= FIRST_BZIP2_MAGIC && magic <= LAST_BZIP2_MAGIC => {
+                Some(Compression::Bzip2)
+            }
+            _ => None,
+        }
+    }
+
+    /// The name of the command that decompresses the file.
+    pub fn command(self) -> &'static str
+        ensures { result.now ≡ compression_name self }
+    {
+        match self {
+            Compression::Gzip | Compression::Compress => "gzip",
+            Compression::Zstandard => "zstd",
+            Compression::Xz => "xz",
+            Compression::Bzip2 => "bzip2",
+            Compression::Lz4 => "lz4",
+        }
+    }
+}

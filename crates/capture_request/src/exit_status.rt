@@ -1,0 +1,26 @@
+ghost use Rattle.std.specs.Prelude.{◌≡◌};
+ghost use Rattle.capture_request.specs.ExitStatuses.{exit_number};
+
+/// The end of a run, as the exit status of the program. If several apply, the status with the greatest number counts.
+#[derive(Clone, Copy, Debug, PartialEq, Eq)]
+pub enum ExitStatus {
+    /// 0: all captures were read to their ends.
+    Success,
+    /// 1: a capture can't be read to its end.
+    Unfinished,
+    /// 2: an input is not a capture.
+    NoCapture,
+    /// 3: opening, reading or writing failed, or no memory was left.
+    Failed,
+    /// 4: a check was requested, and the checksum of a packet is wrong or a packet is rejected.
+    Fault,
+}
+
+impl ExitStatus {
+    /// Returns the exit status of the program as a number.
+    pub fn number(self) -> u8
+        ensures { result ≡ exit_number self }
+    {
+        self as u8
+    }
+}

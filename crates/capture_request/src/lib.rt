@@ -1,0 +1,29 @@
+//! What is requested of the report of a capture, what the report counts, and how it ends.
+//!
+//! `Parts` are the options of a report. `packet_in_frame` reads the packet of a record or block. `CaptureError` is the reason why a report
+//! ends before its capture does, and `ExitStatus` is what a program returns then. `capture_run` writes such a report, and `capture_selection`
+//! writes the packets that have a line in it as a capture.
+//!
+//! ```
+//! let parts = Parts::from_flags(false, false, true, false);
+//! let packet = packet_in_frame(&captured, frame);
+//! let has_line = parts.choice.includes(&packet) && parts.lines.include(&packet.verdict);
+//! ```
+#![tactic(auto)]
+
+mod capture_error;
+mod captured;
+mod compression;
+mod exit_status;
+mod parts;
+mod shown_name;
+
+pub use capture_error::{CaptureError, write_end, write_error, write_open_error};
+pub use capture_packet::MAX_PACKET_LEN;
+pub use capture_summary::Choice;
+pub use capture_words::Times;
+pub use captured::{packet_in_frame, packet_without_room};
+pub use compression::Compression;
+pub use exit_status::ExitStatus;
+pub use parts::{Format, Lines, Parts};
+pub use shown_name::{ESCAPED, STANDARD_INPUT, without_mark};

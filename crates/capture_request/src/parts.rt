@@ -1,0 +1,109 @@
+//! The options of a report.
+
+ghost use Rattle.std.specs.Prelude.{◌≡◌, None, false, not};
+ghost use Rattle.capture_summary.specs.Choice.{every_packet};
+ghost use Rattle.capture_request.specs.Lines.{has_line, lines_by};
+ghost use Rattle.capture_summary.specs.Ranking.{default_top};
+ghost use Rattle.capture_words.specs.declared.times.Times.TheVariants.{SinceFirst};
+ghost use Rattle.capture_request.specs.declared.parts.Format.TheVariants as Format;
+
+use crate::{Choice, Times};
+use capture_packet::Verdict;
+use capture_summary::{BUSIEST, VerdictKind};
+
+/// The options of a report.
+#[derive(Clone, Copy, Debug, PartialEq, Eq)]
+pub struct Parts {
+    /// The packets that are counted and may have a line.
+    pub choice: Choice,
+    /// The chosen packets that have a line.
+    pub lines: Lines,
+    /// How a line shows the time of its packet.
+    pub times: Times,
+    /// Whether a line of text also shows the hop limit or the time to live of its packet. A line of JSON always does.
+    pub verbose: bool,
+    /// Whether the summary is written.
+    pub summary: bool,
+    /// The format of lines and summary.
+    pub format: Format,
+    /// The number of the busiest conversations that the summary lists, at most.
+    pub top: usize,
+    /// Whether the exit status reports a packet with a wrong checksum or a rejected packet.
+    pub check: bool,
+    /// The number of chosen packets after which the report ends, if a number is requested. No more packets are read then.
+    pub limit: Option<u64>,
+}
+
+impl Parts {
+    /// The options that these flags request: all packets without a limit, as text without details, with times since the first packet, and
+    /// with the ten busiest conversations.
+    pub fn from_flags(
+        summary_alone: bool,
+        packets_alone: bool,
+        wrong_alone: bool,
+        check: bool,
+    ) -> Parts
+        ensures choice { result.choice ≡ every_packet }
+        ensures lines { result.lines ≡ lines_by summary_alone wrong_alone }
+        ensures times { result.times ≡ SinceFirst }
+        ensures verbose { result.verbose ≡ false }
+        ensures summary { result.summary ≡ not packets_alone }
+        ensures format { result.format ≡ Format.Text }
+        ensures top { result.top ≡ default_top }
+        ensures check { result.check ≡ check }
+        ensures limit { result.limit ≡ None }
+    {
+        let lines = match (summary_alone, wrong_alone) {
+            (true, _) => Lines::None,
+            (false, true) => Lines::Wrong,
+            (false, false) => Lines::All,
+        };
+        Parts {
+            choice: Choice::ALL,
+            lines,
+            times: Times::SinceFirst,
+            verbose: false,
+            summary: !packets_alone,
+            format: Format::Text,
+            top: BUSIEST,
+            check,
+            limit: None,
+        }
+    }
+}
+
+/// The format of a report.
+#[derive(Clone, Copy, Debug, PartialEq, Eq)]
+pub enum Format {
+    /// Lines and tables.
+    Text,
+    /// A JSON object in a line for each packet, and a JSON object in a line for the summary.
+    Json,
+}
+
+/// The packets that have a line in the report.
+#[derive(Clone, Copy, Debug, PartialEq, Eq)]
+pub enum Lines {
+    /// Every packet.
+    All,
+    /// A packet with a wrong checksum, or a rejected packet.
+    Wrong,
+    /// No packet.
+    None,
+}
+
+impl Lines {
+    /// Whether a packet with this verdict has a line.
+    pub fn include(self, verdict: &Verdict) -> bool
+        ensures { result ≡ has_line self verdict.now }
+    {
+        match self {
+            Lines::All => true,
+            Lines::Wrong => matches!(
+                VerdictKind::of(verdict),
+                VerdictKind::Wrong | VerdictKind::Refused
+            ),
+            Lines::None => false,
+        }
+    }
+}

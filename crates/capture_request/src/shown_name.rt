@@ -1,0 +1,20 @@
+//! The names of captures, as a report shows them.
+
+ghost use Rattle.std.specs.Prelude.{◌≡◌};
+ghost use Rattle.capture_request.specs.Names.{without_mark};
+
+/// The name of standard input among the captures.
+pub const STANDARD_INPUT: &str = "-";
+
+/// The first character of a name that is not UTF-8. The bytes of the name follow, escaped. The name of a file contains no NUL.
+pub const ESCAPED: char = '\0';
+
+/// A name without its mark, if it is escaped.
+pub fn without_mark(name: &str) -> &str
+    ensures { result.now ≡ without_mark name.now }
+{
+    match name.as_bytes() {
+        [0, ..] => &name[1..],
+        _ => name,
+    }
+}
