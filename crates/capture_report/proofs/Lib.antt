@@ -1,5 +1,1 @@
-mod ChosenLemmas
-mod CommandLemmas
-mod ConflictLemmas
 mod OutputLemmas
-mod WordLemmas

@@ -1,11 +1,4 @@
-pub mod Arguments
-pub mod Chosen
-pub mod CommandLine
-pub mod Conflicts
 pub mod Failures
 pub mod Inputs
-pub mod Options
 pub mod Outputs
 pub mod Progress
-pub mod Rejections
-pub mod Words

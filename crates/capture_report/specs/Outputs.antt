@@ -14,27 +14,7 @@ use Rattle.capture_selection.specs.Captures.{SelectsCapture}
 use Rattle.capture_selection.specs.declared.counts.Counts.{Counts}
 use Rattle.capture_selection.specs.declared.selection_error.SelectionError.{SelectionError}
 use Rattle.capture_selection.specs.declared.selection_error.SelectionError.TheVariants.{Capture, Write}
-use Rattle.capture_report.specs.declared.arguments.Options.{Options}
 use Rattle.capture_report.specs.declared.input.FileId.{FileId}
-
--- ---- what is rejected
-
--- the text if the file to write is the capture
-abbrev pub is_capture_text : List ℕ
-is_capture_text = codes "the FILE of '--write <FILE>' is the capture"
-
--- Why the packets of these captures can't be written to the file with this name, if they can't: the file is the capture, or there are
--- several captures. `-` names standard input as a capture, and standard output as a file.
-abbrev pub output_fault : Option (List ℕ) → List (List ℕ) → Option (List ℕ)
-output_fault None captures = None
-output_fault (Some name) [] = None
-output_fault (Some name) (capture ∷ []) =
-    if bytes_eq capture name && not (bytes_eq name (codes "-")) then Some is_capture_text else None
-output_fault (Some name) (capture ∷ (other ∷ captures)) = Some (codes "'--write <FILE>' is used with more than one capture")
-
--- the same for the file and the captures that these options name
-abbrev pub fault_of : Options → Option (List ℕ)
-fault_of options = output_fault (option_map (λ name. name.now) options.write) (map (λ name. name.now) options.files.items)
 
 -- two files are the same file if the numbers of both are known, and are equal
 abbrev pub is_same_file : Option FileId → Option FileId → Bool

@@ -4,7 +4,7 @@ ghost use Rattle.std.specs.Prelude.{◌≡◌, IfOk, IsTrue};
 ghost use Rattle.capture_report.specs.Inputs.{IsFile, IsFileLen, IsRequestedBy, is_escaped};
 ghost use Rattle.capture_report.specs.Outputs.{is_same_file};
 
-use capture_run::STANDARD_INPUT;
+use capture_request::STANDARD_INPUT;
 use std::fs::{File, Metadata};
 use std::io::{ErrorKind, Read, Stdin};
 use std::os::unix::fs::MetadataExt;
@@ -98,7 +98,7 @@ fn is_same_file(file: Option<FileId>, other: Option<FileId>) -> bool
     }
 }
 
-/// Whether a name begins with [`ESCAPED`](capture_run::ESCAPED).
+/// Whether a name begins with [`ESCAPED`](capture_request::ESCAPED).
 fn is_escaped(name: &str) -> bool
     ensures { result ≡ is_escaped name.now }
 {

@@ -18,20 +18,19 @@ ghost use Rattle.capture_request.specs.Names.{shown_name};
 ghost use Rattle.capture_report.specs.Failures.{failure_number, write_failure_number};
 ghost use Rattle.capture_report.specs.Outputs.{AreErrorLines, AreSelectionLines, FailsFirst, IsStatusOf, WritesSelection, counts_line, written_status};
 ghost use Rattle.capture_report.specs.Progress.{inner_of, next_of};
-ghost use Rattle.capture_report.specs.Rejections.{answer_number};
+ghost use Rattle.capture_arguments.specs.Rejections.{answer_number};
 
-mod arguments;
-mod chosen;
-mod conflicts;
 mod input;
 mod progress;
-mod words;
 
-use arguments::Options;
-use capture_run::{
-    CaptureError, ExitStatus, Lines, MAX_PACKET_LEN, Open, Parts, STANDARD_INPUT, WriteError, run,
-    write_error, write_open_error,
+use capture_arguments::{
+    Options, OwnArguments, no_capture, output_is_capture, requested_options, words_of,
 };
+use capture_request::{
+    CaptureError, ExitStatus, Lines, MAX_PACKET_LEN, Parts, STANDARD_INPUT, write_error,
+    write_open_error,
+};
+use capture_run::{Open, WriteError, run};
 use capture_selection::{Counts, SelectionError, write_selected};
 use input::Input;
 use progress::{Progress, is_shown};
@@ -42,7 +41,6 @@ use std::io;
 use std::io::{BufReader, BufWriter, ErrorKind, IsTerminal, LineWriter, Read, Write};
 use std::process::ExitCode;
 use streams::{new_buffer, write_whole};
-use words::{OwnArguments, words_of};
 
 /// The size of the input buffer of a capture and of the buffer of standard output, in bytes.
 const BUFFER_LEN: usize = 1 << 16;
@@ -73,12 +71,12 @@ fn failure(rt: &HostRuntime, error: &io::Error) -> u8
 /// Reads the arguments, runs the request in them, and returns the exit status.
 fn status(rt: &HostRuntime) -> io::Result<u8> {
     let words = words_of(rt.alloc(), &OwnArguments { rt })?;
-    let options = match arguments::requested_options(rt.alloc(), words.as_slice()) {
+    let options = match requested_options(rt.alloc(), words.as_slice()) {
         Ok(options) => options,
         Err(error) => return answer(rt, error),
     };
     if options.files.is_empty() && rt.stdin().is_terminal() {
-        return answer(rt, arguments::no_capture(rt.alloc()));
+        return answer(rt, no_capture(rt.alloc()));
     }
     if let Some(name) = options.write {
         return write_to(rt, &options, name);
@@ -142,7 +140,7 @@ fn write_to(rt: &HostRuntime, options: &Options<'_>, name: &str) -> io::Result<u
         return write_packets(rt, &options.parts, capture, input, rt.stdout());
     }
     if input.is_named(rt, name) {
-        return answer(rt, arguments::output_is_capture(rt.alloc()));
+        return answer(rt, output_is_capture(rt.alloc()));
     }
     match create(rt, name) {
         Ok(output) => {

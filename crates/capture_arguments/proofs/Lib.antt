@@ -1,0 +1,4 @@
+mod ChosenLemmas
+mod CommandLemmas
+mod ConflictLemmas
+mod WordLemmas

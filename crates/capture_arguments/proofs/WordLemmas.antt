@@ -1,0 +1,28 @@
+-- For the words of the command line.
+use Rattle.std.proofs.Common.{◌≡◌, ◌+◌, ◌∷◌, ◌++◌, [], Bool, IsUtf8, List, ℕ, arith, false, if◌then◌else◌, length, refl, subst, true}
+use Rattle.std.proofs.lemmas.Str.{IsUtf8-from_is_utf8, is_utf8-from_IsUtf8}
+use Rattle.std.specs.List.{flat_map}
+use Rattle.std.specs.Str.{is_utf8}
+use Rattle.capture_facts.specs.ShownText.{escaped_byte}
+use Rattle.capture_arguments.specs.Words.{AreArguments, word_of}
+
+-- bytes that are UTF-8
+pub text_word : (bytes text : List ℕ) → text ≡ bytes → IsUtf8 bytes → text ≡ word_of bytes
+text_word bytes text same utf8 = rw (is_utf8-from_IsUtf8 bytes utf8) same
+
+escaped_by : (bytes : List ℕ) (test : Bool) → is_utf8 bytes ≡ test → (IsUtf8 bytes → ⊥)
+    → 0 ∷ flat_map escaped_byte bytes ≡ (if test then bytes else 0 ∷ flat_map escaped_byte bytes)
+escaped_by bytes true is other = absurd (other (IsUtf8-from_is_utf8 bytes is))
+escaped_by bytes false is other = refl
+
+-- other bytes
+pub escaped_word : (bytes : List ℕ) → (IsUtf8 bytes → ⊥) → 0 ∷ flat_map escaped_byte bytes ≡ word_of bytes
+escaped_word bytes other = escaped_by bytes (is_utf8 bytes) refl other
+
+-- one more argument
+pub arguments-push : (holds : ℕ → List ℕ → Type 0) (place now : ℕ) (arguments : List (List ℕ)) (argument : List ℕ)
+    → AreArguments holds place arguments → now ≡ place + length arguments → holds now argument
+    → AreArguments holds place (arguments ++ argument ∷ [])
+arguments-push holds place now [] argument all same one = (subst (λ p. holds p argument) (omega (arith, same)) one, tt)
+arguments-push holds place now (first ∷ arguments) argument all same one =
+    (all.0, arguments-push holds (place + 1) now arguments argument all.1 (omega (arith, same)) one)

@@ -1,0 +1,10 @@
+use Rattle.std.proofs.Common.{refl}
+use Rattle.std.proofs.lemmas.Result.{IfOk-weaker}
+use Rattle.capture_arguments.proofs.CommandLemmas.{adds_rule}
+use Rattle.capture_arguments.proofs.arguments.with_output.Goals as goal
+
+-- one option
+pub returns : goal.returns
+returns c =
+    let one = c.write.ensures in
+    IfOk-weaker _ _ _ (λ more adds. adds_rule _ _ _ _ _ _ adds refl one.local one.rule refl) c.arg.ensures

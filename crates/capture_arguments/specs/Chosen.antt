@@ -1,0 +1,72 @@
+-- The packets that the matches of a command line choose.
+use Rattle.std.specs.Prelude.{◌≡◌, ◌⊎◌, ◌<◌, ◌↔◌, ℕ, Contains, IsTrue, List, [], ◌∷◌, codes, length, map, None, Ok, Option, Err, Some}
+use Rattle.std.specs.Char.{to_ascii_lowercase}
+use Rattle.clap.specs.declared.parser.matches.ArgMatches.{ArgMatches}
+use Rattle.capture_summary.specs.Networks.{ReadsNetwork}
+use Rattle.capture_summary.specs.declared.choice.Choice.{Choice}
+use Rattle.capture_summary.specs.declared.choice.Protocols.{Protocols}
+use Rattle.capture_summary.specs.declared.network.Network.{Network}
+use Rattle.capture_arguments.specs.Arguments.{IsNumberText, values_of}
+use Rattle.capture_arguments.specs.declared.chosen.ChoiceError.{ChoiceError}
+use Rattle.capture_arguments.specs.declared.chosen.ChoiceError.TheVariants.{Host, Port, TooMany}
+
+-- ---- values in places
+
+-- no place has a value
+abbrev pub AreEmpty : {X : Type 0} → List (Option X) → Type 0
+AreEmpty [] = Unit {0}
+AreEmpty (None ∷ places) = AreEmpty places
+AreEmpty (Some value ∷ places) = ⊥
+
+-- the first places have the values of these texts, in their order, and the other places have none
+abbrev pub ReadsPlaces : {X : Type 0} → (List ℕ → X → Type 0) → List (List ℕ) → List (Option X) → Type 0
+ReadsPlaces Reads [] places = AreEmpty places
+ReadsPlaces Reads (text ∷ texts) [] = ⊥
+ReadsPlaces Reads (text ∷ texts) (None ∷ places) = ⊥
+ReadsPlaces Reads (text ∷ texts) (Some value ∷ places) = Reads text value × ReadsPlaces Reads texts places
+
+-- the values of these texts, if there are texts
+abbrev pub AreRead : {X : Type 0} → (List ℕ → X → Type 0) → List (List ℕ) → Option (List (Option X)) → Type 0
+AreRead Reads texts None = texts ≡ []
+AreRead Reads texts (Some places) = ReadsPlaces Reads texts places
+
+-- the text is a host
+abbrev pub ReadsHost : List ℕ → Network → Type 0
+ReadsHost text host = ReadsNetwork text (Ok host)
+
+-- the text is a port
+abbrev pub ReadsPort : List ℕ → ℕ → Type 0
+ReadsPort text port = IsNumberText 16 text port
+
+-- ---- protocols
+
+-- one of these names is this name, in either case
+abbrev pub IsNamed : List ℕ → List (List ℕ) → Type 0
+IsNamed name [] = ⊥
+IsNamed name (given ∷ names) = (map to_ascii_lowercase given ≡ map to_ascii_lowercase name) ⊎ IsNamed name names
+
+-- the protocols with these names
+pub record AreChosen (names : List (List ℕ)) (chosen : Protocols) : Type 0 where
+  pub udp : IsTrue chosen.udp ↔ IsNamed (codes "udp") names
+  pub tcp : IsTrue chosen.tcp ↔ IsNamed (codes "tcp") names
+  pub icmpv4 : IsTrue chosen.icmpv4 ↔ (IsNamed (codes "icmp") names ⊎ IsNamed (codes "icmpv4") names)
+  pub icmpv6 : IsTrue chosen.icmpv6 ↔ (IsNamed (codes "icmp") names ⊎ IsNamed (codes "icmpv6") names)
+
+-- the protocols with these names, if there are names
+abbrev pub HasProtocols : List (List ℕ) → Option Protocols → Type 0
+HasProtocols names None = names ≡ []
+HasProtocols names (Some chosen) = AreChosen names chosen
+
+-- ---- the choice
+
+-- the choice in some matches
+pub record IsChoiceOf (matches : ArgMatches) (choice : Choice) : Type 0 where
+  pub hosts : AreRead ReadsHost (values_of matches (codes "host")) choice.hosts
+  pub ports : AreRead ReadsPort (values_of matches (codes "port")) choice.ports
+  pub protocols : HasProtocols (values_of matches (codes "protocol")) choice.protocols
+
+-- why some matches contain no choice: a text that is no host or no port, or more than 16 values of an option
+abbrev pub IsRefusal : ArgMatches → ChoiceError → Type 0
+IsRefusal matches (Host text error) = Contains (values_of matches (codes "host")) text.now × ReadsNetwork text.now (Err error)
+IsRefusal matches (Port text) = Contains (values_of matches (codes "port")) text.now × ((port : ℕ) → ReadsPort text.now port → ⊥)
+IsRefusal matches (TooMany name) = 16 < length (values_of matches name.now)

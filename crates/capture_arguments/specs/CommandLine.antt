@@ -1,0 +1,117 @@
+-- The command line of the program, as clap reads it.
+use Rattle.std.specs.Prelude.{◌≡◌, ◌-◌, ◌^◌, true, List, [], ◌∷◌, ◌++◌, codes, fold, map, pos, Some}
+use Rattle.std.specs.Borrow.{Bor}
+use Rattle.clap.specs.Words.{App, Rule, Text, fault_of as faults_of, found_of, matches_of, new_app, new_rule, rows_of, with_rule}
+use Rattle.clap.specs.declared.builder.action.ArgAction.TheVariants.{Append, Set, SetTrue}
+use Rattle.clap.specs.declared.builder.value_parser.ValueParser.{ValueParser}
+use Rattle.clap.specs.declared.builder.value_parser.ValueParser.TheVariants as parsers
+use Rattle.clap.specs.declared.parser.matches.ArgMatches.{ArgMatches}
+use Rattle.capture_arguments.specs.Options.{IsOptionsOf}
+use Rattle.capture_arguments.specs.declared.arguments.Options.{Options}
+
+-- an option without a value
+abbrev pub flag_rule : Text → Rule
+flag_rule name = record (new_rule name) { long = Some name; action = Some SetTrue }
+
+-- an option with a value
+abbrev pub value_rule : Text → Rule
+value_rule name = record (new_rule name) { long = Some name; value_names = 1; action = Some Set }
+
+-- an option with a value that this parser tests
+abbrev pub parsed_rule : Text → ValueParser → Rule
+parsed_rule name parser = record (value_rule name) { parser = Some parser }
+
+-- an option that can be given several times
+abbrev pub repeated : Rule → Rule
+repeated rule = record rule { action = Some Append }
+
+-- the option for further fields in the lines, `-v` (118)
+abbrev pub verbose_rule : Rule
+verbose_rule = record (flag_rule (codes "verbose")) { short = Some 118 }
+
+-- the options for the parts and the lines of the report
+abbrev pub line_rules : List Rule
+line_rules = flag_rule (codes "summary") ∷ flag_rule (codes "packets") ∷ flag_rule (codes "wrong") ∷ verbose_rule ∷ []
+
+-- the option for the number of conversations in the summary; the number has at most 64 bits
+abbrev pub top_rule : Rule
+top_rule = parsed_rule (codes "top") (parsers.Unsigned 0 (2 ^ 64 - 1))
+
+-- the options for the form of the report and for its exit status
+abbrev pub form_rules : List Rule
+form_rules = flag_rule (codes "absolute") ∷ flag_rule (codes "check") ∷ flag_rule (codes "json") ∷ top_rule ∷ []
+
+-- the names of protocols
+abbrev pub protocol_names : List Text
+protocol_names = codes "udp" ∷ codes "tcp" ∷ codes "icmp" ∷ codes "icmpv4" ∷ codes "icmpv6" ∷ []
+
+-- the option for a protocol; its name can be in upper or lower case
+abbrev pub protocol_rule : Bor (List (Bor Text)) → Rule
+protocol_rule names = record (repeated (parsed_rule (codes "protocol") (parsers.Names names))) { ignore_case = true }
+
+-- The options that choose packets, with these names of protocols. The number of a port has at most 16 bits.
+abbrev pub choice_rules : Bor (List (Bor Text)) → List Rule
+choice_rules names =
+    repeated (value_rule (codes "host")) ∷ repeated (parsed_rule (codes "port") (parsers.Signed (pos 0) (pos (2 ^ 16 - 1))))
+    ∷ protocol_rule names ∷ []
+
+-- the option for the number of packets, `-c` (99); the number is at least 1 and has at most 64 bits
+abbrev pub count_rule : Rule
+count_rule = record (parsed_rule (codes "count") (parsers.Unsigned 1 (2 ^ 64 - 1))) { short = Some 99 }
+
+-- the option that ends the report after a number of packets
+abbrev pub end_rules : List Rule
+end_rules = count_rule ∷ []
+
+-- the option that writes a capture instead of a report, `-w` (119)
+abbrev pub write_rule : Rule
+write_rule = record (value_rule (codes "write")) { short = Some 119 }
+
+-- the option for what is written
+abbrev pub output_rules : List Rule
+output_rules = write_rule ∷ []
+
+-- the option that writes each line out as soon as it is complete, `-l` (108)
+abbrev pub line_buffered_rule : Rule
+line_buffered_rule = record (flag_rule (codes "line-buffered")) { short = Some 108 }
+
+-- an option without an effect, `-n` (110)
+abbrev pub numeric_rule : Rule
+numeric_rule = record (flag_rule (codes "numeric")) { short = Some 110 }
+
+-- the option that names a capture, `-r` (114)
+abbrev pub read_rule : Rule
+read_rule = record (repeated (value_rule (codes "read"))) { short = Some 114 }
+
+-- the captures without an option before their names
+abbrev pub file_rule : Rule
+file_rule = record (new_rule (codes "file")) { value_names = 1; action = Some Append }
+
+-- the option for whole lines, the option without an effect, and the captures
+abbrev pub file_rules : List Rule
+file_rules = line_buffered_rule ∷ numeric_rule ∷ read_rule ∷ file_rule ∷ []
+
+-- a command to which these options are added, in their order
+abbrev pub with_rules : App → List Rule → App
+with_rules app rules = fold with_rule app rules
+
+-- the command without options, but with a version
+abbrev pub bare_command : App
+bare_command = let app = new_app (codes "capture_report") in record app { top = record app.top { has_version = true } }
+
+-- the command line with these names of protocols
+abbrev pub command_line : Bor (List (Bor Text)) → App
+command_line names = with_rules bare_command (line_rules ++ form_rules ++ choice_rules names ++ end_rules ++ output_rules ++ file_rules)
+
+-- this is the command line, with the names of protocols above
+abbrev pub IsCommandLine : App → Type 0
+IsCommandLine app = (names : Bor (List (Bor Text))) × (map (λ name. name.now) names.now ≡ protocol_names) × (app ≡ command_line names)
+
+-- These words fit the command line, and these are their matches. The first word is the name of the program.
+abbrev pub AreMatchesOf : List Text → ArgMatches → Type 0
+AreMatchesOf words matches =
+    (app : App) × IsCommandLine app × (faults_of app words ≡ []) × (rows_of (found_of matches) ≡ matches_of app words)
+
+-- these words request these options; the first word is the name of the program
+abbrev pub AreRequestedBy : List Text → Options → Type 0
+AreRequestedBy words options = (matches : ArgMatches) × AreMatchesOf words matches × IsOptionsOf matches options

@@ -1,0 +1,42 @@
+-- The options in the matches of a command line.
+use Rattle.std.specs.Prelude.{◌≡◌, ℕ, Bool, List, ◌++◌, not, if◌then◌else◌, codes, map, None, Some}
+use Rattle.std.specs.Option.{option_map}
+use Rattle.clap.specs.Words.{first_value, found_of, rows_of}
+use Rattle.clap.specs.declared.parser.matches.ArgMatches.{ArgMatches}
+use Rattle.capture_request.specs.Lines.{lines_by}
+use Rattle.capture_request.specs.declared.parts.Format.TheVariants as formats
+use Rattle.capture_summary.specs.Ranking.{default_top}
+use Rattle.capture_words.specs.TimeText.{times_by}
+use Rattle.capture_arguments.specs.Arguments.{HasFlag, HasNumberOr, values_of}
+use Rattle.capture_arguments.specs.Chosen.{IsChoiceOf, IsRefusal}
+use Rattle.capture_arguments.specs.Conflicts.{conflict_in}
+use Rattle.capture_arguments.specs.declared.arguments.Options.{Options}
+use Rattle.capture_arguments.specs.declared.arguments.OptionsError.{OptionsError}
+use Rattle.capture_arguments.specs.declared.arguments.OptionsError.TheVariants.{Choice, Conflict, NoMemory}
+
+-- some matches contain no options for this reason
+abbrev pub IsRefusedBy : ArgMatches → OptionsError → Type 0
+IsRefusedBy matches (Conflict first second) = conflict_in (rows_of (found_of matches)) ≡ Some (first.now, second.now)
+IsRefusedBy matches (Choice error) = IsRefusal matches error
+IsRefusedBy matches (NoMemory error) = Unit {0}
+
+-- the names of the captures: first the values of the option `read`, and then the names without an option
+abbrev pub names_of : ArgMatches → List (List ℕ)
+names_of matches = values_of matches (codes "read") ++ values_of matches (codes "file")
+
+-- the options that some matches contain
+pub record IsOptionsOf (matches : ArgMatches) (options : Options) : Type 0 where
+  pub compatible : conflict_in (rows_of (found_of matches)) ≡ None
+  pub lines : (summary wrong : Bool) → HasFlag matches (codes "summary") summary → HasFlag matches (codes "wrong") wrong
+      → options.parts.lines ≡ lines_by summary wrong
+  pub times : (absolute : Bool) → HasFlag matches (codes "absolute") absolute → options.parts.times ≡ times_by absolute
+  pub verbose : (flag : Bool) → HasFlag matches (codes "verbose") flag → options.parts.verbose ≡ flag
+  pub summary : (packets : Bool) → HasFlag matches (codes "packets") packets → options.parts.summary ≡ not packets
+  pub check : (flag : Bool) → HasFlag matches (codes "check") flag → options.parts.check ≡ flag
+  pub format : (flag : Bool) → HasFlag matches (codes "json") flag → options.parts.format ≡ (if flag then formats.Json else formats.Text)
+  pub top : HasNumberOr matches (codes "top") 64 (λ given. given) default_top options.parts.top
+  pub choice : IsChoiceOf matches options.parts.choice
+  pub limit : HasNumberOr matches (codes "count") 64 Some None options.parts.limit
+  pub line_buffered : (flag : Bool) → HasFlag matches (codes "line-buffered") flag → options.line_buffered ≡ flag
+  pub write : option_map (λ name. name.now) options.write ≡ first_value (found_of matches) (codes "write")
+  pub files : map (λ name. name.now) options.files.items ≡ names_of matches

@@ -1,0 +1,522 @@
+//! The arguments of the program.
+
+ghost use Rattle.std.specs.Prelude.{◌≡◌, ◌⊎◌, Bool, IfErr, IfOk, None, Some, codes, false, if◌then◌else◌, map, option_map, string_bytes};
+ghost use Rattle.clap.specs.Words.{IsPlainArg, app_of, kind_of, rule_of};
+ghost use Rattle.clap.specs.declared.error.kind.ErrorKind.TheVariants as ErrorKind;
+ghost use Rattle.capture_arguments.specs.Arguments.{HasFlag, HasNumberOr};
+ghost use Rattle.capture_arguments.specs.Options.{IsOptionsOf, IsRefusedBy, names_of};
+ghost use Rattle.capture_arguments.specs.Conflicts.{conflict_in};
+ghost use Rattle.capture_arguments.specs.OutputFaults.{fault_of};
+ghost use Rattle.capture_arguments.specs.Rejections.{AreRejectedBy};
+ghost use Rattle.capture_arguments.specs.CommandLine.{AreRequestedBy, IsCommandLine, bare_command, choice_rules, count_rule, end_rules, file_rule, file_rules, flag_rule, form_rules, line_buffered_rule, line_rules, numeric_rule, output_rules, protocol_names, read_rule, repeated, top_rule, value_rule, verbose_rule, with_rules, write_rule};
+ghost use Rattle.capture_summary.specs.Ranking.{default_top};
+ghost use Rattle.capture_words.specs.TimeText.{times_by};
+ghost use Rattle.capture_request.specs.declared.parts.Format.TheVariants as Format;
+
+use crate::chosen::{ChoiceError, choice_of};
+use crate::conflicts::{conflict_in, conflict_text};
+use capture_request::{Format, Parts, STANDARD_INPUT, Times};
+use capture_summary::{BUSIEST, MAX_CHOSEN};
+use clap::error::ErrorKind;
+use clap::{Arg, ArgAction, ArgMatches, Command, Error, value_parser};
+use std::alloc::{AllocError, Global};
+
+/// The version of the program, which is that of the library (`ETHERPARSE_VERSION` in the C header).
+const VERSION: &str = "0.4.0";
+
+/// What help says after the options.
+const AFTER_HELP: &str = "\
+--wrong and --check are about packets whose checksum is wrong or whose form is refused.
+
+Exit status: 0 all was read, or as much as -c requests; 1 a capture ends early;
+2 no capture, or a wrong argument; 3 opening, reading or writing failed;
+4 a packet has a fault, with --check; 141 the reader of the output ended first
+
+Examples:
+  capture_report --host 10.0.0.0/8 --port 53 --wrong capture.pcap
+  gzip -dc capture.pcap.gz | capture_report --summary";
+
+/// The names of the protocols that packets can be chosen by. `icmp` is ICMPv4 and ICMPv6.
+static PROTOCOLS: [&str; 5] = ["udp", "tcp", "icmp", "icmpv4", "icmpv6"];
+
+/// The error if the file to write is the capture.
+const OUTPUT_IS_CAPTURE: &str = "the FILE of '--write <FILE>' is the capture";
+
+/// The options in the arguments.
+#[derive(Drop)]
+pub struct Options<'a> {
+    /// The options of the report.
+    pub parts: Parts,
+    /// Whether each line is written out as soon as it is complete.
+    pub line_buffered: bool,
+    /// The name of the file to which the packets are written instead of a report, if they are. `-` is standard output.
+    pub write: Option<&'a str>,
+    /// The names of the captures, in their order.
+    pub files: Vec<&'a str>,
+}
+
+/// The options in the arguments after the name of the program.
+///
+/// # Errors
+///
+/// An unknown argument is named in the text of the error, whose exit status is 2. So are two options that are not used together. A request
+/// for help or for the version is also an error. Its text goes to standard output, and its exit status is 0. If no memory is left, the exit
+/// status is 3.
+pub fn requested_options<'a>(alloc: Global, words: &'a [String]) -> Result<Options<'a>, Error>
+    ensures options { IfOk result (AreRequestedBy (map (λ word. string_bytes word) words.now)) }
+    ensures writable { IfOk result (λ options. fault_of options ≡ None) }
+    ensures rejected { IfErr result (AreRejectedBy (map (λ word. string_bytes word) words.now)) }
+{
+    let options = given_options(alloc, words)?;
+    match output_fault(&options) {
+        Some(fault) => Err(invalid_output(alloc, fault)?),
+        None => Ok(options),
+    }
+}
+
+/// The options in the arguments, whether the requested file can be written or not.
+fn given_options<'a>(alloc: Global, words: &'a [String]) -> Result<Options<'a>, Error>
+    ensures options { IfOk result (AreRequestedBy (map (λ word. string_bytes word) words.now)) }
+    ensures rejected { IfErr result (AreRejectedBy (map (λ word. string_bytes word) words.now)) }
+{
+    let matches = command(alloc)?.try_get_matches_from(words)?;
+    match options_of(alloc, &matches) {
+        Ok(options) => Ok(options),
+        Err(OptionsError::Conflict(first, second)) => Err(invalid_pair(alloc, first, second)?),
+        Err(OptionsError::Choice(error)) => Err(invalid_choice(alloc, error)?),
+        Err(OptionsError::NoMemory(error)) => Err(error.into()),
+    }
+}
+
+/// Why some matches contain no options.
+pub enum OptionsError<'a> {
+    /// They contain the two options with these names, which are not used together.
+    Conflict(&'static str, &'static str),
+    /// They contain no choice of packets.
+    Choice(ChoiceError<'a>),
+    /// No memory is left.
+    NoMemory(AllocError),
+}
+
+/// The options in these matches.
+fn options_of<'a>(alloc: Global, matches: &ArgMatches<'a>) -> Result<Options<'a>, OptionsError<'a>>
+    ensures options { IfOk result (IsOptionsOf matches.now) }
+    ensures refusal { IfErr result (IsRefusedBy matches.now) }
+{
+    if let Some((first, second)) = conflict_in(matches) {
+        return Err(OptionsError::Conflict(first, second));
+    }
+    let choice = match choice_of(matches) {
+        Ok(choice) => choice,
+        Err(error) => return Err(OptionsError::Choice(error)),
+    };
+    let files = match files_of(alloc, matches) {
+        Ok(files) => files,
+        Err(error) => return Err(OptionsError::NoMemory(error)),
+    };
+    let asked = Parts::from_flags(
+        flag_of(matches, "summary"),
+        flag_of(matches, "packets"),
+        flag_of(matches, "wrong"),
+        flag_of(matches, "check"),
+    );
+    Ok(Options {
+        parts: Parts {
+            choice,
+            times: times_of(matches),
+            verbose: flag_of(matches, "verbose"),
+            format: format_of(matches),
+            top: top_of(matches),
+            limit: count_of(matches),
+            ..asked
+        },
+        line_buffered: flag_of(matches, "line-buffered"),
+        write: matches.get_str("write"),
+        files,
+    })
+}
+
+/// The names of the captures, in their order.
+fn files_of<'a>(alloc: Global, matches: &ArgMatches<'a>) -> Result<Vec<&'a str>, AllocError>
+    ensures { IfOk result (λ files. map (λ name. name.now) files.items ≡ names_of matches.now) }
+{
+    let mut files = Vec::new(alloc);
+    if let Some(names) = matches.get_strs("read") {
+        files.extend_from_slice(names)?;
+    }
+    if let Some(names) = matches.get_strs("file") {
+        files.extend_from_slice(names)?;
+    }
+    Ok(files)
+}
+
+/// Whether this flag is set.
+fn flag_of(matches: &ArgMatches<'_>, id: &str) -> bool
+    ensures { (flag : Bool) → HasFlag matches.now id.now flag → result ≡ flag }
+{
+    matches.get_flag(id)
+}
+
+/// How the lines of packets show their times.
+fn times_of(matches: &ArgMatches<'_>) -> Times
+    ensures { (absolute : Bool) → HasFlag matches.now (codes "absolute") absolute → result ≡ times_by absolute }
+{
+    if flag_of(matches, "absolute") {
+        Times::Absolute
+    } else {
+        Times::SinceFirst
+    }
+}
+
+/// The requested format.
+fn format_of(matches: &ArgMatches<'_>) -> Format
+    ensures { (flag : Bool) → HasFlag matches.now (codes "json") flag → result ≡ (if flag then Format.Json else Format.Text) }
+{
+    if flag_of(matches, "json") {
+        Format::Json
+    } else {
+        Format::Text
+    }
+}
+
+/// The requested number of busiest conversations.
+fn top_of(matches: &ArgMatches<'_>) -> usize
+    ensures { HasNumberOr matches.now (codes "top") 64 (λ given. given) default_top result }
+{
+    matches.get_one("top").unwrap_or(BUSIEST)
+}
+
+/// The number of packets after which the report ends, if a number is requested.
+fn count_of(matches: &ArgMatches<'_>) -> Option<u64>
+    ensures { HasNumberOr matches.now (codes "count") 64 Some None result }
+{
+    matches.get_one("count")
+}
+
+/// The error for two options that are not used together, with the usage.
+fn invalid_pair(alloc: Global, first: &str, second: &str) -> Result<Error, Error>
+    ensures kind { IfOk result (λ error. kind_of error ≡ ErrorKind.ArgumentConflict) }
+    ensures memory { IfErr result (λ error. kind_of error ≡ ErrorKind.OutOfMemory) }
+{
+    let message = conflict_text(alloc, first, second)?;
+    let mut command = command(alloc)?;
+    Ok(command.error(ErrorKind::ArgumentConflict, message.as_str())?)
+}
+
+/// The error for a choice of packets that is not valid, with the usage.
+fn invalid_choice(alloc: Global, error: ChoiceError<'_>) -> Result<Error, Error>
+    ensures kind { IfOk result (λ error. kind_of error ≡ ErrorKind.ValueValidation) }
+    ensures memory { IfErr result (λ error. kind_of error ≡ ErrorKind.OutOfMemory) }
+{
+    let message = match error {
+        ChoiceError::Host(text, error) => {
+            format!(in alloc; "invalid value '{text}' for '--host <ADDRESS>': {error}")?
+        }
+        ChoiceError::Port(text) => format!(in alloc;
+            "invalid value '{text}' for '--port <N>': it is no number from 0 to 65535"
+        )?,
+        ChoiceError::TooMany(name) => {
+            format!(in alloc; "'--{name}' is given more than {MAX_CHOSEN} times")?
+        }
+    };
+    let mut command = command(alloc)?;
+    Ok(command.error(ErrorKind::ValueValidation, message.as_str())?)
+}
+
+/// Why the packets of the captures can't be written to the requested file, if they can't: there are several captures, or the file is the
+/// capture.
+fn output_fault(options: &Options<'_>) -> Option<&'static str>
+    ensures { option_map (λ text. text.now) result ≡ fault_of options.now }
+{
+    let name = options.write?;
+    match options.files.as_slice() {
+        [] => None,
+        [file] if *file != name || name == STANDARD_INPUT => None,
+        [_] => Some(OUTPUT_IS_CAPTURE),
+        _ => Some("'--write <FILE>' is used with more than one capture"),
+    }
+}
+
+/// The error for a file that can't be written, with the usage.
+fn invalid_output(alloc: Global, fault: &str) -> Result<Error, Error>
+    ensures kind { IfOk result (λ error. kind_of error ≡ ErrorKind.ArgumentConflict) }
+    ensures memory { IfErr result (λ error. kind_of error ≡ ErrorKind.OutOfMemory) }
+{
+    let mut command = command(alloc)?;
+    Ok(command.error(ErrorKind::ArgumentConflict, fault)?)
+}
+
+/// The error if the file to write is the capture, with the usage. If no memory is left for its text, the error is about the memory.
+pub fn output_is_capture(alloc: Global) -> Error
+    ensures { (kind_of result ≡ ErrorKind.ArgumentConflict) ⊎ (kind_of result ≡ ErrorKind.OutOfMemory) }
+{
+    match invalid_output(alloc, OUTPUT_IS_CAPTURE) {
+        Ok(error) => error,
+        Err(error) => error,
+    }
+}
+
+/// The error if there is no capture to read, with the usage. If no memory is left for its text, the error is about the memory.
+pub fn no_capture(alloc: Global) -> Error
+    ensures { (kind_of result ≡ ErrorKind.MissingRequiredArgument) ⊎ (kind_of result ≡ ErrorKind.OutOfMemory) }
+{
+    match try_no_capture(alloc) {
+        Ok(error) => error,
+        Err(error) => error,
+    }
+}
+
+fn try_no_capture(alloc: Global) -> Result<Error, Error>
+    ensures kind { IfOk result (λ error. kind_of error ≡ ErrorKind.MissingRequiredArgument) }
+    ensures memory { IfErr result (λ error. kind_of error ≡ ErrorKind.OutOfMemory) }
+{
+    let mut command = command(alloc)?;
+    Ok(command.error(
+        ErrorKind::MissingRequiredArgument,
+        "no FILE is named, and standard input is a terminal",
+    )?)
+}
+
+/// The command line.
+fn command<'a>(alloc: Global) -> Result<Command<'a>, Error>
+    ensures options { IfOk result (λ command. IsCommandLine (app_of command)) }
+    ensures memory { IfErr result (λ error. kind_of error ≡ ErrorKind.OutOfMemory) }
+{
+    let command = with_lines(alloc, bare(alloc))?;
+    let command = with_form(alloc, command)?;
+    let command = with_choice(alloc, command)?;
+    let command = with_end(alloc, command)?;
+    let command = with_output(alloc, command)?;
+    Ok(with_files(alloc, command)?)
+}
+
+/// The command line without options.
+fn bare<'a>(alloc: Global) -> Command<'a>
+    ensures { app_of result ≡ bare_command }
+{
+    Command::new(alloc, "capture_report")
+        .version(VERSION)
+        .about(
+            "Reads captures, and says of every packet what it is and whether its checksum is right",
+        )
+        .after_help(AFTER_HELP)
+}
+
+/// The command line with the options for the parts and the lines of the report.
+fn with_lines<'a>(alloc: Global, command: Command<'a>) -> Result<Command<'a>, AllocError>
+    ensures { IfOk result (λ more. app_of more ≡ with_rules (app_of command.entry) line_rules) }
+{
+    let summary = flag(alloc, "summary").help("Write the summary alone");
+    let packets = flag(alloc, "packets").help("Write the lines of packets alone");
+    let wrong = flag(alloc, "wrong").help(
+        "Write a line only for a packet whose checksum or form is wrong",
+    );
+    command
+        .arg(summary)?
+        .arg(packets)?
+        .arg(wrong)?
+        .arg(verbose(alloc))
+}
+
+/// The option for further fields in the lines.
+fn verbose<'a>(alloc: Global) -> Arg<'a>
+    ensures rule { rule_of result ≡ verbose_rule }
+    ensures local { result.global ≡ false }
+{
+    flag(alloc, "verbose")
+        .help("Write the time to live or the hop limit of packets too, which JSON always has")
+        .short('v')
+}
+
+/// The command line with the options for the form of the report and for its exit status.
+fn with_form<'a>(alloc: Global, command: Command<'a>) -> Result<Command<'a>, AllocError>
+    ensures { IfOk result (λ more. app_of more ≡ with_rules (app_of command.entry) form_rules) }
+{
+    let absolute = flag(alloc, "absolute").help(
+        "Write the date and time of packets, in UTC, in place of the time since the first",
+    );
+    let check = flag(alloc, "check").help(
+        "End with status 4 where the checksum or form of a packet is wrong",
+    );
+    let json = flag(alloc, "json").help(
+        "Write JSON: an object in a line for each packet, and one for the summary",
+    );
+    command
+        .arg(absolute)?
+        .arg(check)?
+        .arg(json)?
+        .arg(top(alloc))
+}
+
+/// The number of conversations in the summary.
+fn top<'a>(alloc: Global) -> Arg<'a>
+    ensures rule { rule_of result ≡ top_rule }
+    ensures local { result.global ≡ false }
+{
+    valued(
+        alloc,
+        "top",
+        "N",
+        "Name the N busiest conversations in the summary, in place of 10",
+    )
+    .value_parser(value_parser!(usize))
+}
+
+/// The command line with the options that choose packets.
+fn with_choice<'a>(alloc: Global, command: Command<'a>) -> Result<Command<'a>, AllocError>
+    ensures { IfOk result (λ more. (names : _) × (map (λ name. name.now) names.now ≡ protocol_names)
+        × (app_of more ≡ with_rules (app_of command.entry) (choice_rules names))) }
+{
+    let host = several(
+        alloc,
+        "host",
+        "ADDRESS",
+        "Report only packets from or to this address, or a network such as 10.0.0.0/8; repeat it for any of several",
+    );
+    let port = several(
+        alloc,
+        "port",
+        "N",
+        "Report only packets from or to this port; repeat it for any of several",
+    )
+    .value_parser(value_parser!(u16));
+    let protocol = several(
+        alloc,
+        "protocol",
+        "NAME",
+        "Report only packets of this protocol; repeat it for any of several",
+    )
+    .value_parser(PROTOCOLS.as_slice())
+    .ignore_case(true);
+    command.arg(host)?.arg(port)?.arg(protocol)
+}
+
+/// The command line with the option for the end of the report.
+fn with_end<'a>(alloc: Global, command: Command<'a>) -> Result<Command<'a>, AllocError>
+    ensures { IfOk result (λ more. app_of more ≡ with_rules (app_of command.entry) end_rules) }
+{
+    command.arg(count(alloc))
+}
+
+/// The number of packets.
+fn count<'a>(alloc: Global) -> Arg<'a>
+    ensures rule { rule_of result ≡ count_rule }
+    ensures local { result.global ≡ false }
+{
+    valued(
+        alloc,
+        "count",
+        "N",
+        "End after N packets; packets that are not selected do not count",
+    )
+    .short('c')
+    .value_parser(value_parser!(u64).range(1..))
+}
+
+/// The command line with the option for a capture in the place of a report.
+fn with_output<'a>(alloc: Global, command: Command<'a>) -> Result<Command<'a>, AllocError>
+    ensures { IfOk result (λ more. app_of more ≡ with_rules (app_of command.entry) output_rules) }
+{
+    command.arg(write(alloc))
+}
+
+/// The file for the packets. An option for the form of a report has no effect on them.
+fn write<'a>(alloc: Global) -> Arg<'a>
+    ensures rule { rule_of result ≡ write_rule }
+    ensures local { result.global ≡ false }
+{
+    valued(
+        alloc,
+        "write",
+        "FILE",
+        "Write the packets that have a line to a capture of the same format, in place of the report; `-` is standard output",
+    )
+    .short('w')
+}
+
+/// The command line with the captures, and with the option for writing lines.
+fn with_files<'a>(alloc: Global, command: Command<'a>) -> Result<Command<'a>, AllocError>
+    ensures { IfOk result (λ more. app_of more ≡ with_rules (app_of command.entry) file_rules) }
+{
+    command
+        .arg(line_buffered(alloc))?
+        .arg(numeric(alloc))?
+        .arg(read(alloc))?
+        .arg(file(alloc))
+}
+
+/// The option for writing lines.
+fn line_buffered<'a>(alloc: Global) -> Arg<'a>
+    ensures rule { rule_of result ≡ line_buffered_rule }
+    ensures local { result.global ≡ false }
+{
+    flag(alloc, "line-buffered")
+        .help("Write each line out as soon as it is done, as to a terminal")
+        .short('l')
+}
+
+/// The option of other programs that keeps numbers from being looked up, which this program does not do.
+fn numeric<'a>(alloc: Global) -> Arg<'a>
+    ensures rule { rule_of result ≡ numeric_rule }
+    ensures local { result.global ≡ false }
+{
+    flag(alloc, "numeric")
+        .help("Has no effect: names of hosts and ports are never looked up")
+        .short('n')
+}
+
+/// The captures that are named as in other programs.
+fn read<'a>(alloc: Global) -> Arg<'a>
+    ensures rule { rule_of result ≡ read_rule }
+    ensures local { result.global ≡ false }
+{
+    several(
+        alloc,
+        "read",
+        "FILE",
+        "A capture, as FILE without the option",
+    )
+    .short('r')
+}
+
+/// The captures.
+fn file<'a>(alloc: Global) -> Arg<'a>
+    ensures rule { rule_of result ≡ file_rule }
+    ensures local { result.global ≡ false }
+{
+    Arg::new(alloc, "file")
+        .value_name("FILE")
+        .help("A capture; `-`, or none, is standard input")
+        .action(ArgAction::Append)
+}
+
+/// An argument with a value, that can be given several times.
+fn several<'a>(alloc: Global, name: &'a str, value: &'a str, help: &'a str) -> Arg<'a>
+    ensures rule { rule_of result ≡ repeated (value_rule name.entry.now) }
+    ensures plain { IsPlainArg result }
+    ensures local { result.global ≡ false }
+{
+    valued(alloc, name, value, help).action(ArgAction::Append)
+}
+
+/// An argument with a value.
+fn valued<'a>(alloc: Global, name: &'a str, value: &'a str, help: &'a str) -> Arg<'a>
+    ensures rule { rule_of result ≡ value_rule name.entry.now }
+    ensures plain { IsPlainArg result }
+    ensures local { result.global ≡ false }
+{
+    Arg::new(alloc, name)
+        .long(name)
+        .value_name(value)
+        .help(help)
+        .action(ArgAction::Set)
+}
+
+/// An argument without a value.
+fn flag<'a>(alloc: Global, name: &'a str) -> Arg<'a>
+    ensures rule { rule_of result ≡ flag_rule name.entry.now }
+    ensures plain { IsPlainArg result }
+    ensures local { result.global ≡ false }
+{
+    Arg::new(alloc, name).long(name).action(ArgAction::SetTrue)
+}

@@ -1,0 +1,70 @@
+//! The options that are not used together.
+
+ghost use Rattle.std.specs.Prelude.{◌≡◌, IfOk, option_map, string_bytes};
+ghost use Rattle.clap.specs.Words.{found_of, rows_of};
+ghost use Rattle.capture_arguments.specs.Conflicts.{conflict_in, conflict_text, is_from_words, is_given, shown_value};
+
+use clap::ArgMatches;
+use clap::parser::ValueSource;
+use std::alloc::{AllocError, Global};
+
+/// The pairs of options that are not used together, by their names, in the order in which they are tested.
+static EXCLUSIVE: [(&str, &str); 10] = [
+    ("summary", "packets"),
+    ("wrong", "summary"),
+    ("absolute", "summary"),
+    ("top", "packets"),
+    ("write", "summary"),
+    ("write", "packets"),
+    ("write", "absolute"),
+    ("write", "check"),
+    ("write", "json"),
+    ("write", "top"),
+];
+
+/// The first two options on the command line that are not used together.
+pub fn conflict_in(matches: &ArgMatches<'_>) -> Option<(&'static str, &'static str)>
+    ensures { option_map (λ pair. (pair.0.now, pair.1.now)) result ≡ conflict_in (rows_of (found_of matches.now)) }
+{
+    let mut left = EXCLUSIVE.as_slice();
+    while let [pair, others @ ..] = left {
+        if is_given(matches, pair.0) && is_given(matches, pair.1) {
+            return Some(*pair);
+        }
+        left = others;
+    }
+    None
+}
+
+/// Whether the command line contains the option with this name.
+fn is_given(matches: &ArgMatches<'_>, name: &str) -> bool
+    ensures { result ≡ is_given (rows_of (found_of matches.now)) name.now }
+{
+    is_from_words(matches.value_source(name))
+}
+
+/// Whether a value comes from the command line. A default does not.
+fn is_from_words(source: Option<ValueSource>) -> bool
+    ensures { result ≡ is_from_words source }
+{
+    matches!(source, Some(ValueSource::CommandLine))
+}
+
+/// The message about two options that are not used together.
+pub fn conflict_text(alloc: Global, first: &str, second: &str) -> Result<String, AllocError>
+    ensures { IfOk result (λ text. string_bytes text ≡ conflict_text first.now second.now) }
+{
+    let (value, other) = (shown_value(first), shown_value(second));
+    format!(in alloc; "the argument '--{first}{value}' cannot be used with '--{second}{other}'")
+}
+
+/// The value of an option in a message. An option without a value has an empty text.
+fn shown_value(name: &str) -> &'static str
+    ensures { result.now ≡ shown_value name.now }
+{
+    match name {
+        "top" => " <N>",
+        "write" => " <FILE>",
+        _ => "",
+    }
+}

@@ -1,0 +1,21 @@
+//! The arguments of the program `capture_report`.
+//!
+//! `words_of` returns the words of the command line, and `requested_options` the options in them. A rejected word is named in the text of the
+//! error, whose kind decides the exit status.
+//!
+//! ```
+//! let words = words_of(rt.alloc(), &OwnArguments { rt })?;
+//! match requested_options(rt.alloc(), words.as_slice()) {
+//!     Ok(options) => report(&options.parts, options.files.as_slice()),
+//!     Err(error) => error.print(rt),
+//! }
+//! ```
+#![tactic(auto)]
+
+mod arguments;
+mod chosen;
+mod conflicts;
+mod words;
+
+pub use arguments::{Options, no_capture, output_is_capture, requested_options};
+pub use words::{Arguments, OwnArguments, words_of};

@@ -1,7 +1,0 @@
-use Rattle.std.proofs.Common.{◌≡◌, length, map, take}
-use Rattle.capture_report.specs.Chosen.{ReadsPlaces, ReadsHost}
-use Rattle.capture_report.proofs.chosen.hosts_in.Given as goal
-
--- the places have the values of the texts so far
-abbrev pub invariant-loop-place : goal.invariant-loop-place
-invariant-loop-place l = (length l.hosts ≡ 16) × ReadsPlaces ReadsHost (map (λ text. text.now) (take l.place l.texts)) l.hosts

@@ -1,6 +1,0 @@
-use Rattle.std.proofs.Common.{refl}
-use Rattle.capture_report.proofs.conflicts.conflict_in.Goals as goal
-
--- all pairs are left
-pub loop-left-init : goal.loop-left-init
-loop-left-init c = rw c.as_slice-left.ensures refl
