@@ -1,16 +1,17 @@
-use crate::expect::expect_equal;
+use crate::expect::{append, expect_equal, expect_ok, expect_text};
 use capture_file::classic::laws::count_records;
 use capture_file::classic::{
     CaptureHeader, CaptureHeaderError, MAX_CAPTURED_LEN, NextRecord, RecordHeader, Resolution,
     Time, read_capture_header, read_record,
 };
 use capture_file::{ByteOrder, LinkType};
-use std::io;
 use std::process::Abort;
 use streams::new_buffer;
 
-/// The first bytes of a header in each byte order and resolution.
-const FORMS: [([u8; 4], ByteOrder, Resolution); 4] = [
+/// The first bytes of a header, its byte order and its resolution.
+type Form = ([u8; 4], ByteOrder, Resolution);
+
+static FORMS: [Form; 4] = [
     (
         [0xA1, 0xB2, 0xC3, 0xD4],
         ByteOrder::BigEndian,
@@ -34,7 +35,7 @@ const FORMS: [([u8; 4], ByteOrder, Resolution); 4] = [
 ];
 
 /// The numbers of the link types.
-const LINK_TYPES: [(u16, LinkType); 25] = [
+static LINK_TYPES: [(u16, LinkType); 25] = [
     (0, LinkType::BsdLoopback),
     (1, LinkType::Ethernet),
     (9, LinkType::Ppp),
@@ -84,259 +85,334 @@ fn header_bytes(first: [u8; 4], order: ByteOrder, link_type: u16) -> [u8; 24] {
     ]
 }
 
-fn expect_refusal(rt: &impl Abort, mut input: &[u8], error: CaptureHeaderError) -> io::Result<()> {
-    expect_equal(rt, &read_capture_header(&mut input)?, &Err(error));
-    Ok(())
+/// Reads the header of a capture from these bytes, and returns how many bytes are left.
+fn read_header(
+    rt: &impl Abort,
+    bytes: &[u8],
+) -> (Result<CaptureHeader, CaptureHeaderError>, usize) {
+    let mut input = bytes;
+    let header = expect_ok(rt, read_capture_header(&mut input));
+    (header, input.len())
+}
+
+/// Stops the test unless these bytes are refused as a header with this error.
+fn expect_refusal(rt: &impl Abort, bytes: &[u8], error: CaptureHeaderError) {
+    expect_equal(rt, &read_header(rt, bytes).0, &Err(error));
+}
+
+/// Stops the test unless a header of this form and with this link type is read to its end.
+fn expect_header(rt: &impl Abort, form: &Form, number: u16, link_type: Result<LinkType, u16>) {
+    let (first, byte_order, resolution) = *form;
+    let header = CaptureHeader {
+        byte_order,
+        resolution,
+        snap_len: SNAP_LEN,
+        link_type,
+    };
+    let (read, left) = read_header(rt, &header_bytes(first, byte_order, number));
+    expect_equal(rt, &read, &Ok(header));
+    expect_equal(rt, &left, &0);
 }
 
 /// Stops the test unless a header of 23 bytes is cut off.
-fn expect_cut_off(rt: &impl Abort, first: [u8; 4], byte_order: ByteOrder) -> io::Result<()> {
-    let header = header_bytes(first, byte_order, 2);
-    expect_refusal(rt, &header[..23], CaptureHeaderError::CutOff { len: 23 })
+fn expect_cut_off(rt: &impl Abort, form: &Form) {
+    let header = header_bytes(form.0, form.1, 2);
+    expect_refusal(rt, &header[..23], CaptureHeaderError::CutOff { len: 23 });
 }
 
-#[test]
-fn headers_are_read(rt: HostRuntime) -> io::Result<()> {
-    for (first, byte_order, resolution) in FORMS {
-        for (number, link_type) in LINK_TYPES {
-            let bytes = header_bytes(first, byte_order, number);
-            let mut input = bytes.as_slice();
-            let header = CaptureHeader {
-                byte_order,
-                resolution,
-                snap_len: SNAP_LEN,
-                link_type: Ok(link_type),
-            };
-            expect_equal(&rt, &read_capture_header(&mut input)?, &Ok(header));
-            expect_equal(&rt, &input.len(), &0);
-        }
-        let unknown = header_bytes(first, byte_order, 2);
-        let header = CaptureHeader {
-            byte_order,
-            resolution,
-            snap_len: SNAP_LEN,
-            link_type: Err(2),
-        };
-        expect_equal(
-            &rt,
-            &read_capture_header(&mut unknown.as_slice())?,
-            &Ok(header),
-        );
-        expect_cut_off(&rt, first, byte_order)?;
+/// Stops the test unless the headers of a form are read with each link type, and with a number that is none.
+fn expect_headers(rt: &impl Abort, form: &Form) {
+    for (number, link_type) in &LINK_TYPES {
+        expect_header(rt, form, *number, Ok(*link_type));
     }
-    expect_refusal(&rt, &[0x0A, 0x0D, 0x0D, 0x0A], CaptureHeaderError::Pcapng)?;
-    expect_refusal(&rt, &[], CaptureHeaderError::CutOff { len: 0 })?;
-    let other = b"\xA1\xB2\xCD\x34, and then twenty bytes";
-    expect_refusal(&rt, other, CaptureHeaderError::Modified)?;
-    let other = b"\x34\xCD\xB2\xA1, and then twenty bytes";
-    expect_refusal(&rt, other, CaptureHeaderError::Modified)?;
-    let magic = 0x504B_0304;
-    expect_refusal(
-        &rt,
-        b"PK\x03\x04, and then twenty bytes",
-        CaptureHeaderError::Magic { magic },
-    )
+    expect_header(rt, form, 2, Err(2));
 }
 
-/// The bytes of a version, in the byte order of their capture, and whether the version is read.
-const VERSIONS: [([u8; 4], ByteOrder, Option<(u16, u16)>); 7] = [
-    ([0, 2, 0, 4], ByteOrder::BigEndian, None),
-    ([2, 0, 5, 0], ByteOrder::LittleEndian, None),
-    ([0, 2, 0, 3], ByteOrder::BigEndian, Some((2, 3))),
-    ([2, 0, 0, 0], ByteOrder::LittleEndian, Some((2, 0))),
-    ([0, 1, 0, 4], ByteOrder::BigEndian, Some((1, 4))),
-    ([0, 3, 0, 4], ByteOrder::BigEndian, Some((3, 4))),
-    ([2, 0, 0, 4], ByteOrder::BigEndian, Some((512, 4))),
+/// Bytes that are no header, and why not.
+#[rattlefmt::skip]
+static NO_HEADERS: [(&[u8], CaptureHeaderError); 5] = [
+    (&[0x0A, 0x0D, 0x0D, 0x0A], CaptureHeaderError::Pcapng),
+    (&[], CaptureHeaderError::CutOff { len: 0 }),
+    (b"\xA1\xB2\xCD\x34, and then twenty bytes", CaptureHeaderError::Modified),
+    (b"\x34\xCD\xB2\xA1, and then twenty bytes", CaptureHeaderError::Modified),
+    (b"PK\x03\x04, and then twenty bytes", CaptureHeaderError::Magic { magic: 0x504B_0304 }),
 ];
 
 #[test]
-fn versions_are_read(rt: HostRuntime) -> io::Result<()> {
-    for (version, byte_order, refused) in VERSIONS {
-        let first = match byte_order {
-            ByteOrder::BigEndian => [0xA1, 0xB2, 0xC3, 0xD4],
-            ByteOrder::LittleEndian => [0xD4, 0xC3, 0xB2, 0xA1],
-        };
-        let mut bytes = header_bytes(first, byte_order, 1);
-        bytes[4..8].copy_from_slice(&version);
-        let expected = match refused {
-            Some((major, minor)) => Err(CaptureHeaderError::Version { major, minor }),
-            None => Ok(CaptureHeader {
-                byte_order,
-                resolution: Resolution::Microseconds,
-                snap_len: SNAP_LEN,
-                link_type: Ok(LinkType::Ethernet),
-            }),
-        };
-        expect_equal(&rt, &read_capture_header(&mut bytes.as_slice())?, &expected);
+fn headers_are_read(rt: HostRuntime) {
+    for form in &FORMS {
+        expect_headers(&rt, form);
+        expect_cut_off(&rt, form);
     }
-    Ok(())
+    for (bytes, error) in &NO_HEADERS {
+        expect_refusal(&rt, bytes, *error);
+    }
 }
 
-/// The header of a record with these lengths, captured at 7 seconds and 9 units.
-fn record_bytes(order: ByteOrder, captured_len: u32, original_len: u32) -> [u8; 16] {
-    let mut bytes = [0u8; 16];
-    for (place, number) in [7, 9, captured_len, original_len].into_iter().enumerate() {
-        let number = match order {
-            ByteOrder::BigEndian => u32::to_be_bytes(number),
-            ByteOrder::LittleEndian => u32::to_le_bytes(number),
-        };
-        bytes[4 * place..4 * place + 4].copy_from_slice(&number);
+/// The first bytes of a header with microseconds, its byte order, the bytes of its version, and whether the version is read.
+type VersionRow = ([u8; 4], ByteOrder, [u8; 4], Option<(u16, u16)>);
+
+#[rattlefmt::skip]
+static VERSIONS: [VersionRow; 7] = [
+    ([0xA1, 0xB2, 0xC3, 0xD4], ByteOrder::BigEndian, [0, 2, 0, 4], None),
+    ([0xD4, 0xC3, 0xB2, 0xA1], ByteOrder::LittleEndian, [2, 0, 5, 0], None),
+    ([0xA1, 0xB2, 0xC3, 0xD4], ByteOrder::BigEndian, [0, 2, 0, 3], Some((2, 3))),
+    ([0xD4, 0xC3, 0xB2, 0xA1], ByteOrder::LittleEndian, [2, 0, 0, 0], Some((2, 0))),
+    ([0xA1, 0xB2, 0xC3, 0xD4], ByteOrder::BigEndian, [0, 1, 0, 4], Some((1, 4))),
+    ([0xA1, 0xB2, 0xC3, 0xD4], ByteOrder::BigEndian, [0, 3, 0, 4], Some((3, 4))),
+    ([0xA1, 0xB2, 0xC3, 0xD4], ByteOrder::BigEndian, [2, 0, 0, 4], Some((512, 4))),
+];
+
+/// What is read of a header of Ethernet in microseconds, if this version of it is refused or if it is read.
+fn expected_of(
+    byte_order: ByteOrder,
+    refused: Option<(u16, u16)>,
+) -> Result<CaptureHeader, CaptureHeaderError> {
+    match refused {
+        Some((major, minor)) => Err(CaptureHeaderError::Version { major, minor }),
+        None => Ok(CaptureHeader {
+            byte_order,
+            resolution: Resolution::Microseconds,
+            snap_len: SNAP_LEN,
+            link_type: Ok(LinkType::Ethernet),
+        }),
     }
-    bytes
+}
+
+/// Stops the test unless the version of a row is read, or refused.
+fn expect_version(rt: &impl Abort, row: &VersionRow) {
+    let (first, byte_order, version, refused) = *row;
+    let mut bytes = header_bytes(first, byte_order, 1);
+    bytes[4..8].copy_from_slice(&version);
+    let (read, _) = read_header(rt, &bytes);
+    expect_equal(rt, &read, &expected_of(byte_order, refused));
 }
 
 #[test]
-fn records_are_read(rt: HostRuntime) -> io::Result<()> {
+fn versions_are_read(rt: HostRuntime) {
+    for row in &VERSIONS {
+        expect_version(&rt, row);
+    }
+}
+
+/// The bytes of a number in this order.
+fn number_bytes(order: ByteOrder, number: u32) -> [u8; 4] {
+    match order {
+        ByteOrder::BigEndian => number.to_be_bytes(),
+        ByteOrder::LittleEndian => number.to_le_bytes(),
+    }
+}
+
+/// Appends the header of a record with these lengths, captured at 7 seconds and 9 units.
+fn append_record(
+    rt: &impl Abort,
+    bytes: &mut Vec<u8>,
+    order: ByteOrder,
+    captured_len: u32,
+    original_len: u32,
+) {
+    append(rt, bytes, &number_bytes(order, 7));
+    append(rt, bytes, &number_bytes(order, 9));
+    append(rt, bytes, &number_bytes(order, captured_len));
+    append(rt, bytes, &number_bytes(order, original_len));
+}
+
+/// The header of a record that `append_record` writes.
+fn record_header(captured_len: u32, original_len: u32) -> RecordHeader {
     let time = Time {
         seconds: 7,
         fraction: 9,
     };
-    let limit = 262_144u32;
-    let mut buffer = new_buffer(rt.alloc(), MAX_CAPTURED_LEN)?;
-    for order in [ByteOrder::BigEndian, ByteOrder::LittleEndian] {
-        let mut bytes = vec![in rt.alloc()]?;
-        for (captured_len, original_len) in [
-            (3, 4),
-            (0, 0),
-            (limit, limit),
-            (limit + 1, limit + 9),
-        ] {
-            bytes.extend_from_slice(&record_bytes(order, captured_len, original_len))?;
-            for place in 0..captured_len {
-                bytes.push((place % 251) as u8)?;
-            }
-        }
-        bytes.extend_from_slice(&record_bytes(order, 5, 5))?;
-        bytes.extend_from_slice(b"four")?;
-        let mut input = bytes.as_slice();
-        for (captured_len, original_len) in [
-            (3, 4),
-            (0, 0),
-            (limit, limit),
-            (limit + 1, limit + 9),
-        ] {
-            let header = RecordHeader {
-                time,
-                captured_len,
-                original_len,
-            };
-            let expected = if captured_len > limit {
-                NextRecord::TooLong(header)
-            } else {
-                NextRecord::Whole(header)
-            };
-            expect_equal(
-                &rt,
-                &read_record(&mut input, order, &mut buffer)?,
-                &expected,
-            );
-            expect_equal(
-                &rt,
-                &header.is_cut(),
-                &(captured_len != original_len && captured_len != 0),
-            );
-        }
-        expect_equal(&rt, &buffer[250], &250);
-        let cut_off = NextRecord::CutOff {
-            required_len: 21,
-            len: 20,
-        };
-        expect_equal(&rt, &read_record(&mut input, order, &mut buffer)?, &cut_off);
-        expect_equal(
-            &rt,
-            &read_record(&mut input, order, &mut buffer)?,
-            &NextRecord::End,
-        );
-        expect_equal(
-            &rt,
-            &count_records(&mut bytes.as_slice(), order, &mut buffer)?,
-            &4,
-        );
-        // Into a buffer without room all but the empty record are too long, and are counted all the same.
-        expect_equal(
-            &rt,
-            &count_records(&mut bytes.as_slice(), order, &mut [])?,
-            &4,
-        );
+    RecordHeader {
+        time,
+        captured_len,
+        original_len,
     }
-    Ok(())
+}
+
+/// The length of the longest record that is read whole.
+const LIMIT: u32 = 262_144;
+
+/// The captured and the original length of each complete record of a capture.
+static RECORDS: [(u32, u32); 4] = [(3, 4), (0, 0), (LIMIT, LIMIT), (LIMIT + 1, LIMIT + 9)];
+
+/// Appends this many bytes, which count up to 250 and from 0 again.
+fn append_counted(rt: &impl Abort, bytes: &mut Vec<u8>, len: u32) {
+    for place in 0..len {
+        expect_ok(rt, bytes.push((place % 251) as u8));
+    }
+}
+
+/// The records of `RECORDS`, and one that is cut off.
+fn records_in(rt: &(impl Abort + AllocGlobal), order: ByteOrder) -> Vec<u8> {
+    let mut bytes = Vec::new(rt.alloc());
+    for (captured_len, original_len) in &RECORDS {
+        append_record(rt, &mut bytes, order, *captured_len, *original_len);
+        append_counted(rt, &mut bytes, *captured_len);
+    }
+    append_record(rt, &mut bytes, order, 5, 5);
+    append(rt, &mut bytes, b"four");
+    bytes
+}
+
+/// Stops the test unless this is the next record.
+fn expect_next(
+    rt: &impl Abort,
+    input: &mut &[u8],
+    order: ByteOrder,
+    buffer: &mut [u8],
+    expected: NextRecord,
+) {
+    let next = expect_ok(rt, read_record(input, order, buffer));
+    expect_equal(rt, &next, &expected);
+}
+
+/// Stops the test unless the next record has the lengths of a row of `RECORDS`.
+fn expect_record(
+    rt: &impl Abort,
+    input: &mut &[u8],
+    order: ByteOrder,
+    buffer: &mut [u8],
+    row: &(u32, u32),
+) {
+    let (captured_len, original_len) = *row;
+    let header = record_header(captured_len, original_len);
+    let expected = if captured_len > LIMIT {
+        NextRecord::TooLong(header)
+    } else {
+        NextRecord::Whole(header)
+    };
+    expect_next(rt, input, order, buffer, expected);
+    let is_cut = captured_len != original_len && captured_len != 0;
+    expect_equal(rt, &header.is_cut(), &is_cut);
+}
+
+/// Stops the test unless the next record is cut off, and nothing comes after it.
+fn expect_last(
+    rt: &impl Abort,
+    input: &mut &[u8],
+    order: ByteOrder,
+    buffer: &mut [u8],
+    required_len: usize,
+    len: usize,
+) {
+    let cut_off = NextRecord::CutOff { required_len, len };
+    expect_next(rt, input, order, buffer, cut_off);
+    expect_next(rt, input, order, buffer, NextRecord::End);
+}
+
+/// Stops the test unless these bytes have as many complete records as `RECORDS`.
+fn expect_count(rt: &impl Abort, bytes: &[u8], order: ByteOrder, buffer: &mut [u8]) {
+    let mut input = bytes;
+    let count = expect_ok(rt, count_records(&mut input, order, buffer));
+    expect_equal(rt, &count, &4);
+}
+
+/// Stops the test unless the records of this byte order are read and counted.
+fn expect_records(rt: &impl Abort, bytes: &[u8], order: ByteOrder, buffer: &mut [u8]) {
+    let mut input = bytes;
+    for row in &RECORDS {
+        expect_record(rt, &mut input, order, buffer, row);
+    }
+    expect_equal(rt, &buffer.get(250), &Some(&250));
+    expect_last(rt, &mut input, order, buffer, 21, 20);
+    expect_count(rt, bytes, order, buffer);
+    // Into a buffer without room all but the empty record are too long, and are counted all the same.
+    expect_count(rt, bytes, order, &mut []);
 }
 
 #[test]
-fn records_longer_than_the_buffer_are_passed_over(rt: HostRuntime) -> io::Result<()> {
-    let order = ByteOrder::LittleEndian;
-    let mut bytes = vec![in rt.alloc()]?;
-    for captured in [&b"abc"[..], b"abcd", b"", b"ef"] {
-        let len = captured.len() as u32;
-        bytes.extend_from_slice(&record_bytes(order, len, len))?;
-        bytes.extend_from_slice(captured)?;
+fn records_are_read(rt: HostRuntime) {
+    let mut buffer = expect_ok(&rt, new_buffer(rt.alloc(), MAX_CAPTURED_LEN));
+    for order in [ByteOrder::BigEndian, ByteOrder::LittleEndian] {
+        expect_records(&rt, &records_in(&rt, order), order, &mut buffer);
     }
-    bytes.extend_from_slice(&record_bytes(order, 4, 4))?;
-    bytes.extend_from_slice(b"abc")?;
+}
+
+/// The bytes of records, and whether a buffer of three bytes has room for each.
+static SHORT_RECORDS: [(&[u8], bool); 4] = [
+    (b"abc", true),
+    (b"abcd", false),
+    (b"", true),
+    (b"ef", true),
+];
+
+/// How many bytes these are.
+fn len_of(rt: &impl Abort, bytes: &[u8]) -> u32 {
+    expect_ok(rt, u32::try_from(bytes.len()))
+}
+
+/// The records of `SHORT_RECORDS`, and one that is cut off.
+fn short_records_in(rt: &(impl Abort + AllocGlobal), order: ByteOrder) -> Vec<u8> {
+    let mut bytes = Vec::new(rt.alloc());
+    for (captured, _) in &SHORT_RECORDS {
+        let len = len_of(rt, captured);
+        append_record(rt, &mut bytes, order, len, len);
+        append(rt, &mut bytes, captured);
+    }
+    append_record(rt, &mut bytes, order, 4, 4);
+    append(rt, &mut bytes, b"abc");
+    bytes
+}
+
+/// Stops the test unless the next record has these bytes, and is in the buffer if there is room for it.
+fn expect_short_record(
+    rt: &impl Abort,
+    input: &mut &[u8],
+    order: ByteOrder,
+    buffer: &mut [u8],
+    captured: &[u8],
+    is_whole: bool,
+) {
+    let len = len_of(rt, captured);
+    let header = record_header(len, len);
+    if is_whole {
+        expect_next(rt, input, order, buffer, NextRecord::Whole(header));
+        expect_equal(rt, &buffer.get(..captured.len()), &Some(captured));
+    } else {
+        expect_next(rt, input, order, buffer, NextRecord::TooLong(header));
+    }
+}
+
+#[test]
+fn records_longer_than_the_buffer_are_passed_over(rt: HostRuntime) {
+    let order = ByteOrder::LittleEndian;
+    let bytes = short_records_in(&rt, order);
     let mut buffer = [0u8; 3];
     let mut input = bytes.as_slice();
-    for (captured, is_whole) in [
-        (&b"abc"[..], true),
-        (b"abcd", false),
-        (b"", true),
-        (b"ef", true),
-    ] {
-        let header = RecordHeader {
-            time: Time {
-                seconds: 7,
-                fraction: 9,
-            },
-            captured_len: captured.len() as u32,
-            original_len: captured.len() as u32,
-        };
-        let next = read_record(&mut input, order, &mut buffer)?;
-        if is_whole {
-            expect_equal(&rt, &next, &NextRecord::Whole(header));
-            expect_equal(&rt, &&buffer[..captured.len()], &captured);
-        } else {
-            expect_equal(&rt, &next, &NextRecord::TooLong(header));
-        }
+    for (captured, is_whole) in &SHORT_RECORDS {
+        expect_short_record(&rt, &mut input, order, &mut buffer, captured, *is_whole);
     }
-    let cut_off = NextRecord::CutOff {
-        required_len: 20,
-        len: 19,
-    };
-    expect_equal(&rt, &read_record(&mut input, order, &mut buffer)?, &cut_off);
-    expect_equal(
-        &rt,
-        &read_record(&mut input, order, &mut buffer)?,
-        &NextRecord::End,
-    );
-    Ok(())
+    expect_last(&rt, &mut input, order, &mut buffer, 20, 19);
 }
 
+/// Why headers are refused, and the text of each error.
+static TEXTS: [(CaptureHeaderError, &str); 5] = [
+    (
+        CaptureHeaderError::Pcapng,
+        "The capture is in the form pcapng, which is not read.",
+    ),
+    (
+        CaptureHeaderError::CutOff { len: 23 },
+        "The header of a capture has 24 bytes, and the input contains 23.",
+    ),
+    (
+        CaptureHeaderError::Magic { magic: 0x504B_0304 },
+        "The input is no capture: its first four bytes are 0x504b0304.",
+    ),
+    (
+        CaptureHeaderError::Modified,
+        "The capture is in the modified form of older Linux systems, which is not read.",
+    ),
+    (
+        CaptureHeaderError::Version { major: 2, minor: 3 },
+        "The capture has version 2.3, which is not read.",
+    ),
+];
+
 #[test]
-fn refusals_have_texts(rt: HostRuntime) -> io::Result<()> {
-    let rows = [
-        (
-            CaptureHeaderError::Pcapng,
-            "The capture is in the form pcapng, which is not read.",
-        ),
-        (
-            CaptureHeaderError::CutOff { len: 23 },
-            "The header of a capture has 24 bytes, and the input contains 23.",
-        ),
-        (
-            CaptureHeaderError::Magic { magic: 0x504B_0304 },
-            "The input is no capture: its first four bytes are 0x504b0304.",
-        ),
-        (
-            CaptureHeaderError::Modified,
-            "The capture is in the modified form of older Linux systems, which is not read.",
-        ),
-        (
-            CaptureHeaderError::Version { major: 2, minor: 3 },
-            "The capture has version 2.3, which is not read.",
-        ),
-    ];
-    for (error, text) in rows {
-        let written = format!(in rt.alloc(); "{error}")?;
-        expect_equal(&rt, &written.as_str(), &text);
+fn refusals_have_texts(rt: HostRuntime) {
+    for (error, text) in &TEXTS {
+        expect_text(&rt, error, text);
     }
-    Ok(())
 }

@@ -1,8 +1,10 @@
-use crate::expect::{expect_equal, expect_ok};
-use crate::packet::{CUT_OFF, IPV4_UDP, OTHER_PROTOCOL, RIGHT, UDP_OVER_IPV4, joined, udp_packet};
+use crate::expect::{expect_at, expect_equal, joined};
+use crate::packet::{
+    CUT_OFF, IPV4_UDP, OTHER_PROTOCOL, RIGHT, UDP_OVER_IPV4, read_frame, udp_packet,
+};
 use capture_file::{ByteOrder, LinkType};
 use capture_link::LinkHeaderCutOff;
-use capture_packet::{Content, NetworkProtocol, Packet, Refusal, Verdict, read_packet};
+use capture_packet::{Content, NetworkProtocol, Packet, Refusal, Verdict};
 use etherparse_transport::ip::IpError;
 use std::process::Abort;
 
@@ -16,10 +18,10 @@ const ADDRESSES: [u8; 22] = [
 
 /// Stops the test unless the packet in a frame of these parts is the UDP packet, and its checksum is right.
 fn expect_udp(rt: &(impl Abort + AllocGlobal), link_type: LinkType, parts: &[&[u8]]) {
-    let frame = expect_ok(rt, joined(rt.alloc(), parts));
-    let packet = read_packet(link_type, ByteOrder::BigEndian, &frame, false);
+    let frame = joined(rt, parts);
+    let packet = read_frame(link_type, ByteOrder::BigEndian, &frame, false);
     let expected = udp_packet(rt);
-    expect_equal(rt, &(&frame, &packet), &(&frame, &expected));
+    expect_at(rt, &frame, &packet, &expected);
 }
 
 /// Stops the test unless in this frame another protocol comes next, or the frame ends within a link header of this length.
@@ -37,8 +39,8 @@ fn expect_other(
             Verdict::Refused(Refusal::Link(LinkHeaderCutOff { required_len, len })),
         ),
     };
-    let packet = read_packet(link_type, ByteOrder::LittleEndian, frame, false);
-    expect_equal(rt, &(&frame, &packet), &(&frame, &expected));
+    let packet = read_frame(link_type, ByteOrder::LittleEndian, frame, false);
+    expect_at(rt, &frame, &packet, &expected);
 }
 
 /// The Frame Control field, and what comes after the sequence number: address 4, QoS Control and HT Control.
@@ -130,7 +132,7 @@ static OTHER_WIRELESS: [WirelessRow; 17] = [
 fn expect_other_wireless(rt: &(impl Abort + AllocGlobal), row: &WirelessRow) {
     let (frame_control, sequence, rest, expected) = *row;
     let parts: [&[u8]; 5] = [frame_control, &ADDRESSES[..20], sequence, &[0], rest];
-    let frame = expect_ok(rt, joined(rt.alloc(), &parts));
+    let frame = joined(rt, &parts);
     expect_other(rt, LinkType::Ieee80211, &frame, expected);
 }
 
@@ -295,7 +297,7 @@ static OTHER_ETHER_TYPES: [EthernetRow; 31] = [
 /// Stops the test unless the Ethernet frame of a row has the protocol of the row, or ends within its header.
 fn expect_other_ether_type(rt: &(impl Abort + AllocGlobal), row: &EthernetRow) {
     let (after, expected) = *row;
-    let frame = expect_ok(rt, joined(rt.alloc(), &[&ADDRESSES[2..14], after]));
+    let frame = joined(rt, &[&ADDRESSES[2..14], after]);
     expect_other(rt, LinkType::Ethernet, &frame, expected);
 }
 
@@ -340,9 +342,9 @@ fn expect_verdict(
 ) {
     let header = [0x11, 0, 0, 1, 0, len, 0, 0x21];
     let parts: [&[u8]; 5] = [before, &header, &IPV4_UDP, &UDP_OVER_IPV4, &[0xEE; 4]];
-    let frame = expect_ok(rt, joined(rt.alloc(), &parts));
-    let packet = read_packet(link_type, ByteOrder::BigEndian, &frame, is_cut);
-    expect_equal(rt, &(len, &packet.verdict), &(len, expected));
+    let frame = joined(rt, &parts);
+    let packet = read_frame(link_type, ByteOrder::BigEndian, &frame, is_cut);
+    expect_at(rt, &len, &packet.verdict, expected);
 }
 
 #[test]
@@ -363,7 +365,7 @@ fn packets_without_a_length_end_with_their_pppoe_payload(rt: HostRuntime) {
         10, 0, 0, 2, 1, 2, 3, 0xEE, 0xEE,
     ];
     for is_cut in [false, true] {
-        let packet = read_packet(
+        let packet = read_frame(
             LinkType::PppOverEthernet,
             ByteOrder::BigEndian,
             &frame,
@@ -389,7 +391,7 @@ fn frames_end_before_their_pppoe_payload(rt: HostRuntime) {
         (true, CUT_OFF),
         (false, Verdict::Refused(Refusal::Ip(refusal))),
     ] {
-        let packet = read_packet(
+        let packet = read_frame(
             LinkType::PppOverEthernet,
             ByteOrder::BigEndian,
             &frame,

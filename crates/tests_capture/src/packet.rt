@@ -1,4 +1,4 @@
-use crate::expect::{expect_equal, expect_ok};
+use crate::expect::{append, expect_at, expect_equal, expect_ok, joined};
 use capture_file::{ByteOrder, LinkType};
 use capture_link::LinkHeaderCutOff;
 use capture_packet::{
@@ -11,7 +11,6 @@ use etherparse_transport::{
     ChecksumVerdict, Icmpv4Slice, Icmpv6Slice, IpNumber, LenSource, Proto, TcpSlice,
     TransportSlice, UdpSlice, Untested, ip_number,
 };
-use std::alloc::{AllocError, Global};
 use std::process::Abort;
 
 const BIG: ByteOrder = ByteOrder::BigEndian;
@@ -133,20 +132,6 @@ const V4_CUT: Header = Header::Bytes(&[
     0x45, 0, 0, 60, 0, 1, 0, 0, 64, 17, 0, 0, 10, 0, 0, 1, 10, 0, 0,
 ]);
 
-/// The parts, one after the other.
-pub(crate) fn joined(alloc: Global, parts: &[&[u8]]) -> Result<Vec<u8>, AllocError> {
-    let mut bytes = Vec::new(alloc);
-    for part in parts {
-        bytes.extend_from_slice(part)?;
-    }
-    Ok(bytes)
-}
-
-/// Appends these bytes.
-pub(crate) fn append(rt: &impl Abort, bytes: &mut Vec<u8>, part: &[u8]) {
-    expect_ok(rt, bytes.extend_from_slice(part));
-}
-
 /// A packet of these headers and these bytes after them.
 fn packet_of(rt: &(impl Abort + AllocGlobal), header: Header, payload: &[u8]) -> Vec<u8> {
     let mut packet = Vec::new(rt.alloc());
@@ -171,6 +156,23 @@ fn packet_of(rt: &(impl Abort + AllocGlobal), header: Header, payload: &[u8]) ->
     }
     append(rt, &mut packet, payload);
     packet
+}
+
+/// Reads the packet in a frame.
+///
+/// The contract of `read_packet` is part of the proof of each function that calls it. This function has none.
+pub(crate) fn read_frame(
+    link_type: LinkType,
+    order: ByteOrder,
+    frame: &[u8],
+    is_cut: bool,
+) -> Packet<'_> {
+    read_packet(link_type, order, frame, is_cut)
+}
+
+/// Reads the packet in a frame without a link header.
+pub(crate) fn read_raw(frame: &[u8], is_cut: bool) -> Packet<'_> {
+    read_frame(LinkType::RawIp, BIG, frame, is_cut)
 }
 
 /// What a packet is, without its fields.
@@ -306,12 +308,12 @@ static LINK_HEADERS: [LinkRow; 36] = [
 fn expect_linked(rt: &(impl Abort + AllocGlobal), row: &LinkRow) {
     let (link_type, order, header) = *row;
     let parts: [&[u8]; 4] = [header, &IPV4_UDP, &UDP_OVER_IPV4, &[0; 3]];
-    let frame = expect_ok(rt, joined(rt.alloc(), &parts));
-    let packet = read_packet(link_type, order, &frame, false);
+    let frame = joined(rt, &parts);
+    let packet = read_frame(link_type, order, &frame, false);
     let expected = udp_packet(rt);
-    expect_equal(rt, &(row, &packet), &(row, &expected));
+    expect_at(rt, row, &packet, &expected);
     let kind = Kind::Ip(Some(Proto::Udp));
-    expect_equal(rt, &(row, kind_of(&packet)), &(row, kind));
+    expect_at(rt, row, &kind_of(&packet), &kind);
 }
 
 #[test]
@@ -449,8 +451,8 @@ fn expect_network(rt: &impl Abort, row: &NetworkRow) {
             Verdict::Refused(Refusal::Link(LinkHeaderCutOff { required_len, len })),
         ),
     };
-    let packet = read_packet(link_type, order, frame, false);
-    expect_equal(rt, &(row, &packet), &(row, &expected));
+    let packet = read_frame(link_type, order, frame, false);
+    expect_at(rt, row, &packet, &expected);
 }
 
 #[test]
@@ -462,7 +464,7 @@ fn other_networks_and_cut_link_headers(rt: HostRuntime) {
 
 #[test]
 fn link_headers_of_cut_frames_are_not_refused(rt: HostRuntime) {
-    let packet = read_packet(LinkType::Ethernet, BIG, &ADDRESSES, true);
+    let packet = read_frame(LinkType::Ethernet, BIG, &ADDRESSES, true);
     let expected = Packet::in_no_tunnel(Content::Unread, CUT_OFF);
     expect_equal(&rt, &packet, &expected);
 }
@@ -534,8 +536,8 @@ fn expect_checksum(rt: &(impl Abort + AllocGlobal), row: &ChecksumRow) {
     let mut expected = Packet::in_no_tunnel(content, Verdict::Checksum(verdict));
     expected.hop_limit = hop_limit_of(header);
     let frame = packet_of(rt, header, transport);
-    let packet = read_packet(LinkType::RawIp, BIG, &frame, false);
-    expect_equal(rt, &(row, &packet), &(row, &expected));
+    let packet = read_raw(&frame, false);
+    expect_at(rt, row, &packet, &expected);
 }
 
 #[test]
@@ -560,7 +562,7 @@ fn hop_limits_of_complete_headers(rt: HostRuntime) {
         for byte in 1..*len {
             append(&rt, &mut bytes, &[byte]);
         }
-        let packet = read_packet(LinkType::RawIp, BIG, &bytes, false);
+        let packet = read_raw(&bytes, false);
         expect_equal(
             &rt,
             &(first, len, packet.hop_limit),
@@ -590,13 +592,13 @@ fn expect_refusal(
     refusal: &Refusal,
 ) {
     let frame = packet_of(rt, header, payload);
-    let packet = read_packet(LinkType::RawIp, BIG, &frame, false);
-    expect_equal(rt, &(header, is_unread(&packet)), &(header, true));
+    let packet = read_raw(&frame, false);
+    expect_at(rt, &header, &is_unread(&packet), &true);
     let found = match &packet.verdict {
         Verdict::Refused(found) => Some(found),
         _ => None,
     };
-    expect_equal(rt, &(header, found), &(header, Some(refusal)));
+    expect_at(rt, &header, &found, &Some(refusal));
 }
 
 /// The headers of a packet, the bytes after them, and why it is refused.
@@ -725,8 +727,8 @@ static PORTS_OF_FRAGMENTS: [PortsRow; 6] = [
 fn expect_ports(rt: &(impl Abort + AllocGlobal), row: &PortsRow) {
     let (header, payload, is_cut, ports) = *row;
     let frame = packet_of(rt, header, payload);
-    let packet = read_packet(LinkType::RawIp, BIG, &frame, is_cut);
-    expect_equal(rt, &(row, ports_of(&packet)), &(row, ports));
+    let packet = read_raw(&frame, is_cut);
+    expect_at(rt, row, &ports_of(&packet), &ports);
 }
 
 #[test]
@@ -783,14 +785,14 @@ static OF_REFUSED: [AddressesRow; 9] = [
 fn expect_addresses(rt: &(impl Abort + AllocGlobal), row: &AddressesRow) {
     let (header, payload, is_cut, is_there) = *row;
     let frame = packet_of(rt, header, payload);
-    let packet = read_packet(LinkType::RawIp, BIG, &frame, is_cut);
-    expect_equal(rt, &(row, has_addresses(&packet)), &(row, is_there));
+    let packet = read_raw(&frame, is_cut);
+    expect_at(rt, row, &has_addresses(&packet), &is_there);
     let kind = if is_there {
         Kind::IpHeader
     } else {
         Kind::Unread
     };
-    expect_equal(rt, &(row, kind_of(&packet)), &(row, kind));
+    expect_at(rt, row, &kind_of(&packet), &kind);
 }
 
 #[test]
@@ -854,9 +856,9 @@ static VERDICTS: [VerdictRow; 23] = [
 fn expect_verdict(rt: &(impl Abort + AllocGlobal), row: &VerdictRow) {
     let (header, payload, is_cut, kind, verdict) = row;
     let frame = packet_of(rt, *header, payload);
-    let packet = read_packet(LinkType::RawIp, BIG, &frame, *is_cut);
-    expect_equal(rt, &(row, &packet.verdict), &(row, verdict));
-    expect_equal(rt, &(row, kind_of(&packet)), &(row, *kind));
+    let packet = read_raw(&frame, *is_cut);
+    expect_at(rt, row, &packet.verdict, verdict);
+    expect_at(rt, row, &kind_of(&packet), kind);
 }
 
 #[test]
@@ -895,7 +897,7 @@ static PAYLOADS: [PayloadRow; 14] = [
 fn expect_payload(rt: &(impl Abort + AllocGlobal), row: &PayloadRow) {
     let (header, payload, len, present_len) = *row;
     let frame = packet_of(rt, header, payload);
-    let packet = read_packet(LinkType::RawIp, BIG, &frame, true);
+    let packet = read_raw(&frame, true);
     let found = match &packet.content {
         Content::Ip {
             transport,
@@ -904,7 +906,7 @@ fn expect_payload(rt: &(impl Abort + AllocGlobal), row: &PayloadRow) {
         } => Some((*payload_len, transport.payload().len())),
         _ => None,
     };
-    expect_equal(rt, &(row, found), &(row, Some((len, present_len))));
+    expect_at(rt, row, &found, &Some((len, present_len)));
 }
 
 #[test]

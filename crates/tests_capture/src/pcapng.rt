@@ -1,14 +1,13 @@
-use crate::expect::{expect_equal, expect_some};
+use crate::expect::{expect_at, expect_equal, expect_ok, expect_some, expect_text, joined};
 use capture_file::ByteOrder;
 use capture_file::pcapng::{
     Block, BlockBody, BlockError, BlockHeader, Blocks, BodyError, InterfaceDescription, NextBlock,
     PacketBlock, PlacedBlockError, SectionHeader, TimeResolution, read_block,
 };
-use std::io;
 use std::process::Abort;
 
 /// A section header block of version 1.0 without a stated length, in each byte order.
-const SECTIONS: [(ByteOrder, [u8; 28]); 2] = [
+static SECTIONS: [(ByteOrder, [u8; 28]); 2] = [
     (
         ByteOrder::BigEndian,
         *b"\x0A\x0D\x0D\x0A\0\0\0\x1C\x1A\x2B\x3C\x4D\0\x01\0\0\xFF\xFF\xFF\xFF\xFF\xFF\xFF\xFF\0\0\0\x1C",
@@ -20,7 +19,7 @@ const SECTIONS: [(ByteOrder, [u8; 28]); 2] = [
 ];
 
 /// A block of another type, without a body, in each byte order.
-const EMPTY: [(ByteOrder, [u8; 12]); 2] = [
+static EMPTY: [(ByteOrder, [u8; 12]); 2] = [
     (ByteOrder::BigEndian, *b"\0\0\x0B\xAD\0\0\0\x0C\0\0\0\x0C"),
     (
         ByteOrder::LittleEndian,
@@ -28,37 +27,55 @@ const EMPTY: [(ByteOrder, [u8; 12]); 2] = [
     ),
 ];
 
+/// Stops the test unless these bytes are a block with this header and this body.
+fn expect_block(
+    rt: &impl Abort,
+    section: ByteOrder,
+    bytes: &[u8],
+    header: BlockHeader,
+    body: &[u8],
+) {
+    let block = Block { header, body };
+    expect_equal(rt, &Block::from_slice(section, bytes), &Ok((block, &[])));
+}
+
+/// Stops the test unless this section header block is read after a section of this byte order.
+fn expect_section(rt: &impl Abort, row: &(ByteOrder, [u8; 28]), before: ByteOrder) {
+    let (byte_order, bytes) = row;
+    let header = BlockHeader {
+        byte_order: *byte_order,
+        block_type: 0x0A0D_0D0A,
+        total_len: 28,
+    };
+    expect_block(rt, before, bytes, header, &bytes[8..24]);
+}
+
+/// Stops the test unless this block without a body is read.
+fn expect_empty(rt: &impl Abort, row: &(ByteOrder, [u8; 12])) {
+    let (byte_order, bytes) = row;
+    let header = BlockHeader {
+        byte_order: *byte_order,
+        block_type: 0x0BAD,
+        total_len: 12,
+    };
+    expect_block(rt, *byte_order, bytes, header, &[]);
+}
+
 #[test]
 fn blocks_are_read(rt: HostRuntime) {
-    for (own, bytes) in SECTIONS {
-        for (section, _) in SECTIONS {
-            let read = Block::from_slice(section, &bytes);
-            let header = BlockHeader {
-                byte_order: own,
-                block_type: 0x0A0D_0D0A,
-                total_len: 28,
-            };
-            let block = Block {
-                header,
-                body: &bytes[8..24],
-            };
-            expect_equal(&rt, &read, &Ok((block, &bytes[28..])));
-        }
+    for row in &SECTIONS {
+        expect_section(&rt, row, ByteOrder::BigEndian);
+        expect_section(&rt, row, ByteOrder::LittleEndian);
     }
-    for (section, bytes) in EMPTY {
-        let read = Block::from_slice(section, &bytes);
-        let header = BlockHeader {
-            byte_order: section,
-            block_type: 0x0BAD,
-            total_len: 12,
-        };
-        let block = Block { header, body: &[] };
-        expect_equal(&rt, &read, &Ok((block, &[])));
+    for row in &EMPTY {
+        expect_empty(&rt, row);
     }
 }
 
 /// Bytes that are refused as a block in a little-endian section, the error, and its text.
-const REFUSED: [(&[u8], BlockError, &str); 10] = [
+type RefusedBlock = (&'static [u8], BlockError, &'static str);
+
+static REFUSED: [RefusedBlock; 10] = [
     (
         b"",
         BlockError::CutOff {
@@ -126,20 +143,24 @@ const REFUSED: [(&[u8], BlockError, &str); 10] = [
     ),
 ];
 
+/// Stops the test unless the bytes of a row are refused with its error, and the error has its text.
+fn expect_no_block(rt: &(impl Abort + AllocGlobal), row: &RefusedBlock) {
+    let (bytes, error, text) = row;
+    let read = Block::from_slice(ByteOrder::LittleEndian, bytes);
+    expect_equal(rt, &read, &Err(*error));
+    expect_text(rt, error, text);
+}
+
 #[test]
-fn bytes_are_refused_as_blocks(rt: HostRuntime) -> io::Result<()> {
-    for (bytes, error, text) in REFUSED {
-        let read = Block::from_slice(ByteOrder::LittleEndian, bytes);
-        expect_equal(&rt, &read, &Err(error));
-        let written = format!(in rt.alloc(); "{error}")?;
-        expect_equal(&rt, &written.as_str(), &text);
+fn bytes_are_refused_as_blocks(rt: HostRuntime) {
+    for row in &REFUSED {
+        expect_no_block(&rt, row);
     }
-    Ok(())
 }
 
 /// Bodies of interface description blocks, and what they say: without options; with a comment before the resolution, and another
 /// resolution after it; with an offset of -1 and a power of two; with a resolution after the end of the options; with one that is cut off.
-const INTERFACES: [(ByteOrder, &[u8], InterfaceDescription); 5] = [
+static INTERFACES: [(ByteOrder, &[u8], InterfaceDescription); 5] = [
     (
         ByteOrder::LittleEndian,
         b"\x01\0\0\0\0\0\x04\0",
@@ -192,52 +213,70 @@ const INTERFACES: [(ByteOrder, &[u8], InterfaceDescription); 5] = [
     ),
 ];
 
+/// Stops the test unless this is what the body of an interface description block says.
+fn expect_interface(
+    rt: &impl Abort,
+    order: ByteOrder,
+    body: &[u8],
+    expected: Result<InterfaceDescription, BodyError>,
+) {
+    let read = InterfaceDescription::from_body(order, body);
+    expect_equal(rt, &read, &expected);
+}
+
 #[test]
 fn interfaces_are_read(rt: HostRuntime) {
-    for (order, body, interface) in INTERFACES {
-        expect_equal(
-            &rt,
-            &InterfaceDescription::from_body(order, body),
-            &Ok(interface),
-        );
+    for (order, body, interface) in &INTERFACES {
+        expect_interface(&rt, *order, body, Ok(*interface));
     }
     let cut_off = BodyError::CutOff {
         required_len: 8,
         len: 7,
     };
-    expect_equal(
-        &rt,
-        &InterfaceDescription::from_body(ByteOrder::BigEndian, &[0; 7]),
-        &Err(cut_off),
-    );
+    expect_interface(&rt, ByteOrder::BigEndian, &[0; 7], Err(cut_off));
+}
+
+/// Version 1.0 of a section.
+const VERSION: SectionHeader = SectionHeader {
+    major_version: 1,
+    minor_version: 0,
+};
+
+/// The byte order and the body of a section header block, and what the body says.
+type SectionRow = (ByteOrder, &'static [u8], Result<SectionHeader, BodyError>);
+
+#[rattlefmt::skip]
+static SECTION_BODIES: [SectionRow; 6] = [
+    (ByteOrder::BigEndian, b"\x1A\x2B\x3C\x4D\0\x01\0\0\xFF\xFF\xFF\xFF\xFF\xFF\xFF\xFF", Ok(VERSION)),
+    (
+        ByteOrder::BigEndian, b"\x1A\x2B\x3C\x4D\0\x01\0\0\xFF\xFF\xFF\xFF\xFF\xFF\xFF",
+        Err(BodyError::CutOff { required_len: 16, len: 15 }),
+    ),
+    (
+        ByteOrder::BigEndian, b"\x1A\x2B\x3C\x4D\0\x02\0\x03\xFF\xFF\xFF\xFF\xFF\xFF\xFF\xFF",
+        Err(BodyError::Version { major: 2, minor: 3 }),
+    ),
+    (ByteOrder::LittleEndian, b"\x4D\x3C\x2B\x1A\x01\0\0\0\xFF\xFF\xFF\xFF\xFF\xFF\xFF\xFF", Ok(VERSION)),
+    (
+        ByteOrder::LittleEndian, b"\x4D\x3C\x2B\x1A\x01\0\0\0\xFF\xFF\xFF\xFF\xFF\xFF\xFF",
+        Err(BodyError::CutOff { required_len: 16, len: 15 }),
+    ),
+    (
+        ByteOrder::LittleEndian, b"\x4D\x3C\x2B\x1A\x02\0\x03\0\xFF\xFF\xFF\xFF\xFF\xFF\xFF\xFF",
+        Err(BodyError::Version { major: 2, minor: 3 }),
+    ),
+];
+
+/// Stops the test unless the body of a row says what the row says.
+fn expect_section_body(rt: &impl Abort, row: &SectionRow) {
+    let (order, body, expected) = row;
+    expect_equal(rt, &SectionHeader::from_body(*order, body), expected);
 }
 
 #[test]
 fn section_headers_are_read(rt: HostRuntime) {
-    for (order, bytes) in SECTIONS {
-        let version = SectionHeader {
-            major_version: 1,
-            minor_version: 0,
-        };
-        let mut body = [0u8; 16];
-        body.copy_from_slice(&bytes[8..24]);
-        let other = match order {
-            ByteOrder::BigEndian => b"\0\x02\0\x03",
-            ByteOrder::LittleEndian => b"\x02\0\x03\0",
-        };
-        let mut later = body;
-        later[4..8].copy_from_slice(other);
-        let cut_off = BodyError::CutOff {
-            required_len: 16,
-            len: 15,
-        };
-        for (body, expected) in [
-            (&body[..], Ok(version)),
-            (&body[..15], Err(cut_off)),
-            (&later, Err(BodyError::Version { major: 2, minor: 3 })),
-        ] {
-            expect_equal(&rt, &SectionHeader::from_body(order, body), &expected);
-        }
+    for row in &SECTION_BODIES {
+        expect_section_body(&rt, row);
     }
 }
 
@@ -291,7 +330,7 @@ static READ: [ReadRow; 6] = [
 fn expect_body(rt: &impl Abort, row: &ReadRow) {
     let (block_type, body, snap_len, expected) = *row;
     let read = BlockBody::from_block(&block_of(block_type, body), &[interface_with(snap_len)]);
-    expect_equal(rt, &(block_type, read), &(block_type, Ok(expected)));
+    expect_at(rt, &block_type, &read, &Ok(expected));
 }
 
 #[test]
@@ -324,7 +363,7 @@ fn expect_refused(rt: &impl Abort, row: &RefusedRow) {
     let interfaces = [interface_with(0)];
     let interfaces = expect_some(rt, interfaces.get(..count));
     let read = BlockBody::from_block(&block_of(block_type, body), interfaces);
-    expect_equal(rt, &(block_type, read), &(block_type, Err(error)));
+    expect_at(rt, &block_type, &read, &Err(error));
 }
 
 #[test]
@@ -335,89 +374,121 @@ fn packets_are_refused(rt: HostRuntime) {
 }
 
 /// A section of each byte order, one after the other, each with a block without a body.
-fn file_of_two_sections(rt: &HostRuntime) -> io::Result<Vec<u8>> {
-    let mut file = vec![in rt.alloc()]?;
-    for (section, empty) in SECTIONS.into_iter().zip(EMPTY) {
-        file.extend_from_slice(&section.1)?;
-        file.extend_from_slice(&empty.1)?;
+fn file_of_two_sections(rt: &(impl Abort + AllocGlobal)) -> Vec<u8> {
+    let [(_, first), (_, second)] = &SECTIONS;
+    let [(_, empty), (_, other)] = &EMPTY;
+    joined(rt, &[first, empty, second, other])
+}
+
+/// How many bytes of this file there are, the byte orders of the blocks in them, and the error after these blocks.
+type CutRow = (usize, &'static [ByteOrder], Option<PlacedBlockError>);
+
+#[rattlefmt::skip]
+static CUTS: [CutRow; 4] = [
+    (80, &[ByteOrder::BigEndian, ByteOrder::BigEndian, ByteOrder::LittleEndian, ByteOrder::LittleEndian], None),
+    (
+        79, &[ByteOrder::BigEndian, ByteOrder::BigEndian, ByteOrder::LittleEndian],
+        Some(PlacedBlockError { offset: 68, error: BlockError::CutOff { required_len: 12, len: 11 } }),
+    ),
+    (40, &[ByteOrder::BigEndian, ByteOrder::BigEndian], None),
+    (27, &[], Some(PlacedBlockError { offset: 0, error: BlockError::CutOff { required_len: 28, len: 27 } })),
+];
+
+/// Returns the byte order of the next block. Stops the test if there is none.
+fn next_order(rt: &impl Abort, blocks: &mut Blocks<'_>) -> ByteOrder {
+    let block = expect_ok(rt, expect_some(rt, blocks.next()));
+    block.header.byte_order
+}
+
+/// Returns the error of the next block, if there is one. Stops the test if the block has no error.
+fn next_error(rt: &impl Abort, blocks: &mut Blocks<'_>) -> Option<PlacedBlockError> {
+    match blocks.next() {
+        Some(block) => Some(expect_some(rt, block.err())),
+        None => None,
     }
-    Ok(file)
+}
+
+/// Stops the test unless the blocks of the cut file are those of a row.
+fn expect_cut(rt: &impl Abort, file: &[u8], row: &CutRow) {
+    let (cut, orders, error) = *row;
+    let mut blocks = Blocks::new(expect_some(rt, file.get(..cut)));
+    for order in orders {
+        expect_at(rt, &cut, &next_order(rt, &mut blocks), order);
+    }
+    expect_at(rt, &cut, &next_error(rt, &mut blocks), &error);
+    expect_at(rt, &cut, &next_error(rt, &mut blocks), &None);
 }
 
 #[test]
-fn sections_have_their_own_order(rt: HostRuntime) -> io::Result<()> {
-    let file = file_of_two_sections(&rt)?;
-    let orders = [
-        ByteOrder::BigEndian,
-        ByteOrder::BigEndian,
-        ByteOrder::LittleEndian,
-        ByteOrder::LittleEndian,
-    ];
-    for (cut, whole) in [(80, 4), (79, 3), (40, 2), (27, 0)] {
-        let mut blocks = Blocks::new(file.get(..cut).unwrap_or(&[]));
-        for order in orders.iter().take(whole) {
-            let found = match blocks.next() {
-                Some(Ok(block)) => Some(block.header.byte_order),
-                _ => None,
-            };
-            expect_equal(&rt, &found, &Some(*order));
-        }
-        let error = match cut {
-            79 => Some(Err(placed(68, 12, 11))),
-            27 => Some(Err(placed(0, 28, 27))),
-            _ => None,
-        };
-        expect_equal(&rt, &blocks.next(), &error);
-        expect_equal(&rt, &blocks.next(), &None);
+fn sections_have_their_own_order(rt: HostRuntime) {
+    let file = file_of_two_sections(&rt);
+    for row in &CUTS {
+        expect_cut(&rt, &file, row);
     }
-    Ok(())
 }
 
-/// The error of a block that begins at this place and is cut off.
-fn placed(offset: usize, required_len: usize, len: usize) -> PlacedBlockError {
-    PlacedBlockError {
-        offset,
-        error: BlockError::CutOff { required_len, len },
+/// Stops the test unless this is the next block of a stream.
+fn expect_next(
+    rt: &impl Abort,
+    input: &mut &[u8],
+    section: ByteOrder,
+    buffer: &mut [u8],
+    expected: NextBlock,
+) {
+    let next = expect_ok(rt, read_block(input, section, buffer));
+    expect_equal(rt, &next, &expected);
+}
+
+/// Stops the test unless this block is the next one of a stream, and is in the buffer if there is room for it.
+fn expect_next_block(
+    rt: &impl Abort,
+    input: &mut &[u8],
+    section: ByteOrder,
+    buffer: &mut [u8],
+    block: Block<'_>,
+) {
+    let header = block.header;
+    if header.total_len as usize <= buffer.len() {
+        expect_next(rt, input, section, buffer, NextBlock::Whole(header));
+        let (read, _) = expect_ok(rt, Block::from_slice(section, buffer));
+        expect_equal(rt, &read, &block);
+    } else {
+        expect_next(rt, input, section, buffer, NextBlock::TooLong(header));
     }
+}
+
+/// Stops the test unless the blocks of a file are read from a stream into this buffer.
+fn expect_stream(rt: &impl Abort, file: &[u8], buffer: &mut [u8]) {
+    let mut section = ByteOrder::LittleEndian;
+    let mut input = file;
+    for item in Blocks::new(file) {
+        let block = expect_ok(rt, item);
+        expect_next_block(rt, &mut input, section, buffer, block);
+        section = block.header.byte_order;
+    }
+    expect_next(rt, &mut input, section, buffer, NextBlock::End);
+}
+
+/// Stops the test unless the bytes of a row are refused as a block of a stream.
+fn expect_refused_in_stream(rt: &impl Abort, row: &RefusedBlock, buffer: &mut [u8]) {
+    let (bytes, error, _) = *row;
+    let expected = if bytes.is_empty() {
+        NextBlock::End
+    } else {
+        NextBlock::Refused(error)
+    };
+    let mut input = bytes;
+    expect_next(rt, &mut input, ByteOrder::LittleEndian, buffer, expected);
 }
 
 #[test]
-fn blocks_are_read_from_a_stream(rt: HostRuntime) -> io::Result<()> {
-    let file = file_of_two_sections(&rt)?;
-    for room in [0, 12, 28] {
-        let mut buffer = [0u8; 28];
-        let mut section = ByteOrder::LittleEndian;
-        let mut input = file.as_slice();
-        for item in Blocks::new(&file) {
-            let Ok(block) = item else {
-                continue;
-            };
-            let next = read_block(&mut input, section, &mut buffer[..room])?;
-            let header = block.header;
-            if header.total_len as usize <= room {
-                expect_equal(&rt, &next, &NextBlock::Whole(header));
-                let read = Block::from_slice(section, &buffer);
-                expect_equal(&rt, &read.map(|(block, _)| block), &Ok(block));
-            } else {
-                expect_equal(&rt, &next, &NextBlock::TooLong(header));
-            }
-            section = header.byte_order;
-        }
-        let next = read_block(&mut input, section, &mut buffer[..room])?;
-        expect_equal(&rt, &next, &NextBlock::End);
+fn blocks_are_read_from_a_stream(rt: HostRuntime) {
+    let file = file_of_two_sections(&rt);
+    expect_stream(&rt, &file, &mut []);
+    expect_stream(&rt, &file, &mut [0; 12]);
+    expect_stream(&rt, &file, &mut [0; 28]);
+    for row in &REFUSED {
+        expect_refused_in_stream(&rt, row, &mut []);
+        expect_refused_in_stream(&rt, row, &mut [0; 16]);
     }
-    for (bytes, error, _) in REFUSED {
-        let expected = if bytes.is_empty() {
-            NextBlock::End
-        } else {
-            NextBlock::Refused(error)
-        };
-        for room in [0, 16] {
-            let mut buffer = [0u8; 16];
-            let mut input = bytes;
-            let next = read_block(&mut input, ByteOrder::LittleEndian, &mut buffer[..room])?;
-            expect_equal(&rt, &next, &expected);
-        }
-    }
-    Ok(())
 }

@@ -1,7 +1,6 @@
 //! The packets that ICMP errors quote.
 
-use crate::expect::{expect_equal, expect_ok};
-use crate::packet::joined;
+use crate::expect::{expect_at, expect_equal, expect_ok, joined};
 use capture_packet::{QuotedPacket, Transport};
 use etherparse_transport::ip::{IpAddresses, proto_over};
 use etherparse_transport::{Icmpv4Slice, Icmpv6Slice, IpNumber, TransportSlice};
@@ -190,22 +189,22 @@ fn expected_of(row: &QuoteRow) -> Option<QuotedPacket<'static>> {
 #[test]
 fn packets_that_icmpv4_errors_quote(rt: HostRuntime) {
     for row in &ICMPV4_ERRORS {
-        let message = expect_ok(&rt, joined(rt.alloc(), row.0));
+        let message = joined(&rt, row.0);
         let slice = expect_ok(&rt, Icmpv4Slice::from_slice(&message));
         let transport = Transport::Read(TransportSlice::Icmpv4(slice));
         let expected = expected_of(row);
-        expect_equal(&rt, &(row.0, transport.quoted_packet()), &(row.0, expected));
+        expect_at(&rt, &row.0, &transport.quoted_packet(), &expected);
     }
 }
 
 #[test]
 fn packets_that_icmpv6_errors_quote(rt: HostRuntime) {
     for row in &ICMPV6_ERRORS {
-        let message = expect_ok(&rt, joined(rt.alloc(), row.0));
+        let message = joined(&rt, row.0);
         let slice = expect_ok(&rt, Icmpv6Slice::from_slice(&message));
         let transport = Transport::Read(TransportSlice::Icmpv6(slice));
         let expected = expected_of(row);
-        expect_equal(&rt, &(row.0, transport.quoted_packet()), &(row.0, expected));
+        expect_at(&rt, &row.0, &transport.quoted_packet(), &expected);
     }
 }
 

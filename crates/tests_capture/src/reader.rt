@@ -1,4 +1,4 @@
-use crate::expect::expect_equal;
+use crate::expect::{append, expect_equal, expect_ok, expect_some, expect_text, joined};
 use capture_file::classic::CaptureHeaderError;
 use capture_file::pcapng::{BlockError, BodyError, TimeResolution};
 use capture_file::reader::{
@@ -6,7 +6,6 @@ use capture_file::reader::{
     TooLongPacket,
 };
 use capture_file::{LinkType, PacketTime};
-use std::io;
 use std::process::Abort;
 
 /// A classic capture of Ethernet packets in microseconds, big-endian: three of nine bytes, and five of five.
@@ -23,7 +22,7 @@ const PCAPNG: &[u8] =
     b"\x0A\x0D\x0D\x0A\x1C\0\0\0\x4D\x3C\x2B\x1A\x01\0\0\0\xFF\xFF\xFF\xFF\xFF\xFF\xFF\xFF\x1C\0\0\0\x01\0\0\0\x14\0\0\0\x65\0\0\0\0\0\0\0\x14\0\0\0\x01\0\0\0\x14\0\0\0\x01\0\0\0\0\0\0\0\x14\0\0\0\x06\0\0\0\x24\0\0\0\x01\0\0\0\0\0\0\0\x46\x4B\x4C\0\x03\0\0\0\x09\0\0\0abc\0\x24\0\0\0\x0A\x0D\x0D\x0A\0\0\0\x1C\x1A\x2B\x3C\x4D\0\x01\0\0\xFF\xFF\xFF\xFF\xFF\xFF\xFF\xFF\0\0\0\x1C\0\0\0\x01\0\0\0\x14\0\x01\0\0\0\0\0\0\0\0\0\x14\0\0\0\x06\0\0\0\x28\0\0\0\0\0\0\0\0\0\x6A\xCF\xC8\0\0\0\x05\0\0\0\x05defgh\0\0\0\0\0\0\x28";
 
 /// The packets of each of these files: the seconds and microseconds of their times, how many bytes they had, and those captured.
-const PACKETS: [(u64, u64, u32, &[u8]); 2] = [(5, 6, 9, b"abc"), (7, 8, 5, b"defgh")];
+static PACKETS: [(u64, u64, u32, &[u8]); 2] = [(5, 6, 9, b"abc"), (7, 8, 5, b"defgh")];
 
 /// Stops the test unless this is the packet of a file with this number.
 fn expect_packet(rt: &impl Abort, number: usize, packet: CapturedPacket, buffer: &[u8]) {
@@ -42,36 +41,59 @@ fn expect_packet(rt: &impl Abort, number: usize, packet: CapturedPacket, buffer:
         original_len,
     };
     expect_equal(rt, &packet, &expected);
-    let kept = buffer.get(packet.start..).unwrap_or(&[]);
-    expect_equal(rt, &kept.get(..captured.len()).unwrap_or(&[]), &captured);
+    let kept = expect_some(rt, buffer.get(packet.start..));
+    expect_equal(rt, &kept.get(..captured.len()), &Some(captured));
+}
+
+/// How many packets are left, each of which is the one with its number, and what comes after them.
+fn read_rest(
+    rt: &impl Abort,
+    reader: &mut CaptureReader,
+    input: &mut &[u8],
+    buffer: &mut [u8],
+) -> (usize, NextPacket) {
+    for number in 0..3 {
+        match expect_ok(rt, reader.next_packet(input, buffer)) {
+            NextPacket::Whole(packet) => expect_packet(rt, number, packet, buffer),
+            last => return (number, last),
+        }
+    }
+    (3, NextPacket::End)
 }
 
 /// How many packets a file has, each of which is the one with its number, and what comes after them.
-fn read_packets(
-    rt: &impl Abort,
-    mut input: &[u8],
-) -> io::Result<(usize, Result<NextPacket, OpenError>)> {
+fn read_packets(rt: &impl Abort, file: &[u8]) -> (usize, Result<NextPacket, OpenError>) {
+    let mut input = file;
     let mut buffer = [0u8; 64];
-    let mut reader = match CaptureReader::read_header(&mut input, &mut buffer)? {
-        Ok(reader) => reader,
-        Err(error) => return Ok((0, Err(error))),
-    };
-    for number in 0..3 {
-        match reader.next_packet(&mut input, &mut buffer)? {
-            NextPacket::Whole(packet) => expect_packet(rt, number, packet, &buffer),
-            last => return Ok((number, Ok(last))),
+    match expect_ok(rt, CaptureReader::read_header(&mut input, &mut buffer)) {
+        Ok(mut reader) => {
+            let (count, last) = read_rest(rt, &mut reader, &mut input, &mut buffer);
+            (count, Ok(last))
         }
+        Err(error) => (0, Err(error)),
     }
-    Ok((3, Ok(NextPacket::End)))
 }
 
+/// Stops the test unless a file has this many packets, and this comes after them.
+fn expect_read(
+    rt: &impl Abort,
+    file: &[u8],
+    count: usize,
+    expected: Result<NextPacket, OpenError>,
+) {
+    let (read, last) = read_packets(rt, file);
+    expect_equal(rt, &read, &count);
+    expect_equal(rt, &last, &expected);
+}
+
+/// The files with these packets.
+static FILES: [&[u8]; 3] = [CLASSIC_BIG_ENDIAN, CLASSIC_LITTLE_ENDIAN, PCAPNG];
+
 #[test]
-fn packets_are_the_same_in_either_form(rt: HostRuntime) -> io::Result<()> {
-    for file in [CLASSIC_BIG_ENDIAN, CLASSIC_LITTLE_ENDIAN, PCAPNG] {
-        let read = read_packets(&rt, file)?;
-        expect_equal(&rt, &read, &(2, Ok(NextPacket::End)));
+fn packets_are_the_same_in_either_form(rt: HostRuntime) {
+    for file in &FILES {
+        expect_read(&rt, file, 2, Ok(NextPacket::End));
     }
-    Ok(())
 }
 
 /// Whether a file that was cut is read to its end, or to a record or block that is cut off.
@@ -84,73 +106,80 @@ fn is_last(read: &Result<NextPacket, OpenError>) -> bool {
     }
 }
 
-#[test]
-fn files_are_cut(rt: HostRuntime) -> io::Result<()> {
-    for file in [CLASSIC_BIG_ENDIAN, CLASSIC_LITTLE_ENDIAN, PCAPNG] {
-        for cut in 0..file.len() {
-            let (count, last) = read_packets(&rt, file.get(..cut).unwrap_or(&[]))?;
-            expect_equal(&rt, &is_last(&last), &true);
-            expect_equal(&rt, &(count < 2), &true);
-        }
+/// Stops the test unless each of the beginnings of a file ends early.
+fn expect_cuts(rt: &impl Abort, file: &[u8]) {
+    for cut in 0..file.len() {
+        let (count, last) = read_packets(rt, expect_some(rt, file.get(..cut)));
+        expect_equal(rt, &is_last(&last), &true);
+        expect_equal(rt, &(count < 2), &true);
     }
-    Ok(())
-}
-
-/// An error of a block of a pcapng file.
-fn block(error: BlockError) -> Result<NextPacket, OpenError> {
-    Err(OpenError::Pcapng(PacketError::Block(error)))
-}
-
-/// An error of the header of a classic capture.
-fn classic(error: CaptureHeaderError) -> Result<NextPacket, OpenError> {
-    Err(OpenError::Classic(error))
 }
 
 #[test]
-fn captures_are_refused(rt: HostRuntime) -> io::Result<()> {
-    let cut_off = |required_len, len| block(BlockError::CutOff { required_len, len });
-    for (input, expected) in [
-        (
-            &b"\x0A\x0D\x0D"[..],
-            classic(CaptureHeaderError::CutOff { len: 3 }),
-        ),
-        (b"\x0A\x0D\x0D\x0A", cut_off(12, 4)),
-        (&PCAPNG[..27], cut_off(28, 27)),
-        (
-            &PCAPNG[28..],
-            classic(CaptureHeaderError::Magic { magic: 0x0100_0000 }),
-        ),
-        (
-            b"\xA1\xB2\xC3\xD4\0\x02\0\x03\0\0\0\0\0\0\0\0\0\0\0\0\0\0\0\x01",
-            classic(CaptureHeaderError::Version { major: 2, minor: 3 }),
-        ),
-        (
-            b"\x0A\x0D\x0D\x0A\x1C\0\0\0\x4D\x3C\x2B\x1B",
-            block(BlockError::Magic { magic: 0x4D3C_2B1B }),
-        ),
-        (
-            b"\x0A\x0D\x0D\x0A\x08\0\0\0\x4D\x3C\x2B\x1A",
-            block(BlockError::TotalLength { total_len: 8 }),
-        ),
-        (
-            b"\x0A\x0D\x0D\x0A\x1C\0\0\0\x4D\x3C\x2B\x1A\x01\0\0\0\xFF\xFF\xFF\xFF\xFF\xFF\xFF\xFF\x1D\0\0\0",
-            block(BlockError::LastLength {
-                total_len: 28,
-                last_len: 29,
-            }),
-        ),
-        (
-            b"\x0A\x0D\x0D\x0A\x10\0\0\0\x4D\x3C\x2B\x1A\x10\0\0\0",
-            block(BlockError::SectionLength { total_len: 16 }),
-        ),
-    ] {
-        expect_equal(&rt, &read_packets(&rt, input)?, &(0, expected));
+fn files_are_cut(rt: HostRuntime) {
+    for file in &FILES {
+        expect_cuts(&rt, file);
     }
-    Ok(())
 }
 
-/// Blocks that come after the little-endian section header block of a file and can't be read, why not, and the text of that.
-const REFUSED: [(&[u8], PacketError, &str); 4] = [
+/// Bytes that are no capture, and why not.
+static NO_CAPTURES: [(&[u8], OpenError); 7] = [
+    (
+        b"\x0A\x0D\x0D",
+        OpenError::Classic(CaptureHeaderError::CutOff { len: 3 }),
+    ),
+    (
+        b"\x0A\x0D\x0D\x0A",
+        OpenError::Pcapng(PacketError::Block(BlockError::CutOff {
+            required_len: 12,
+            len: 4,
+        })),
+    ),
+    (
+        b"\xA1\xB2\xC3\xD4\0\x02\0\x03\0\0\0\0\0\0\0\0\0\0\0\0\0\0\0\x01",
+        OpenError::Classic(CaptureHeaderError::Version { major: 2, minor: 3 }),
+    ),
+    (
+        b"\x0A\x0D\x0D\x0A\x1C\0\0\0\x4D\x3C\x2B\x1B",
+        OpenError::Pcapng(PacketError::Block(BlockError::Magic { magic: 0x4D3C_2B1B })),
+    ),
+    (
+        b"\x0A\x0D\x0D\x0A\x08\0\0\0\x4D\x3C\x2B\x1A",
+        OpenError::Pcapng(PacketError::Block(BlockError::TotalLength { total_len: 8 })),
+    ),
+    (
+        b"\x0A\x0D\x0D\x0A\x1C\0\0\0\x4D\x3C\x2B\x1A\x01\0\0\0\xFF\xFF\xFF\xFF\xFF\xFF\xFF\xFF\x1D\0\0\0",
+        OpenError::Pcapng(PacketError::Block(BlockError::LastLength {
+            total_len: 28,
+            last_len: 29,
+        })),
+    ),
+    (
+        b"\x0A\x0D\x0D\x0A\x10\0\0\0\x4D\x3C\x2B\x1A\x10\0\0\0",
+        OpenError::Pcapng(PacketError::Block(BlockError::SectionLength { total_len: 16 })),
+    ),
+];
+
+#[test]
+fn captures_are_refused(rt: HostRuntime) {
+    for (bytes, error) in &NO_CAPTURES {
+        expect_read(&rt, bytes, 0, Err(*error));
+    }
+    let cut_off = BlockError::CutOff {
+        required_len: 28,
+        len: 27,
+    };
+    let cut_off = OpenError::Pcapng(PacketError::Block(cut_off));
+    expect_read(&rt, &PCAPNG[..27], 0, Err(cut_off));
+    let magic = CaptureHeaderError::Magic { magic: 0x0100_0000 };
+    expect_read(&rt, &PCAPNG[28..], 0, Err(OpenError::Classic(magic)));
+}
+
+/// The bytes of a block, why it can't be read, and the text of the error.
+type RefusedRow = (&'static [u8], PacketError, &'static str);
+
+/// Blocks that come after the little-endian section header block of a file.
+static REFUSED: [RefusedRow; 4] = [
     (
         b"\x06\0\0\0\x08\0\0\0\x08\0\0\0",
         PacketError::Block(BlockError::TotalLength { total_len: 8 }),
@@ -179,52 +208,55 @@ const REFUSED: [(&[u8], PacketError, &str); 4] = [
     ),
 ];
 
-#[test]
-fn blocks_are_refused(rt: HostRuntime) -> io::Result<()> {
-    for (bytes, error, text) in REFUSED {
-        let mut file = vec![in rt.alloc()]?;
-        file.extend_from_slice(&PCAPNG[..28])?;
-        file.extend_from_slice(bytes)?;
-        let placed = PlacedPacketError { offset: 28, error };
-        let read = read_packets(&rt, &file)?;
-        expect_equal(&rt, &read, &(0, Ok(NextPacket::Refused(placed))));
-        let written = format!(in rt.alloc(); "{placed}")?;
-        expect_equal(&rt, &written.as_str(), &text);
-    }
-    Ok(())
+/// Stops the test unless the block of a row is refused after a section header block.
+fn expect_refused(rt: &(impl Abort + AllocGlobal), row: &RefusedRow) {
+    let (bytes, error, text) = *row;
+    let file = joined(rt, &[&PCAPNG[..28], bytes]);
+    let placed = PlacedPacketError { offset: 28, error };
+    expect_read(rt, &file, 0, Ok(NextPacket::Refused(placed)));
+    expect_text(rt, &placed, text);
 }
 
 #[test]
-fn interfaces_are_counted(rt: HostRuntime) -> io::Result<()> {
+fn blocks_are_refused(rt: HostRuntime) {
+    for row in &REFUSED {
+        expect_refused(&rt, row);
+    }
+}
+
+/// A section with this many interfaces.
+fn file_of_interfaces(rt: &(impl Abort + AllocGlobal), count: usize) -> Vec<u8> {
+    let mut file = Vec::new(rt.alloc());
+    append(rt, &mut file, &PCAPNG[..28]);
+    for _ in 0..count {
+        append(rt, &mut file, &PCAPNG[48..68]);
+    }
+    file
+}
+
+#[test]
+fn interfaces_are_counted(rt: HostRuntime) {
     let refused = NextPacket::Refused(PlacedPacketError {
         offset: 28 + 1024 * 20,
         error: PacketError::Interfaces { max: 1024 },
     });
-    for (count, last) in [(1024, NextPacket::End), (1025, refused)] {
-        let mut file = vec![in rt.alloc()]?;
-        file.extend_from_slice(&PCAPNG[..28])?;
-        for _ in 0..count {
-            file.extend_from_slice(&PCAPNG[48..68])?;
-        }
-        expect_equal(&rt, &read_packets(&rt, &file)?, &(0, Ok(last)));
-    }
-    Ok(())
+    expect_read(&rt, &file_of_interfaces(&rt, 1024), 0, Ok(NextPacket::End));
+    expect_read(&rt, &file_of_interfaces(&rt, 1025), 0, Ok(refused));
 }
 
 #[test]
-fn packets_are_too_long(rt: HostRuntime) -> io::Result<()> {
-    let mut packet = [0u8; 68];
-    packet[..8].copy_from_slice(b"\x06\0\0\0\x44\0\0\0");
-    packet[64] = 68;
-    let mut file = vec![in rt.alloc()]?;
-    file.extend_from_slice(&PCAPNG[..28])?;
-    file.extend_from_slice(&packet)?;
+fn packets_are_too_long(rt: HostRuntime) {
+    let parts: [&[u8]; 4] = [
+        &PCAPNG[..28],
+        b"\x06\0\0\0\x44\0\0\0",
+        &[0; 56],
+        b"\x44\0\0\0",
+    ];
     let too_long = NextPacket::TooLong(TooLongPacket {
         link_type: None,
         time: None,
         required_len: 68,
         original_len: None,
     });
-    expect_equal(&rt, &read_packets(&rt, &file)?, &(0, Ok(too_long)));
-    Ok(())
+    expect_read(&rt, &joined(&rt, &parts), 0, Ok(too_long));
 }

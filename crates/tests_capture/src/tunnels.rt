@@ -1,13 +1,11 @@
-use crate::expect::{expect_equal, expect_ok};
+use crate::expect::{append, expect_at, expect_equal, expect_ok, joined};
 use crate::packet::{
     IPV4_UDP, IPV6_DESTINATION, IPV6_SOURCE, OTHER_PROTOCOL, RIGHT, UDP_OVER_IPV4, UDP_OVER_IPV6,
-    append, over_ipv4, over_ipv6,
+    over_ipv4, over_ipv6, read_raw,
 };
-use capture_file::{ByteOrder, LinkType};
-use capture_packet::{Content, HopLimit, Packet, Refusal, Tunnel, Verdict, read_packet};
+use capture_packet::{Content, HopLimit, Packet, Refusal, Tunnel, Verdict};
 use etherparse_transport::ip::{IpAddresses, IpError};
 use etherparse_transport::{IpNumber, TransportSlice, UdpSlice, Untested, ip_number};
-use std::alloc::Global;
 use std::process::Abort;
 
 /// The addresses of the outer packets over IPv4, 192.0.2.1 and 192.0.2.2.
@@ -145,8 +143,8 @@ fn expect_tunnels(rt: &(impl Abort + AllocGlobal), outers: &[Outer], is_ipv6: bo
             expect_ok(rt, expected.tunnels.try_push(tunnel).map_err(|_| ()));
         }
     }
-    let packet = read_packet(LinkType::RawIp, ByteOrder::BigEndian, &frame, false);
-    expect_equal(rt, &(outers, &packet), &(outers, &expected));
+    let packet = read_raw(&frame, false);
+    expect_at(rt, &outers, &packet, &expected);
 }
 
 #[test]
@@ -187,14 +185,14 @@ fn shape_of(packet: &Packet<'_>) -> (usize, Option<u8>) {
 #[test]
 fn packets_without_an_inner_packet(rt: HostRuntime) {
     for (protocol, flags, parts) in &CLOSED {
-        let payload = expect_ok(&rt, crate::packet::joined(rt.alloc(), parts));
+        let payload = joined(&rt, parts);
         let mut frame = packet_in(&rt, &[Outer::Ipv4(*protocol)], payload.as_slice());
         if let Some(byte) = frame.get_mut(6) {
             *byte = *flags;
         }
-        let packet = read_packet(LinkType::RawIp, ByteOrder::BigEndian, &frame, false);
+        let packet = read_raw(&frame, false);
         let shape = shape_of(&packet);
-        expect_equal(&rt, &(parts, shape), &(parts, (0, Some(*protocol))));
+        expect_at(&rt, parts, &shape, &(0, Some(*protocol)));
     }
 }
 
@@ -222,7 +220,7 @@ fn refused_inner_packets(rt: HostRuntime) {
         if *is_cut_off && let Some(len) = frame.get_mut(3) {
             *len = 60;
         }
-        let packet = read_packet(LinkType::RawIp, ByteOrder::BigEndian, &frame, false);
+        let packet = read_raw(&frame, false);
         let addresses = IpAddresses::Ipv4 {
             source: &[10, 0, 0, 1],
             destination: &[10, 0, 0, 2],
@@ -237,7 +235,7 @@ fn refused_inner_packets(rt: HostRuntime) {
 fn a_packet_in_five_tunnels(rt: HostRuntime) {
     let (inner, _) = datagram(&rt, false);
     let frame = packet_in(&rt, &[Outer::Ipv4(4); 5], inner.as_slice());
-    let packet = read_packet(LinkType::RawIp, ByteOrder::BigEndian, &frame, false);
+    let packet = read_raw(&frame, false);
     expect_equal(&rt, &shape_of(&packet), &(4, Some(4)));
     expect_equal(&rt, &packet.verdict, &OTHER_PROTOCOL);
 }
