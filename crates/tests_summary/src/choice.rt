@@ -1,11 +1,11 @@
-use crate::expect::expect_equal;
+use crate::expect::{expect_at, expect_equal, expect_ok, expect_some};
 use capture_packet::{Content, NetworkProtocol, Packet, Transport, Tunnel, Verdict};
 use capture_summary::{Choice, MAX_CHOSEN, Network, NetworkError, Protocols};
 use etherparse_transport::ip::IpAddresses;
 use etherparse_transport::{
     Icmpv4Slice, IpNumber, Proto, TransportSlice, UdpSlice, Untested, ip_number,
 };
-use std::test::Fail;
+use std::process::Abort;
 
 /// A UDP datagram from port 49152 to port 53, of 9 bytes.
 const DATAGRAM: [u8; 9] = [0xC0, 0, 0, 53, 0, 9, 0, 0, 7];
@@ -63,8 +63,15 @@ const ICMPV6: Option<Protocols> = Some(Protocols {
 });
 
 /// The hosts, the ports and the protocols of a choice, and which of the five packets it includes.
+type ChoiceRow = (
+    &'static [&'static str],
+    &'static [u16],
+    Option<Protocols>,
+    [bool; 5],
+);
+
 #[rattlefmt::skip]
-static CHOICES: [(&[&str], &[u16], Option<Protocols>, [bool; 5]); 32] = [
+static CHOICES: [ChoiceRow; 32] = [
     (&[], &[], None, [true, true, true, true, true]),
     (&["192.0.2.1"], &[], None, [true, false, false, false, true]),
     (&["192.0.2.2"], &[], None, [true, false, false, false, true]),
@@ -105,47 +112,47 @@ fn packet_of(content: Content<'_>) -> Packet<'_> {
 }
 
 /// A packet with the datagram.
-fn datagram_over(addresses: IpAddresses<'_>) -> Result<Packet<'_>, Fail> {
-    Ok(packet_of(Content::Ip {
+fn datagram_over(rt: &impl Abort, addresses: IpAddresses<'static>) -> Packet<'static> {
+    let datagram = expect_ok(rt, UdpSlice::from_slice(&DATAGRAM));
+    packet_of(Content::Ip {
         addresses,
         protocol: ip_number::UDP,
         proto: Some(Proto::Udp),
-        transport: Transport::Read(TransportSlice::Udp(UdpSlice::from_slice(&DATAGRAM)?)),
+        transport: Transport::Read(TransportSlice::Udp(datagram)),
         payload_len: 1,
-    }))
+    })
 }
 
 /// The choice of these hosts and ports, where any are given, and of these protocols.
-fn choice_of(hosts: &[&str], ports: &[u16], protocols: Option<Protocols>) -> Result<Choice, Fail> {
-    let mut choice = Choice {
+fn choice_of(
+    rt: &impl Abort,
+    hosts: &[&str],
+    ports: &[u16],
+    protocols: Option<Protocols>,
+) -> Choice {
+    Choice {
+        hosts: places_of_hosts(rt, hosts),
+        ports: places_of_ports(ports),
         protocols,
-        ..Choice::ALL
-    };
-    if !hosts.is_empty() {
-        choice.hosts = Some(places_of_hosts(hosts)?);
     }
-    if !ports.is_empty() {
-        choice.ports = Some(places_of_ports(ports));
-    }
-    Ok(choice)
 }
 
-/// The networks with these texts.
-fn places_of_hosts(texts: &[&str]) -> Result<[Option<Network>; MAX_CHOSEN], Fail> {
+/// The networks with these texts, if there are any.
+fn places_of_hosts(rt: &impl Abort, texts: &[&str]) -> Option<[Option<Network>; MAX_CHOSEN]> {
     let mut places = [None; MAX_CHOSEN];
     for (place, text) in places.iter_mut().zip(texts) {
-        *place = Some(text.parse::<Network>()?);
+        *place = Some(expect_ok(rt, text.parse::<Network>()));
     }
-    Ok(places)
+    if texts.is_empty() { None } else { Some(places) }
 }
 
-/// The places of these ports.
-fn places_of_ports(ports: &[u16]) -> [Option<u16>; MAX_CHOSEN] {
+/// The places of these ports, if there are any.
+fn places_of_ports(ports: &[u16]) -> Option<[Option<u16>; MAX_CHOSEN]> {
     let mut places = [None; MAX_CHOSEN];
     for (place, port) in places.iter_mut().zip(ports) {
         *place = Some(*port);
     }
-    places
+    if ports.is_empty() { None } else { Some(places) }
 }
 
 /// Texts that are no network, with the error of each.
@@ -162,52 +169,57 @@ static REFUSED: [(&str, NetworkError); 9] = [
 ];
 
 #[test]
-fn texts_that_are_no_network(rt: HostRuntime) -> Result<(), Fail> {
+fn texts_that_are_no_network(rt: HostRuntime) {
     for (text, error) in &REFUSED {
         expect_equal(&rt, &text.parse::<Network>(), &Err(*error));
     }
-    Ok(())
 }
 
-#[test]
-fn packets_are_chosen(rt: HostRuntime) -> Result<(), Fail> {
-    let message = Content::Ip {
+/// A packet with an ICMPv6 message that is not read.
+fn message_packet() -> Packet<'static> {
+    packet_of(Content::Ip {
         addresses: OVER_IPV6,
         protocol: ip_number::IPV6_ICMP,
         proto: Some(Proto::Icmpv6),
         transport: Transport::Unread(&[1, 2, 3]),
         payload_len: 3,
-    };
-    let error = Content::Ip {
+    })
+}
+
+/// A packet with an ICMPv4 error.
+fn error_packet(rt: &impl Abort) -> Packet<'static> {
+    let message = expect_ok(rt, Icmpv4Slice::from_slice(&TIME_EXCEEDED));
+    packet_of(Content::Ip {
         addresses: OVER_IPV4,
         protocol: ip_number::ICMP,
         proto: Some(Proto::Icmpv4),
-        transport: Transport::Read(TransportSlice::Icmpv4(Icmpv4Slice::from_slice(
-            &TIME_EXCEEDED,
-        )?)),
+        transport: Transport::Read(TransportSlice::Icmpv4(message)),
         payload_len: 28,
-    };
-    let packets = [
-        datagram_over(OVER_IPV4)?,
-        datagram_over(FROM_IPV6)?,
-        packet_of(message),
-        packet_of(Content::NotIp(NetworkProtocol::EtherType(0x0806))),
-        packet_of(error),
-    ];
-    let all = Choice {
-        hosts: None,
-        ports: None,
-        protocols: None,
-    };
-    expect_equal(&rt, &Choice::ALL, &all);
-    for (hosts, ports, protocols, wanted) in &CHOICES {
-        let choice = choice_of(hosts, ports, *protocols)?;
-        for (packet, wanted) in packets.iter().zip(wanted) {
-            let included = choice.includes(packet);
-            expect_equal(&rt, &(&choice, included), &(&choice, *wanted));
-        }
+    })
+}
+
+/// Stops the test unless the choice of a row includes the packets that the row says.
+fn expect_chosen(rt: &impl Abort, packets: &[Packet<'static>; 5], row: &ChoiceRow) {
+    let (hosts, ports, protocols, wanted) = row;
+    let choice = choice_of(rt, hosts, ports, *protocols);
+    for (packet, wanted) in packets.iter().zip(wanted) {
+        expect_at(rt, &choice, &choice.includes(packet), wanted);
     }
-    Ok(())
+}
+
+#[test]
+fn packets_are_chosen(rt: HostRuntime) {
+    let packets = [
+        datagram_over(&rt, OVER_IPV4),
+        datagram_over(&rt, FROM_IPV6),
+        message_packet(),
+        packet_of(Content::NotIp(NetworkProtocol::EtherType(0x0806))),
+        error_packet(&rt),
+    ];
+    for row in &CHOICES {
+        expect_chosen(&rt, &packets, row);
+    }
+    expect_equal(&rt, &Choice::ALL, &choice_of(&rt, &[], &[], None));
 }
 
 /// A host, and whether a packet over IPv4 in a tunnel over IPv6 matches it.
@@ -217,17 +229,21 @@ static HOSTS_IN_TUNNELS: [(&str, bool); 7] = [
     ("2001:db8::/32", true),
 ];
 
+/// Stops the test unless the choice of this host includes the packet, or does not.
+fn expect_host(rt: &impl Abort, packet: &Packet<'static>, host: &str, wanted: bool) {
+    let included = choice_of(rt, &[host], &[], None).includes(packet);
+    expect_at(rt, &host, &included, &wanted);
+}
+
 #[test]
-fn tunnels_are_chosen(rt: HostRuntime) -> Result<(), Fail> {
-    let mut packet = datagram_over(OVER_IPV4)?;
+fn tunnels_are_chosen(rt: HostRuntime) {
+    let mut packet = datagram_over(&rt, OVER_IPV4);
     let tunnel = Tunnel {
         addresses: OVER_IPV6,
         protocol: IpNumber(4),
     };
-    packet.tunnels.try_push(tunnel).ok().ok_or("no room")?;
+    expect_some(&rt, packet.tunnels.try_push(tunnel).ok());
     for (host, wanted) in &HOSTS_IN_TUNNELS {
-        let included = choice_of(&[host], &[], None)?.includes(&packet);
-        expect_equal(&rt, &(host, included), &(host, *wanted));
+        expect_host(&rt, &packet, host, *wanted);
     }
-    Ok(())
 }

@@ -1,5 +1,5 @@
-use crate::expect::{expect_ok, expect_text};
-use crate::summary::{judge, refuse};
+use crate::expect::{expect_ok, expect_some, expect_text, expect_texts, joined};
+use crate::summary::{judge, new_summary, refuse};
 use crate::text::flow_of_ipv4;
 use capture_file::pcapng::TimeResolution;
 use capture_file::{LinkType, PacketTime};
@@ -14,10 +14,7 @@ use etherparse_transport::{
     ChecksumVerdict, Icmpv4Slice, Icmpv6Slice, IpNumber, Proto, TcpSlice, TransportSlice, UdpSlice,
     Untested, ip_number,
 };
-use std::alloc::Global;
-use std::hash::RandomState;
 use std::process::Abort;
-use std::test::Fail;
 
 /// 192.0.2.1 and 192.0.2.2.
 const OVER_IPV4: IpAddresses = IpAddresses::Ipv4 {
@@ -60,42 +57,43 @@ const ERROR_WITHOUT_HEADER: [u8; 27] = [
     0x45, 0, 0, 60, 0, 0, 0, 0, 1, 17, 0, 0, 192, 0, 2, 1, 198, 51, 100,
 ];
 
+/// The line of a packet with this time.
+fn line_of(
+    rt: &(impl Abort + AllocGlobal),
+    time: Option<PacketTime>,
+    packet: &Packet<'_>,
+) -> Vec<u8> {
+    let times = Times::SinceFirst;
+    let mut line = Vec::new(rt.alloc());
+    let written = write_packet(&mut line, rt.alloc(), times, 1, time, time, None, packet);
+    expect_ok(rt, written);
+    line
+}
+
+/// Stops the test unless the line of a packet without a time is the object of these texts.
+fn expect_object_of(rt: &(impl Abort + AllocGlobal), packet: &Packet<'_>, wanted: [&str; 5]) {
+    let [first, second, third, fourth, fifth] = wanted;
+    let line = line_of(rt, None, packet);
+    let wanted = [first, second, third, fourth, fifth, "\n"];
+    expect_texts(rt, &line, &wanted);
+}
+
 /// Stops the test unless the line of a packet in no tunnel and without a time is this object.
 fn expect_object(
     rt: &(impl Abort + AllocGlobal),
-    content: Content,
+    content: Content<'_>,
     verdict: Verdict,
     wanted: &str,
-) -> Result<(), Fail> {
-    expect_object_of(rt, &Packet::in_no_tunnel(content, verdict), wanted)
-}
-
-/// Stops the test unless the line of a packet without a time is this object.
-fn expect_object_of(
-    rt: &(impl Abort + AllocGlobal),
-    packet: &Packet,
-    wanted: &str,
-) -> Result<(), Fail> {
-    let mut line = Vec::new(rt.alloc());
-    write_packet(
-        &mut line,
-        rt.alloc(),
-        Times::SinceFirst,
-        1,
-        None,
-        None,
-        None,
-        packet,
-    )
-    .ok()
-    .ok_or("no line")?;
-    let wanted = format!(in rt.alloc(); "{wanted}\n")?;
-    expect_text(rt, line, &wanted)
+) {
+    let packet = Packet::in_no_tunnel(content, verdict);
+    expect_object_of(rt, &packet, [wanted, "", "", "", ""]);
 }
 
 /// The seconds of a time, its fraction in microseconds and its offset, and its members. Seconds are rounded down, and are at most 2^63 - 1.
+type TimeRow = (u64, u64, i64, &'static str);
+
 #[rattlefmt::skip]
-static TIMES: [(u64, u64, i64, &str); 9] = [
+static TIMES: [TimeRow; 9] = [
     (5, 7, 0, r#""seconds":5,"nanoseconds":7000"#),
     (0, 0, 0, r#""seconds":0,"nanoseconds":0"#),
     (5, 999_999, -5, r#""seconds":0,"nanoseconds":999999000"#),
@@ -107,35 +105,27 @@ static TIMES: [(u64, u64, i64, &str); 9] = [
     (u64::MAX, 1, 0, r#""seconds":9223372036854775807,"nanoseconds":1000"#),
 ];
 
+/// Stops the test unless the object of a packet with the time of a row has the members of the row.
+fn expect_time(rt: &(impl Abort + AllocGlobal), row: &TimeRow) {
+    let (seconds, fraction, offset, members) = *row;
+    let time = PacketTime {
+        seconds,
+        fraction,
+        resolution: TimeResolution::PowerOfTen(6),
+        offset,
+    };
+    let packet = Packet::in_no_tunnel(Content::Unread, Verdict::untested(Untested::CutOff));
+    let line = line_of(rt, Some(time), &packet);
+    let before = r#"{"type":"packet","number":1,"time":"00:00:00.000000","#;
+    let after = r#","checksum":"not_looked_at","reason":"cut_off"}"#;
+    expect_texts(rt, &line, &[before, members, after, "\n"]);
+}
+
 #[test]
-fn times_of_packets_as_numbers(rt: HostRuntime) -> Result<(), Fail> {
-    let verdict = Verdict::untested(Untested::CutOff);
-    let packet = Packet::in_no_tunnel(Content::Unread, verdict);
-    for (seconds, fraction, offset, members) in &TIMES {
-        let time = Some(PacketTime {
-            seconds: *seconds,
-            fraction: *fraction,
-            resolution: TimeResolution::PowerOfTen(6),
-            offset: *offset,
-        });
-        let mut line = Vec::new(rt.alloc());
-        let written = write_packet(
-            &mut line,
-            rt.alloc(),
-            Times::SinceFirst,
-            1,
-            time,
-            time,
-            None,
-            &packet,
-        );
-        expect_ok(&rt, written);
-        let wanted = format!(in rt.alloc();
-            "{{\"type\":\"packet\",\"number\":1,\"time\":\"00:00:00.000000\",{members},\"checksum\":\"not_looked_at\",\"reason\":\"cut_off\"}}\n"
-        )?;
-        expect_text(&rt, line, &wanted)?;
+fn times_of_packets_as_numbers(rt: HostRuntime) {
+    for row in &TIMES {
+        expect_time(&rt, row);
     }
-    Ok(())
 }
 
 /// Hop limits, and the object of a packet with each.
@@ -145,35 +135,46 @@ const HOP_LIMITS: [(HopLimit, &str); 2] = [
     (HopLimit::Ipv6(0), r#"{"type":"packet","number":1,"time":null,"source":"192.0.2.1","destination":"192.0.2.2","hop_limit":0,"checksum":"not_looked_at","reason":"cut_off"}"#),
 ];
 
+/// Stops the test unless this is the object of a packet with this hop limit.
+fn expect_hop_limit(rt: &(impl Abort + AllocGlobal), hop_limit: HopLimit, wanted: &str) {
+    let content = Content::IpHeader(OVER_IPV4);
+    let mut packet = Packet::in_no_tunnel(content, Verdict::untested(Untested::CutOff));
+    packet.hop_limit = Some(hop_limit);
+    expect_object_of(rt, &packet, [wanted, "", "", "", ""]);
+}
+
 #[test]
-fn hop_limits(rt: HostRuntime) -> Result<(), Fail> {
+fn hop_limits(rt: HostRuntime) {
     for (hop_limit, wanted) in &HOP_LIMITS {
-        let verdict = Verdict::untested(Untested::CutOff);
-        let mut packet = Packet::in_no_tunnel(Content::IpHeader(OVER_IPV4), verdict);
-        packet.hop_limit = Some(*hop_limit);
-        expect_object_of(&rt, &packet, wanted)?;
+        expect_hop_limit(&rt, *hop_limit, wanted);
     }
-    Ok(())
 }
 
 /// The object of a packet in two tunnels.
 #[rattlefmt::skip]
 const IN_TUNNELS: &str = r#"{"type":"packet","number":1,"time":null,"tunnels":[{"source":"192.0.2.1","destination":"192.0.2.2","protocol":47,"protocol_name":"GRE"},{"source":"2001:db8::1","destination":null,"protocol":4,"protocol_name":"IPv4"}],"source":"192.0.2.1","destination":"192.0.2.2","checksum":"not_looked_at","reason":"cut_off"}"#;
 
+/// Adds a tunnel to a packet.
+fn push_tunnel(
+    rt: &impl Abort,
+    packet: &mut Packet<'static>,
+    addresses: IpAddresses<'static>,
+    protocol: IpNumber,
+) {
+    let tunnel = Tunnel {
+        addresses,
+        protocol,
+    };
+    expect_some(rt, packet.tunnels.try_push(tunnel).ok());
+}
+
 #[test]
-fn tunnels(rt: HostRuntime) -> Result<(), Fail> {
-    let mut packet = Packet::in_no_tunnel(
-        Content::IpHeader(OVER_IPV4),
-        Verdict::untested(Untested::CutOff),
-    );
-    for (addresses, protocol) in [(OVER_IPV4, IpNumber(47)), (OVER_IPV6, IpNumber(4))] {
-        let tunnel = Tunnel {
-            addresses,
-            protocol,
-        };
-        packet.tunnels.try_push(tunnel).ok().ok_or("no room")?;
-    }
-    expect_object_of(&rt, &packet, IN_TUNNELS)
+fn tunnels(rt: HostRuntime) {
+    let content = Content::IpHeader(OVER_IPV4);
+    let mut packet = Packet::in_no_tunnel(content, Verdict::untested(Untested::CutOff));
+    push_tunnel(&rt, &mut packet, OVER_IPV4, IpNumber(47));
+    push_tunnel(&rt, &mut packet, OVER_IPV6, IpNumber(4));
+    expect_object_of(&rt, &packet, [IN_TUNNELS, "", "", "", ""]);
 }
 
 /// Packets whose transport is not read, and the object of each.
@@ -204,11 +205,10 @@ const OBJECTS: [(Content, Verdict, &str); 9] = [
 ];
 
 #[test]
-fn objects_of_packets(rt: HostRuntime) -> Result<(), Fail> {
+fn objects_of_packets(rt: HostRuntime) {
     for (content, verdict, wanted) in OBJECTS {
-        expect_object(&rt, content, verdict, wanted)?;
+        expect_object(&rt, content, verdict, wanted);
     }
-    Ok(())
 }
 
 /// Verdicts on the checksum of a packet that is not read, and the object of each.
@@ -228,11 +228,10 @@ static CHECKSUMS: [(ChecksumVerdict, &str); 10] = [
 ];
 
 #[test]
-fn objects_of_verdicts(rt: HostRuntime) -> Result<(), Fail> {
+fn objects_of_verdicts(rt: HostRuntime) {
     for (verdict, wanted) in &CHECKSUMS {
-        expect_object(&rt, Content::Unread, Verdict::Checksum(*verdict), wanted)?;
+        expect_object(&rt, Content::Unread, Verdict::Checksum(*verdict), wanted);
     }
-    Ok(())
 }
 
 /// Transports over IPv4, which are told by their length, the verdicts on their checksums, and the object of each.
@@ -247,27 +246,27 @@ static TRANSPORTS: [(&[u8], ChecksumVerdict, &str); 3] = [
 ];
 
 /// A packet over IPv4 with these bytes as its transport.
-fn over_ipv4(bytes: &[u8]) -> Result<Content<'_>, Fail> {
+fn over_ipv4<'a>(rt: &impl Abort, bytes: &'a [u8]) -> Content<'a> {
     let transport = if bytes.len() == DATAGRAM.len() {
-        TransportSlice::Udp(UdpSlice::from_slice(bytes)?)
+        TransportSlice::Udp(expect_ok(rt, UdpSlice::from_slice(bytes)))
     } else {
-        TransportSlice::Tcp(TcpSlice::from_slice(bytes)?)
+        TransportSlice::Tcp(expect_ok(rt, TcpSlice::from_slice(bytes)))
     };
-    Ok(Content::Ip {
+    Content::Ip {
         addresses: OVER_IPV4,
         protocol: ip_number::UDP,
         proto: Some(Proto::Udp),
         payload_len: transport.payload().len(),
         transport: Transport::Read(transport),
-    })
+    }
 }
 
 #[test]
-fn objects_of_transports(rt: HostRuntime) -> Result<(), Fail> {
+fn objects_of_transports(rt: HostRuntime) {
     for (bytes, verdict, wanted) in &TRANSPORTS {
-        expect_object(&rt, over_ipv4(bytes)?, Verdict::Checksum(*verdict), wanted)?;
+        let verdict = Verdict::Checksum(*verdict);
+        expect_object(&rt, over_ipv4(&rt, bytes), verdict, wanted);
     }
-    Ok(())
 }
 
 /// Options, and the members of each list of options.
@@ -287,28 +286,34 @@ const OPTIONS: [(&[u8], &str); 9] = [
 ];
 
 /// A TCP segment with these options, whose length is a multiple of four bytes.
-fn segment_with(alloc: Global, options: &[u8]) -> Result<Vec<u8>, Fail> {
-    let words = u8::try_from(5 + options.len() / 4)?;
-    let mut bytes = Vec::new(alloc);
-    bytes.extend_from_slice(&[0, 7, 0, 9, 0, 0, 0, 1, 0, 0, 0, 2])?;
-    bytes.extend_from_slice(&[words.saturating_mul(16), 2, 0, 3, 0, 0, 0, 0])?;
-    bytes.extend_from_slice(options)?;
-    Ok(bytes)
+fn segment_with(rt: &(impl Abort + AllocGlobal), options: &[u8]) -> Vec<u8> {
+    let words = expect_ok(rt, u8::try_from(5 + options.len() / 4));
+    let parts: [&[u8]; 3] = [
+        &[0, 7, 0, 9, 0, 0, 0, 1, 0, 0, 0, 2],
+        &[words.saturating_mul(16), 2, 0, 3, 0, 0, 0, 0],
+        options,
+    ];
+    joined(rt, &parts)
+}
+
+/// What the object of a segment with options begins with.
+const BEFORE_OPTIONS: &str =
+    r#"{"type":"packet","number":1,"time":null,"source":"192.0.2.1","destination":"192.0.2.2","protocol":17,"protocol_name":"UDP","source_port":7,"destination_port":9,"tcp":{"flags":["SYN"],"sequence":1,"acknowledgment":2,"window":3,"#;
+
+/// Stops the test unless the object of a segment with these options has these members for them.
+fn expect_options(rt: &(impl Abort + AllocGlobal), options: &[u8], members: &str) {
+    let bytes = segment_with(rt, options);
+    let verdict = Verdict::Checksum(ChecksumVerdict::Right);
+    let packet = Packet::in_no_tunnel(over_ipv4(rt, &bytes), verdict);
+    let after = r#"},"payload_length":0,"checksum":"right"}"#;
+    expect_object_of(rt, &packet, [BEFORE_OPTIONS, members, after, "", ""]);
 }
 
 #[test]
-fn objects_of_options(rt: HostRuntime) -> Result<(), Fail> {
-    for (options, wanted) in &OPTIONS {
-        let bytes = segment_with(rt.alloc(), options)?;
-        let before =
-            r#"{"type":"packet","number":1,"time":null,"source":"192.0.2.1","destination":"192.0.2.2","protocol":17,"protocol_name":"UDP","source_port":7,"destination_port":9,"tcp":{"flags":["SYN"],"sequence":1,"acknowledgment":2,"window":3,"#;
-        let wanted = format!(in rt.alloc();
-            "{before}{wanted}}},\"payload_length\":0,\"checksum\":\"right\"}}"
-        )?;
-        let verdict = Verdict::Checksum(ChecksumVerdict::Right);
-        expect_object(&rt, over_ipv4(&bytes)?, verdict, &wanted)?;
+fn objects_of_options(rt: HostRuntime) {
+    for (options, members) in &OPTIONS {
+        expect_options(&rt, options, members);
     }
-    Ok(())
 }
 
 /// ICMPv4 messages, and the members of each after the type and the code.
@@ -333,13 +338,17 @@ const ICMPV6_FIELDS: [(&[u8], &str); 4] = [
     (&[133, 0, 9, 9, 0, 0, 0, 0], r#""type":133,"code":0,"message":"router solicitation, code 0""#),
 ];
 
-/// Stops the test unless the object of a packet over IPv4 with this ICMP message has these members for it.
+/// What the object of a packet with an ICMP message begins with.
+const BEFORE_MESSAGE: &str =
+    r#"{"type":"packet","number":1,"time":null,"source":"192.0.2.1","destination":"192.0.2.2","protocol":1,"protocol_name":"ICMPv4","#;
+
+/// Stops the test unless the object of a packet over IPv4 with this ICMP message has these members for it, after this text.
 fn expect_message(
     rt: &(impl Abort + AllocGlobal),
-    message: TransportSlice,
-    name: &str,
+    message: TransportSlice<'_>,
+    before: &str,
     members: &str,
-) -> Result<(), Fail> {
+) {
     let content = Content::Ip {
         addresses: OVER_IPV4,
         protocol: ip_number::ICMP,
@@ -347,67 +356,75 @@ fn expect_message(
         payload_len: 0,
         transport: Transport::Read(message),
     };
-    let before =
-        r#"{"type":"packet","number":1,"time":null,"source":"192.0.2.1","destination":"192.0.2.2","protocol":1,"protocol_name":"ICMPv4","#;
-    let wanted = format!(in rt.alloc();
-        "{before}\"{name}\":{{{members}}},\"payload_length\":0,\"checksum\":\"right\"}}"
-    )?;
-    expect_object(
-        rt,
-        content,
-        Verdict::Checksum(ChecksumVerdict::Right),
-        &wanted,
-    )
+    let verdict = Verdict::Checksum(ChecksumVerdict::Right);
+    let packet = Packet::in_no_tunnel(content, verdict);
+    let after = r#"},"payload_length":0,"checksum":"right"}"#;
+    expect_object_of(rt, &packet, [BEFORE_MESSAGE, before, members, after, ""]);
+}
+
+/// Stops the test unless the object of a packet with this ICMPv4 message has these members for it.
+fn expect_icmpv4(rt: &(impl Abort + AllocGlobal), bytes: &[u8], members: &str) {
+    let message = TransportSlice::Icmpv4(expect_ok(rt, Icmpv4Slice::from_slice(bytes)));
+    expect_message(rt, message, r#""icmpv4":{"#, members);
 }
 
 #[test]
-fn objects_of_icmpv4_messages(rt: HostRuntime) -> Result<(), Fail> {
+fn objects_of_icmpv4_messages(rt: HostRuntime) {
     for (bytes, members) in &ICMPV4_FIELDS {
-        let message = TransportSlice::Icmpv4(Icmpv4Slice::from_slice(bytes)?);
-        expect_message(&rt, message, "icmpv4", members)?;
+        expect_icmpv4(&rt, bytes, members);
     }
-    Ok(())
+}
+
+/// Stops the test unless the object of a packet with this ICMPv6 message has these members for it.
+fn expect_icmpv6(rt: &(impl Abort + AllocGlobal), bytes: &[u8], members: &str) {
+    let message = TransportSlice::Icmpv6(expect_ok(rt, Icmpv6Slice::from_slice(bytes)));
+    expect_message(rt, message, r#""icmpv6":{"#, members);
 }
 
 #[test]
-fn objects_of_icmpv6_messages(rt: HostRuntime) -> Result<(), Fail> {
+fn objects_of_icmpv6_messages(rt: HostRuntime) {
     for (bytes, members) in &ICMPV6_FIELDS {
-        let message = TransportSlice::Icmpv6(Icmpv6Slice::from_slice(bytes)?);
-        expect_message(&rt, message, "icmpv6", members)?;
+        expect_icmpv6(&rt, bytes, members);
     }
-    Ok(())
 }
 
-/// ICMPv4 errors, and the member of each that shows the packet that it quotes.
+/// ICMPv4 errors, the member of each that shows the packet that it quotes, and the length of its payload.
 #[rattlefmt::skip]
-static ERRORS: [(&[u8], &str, u32); 3] = [
-    (&ERROR, r#","quoted":{"source":"192.0.2.1","destination":"198.51.100.7","protocol":17,"protocol_name":"UDP","source_port":49152,"destination_port":33434}"#, 24),
-    (&ERROR_WITHOUT_PORTS, r#","quoted":{"source":"192.0.2.1","destination":"198.51.100.7","protocol":17,"protocol_name":"UDP"}"#, 23),
-    (&ERROR_WITHOUT_HEADER, "", 19),
+static ERRORS: [(&[u8], &str, &str); 3] = [
+    (&ERROR, r#","quoted":{"source":"192.0.2.1","destination":"198.51.100.7","protocol":17,"protocol_name":"UDP","source_port":49152,"destination_port":33434}"#, "24"),
+    (&ERROR_WITHOUT_PORTS, r#","quoted":{"source":"192.0.2.1","destination":"198.51.100.7","protocol":17,"protocol_name":"UDP"}"#, "23"),
+    (&ERROR_WITHOUT_HEADER, "", "19"),
 ];
 
+/// What the object of a packet with an ICMPv4 error begins with.
+const BEFORE_ERROR: &str =
+    r#"{"type":"packet","number":1,"time":null,"source":"192.0.2.1","destination":"192.0.2.2","protocol":1,"protocol_name":"ICMPv4""#;
+
+/// What comes before the length of its payload.
+const MESSAGE_OF_ERROR: &str =
+    r#","icmpv4":{"type":11,"code":0,"message":"time exceeded, code 0 (time to live)"},"payload_length":"#;
+
+/// Stops the test unless the object of a packet with this error has this member for the quoted packet, and this length of its payload.
+fn expect_quoted(rt: &(impl Abort + AllocGlobal), bytes: &[u8], quoted: &str, payload_len: &str) {
+    let message = expect_ok(rt, Icmpv4Slice::from_slice(bytes));
+    let content = Content::Ip {
+        addresses: OVER_IPV4,
+        protocol: ip_number::ICMP,
+        proto: Some(Proto::Icmpv4),
+        payload_len: message.payload().len(),
+        transport: Transport::Read(TransportSlice::Icmpv4(message)),
+    };
+    let packet = Packet::in_no_tunnel(content, Verdict::Checksum(ChecksumVerdict::Right));
+    let after = r#","checksum":"right"}"#;
+    let wanted = [BEFORE_ERROR, quoted, MESSAGE_OF_ERROR, payload_len, after];
+    expect_object_of(rt, &packet, wanted);
+}
+
 #[test]
-fn objects_of_quoted_packets(rt: HostRuntime) -> Result<(), Fail> {
+fn objects_of_quoted_packets(rt: HostRuntime) {
     for (bytes, quoted, payload_len) in &ERRORS {
-        let message = Icmpv4Slice::from_slice(bytes)?;
-        let content = Content::Ip {
-            addresses: OVER_IPV4,
-            protocol: ip_number::ICMP,
-            proto: Some(Proto::Icmpv4),
-            payload_len: message.payload().len(),
-            transport: Transport::Read(TransportSlice::Icmpv4(message)),
-        };
-        let verdict = Verdict::Checksum(ChecksumVerdict::Right);
-        let message = r#"{"type":11,"code":0,"message":"time exceeded, code 0 (time to live)"}"#;
-        let before =
-            r#"{"type":"packet","number":1,"time":null,"source":"192.0.2.1","destination":"192.0.2.2","protocol":1,"protocol_name":"ICMPv4""#;
-        let after = r#","checksum":"right"}"#;
-        let wanted = format!(in rt.alloc();
-            "{before}{quoted},\"icmpv4\":{message},\"payload_length\":{payload_len}{after}"
-        )?;
-        expect_object(&rt, content, verdict, &wanted)?;
+        expect_quoted(&rt, bytes, quoted, payload_len);
     }
-    Ok(())
 }
 
 /// The object of a summary of three packets of raw IP. The names of rows have underscores between their words.
@@ -432,33 +449,25 @@ fn info_of(seconds: u64, len: u64) -> CaptureInfo {
     }
 }
 
-#[test]
-fn the_object_of_a_summary(rt: HostRuntime) -> Result<(), Fail> {
-    let mut summary = Summary::new(rt.alloc(), RandomState::new(&rt)?);
+/// Counts three packets, of which one has ports.
+fn count_three(rt: &impl Abort, summary: &mut Summary) {
     let flow = Some(flow_of_ipv4());
-    judge(
-        &mut summary,
-        Protocol::Udp,
-        VerdictKind::Partial,
-        flow,
-        info_of(1_700_000_000, 40),
-    )?;
-    judge(
-        &mut summary,
-        Protocol::OtherOverIp,
-        VerdictKind::CutOff,
-        None,
-        info_of(1_700_000_005, 30),
-    )?;
-    refuse(
-        &mut summary,
-        Protocol::Udp,
-        RefusalKind::UdpLength,
-        info_of(1_700_000_002, 28),
-    )?;
-    let busiest = summary.flows().busiest(rt.alloc(), 10)?;
+    let info = info_of(1_700_000_000, 40);
+    judge(rt, summary, Protocol::Udp, VerdictKind::Partial, flow, info);
+    let protocol = Protocol::OtherOverIp;
+    let info = info_of(1_700_000_005, 30);
+    judge(rt, summary, protocol, VerdictKind::CutOff, None, info);
+    let info = info_of(1_700_000_002, 28);
+    refuse(rt, summary, Protocol::Udp, RefusalKind::UdpLength, info);
+}
+
+#[test]
+fn the_object_of_a_summary(rt: HostRuntime) {
+    let mut summary = new_summary(&rt);
+    count_three(&rt, &mut summary);
+    let busiest = expect_ok(&rt, summary.flows().busiest(rt.alloc(), 10));
     let mut text = Vec::new(rt.alloc());
     let written = write_summary(&mut text, rt.alloc(), &None, &summary, &busiest);
     expect_ok(&rt, written);
-    expect_text(&rt, text, OF_THREE_PACKETS)
+    expect_text(&rt, &text, OF_THREE_PACKETS);
 }

@@ -1,6 +1,6 @@
 //! The rows of the tables that packets are counted in.
 
-use crate::expect::expect_equal;
+use crate::expect::expect_at;
 use capture_file::LinkType;
 use capture_link::LinkHeaderCutOff;
 use capture_packet::{Content, NetworkProtocol, Refusal, Transport, Verdict};
@@ -115,8 +115,8 @@ static REFUSALS: [VerdictRow; 16] = [
 /// Stops the test unless the verdict of a row has the kinds of the row.
 fn expect_kinds(rt: &impl Abort, row: &VerdictRow) {
     let (verdict, kind, refusal) = row;
-    expect_equal(rt, &(row, VerdictKind::of(verdict)), &(row, *kind));
-    expect_equal(rt, &(row, RefusalKind::of(verdict)), &(row, *refusal));
+    expect_at(rt, row, &VerdictKind::of(verdict), kind);
+    expect_at(rt, row, &RefusalKind::of(verdict), refusal);
 }
 
 #[test]
@@ -173,7 +173,7 @@ const PROTOCOLS: [ProtocolRow; 13] = [
 
 /// Stops the test unless the packet of a row is counted in the row of its protocol.
 fn expect_protocol(rt: &impl Abort, row: &ProtocolRow) {
-    expect_equal(rt, &(row, Protocol::of(&row.0)), &(row, row.1));
+    expect_at(rt, row, &Protocol::of(&row.0), &row.1);
 }
 
 #[test]
@@ -216,8 +216,8 @@ static LINKS: [LinkRow; 23] = [
 /// Stops the test unless the link type of a row is counted in the row with its name.
 fn expect_link(rt: &impl Abort, row: &LinkRow) {
     let (link_type, kind, name) = *row;
-    expect_equal(rt, &(row, LinkKind::of(link_type)), &(row, kind));
-    expect_equal(rt, &(row, kind.name()), &(row, name));
+    expect_at(rt, row, &LinkKind::of(link_type), &kind);
+    expect_at(rt, row, &kind.name(), &name);
 }
 
 #[test]

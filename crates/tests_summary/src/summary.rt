@@ -1,13 +1,13 @@
-use crate::expect::expect_equal;
+use crate::expect::{expect_at, expect_equal, expect_ok, expect_some};
 use capture_file::LinkType;
 use capture_summary::{
-    CaptureInfo, Count, Flow, FlowProtocol, FrameLen, MAX_CONVERSATIONS, Protocol, RefusalKind,
-    Summary, VerdictKind,
+    CaptureInfo, ConversationCount, Count, Flow, FlowProtocol, FrameLen, MAX_CONVERSATIONS,
+    Protocol, RefusalKind, Summary, VerdictKind,
 };
 use std::hash::RandomState;
 use std::net::{IpAddr, Ipv4Addr, SocketAddr};
 use std::process::Abort;
-use std::test::Fail;
+use std::random::RandomSource;
 
 const UDP: Protocol = Protocol::Udp;
 
@@ -53,57 +53,83 @@ fn info_of(len: u64) -> CaptureInfo {
     }
 }
 
-/// Counts a packet that is refused.
+/// Counts a packet that is refused. Stops the test if there is no room for it.
 pub(crate) fn refuse(
+    rt: &impl Abort,
     summary: &mut Summary,
     protocol: Protocol,
     refusal: RefusalKind,
     info: CaptureInfo,
-) -> Result<(), Fail> {
-    if summary.packets() == u64::MAX {
-        return Err("too many packets".into());
-    }
-    summary.add(protocol, VerdictKind::Refused, Some(refusal), None, &info)?;
-    Ok(())
+) {
+    expect_ok(rt, try_refuse(summary, protocol, refusal, info));
 }
 
-/// Counts a packet that is not refused.
+/// Counts a packet that is refused.
+fn try_refuse(
+    summary: &mut Summary,
+    protocol: Protocol,
+    refusal: RefusalKind,
+    info: CaptureInfo,
+) -> Result<(), &'static str> {
+    if summary.packets() == u64::MAX {
+        return Err("too many packets");
+    }
+    let added = summary.add(protocol, VerdictKind::Refused, Some(refusal), None, &info);
+    added.ok().ok_or("no memory is left")
+}
+
+/// Counts a packet that is not refused. Stops the test if there is no room for it.
 pub(crate) fn judge(
+    rt: &impl Abort,
     summary: &mut Summary,
     protocol: Protocol,
     verdict: VerdictKind,
     flow: Option<Flow>,
     info: CaptureInfo,
-) -> Result<(), Fail> {
+) {
+    expect_ok(rt, try_judge(summary, protocol, verdict, flow, info));
+}
+
+/// Counts a packet that is not refused.
+fn try_judge(
+    summary: &mut Summary,
+    protocol: Protocol,
+    verdict: VerdictKind,
+    flow: Option<Flow>,
+    info: CaptureInfo,
+) -> Result<(), &'static str> {
     if summary.packets() == u64::MAX {
-        return Err("too many packets".into());
+        return Err("too many packets");
     }
     if let VerdictKind::Refused = verdict {
-        return Err("a refused packet".into());
+        return Err("a refused packet");
     }
-    summary.add(protocol, verdict, None, flow, &info)?;
-    Ok(())
+    let added = summary.add(protocol, verdict, None, flow, &info);
+    added.ok().ok_or("no memory is left")
 }
 
 /// Counts a packet of a flow whose checksum is right.
-fn judge_flow(summary: &mut Summary, flow: Flow, len: u64) -> Result<(), Fail> {
-    judge(summary, UDP, VerdictKind::Right, Some(flow), info_of(len))
+fn judge_flow(rt: &impl Abort, summary: &mut Summary, flow: Flow, len: u64) {
+    let info = info_of(len);
+    judge(rt, summary, UDP, VerdictKind::Right, Some(flow), info);
 }
 
 /// Counts packets of a right checksum of the conversation of a flow, each of this many bytes. Each second one goes back.
-fn judge_many(summary: &mut Summary, number: u32, packets: u32, len: u64) -> Result<(), Fail> {
+fn judge_many(rt: &impl Abort, summary: &mut Summary, number: u32, packets: u32, len: u64) {
     let there = flow_from(number);
     let back = there.reversed();
     for packet in 0..packets {
         let flow = if packet % 2 == 0 { there } else { back };
-        judge_flow(summary, flow, len)?;
+        judge_flow(rt, summary, flow, len);
     }
-    Ok(())
 }
 
-/// Packets that are not refused, each with whether it has ports.
+/// A protocol, a verdict, and whether the packet has ports.
+type JudgedRow = (Protocol, VerdictKind, bool);
+
+/// Packets that are not refused.
 #[rattlefmt::skip]
-const JUDGED: [(Protocol, VerdictKind, bool); 13] = [
+static JUDGED: [JudgedRow; 13] = [
     (UDP, VerdictKind::Right, true),
     (UDP, VerdictKind::Absent, true),
     (TCP, VerdictKind::Wrong, true),
@@ -119,19 +145,23 @@ const JUDGED: [(Protocol, VerdictKind, bool); 13] = [
     (Protocol::Unknown, VerdictKind::TooLong, false),
 ];
 
-/// Counts these packets, each of 100 bytes.
-fn judge_each(summary: &mut Summary) -> Result<(), Fail> {
-    let there = flow_from(1);
-    for (protocol, verdict, has_ports) in &JUDGED {
-        let flow = if *has_ports { Some(there) } else { None };
-        judge(summary, *protocol, *verdict, flow, info_of(100))?;
+/// Counts the packet of a row, of 100 bytes.
+fn judge_row(rt: &impl Abort, summary: &mut Summary, row: &JudgedRow) {
+    let (protocol, verdict, has_ports) = *row;
+    let flow = if has_ports { Some(flow_from(1)) } else { None };
+    judge(rt, summary, protocol, verdict, flow, info_of(100));
+}
+
+/// Counts these packets.
+fn judge_each(rt: &impl Abort, summary: &mut Summary) {
+    for row in &JUDGED {
+        judge_row(rt, summary, row);
     }
-    Ok(())
 }
 
 /// Why packets of 60 bytes are refused.
 #[rattlefmt::skip]
-const REFUSED: [RefusalKind; 13] = [
+static REFUSED: [RefusalKind; 13] = [
     RefusalKind::LinkHeader,
     RefusalKind::IpHeaderCutOff,
     RefusalKind::IpVersion,
@@ -147,16 +177,15 @@ const REFUSED: [RefusalKind; 13] = [
     RefusalKind::TcpDataOffset,
 ];
 
-fn refuse_each(summary: &mut Summary) -> Result<(), Fail> {
+fn refuse_each(rt: &impl Abort, summary: &mut Summary) {
     for refusal in &REFUSED {
-        refuse(summary, Protocol::Unknown, *refusal, info_of(60))?;
+        refuse(rt, summary, Protocol::Unknown, *refusal, info_of(60));
     }
-    Ok(())
 }
 
 /// How many packets and bytes each protocol has.
 #[rattlefmt::skip]
-const OF_PROTOCOLS: [(Protocol, u64, u64); 9] = [
+static OF_PROTOCOLS: [(Protocol, u64, u64); 9] = [
     (UDP, 2, 200),
     (TCP, 4, 400),
     (ICMPV4, 1, 100),
@@ -175,13 +204,13 @@ fn expect_protocols(rt: &impl Abort, summary: &Summary) {
             bytes: *bytes,
         };
         let count = summary.protocol(*protocol);
-        expect_equal(rt, &(protocol, count), &(protocol, expected));
+        expect_at(rt, protocol, &count, &expected);
     }
 }
 
 /// How many packets have each verdict.
 #[rattlefmt::skip]
-const OF_VERDICTS: [(VerdictKind, u64); 11] = [
+static OF_VERDICTS: [(VerdictKind, u64); 11] = [
     (VerdictKind::Right, 2),
     (VerdictKind::Wrong, 1),
     (VerdictKind::Partial, 1),
@@ -198,13 +227,13 @@ const OF_VERDICTS: [(VerdictKind, u64); 11] = [
 fn expect_verdicts(rt: &impl Abort, summary: &Summary) {
     for (verdict, packets) in &OF_VERDICTS {
         let count = summary.verdict(*verdict);
-        expect_equal(rt, &(verdict, count), &(verdict, *packets));
+        expect_at(rt, verdict, &count, packets);
     }
 }
 
 /// How many packets are refused for these reasons.
 #[rattlefmt::skip]
-const OF_REFUSALS: [(RefusalKind, u64); 5] = [
+static OF_REFUSALS: [(RefusalKind, u64); 5] = [
     (RefusalKind::LinkHeader, 1),
     (RefusalKind::IpVersion, 1),
     (RefusalKind::TcpLength, 1),
@@ -215,7 +244,7 @@ const OF_REFUSALS: [(RefusalKind, u64); 5] = [
 fn expect_refusals(rt: &impl Abort, summary: &Summary) {
     for (refusal, packets) in &OF_REFUSALS {
         let count = summary.refusal(*refusal);
-        expect_equal(rt, &(refusal, count), &(refusal, *packets));
+        expect_at(rt, refusal, &count, packets);
     }
 }
 
@@ -361,23 +390,32 @@ fn expect_rows(rt: &impl Abort, summary: &Summary) {
     expect_equal(rt, &summary.refusals(), &REFUSAL_ROWS);
 }
 
-/// The number of conversations, and the counts of packets without ports and of those that found no room.
-fn expect_flows(rt: &impl Abort, summary: &Summary, expected: (usize, Count, Count)) {
+/// Stops the test unless these are the number of conversations, and the counts of packets without ports and of those that found no room.
+fn expect_flows(
+    rt: &impl Abort,
+    summary: &Summary,
+    conversations: usize,
+    without_ports: Count,
+    without_room: Count,
+) {
     let flows = summary.flows();
-    let counts = (
-        flows.counts().len(),
-        flows.without_ports(),
-        flows.without_room(),
-    );
-    expect_equal(rt, &counts, &expected);
+    expect_equal(rt, &flows.counts().len(), &conversations);
+    expect_equal(rt, &flows.without_ports(), &without_ports);
+    expect_equal(rt, &flows.without_room(), &without_room);
+}
+
+/// A summary of no packet.
+pub(crate) fn new_summary(rt: &(impl Abort + AllocGlobal + RandomSource)) -> Summary {
+    Summary::new(rt.alloc(), expect_ok(rt, RandomState::new(rt)))
 }
 
 #[test]
-fn each_packet_is_counted_once_in_each_table(rt: HostRuntime) -> Result<(), Fail> {
-    let mut summary = Summary::new(rt.alloc(), RandomState::new(&rt)?);
-    judge_each(&mut summary)?;
-    refuse_each(&mut summary)?;
-    expect_equal(&rt, &(summary.packets(), summary.bytes()), &(26, 2080));
+fn each_packet_is_counted_once_in_each_table(rt: HostRuntime) {
+    let mut summary = new_summary(&rt);
+    judge_each(&rt, &mut summary);
+    refuse_each(&rt, &mut summary);
+    expect_equal(&rt, &summary.packets(), &26);
+    expect_equal(&rt, &summary.bytes(), &2080);
     expect_protocols(&rt, &summary);
     expect_verdicts(&rt, &summary);
     expect_refusals(&rt, &summary);
@@ -386,8 +424,7 @@ fn each_packet_is_counted_once_in_each_table(rt: HostRuntime) -> Result<(), Fail
         packets: 20,
         bytes: 1480,
     };
-    expect_flows(&rt, &summary, (1, without_ports, Count::NONE));
-    Ok(())
+    expect_flows(&rt, &summary, 1, without_ports, Count::NONE);
 }
 
 /// This many packets, with more bytes than can be counted.
@@ -398,41 +435,40 @@ fn saturated(packets: u64) -> Count {
     }
 }
 
-#[test]
-fn conversations_over_the_limit_find_no_room(rt: HostRuntime) -> Result<(), Fail> {
-    let mut summary = Summary::new(rt.alloc(), RandomState::new(&rt)?);
+/// Counts more conversations than there is room for. Then it counts two packets of conversations that have a row of their own, and one of
+/// a conversation that has none.
+fn judge_too_many(rt: &impl Abort, summary: &mut Summary) {
     for number in 0..65_540 {
-        judge_many(&mut summary, number, 1, 100)?;
+        judge_many(rt, summary, number, 1, 100);
     }
-    // Conversations that have a row of their own, and one that has none.
-    for number in [0, 65_535, 65_536] {
-        judge_many(&mut summary, number, 1, u64::MAX)?;
-    }
-    expect_flows(
-        &rt,
-        &summary,
-        (MAX_CONVERSATIONS, Count::NONE, saturated(5)),
-    );
+    judge_many(rt, summary, 0, 1, u64::MAX);
+    judge_many(rt, summary, 65_535, 1, u64::MAX);
+    judge_many(rt, summary, 65_536, 1, u64::MAX);
+}
+
+/// Stops the test unless this is the row of the conversation of the flow with this number, which has two packets.
+fn expect_row(rt: &impl Abort, row: Option<&ConversationCount>, number: u32) {
+    let row = expect_some(rt, row);
+    expect_equal(rt, &row.flow, &flow_from(number));
+    expect_equal(rt, &row.forward, &saturated(2));
+}
+
+#[test]
+fn conversations_over_the_limit_find_no_room(rt: HostRuntime) {
+    let mut summary = new_summary(&rt);
+    judge_too_many(&rt, &mut summary);
+    let without_room = saturated(5);
+    expect_flows(&rt, &summary, MAX_CONVERSATIONS, Count::NONE, without_room);
     let flows = summary.flows();
-    expect_equal(
-        &rt,
-        &(summary.packets(), flows.packets()),
-        &(65_543, 65_543),
-    );
+    expect_equal(&rt, &summary.packets(), &65_543);
+    expect_equal(&rt, &flows.packets(), &65_543);
     let rows = flows.counts();
-    for (row, number) in [(rows.first(), 0), (rows.last(), 65_535)] {
-        let row = row.ok_or("no flow")?;
-        expect_equal(
-            &rt,
-            &(row.flow, row.forward),
-            &(flow_from(number), saturated(2)),
-        );
-    }
-    Ok(())
+    expect_row(&rt, rows.first(), 0);
+    expect_row(&rt, rows.last(), 65_535);
 }
 
 /// The number of a flow, the packets of its conversation, and how many bytes each packet has.
-const CONVERSATIONS: [(u32, u32, u64); 12] = [
+static CONVERSATIONS: [(u32, u32, u64); 12] = [
     (1, 1, 900),
     (2, 3, 40),
     (3, 3, 50),
@@ -447,33 +483,31 @@ const CONVERSATIONS: [(u32, u32, u64); 12] = [
     (12, 1, 900),
 ];
 
+/// How many conversations are asked for, and how many there are.
+static TOPS: [(usize, usize); 5] = [(0, 0), (1, 1), (10, 10), (11, 11), (100, 12)];
+
 #[test]
-fn the_busiest_conversations_come_first(rt: HostRuntime) -> Result<(), Fail> {
-    let mut summary = Summary::new(rt.alloc(), RandomState::new(&rt)?);
-    expect_busiest(&rt, &summary, 10, 0)?;
+fn the_busiest_conversations_come_first(rt: HostRuntime) {
+    let mut summary = new_summary(&rt);
+    expect_busiest(&rt, &summary, 10, 0);
     for (number, packets, len) in &CONVERSATIONS {
-        judge_many(&mut summary, *number, *packets, *len)?;
+        judge_many(&rt, &mut summary, *number, *packets, *len);
     }
-    // How many are asked for, and how many there are.
-    for (top, len) in [(0, 0), (1, 1), (10, 10), (11, 11), (100, 12)] {
-        expect_busiest(&rt, &summary, top, len)?;
+    for (top, len) in &TOPS {
+        expect_busiest(&rt, &summary, *top, *len);
     }
-    Ok(())
 }
 
+/// The numbers of the flows, the busiest first.
+static BUSIEST: [u32; 12] = [11, 5, 9, 3, 4, 2, 7, 6, 10, 1, 8, 12];
+
 /// Stops the test unless this many conversations are found if `top` are asked for, the busiest first.
-fn expect_busiest(
-    rt: &(impl Abort + AllocGlobal),
-    summary: &Summary,
-    top: usize,
-    len: usize,
-) -> Result<(), Fail> {
-    let busiest = summary.flows().busiest(rt.alloc(), top)?;
+fn expect_busiest(rt: &(impl Abort + AllocGlobal), summary: &Summary, top: usize, len: usize) {
+    let busiest = expect_ok(rt, summary.flows().busiest(rt.alloc(), top));
     expect_equal(rt, &busiest.len(), &len);
-    for (row, number) in busiest.iter().zip([11, 5, 9, 3, 4, 2, 7, 6, 10, 1, 8, 12]) {
-        expect_equal(rt, &row.flow, &flow_from(number));
+    for (row, number) in busiest.iter().zip(&BUSIEST) {
+        expect_equal(rt, &row.flow, &flow_from(*number));
     }
-    Ok(())
 }
 
 const OVER_UDP: FlowProtocol = FlowProtocol::Udp;
@@ -485,7 +519,7 @@ const CLIENT: End = (7, 4660);
 const HIGHEST: End = (0xFFFF_FFFF, 4660);
 
 /// Packets: from where to where, and their bytes. Another port or another protocol is another conversation.
-const DIRECTIONS: [(FlowProtocol, End, End, u64); 13] = [
+static DIRECTIONS: [(FlowProtocol, End, End, u64); 13] = [
     (OVER_UDP, CLIENT, SERVER, 100),
     (OVER_UDP, SERVER, CLIENT, 40),
     (OVER_TCP, SERVER, CLIENT, 7),
@@ -501,8 +535,11 @@ const DIRECTIONS: [(FlowProtocol, End, End, u64); 13] = [
     (OVER_UDP, SERVER, CLIENT, 42),
 ];
 
-/// The direction of each conversation that is seen first, and the packets and bytes of each direction.
-const BOTH_WAYS: [(FlowProtocol, End, End, (u64, u64), (u64, u64)); 6] = [
+/// The direction of a conversation that is seen first, and the packets and bytes of each direction.
+type BothWaysRow = (FlowProtocol, End, End, (u64, u64), (u64, u64));
+
+/// The conversations of these packets.
+static BOTH_WAYS: [BothWaysRow; 6] = [
     (OVER_UDP, CLIENT, SERVER, (2, 200), (3, 123)),
     (OVER_TCP, SERVER, CLIENT, (1, 7), (1, 11)),
     (OVER_UDP, HIGHEST, SERVER, (1, 20), (1, 30)),
@@ -511,19 +548,29 @@ const BOTH_WAYS: [(FlowProtocol, End, End, (u64, u64), (u64, u64)); 6] = [
     (OVER_UDP, CLIENT, CLIENT, (2, 20), (0, 0)),
 ];
 
+/// Stops the test unless a conversation is the one of a row.
+fn expect_both_ways(rt: &impl Abort, count: &ConversationCount, row: &BothWaysRow) {
+    let (protocol, source, destination, forward, reverse) = *row;
+    expect_equal(rt, &count.flow, &flow(protocol, source, destination));
+    expect_equal(rt, &count.forward, &count_of(forward));
+    expect_equal(rt, &count.reverse, &count_of(reverse));
+}
+
+/// A count of these packets and bytes.
+fn count_of((packets, bytes): (u64, u64)) -> Count {
+    Count { packets, bytes }
+}
+
 #[test]
-fn the_two_directions_are_one_conversation(rt: HostRuntime) -> Result<(), Fail> {
-    let mut summary = Summary::new(rt.alloc(), RandomState::new(&rt)?);
+fn the_two_directions_are_one_conversation(rt: HostRuntime) {
+    let mut summary = new_summary(&rt);
     for (protocol, source, destination, len) in &DIRECTIONS {
-        judge_flow(&mut summary, flow(*protocol, *source, *destination), *len)?;
+        let flow = flow(*protocol, *source, *destination);
+        judge_flow(&rt, &mut summary, flow, *len);
     }
     let counts = summary.flows().counts();
     expect_equal(&rt, &counts.len(), &BOTH_WAYS.len());
-    for (row, expected) in counts.iter().zip(&BOTH_WAYS) {
-        let (protocol, source, destination, forward, reverse) = *expected;
-        expect_equal(&rt, &row.flow, &flow(protocol, source, destination));
-        expect_equal(&rt, &(row.forward.packets, row.forward.bytes), &forward);
-        expect_equal(&rt, &(row.reverse.packets, row.reverse.bytes), &reverse);
+    for (count, row) in counts.iter().zip(&BOTH_WAYS) {
+        expect_both_ways(&rt, count, row);
     }
-    Ok(())
 }

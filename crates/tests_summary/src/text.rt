@@ -7,7 +7,7 @@ mod summary;
 mod tcp;
 mod times;
 
-use crate::expect::expect_text;
+use crate::expect::{expect_ok, expect_texts};
 use capture_file::PacketTime;
 use capture_file::pcapng::TimeResolution;
 use capture_packet::{Content, Packet, Transport, Verdict};
@@ -18,7 +18,6 @@ use etherparse_transport::ip::{IpAddresses, proto_over};
 use etherparse_transport::{ChecksumVerdict, IpNumber};
 use std::net::{IpAddr, SocketAddr};
 use std::process::Abort;
-use std::test::Fail;
 
 /// 192.0.2.1 and 192.0.2.2.
 const OVER_IPV4: IpAddresses = IpAddresses::Ipv4 {
@@ -46,50 +45,44 @@ const WHOLE: FrameLen = FrameLen {
     captured: 60,
 };
 
-/// Stops the test unless the three texts together are the first line of a capture, of a packet in no tunnel, after the length of its frame.
-fn expect_line(
-    rt: &(impl Abort + AllocGlobal),
-    content: Content,
-    verdict: Verdict,
-    wanted: [&str; 3],
-) -> Result<(), Fail> {
-    expect_line_of(rt, &Packet::in_no_tunnel(content, verdict), wanted)
+/// What the first line of a capture begins with if its frame was captured whole.
+const START: &str = "1 00:00:00.000000 length 60: ";
+
+/// The first line of a capture, of this packet in a frame of this length.
+fn line_of(rt: &(impl Abort + AllocGlobal), len: Option<FrameLen>, packet: &Packet<'_>) -> Vec<u8> {
+    let time = Some(FIRST);
+    let times = Times::SinceFirst;
+    let mut line = Vec::new(rt.alloc());
+    let written = write_packet_line(&mut line, times, false, 1, time, time, len, packet);
+    expect_ok(rt, written);
+    line
 }
 
 /// Stops the test unless the three texts together are the first line of a capture, of this packet, after the length of its frame.
-fn expect_line_of(
-    rt: &(impl Abort + AllocGlobal),
-    packet: &Packet,
-    wanted: [&str; 3],
-) -> Result<(), Fail> {
+fn expect_line_of(rt: &(impl Abort + AllocGlobal), packet: &Packet<'_>, wanted: [&str; 3]) {
     let [before, wanted, after] = wanted;
-    let wanted = format!(in rt.alloc(); "length 60: {before}{wanted}{after}")?;
-    expect_line_of_length(rt, Some(WHOLE), packet, &wanted)
+    let line = line_of(rt, Some(WHOLE), packet);
+    expect_texts(rt, &line, &[START, before, wanted, after, "\n"]);
 }
 
-/// Stops the test unless this is the first line of a capture, of this packet in a frame of this length, after its time.
-fn expect_line_of_length(
+/// Stops the test unless the three texts together are the first line of a capture, of a packet in no tunnel, after the length of its frame.
+fn expect_line(
     rt: &(impl Abort + AllocGlobal),
-    len: Option<FrameLen>,
-    packet: &Packet,
-    wanted: &str,
-) -> Result<(), Fail> {
-    let time = Some(FIRST);
-    let mut line = Vec::new(rt.alloc());
-    let times = Times::SinceFirst;
-    write_packet_line(&mut line, times, false, 1, time, time, len, packet)?;
-    let wanted = format!(in rt.alloc(); "1 00:00:00.000000 {wanted}\n")?;
-    expect_text(rt, line, &wanted)
+    content: Content<'_>,
+    verdict: Verdict,
+    wanted: [&str; 3],
+) {
+    expect_line_of(rt, &Packet::in_no_tunnel(content, verdict), wanted);
 }
 
 /// Stops the test unless the three texts together are what is written of an IP packet with this transport, whose checksum is right.
 fn expect_transport(
     rt: &(impl Abort + AllocGlobal),
-    addresses: IpAddresses,
+    addresses: IpAddresses<'_>,
     protocol: IpNumber,
-    transport: Transport,
+    transport: Transport<'_>,
     wanted: [&str; 3],
-) -> Result<(), Fail> {
+) {
     let content = Content::Ip {
         addresses,
         protocol,
@@ -97,19 +90,16 @@ fn expect_transport(
         payload_len: transport.payload().len(),
         transport,
     };
-    let [before, wanted, after] = wanted;
-    let after = format!(in rt.alloc(); "{after}; checksum right")?;
     let verdict = Verdict::Checksum(ChecksumVerdict::Right);
-    expect_line(rt, content, verdict, [before, wanted, &after])
+    let [before, wanted, after] = wanted;
+    let line = line_of(rt, Some(WHOLE), &Packet::in_no_tunnel(content, verdict));
+    let end = "; checksum right\n";
+    expect_texts(rt, &line, &[START, before, wanted, after, end]);
 }
 
 /// Stops the test unless the three texts together are what is written of this verdict on a packet that is not read.
-fn expect_verdict(
-    rt: &(impl Abort + AllocGlobal),
-    verdict: Verdict,
-    wanted: [&str; 3],
-) -> Result<(), Fail> {
-    expect_line(rt, Content::Unread, verdict, wanted)
+fn expect_verdict(rt: &(impl Abort + AllocGlobal), verdict: Verdict, wanted: [&str; 3]) {
+    expect_line(rt, Content::Unread, verdict, wanted);
 }
 
 /// The flow of UDP from 192.0.2.1, port 49152, to 192.0.2.2, port 53.

@@ -1,4 +1,4 @@
-use crate::expect::expect_text;
+use crate::expect::{expect_ok, expect_some, expect_text};
 use capture_facts::write_facts;
 use capture_file::ByteOrder;
 use capture_file::classic::{CaptureHeader, Resolution};
@@ -6,81 +6,98 @@ use capture_file::pcapng::{InterfaceDescription, TimeResolution};
 use capture_file::reader::{CaptureReader, ClassicReader, PcapngReader, Section};
 use capture_texts::FileTexts;
 use std::process::Abort;
-use std::test::Fail;
 
 /// Stops the test unless this text shows what the capture is.
-fn expect_facts(
-    rt: &(impl Abort + AllocGlobal),
-    capture: &Option<CaptureReader>,
-    wanted: &str,
-) -> Result<(), Fail> {
+fn expect_facts(rt: &(impl Abort + AllocGlobal), capture: &Option<CaptureReader>, wanted: &str) {
     let mut text = Vec::new(rt.alloc());
-    write_facts(&mut text, capture)?;
-    expect_text(rt, text, wanted)
+    expect_ok(rt, write_facts(&mut text, capture));
+    expect_text(rt, &text, wanted);
 }
 
 /// The byte order, the resolution and the snap length of a classic capture, and its text.
+type ClassicRow = (ByteOrder, Resolution, u32, &'static str);
+
 #[rattlefmt::skip]
-const CLASSIC: [(ByteOrder, Resolution, u32, &str); 2] = [
+static CLASSIC: [ClassicRow; 2] = [
     (ByteOrder::BigEndian, Resolution::Microseconds, 0,
      "file type classic, byte order big-endian, snap length 0, time resolution 10^-6 s\n"),
     (ByteOrder::LittleEndian, Resolution::Nanoseconds, u32::MAX,
      "file type classic, byte order little-endian, snap length 4294967295, time resolution 10^-9 s\n"),
 ];
 
+/// Stops the test unless the capture of a row has the text of the row.
+fn expect_classic(rt: &(impl Abort + AllocGlobal), row: &ClassicRow) {
+    let (byte_order, resolution, snap_len, wanted) = *row;
+    let header = CaptureHeader {
+        byte_order,
+        resolution,
+        snap_len,
+        link_type: Err(147),
+    };
+    let capture = Some(CaptureReader::Classic(ClassicReader::new(header)));
+    expect_facts(rt, &capture, wanted);
+}
+
 #[test]
-fn what_a_classic_capture_is(rt: HostRuntime) -> Result<(), Fail> {
-    expect_facts(&rt, &None, "")?;
-    for (byte_order, resolution, snap_len, wanted) in &CLASSIC {
-        let header = CaptureHeader {
-            byte_order: *byte_order,
-            resolution: *resolution,
-            snap_len: *snap_len,
-            link_type: Err(147),
-        };
-        let capture = Some(CaptureReader::Classic(ClassicReader::new(header)));
-        expect_facts(&rt, &capture, wanted)?;
+fn what_a_classic_capture_is(rt: HostRuntime) {
+    expect_facts(&rt, &None, "");
+    for row in &CLASSIC {
+        expect_classic(&rt, row);
     }
-    Ok(())
 }
 
 /// The lines of a section with no interface, one and two.
-const OF_SECTIONS: [&str; 3] = [
+static OF_SECTIONS: [&str; 3] = [
     "file type pcapng, byte order big-endian, interfaces 0\n",
     "file type pcapng, byte order big-endian, interfaces 1\ninterface 0, snap length 0, time resolution 10^-0 s\n",
     "file type pcapng, byte order big-endian, interfaces 2\ninterface 0, snap length 0, time resolution 10^-0 s\ninterface 1, snap length 96, time resolution 2^-127 s\n",
 ];
 
 /// The snap length and the resolution of each interface.
-const INTERFACES: [(u32, TimeResolution); 2] = [
+static INTERFACES: [(u32, TimeResolution); 2] = [
     (0, TimeResolution::PowerOfTen(0)),
     (96, TimeResolution::PowerOfTwo(127)),
 ];
 
-#[test]
-fn what_a_pcapng_file_is(rt: HostRuntime) -> Result<(), Fail> {
-    for (count, wanted) in OF_SECTIONS.iter().enumerate() {
-        let mut section = Section::new(ByteOrder::BigEndian);
-        for (snap_len, time_resolution) in INTERFACES.iter().take(count) {
-            let interface = InterfaceDescription {
-                snap_len: *snap_len,
-                time_resolution: *time_resolution,
-                ..InterfaceDescription::default()
-            };
-            section
-                .interfaces
-                .try_push(interface)
-                .ok()
-                .ok_or("no room")?;
-        }
-        let capture = Some(CaptureReader::Pcapng(PcapngReader {
-            section,
-            offset: 28,
-            texts: FileTexts::new(),
-        }));
-        expect_facts(&rt, &capture, wanted)?;
+/// Appends an interface to a section.
+fn push_interface(
+    rt: &impl Abort,
+    section: &mut Section,
+    snap_len: u32,
+    time_resolution: TimeResolution,
+) {
+    let interface = InterfaceDescription {
+        snap_len,
+        time_resolution,
+        ..InterfaceDescription::default()
+    };
+    expect_some(rt, section.interfaces.try_push(interface).ok());
+}
+
+/// Stops the test unless this text shows a file with this section.
+fn expect_file(rt: &(impl Abort + AllocGlobal), section: Section, texts: FileTexts, wanted: &str) {
+    let reader = PcapngReader {
+        section,
+        offset: 28,
+        texts,
+    };
+    expect_facts(rt, &Some(CaptureReader::Pcapng(reader)), wanted);
+}
+
+/// A section with the first of `INTERFACES`.
+fn section_of(rt: &impl Abort, count: usize) -> Section {
+    let mut section = Section::new(ByteOrder::BigEndian);
+    for (snap_len, time_resolution) in INTERFACES.iter().take(count) {
+        push_interface(rt, &mut section, *snap_len, *time_resolution);
     }
-    Ok(())
+    section
+}
+
+#[test]
+fn what_a_pcapng_file_is(rt: HostRuntime) {
+    for (count, wanted) in OF_SECTIONS.iter().enumerate() {
+        expect_file(&rt, section_of(&rt, count), FileTexts::new(), wanted);
+    }
 }
 
 /// The type of a section header block, and of an interface description block.
@@ -114,21 +131,12 @@ const OF_TEXTS: &str =
     "file type pcapng, byte order little-endian, interfaces 1\napplication dump\noperating system Linux\nhardware x\\xE9\ncomment a\\x1Bb\ninterface 0, snap length 262144, time resolution 10^-6 s\ninterface 0 name eth0\ninterface 0 description LAN\ninterface 0 comment \u{E9}\n";
 
 #[test]
-fn texts_of_a_pcapng_file(rt: HostRuntime) -> Result<(), Fail> {
+fn texts_of_a_pcapng_file(rt: HostRuntime) {
     let mut section = Section::new(ByteOrder::LittleEndian);
-    let interface = InterfaceDescription {
-        snap_len: 262_144,
-        ..InterfaceDescription::default()
-    };
-    let pushed = section.interfaces.try_push(interface);
-    pushed.ok().ok_or("no room")?;
+    let microseconds = TimeResolution::PowerOfTen(6);
+    push_interface(&rt, &mut section, 262_144, microseconds);
     let mut texts = FileTexts::new();
     texts.note(ByteOrder::LittleEndian, SECTION_HEADER, &SECTION);
     texts.note(ByteOrder::LittleEndian, INTERFACE_DESCRIPTION, &INTERFACE);
-    let capture = Some(CaptureReader::Pcapng(PcapngReader {
-        section,
-        offset: 28,
-        texts,
-    }));
-    expect_facts(&rt, &capture, OF_TEXTS)
+    expect_file(&rt, section, texts, OF_TEXTS);
 }

@@ -1,7 +1,8 @@
 use super::{OVER_IPV4, OVER_IPV6, expect_transport};
+use crate::expect::expect_ok;
 use capture_packet::Transport;
 use etherparse_transport::{Icmpv4Slice, Icmpv6Slice, TransportSlice, ip_number};
-use std::test::Fail;
+use std::process::Abort;
 
 /// ICMPv4 messages, and what is written of each.
 #[rattlefmt::skip]
@@ -44,14 +45,19 @@ const ICMPV4_MESSAGES: [(&[u8], &str); 25] = [
      "echo request, code 0, identifier 1, sequence number 2, payload 20"),
 ];
 
+/// Stops the test unless this is what is written of an ICMPv4 message.
+fn expect_icmpv4(rt: &(impl Abort + AllocGlobal), message: &[u8], wanted: &str) {
+    let message = expect_ok(rt, Icmpv4Slice::from_slice(message));
+    let transport = Transport::Read(TransportSlice::Icmpv4(message));
+    let wanted = ["192.0.2.1 > 192.0.2.2 ICMPv4 ", wanted, ""];
+    expect_transport(rt, OVER_IPV4, ip_number::ICMP, transport, wanted);
+}
+
 #[test]
-fn messages_of_icmpv4(rt: HostRuntime) -> Result<(), Fail> {
+fn messages_of_icmpv4(rt: HostRuntime) {
     for (message, wanted) in &ICMPV4_MESSAGES {
-        let transport = Transport::Read(TransportSlice::Icmpv4(Icmpv4Slice::from_slice(message)?));
-        let wanted = ["192.0.2.1 > 192.0.2.2 ICMPv4 ", wanted, ""];
-        expect_transport(&rt, OVER_IPV4, ip_number::ICMP, transport, wanted)?;
+        expect_icmpv4(&rt, message, wanted);
     }
-    Ok(())
 }
 
 /// ICMPv6 messages, and what is written of each.
@@ -87,12 +93,17 @@ const ICMPV6_MESSAGES: [(&[u8], &str); 22] = [
     (&[42, 0, 9, 9, 1, 2, 0xAB, 0xCD], "type 42, code 0, bytes 5 to 8 0102ABCD, payload 0"),
 ];
 
+/// Stops the test unless this is what is written of an ICMPv6 message.
+fn expect_icmpv6(rt: &(impl Abort + AllocGlobal), message: &[u8], wanted: &str) {
+    let message = expect_ok(rt, Icmpv6Slice::from_slice(message));
+    let transport = Transport::Read(TransportSlice::Icmpv6(message));
+    let wanted = ["2001:db8::1 > 2001:db8::2 ICMPv6 ", wanted, ""];
+    expect_transport(rt, OVER_IPV6, ip_number::IPV6_ICMP, transport, wanted);
+}
+
 #[test]
-fn messages_of_icmpv6(rt: HostRuntime) -> Result<(), Fail> {
+fn messages_of_icmpv6(rt: HostRuntime) {
     for (message, wanted) in &ICMPV6_MESSAGES {
-        let transport = Transport::Read(TransportSlice::Icmpv6(Icmpv6Slice::from_slice(message)?));
-        let wanted = ["2001:db8::1 > 2001:db8::2 ICMPv6 ", wanted, ""];
-        expect_transport(&rt, OVER_IPV6, ip_number::IPV6_ICMP, transport, wanted)?;
+        expect_icmpv6(&rt, message, wanted);
     }
-    Ok(())
 }

@@ -1,8 +1,7 @@
 use super::{
-    OVER_IPV4, OVER_IPV6, expect_line, expect_line_of, expect_line_of_length, expect_transport,
-    expect_verdict,
+    OVER_IPV4, OVER_IPV6, expect_line, expect_line_of, expect_transport, expect_verdict, line_of,
 };
-use crate::expect::expect_text;
+use crate::expect::{expect_ok, expect_some, expect_text, expect_texts};
 use capture_link::LinkHeaderCutOff;
 use capture_packet::{
     Content, HopLimit, NetworkProtocol, Packet, Refusal, Transport, Tunnel, Verdict,
@@ -16,7 +15,7 @@ use etherparse_transport::ip::{IpAddresses, IpError};
 use etherparse_transport::{
     ChecksumVerdict, IpNumber, Proto, TransportSlice, UdpSlice, Untested, ip_number,
 };
-use std::test::Fail;
+use std::process::Abort;
 
 /// A UDP datagram from port 49152 to port 53, of 9 bytes.
 const DATAGRAM: [u8; 9] = [0xC0, 0, 0, 53, 0, 9, 0, 0, 7];
@@ -28,34 +27,38 @@ const PORTS: [u8; 5] = [0, 53, 15, 160, 7];
 const UNREAD: [u8; 3] = [1, 2, 3];
 
 /// These bytes as a transport. Their length tells which of the three they are.
-fn transport_of(bytes: &[u8]) -> Result<Transport<'_>, Fail> {
-    Ok(match bytes.len() {
-        9 => Transport::Read(TransportSlice::Udp(UdpSlice::from_slice(bytes)?)),
+fn transport_of<'a>(rt: &impl Abort, bytes: &'a [u8]) -> Transport<'a> {
+    match bytes.len() {
+        9 => Transport::Read(TransportSlice::Udp(expect_ok(rt, UdpSlice::from_slice(bytes)))),
         5 => Transport::Ports {
             source: 53,
             destination: 4000,
             payload: bytes,
         },
         _ => Transport::Unread(bytes),
-    })
+    }
 }
 
-#[test]
-fn whole_lines(rt: HostRuntime) -> Result<(), Fail> {
-    let content = Content::Ip {
+/// The datagram over IPv4, with a payload of this length.
+fn datagram_over_ipv4(rt: &impl Abort, payload_len: usize) -> Content<'static> {
+    Content::Ip {
         addresses: OVER_IPV4,
         protocol: ip_number::UDP,
         proto: Some(Proto::Udp),
-        transport: transport_of(&DATAGRAM)?,
-        payload_len: 1,
-    };
+        transport: transport_of(rt, &DATAGRAM),
+        payload_len,
+    }
+}
+
+#[test]
+fn whole_lines(rt: HostRuntime) {
     let wanted = [
         "192.0.2.1:49152 > 192.0.2.2:53 ",
         "UDP length 9, payload 1",
         "; checksum wrong, 1A2B expected",
     ];
     let verdict = Verdict::Checksum(ChecksumVerdict::Wrong { expected: 0x1A2B });
-    expect_line(&rt, content, verdict, wanted)
+    expect_line(&rt, datagram_over_ipv4(&rt, 1), verdict, wanted);
 }
 
 /// The tunnels of a packet, and what is written of them.
@@ -68,24 +71,30 @@ static TUNNELS: [(&[(IpAddresses, u8)], &str); 5] = [
     (&[(OVER_IPV4, 47), (OVER_IPV6, 4)], "192.0.2.1 > 192.0.2.2 GRE | 2001:db8::1 > 2001:db8::2 IPv4 | "),
 ];
 
-#[test]
-fn tunnels(rt: HostRuntime) -> Result<(), Fail> {
-    for (tunnels, wanted) in &TUNNELS {
-        let mut packet = Packet::in_no_tunnel(
-            Content::IpHeader(OVER_IPV4),
-            Verdict::untested(Untested::CutOff),
-        );
-        for (addresses, protocol) in *tunnels {
-            let tunnel = Tunnel {
-                addresses: *addresses,
-                protocol: IpNumber(*protocol),
-            };
-            packet.tunnels.try_push(tunnel).ok().ok_or("no room")?;
-        }
-        let end = "192.0.2.1 > 192.0.2.2; checksum not looked at: cut off";
-        expect_line_of(&rt, &packet, ["", wanted, end])?;
+/// Stops the test unless this is written of a packet in these tunnels.
+fn expect_tunnels(
+    rt: &(impl Abort + AllocGlobal),
+    tunnels: &[(IpAddresses<'static>, u8)],
+    wanted: &str,
+) {
+    let content = Content::IpHeader(OVER_IPV4);
+    let mut packet = Packet::in_no_tunnel(content, Verdict::untested(Untested::CutOff));
+    for (addresses, protocol) in tunnels {
+        let tunnel = Tunnel {
+            addresses: *addresses,
+            protocol: IpNumber(*protocol),
+        };
+        expect_some(rt, packet.tunnels.try_push(tunnel).ok());
     }
-    Ok(())
+    let end = "192.0.2.1 > 192.0.2.2; checksum not looked at: cut off";
+    expect_line_of(rt, &packet, ["", wanted, end]);
+}
+
+#[test]
+fn tunnels(rt: HostRuntime) {
+    for (tunnels, wanted) in &TUNNELS {
+        expect_tunnels(&rt, tunnels, wanted);
+    }
 }
 
 /// Protocols other than IP, and what is written of each.
@@ -106,25 +115,26 @@ const NETWORK_PROTOCOLS: [(NetworkProtocol, &str); 12] = [
 ];
 
 #[test]
-fn other_network_protocols(rt: HostRuntime) -> Result<(), Fail> {
+fn other_network_protocols(rt: HostRuntime) {
     for (protocol, wanted) in &NETWORK_PROTOCOLS {
         let verdict = Verdict::untested(Untested::OtherProtocol);
-        expect_line(&rt, Content::NotIp(*protocol), verdict, ["", wanted, ""])?;
+        expect_line(&rt, Content::NotIp(*protocol), verdict, ["", wanted, ""]);
     }
-    Ok(())
 }
 
+/// Addresses, and what is written of them.
+static OF_REFUSED: [(IpAddresses, &str); 2] = [
+    (OVER_IPV4, "192.0.2.1 > 192.0.2.2"),
+    (OVER_IPV6, "2001:db8::1 > 2001:db8::2"),
+];
+
 #[test]
-fn addresses_of_refused_packets(rt: HostRuntime) -> Result<(), Fail> {
-    for (addresses, wanted) in [
-        (OVER_IPV4, "192.0.2.1 > 192.0.2.2"),
-        (OVER_IPV6, "2001:db8::1 > 2001:db8::2"),
-    ] {
+fn addresses_of_refused_packets(rt: HostRuntime) {
+    for (addresses, wanted) in &OF_REFUSED {
         let verdict = Verdict::untested(Untested::CutOff);
         let wanted = ["", wanted, "; checksum not looked at: cut off"];
-        expect_line(&rt, Content::IpHeader(addresses), verdict, wanted)?;
+        expect_line(&rt, Content::IpHeader(*addresses), verdict, wanted);
     }
-    Ok(())
 }
 
 /// The unspecified address over IPv6, and a final destination that is not known.
@@ -134,8 +144,10 @@ const UNKNOWN: IpAddresses = IpAddresses::Ipv6 {
 };
 
 /// Addresses, the number of a protocol and the bytes of a transport, and what is written of them.
+type AddressesRow = (IpAddresses<'static>, u8, &'static [u8], &'static str);
+
 #[rattlefmt::skip]
-const ADDRESSES: [(IpAddresses, u8, &[u8], &str); 15] = [
+static ADDRESSES: [AddressesRow; 15] = [
     (OVER_IPV4, 17, &DATAGRAM, "192.0.2.1:49152 > 192.0.2.2:53 UDP length 9, payload 1"),
     (OVER_IPV6, 17, &DATAGRAM, "[2001:db8::1]:49152 > [2001:db8::2]:53 UDP length 9, payload 1"),
     (UNKNOWN, 17, &DATAGRAM, "[::]:49152 > unknown:53 UDP length 9, payload 1"),
@@ -153,36 +165,30 @@ const ADDRESSES: [(IpAddresses, u8, &[u8], &str); 15] = [
     (UNKNOWN, 6, &PORTS, "[::]:53 > unknown:4000 TCP, payload 5"),
 ];
 
-#[test]
-fn addresses_and_ports(rt: HostRuntime) -> Result<(), Fail> {
-    for (addresses, protocol, bytes, wanted) in &ADDRESSES {
-        let transport = transport_of(bytes)?;
-        expect_transport(
-            &rt,
-            *addresses,
-            IpNumber(*protocol),
-            transport,
-            ["", wanted, ""],
-        )?;
-    }
-    Ok(())
+/// Stops the test unless the addresses and the transport of a row are written as the row says.
+fn expect_addresses(rt: &(impl Abort + AllocGlobal), row: &AddressesRow) {
+    let (addresses, protocol, bytes, wanted) = *row;
+    let transport = transport_of(rt, bytes);
+    let wanted = ["", wanted, ""];
+    expect_transport(rt, addresses, IpNumber(protocol), transport, wanted);
 }
 
 #[test]
-fn a_payload_that_is_cut_off(rt: HostRuntime) -> Result<(), Fail> {
-    let content = Content::Ip {
-        addresses: OVER_IPV4,
-        protocol: ip_number::UDP,
-        proto: Some(Proto::Udp),
-        transport: transport_of(&DATAGRAM)?,
-        payload_len: 1400,
-    };
+fn addresses_and_ports(rt: HostRuntime) {
+    for row in &ADDRESSES {
+        expect_addresses(&rt, row);
+    }
+}
+
+#[test]
+fn a_payload_that_is_cut_off(rt: HostRuntime) {
     let wanted = [
         "192.0.2.1:49152 > 192.0.2.2:53 ",
         "UDP length 9, payload 1400, 1 captured",
         "; checksum not looked at: cut off",
     ];
-    expect_line(&rt, content, Verdict::untested(Untested::CutOff), wanted)
+    let verdict = Verdict::untested(Untested::CutOff);
+    expect_line(&rt, datagram_over_ipv4(&rt, 1400), verdict, wanted);
 }
 
 /// Lengths of frames, and what is written of a packet of ARP in each.
@@ -195,16 +201,19 @@ const LENGTHS: [(Option<FrameLen>, &str); 5] = [
     (None, "length unknown: ARP"),
 ];
 
+/// Stops the test unless this is written of a packet of ARP in a frame of this length.
+fn expect_length(rt: &(impl Abort + AllocGlobal), len: Option<FrameLen>, wanted: &str) {
+    let content = Content::NotIp(NetworkProtocol::EtherType(0x0806));
+    let packet = Packet::in_no_tunnel(content, Verdict::untested(Untested::OtherProtocol));
+    let line = line_of(rt, len, &packet);
+    expect_texts(rt, &line, &["1 00:00:00.000000 ", wanted, "\n"]);
+}
+
 #[test]
-fn lengths_of_frames(rt: HostRuntime) -> Result<(), Fail> {
-    let packet = Packet::in_no_tunnel(
-        Content::NotIp(NetworkProtocol::EtherType(0x0806)),
-        Verdict::untested(Untested::OtherProtocol),
-    );
+fn lengths_of_frames(rt: HostRuntime) {
     for (len, wanted) in &LENGTHS {
-        expect_line_of_length(&rt, *len, &packet, wanted)?;
+        expect_length(&rt, *len, wanted);
     }
-    Ok(())
 }
 
 /// Hop limits, whether the line is verbose, and what is written.
@@ -217,18 +226,28 @@ const HOP_LIMITS: [(Option<HopLimit>, bool, &str); 5] = [
     (Some(HopLimit::Ipv6(255)), false, "1 - length unknown: 192.0.2.1 > 192.0.2.2; checksum not looked at: cut off\n"),
 ];
 
+/// Stops the test unless this is written of a packet with this hop limit.
+fn expect_hop_limit(
+    rt: &(impl Abort + AllocGlobal),
+    hop_limit: Option<HopLimit>,
+    verbose: bool,
+    wanted: &str,
+) {
+    let content = Content::IpHeader(OVER_IPV4);
+    let mut packet = Packet::in_no_tunnel(content, Verdict::untested(Untested::CutOff));
+    packet.hop_limit = hop_limit;
+    let times = Times::SinceFirst;
+    let mut line = Vec::new(rt.alloc());
+    let written = write_packet_line(&mut line, times, verbose, 1, None, None, None, &packet);
+    expect_ok(rt, written);
+    expect_text(rt, &line, wanted);
+}
+
 #[test]
-fn hop_limits(rt: HostRuntime) -> Result<(), Fail> {
+fn hop_limits(rt: HostRuntime) {
     for (hop_limit, verbose, wanted) in &HOP_LIMITS {
-        let verdict = Verdict::untested(Untested::CutOff);
-        let mut packet = Packet::in_no_tunnel(Content::IpHeader(OVER_IPV4), verdict);
-        packet.hop_limit = *hop_limit;
-        let mut line = Vec::new(rt.alloc());
-        let times = Times::SinceFirst;
-        write_packet_line(&mut line, times, *verbose, 1, None, None, None, &packet)?;
-        expect_text(&rt, line, wanted)?;
+        expect_hop_limit(&rt, *hop_limit, *verbose, wanted);
     }
-    Ok(())
 }
 
 /// Verdicts on checksums, and what is written of each. A UDP packet without a length is refused.
@@ -247,26 +266,25 @@ const CHECKSUMS: [(ChecksumVerdict, &str); 10] = [
 ];
 
 #[test]
-fn verdicts_without_an_error(rt: HostRuntime) -> Result<(), Fail> {
-    for (verdict, wanted) in CHECKSUMS {
-        expect_verdict(&rt, Verdict::Checksum(verdict), ["", wanted, ""])?;
+fn verdicts_without_an_error(rt: HostRuntime) {
+    for (verdict, wanted) in &CHECKSUMS {
+        expect_verdict(&rt, Verdict::Checksum(*verdict), ["", wanted, ""]);
     }
-    Ok(())
 }
 
 #[test]
-fn a_packet_that_states_no_length(rt: HostRuntime) -> Result<(), Fail> {
+fn a_packet_that_states_no_length(rt: HostRuntime) {
     let wanted = "checksum not looked at: no length stated";
-    expect_verdict(&rt, Verdict::LengthMissing, ["", wanted, ""])
+    expect_verdict(&rt, Verdict::LengthMissing, ["", wanted, ""]);
 }
 
 #[test]
-fn a_packet_that_is_too_long(rt: HostRuntime) -> Result<(), Fail> {
+fn a_packet_that_is_too_long(rt: HostRuntime) {
     let verdict = Verdict::TooLong {
         required_len: 600_000,
     };
     let wanted = "checksum not looked at: 600000 bytes, more than 524288";
-    expect_verdict(&rt, verdict, ["", wanted, ""])
+    expect_verdict(&rt, verdict, ["", wanted, ""]);
 }
 
 /// Why a layer of at least 8 bytes is refused if there are 7.
@@ -316,11 +334,10 @@ const REFUSALS: [(Refusal, &str); 4] = [
 ];
 
 #[test]
-fn refusals(rt: HostRuntime) -> Result<(), Fail> {
+fn refusals(rt: HostRuntime) {
     for (refusal, wanted) in REFUSALS {
-        expect_verdict(&rt, Verdict::Refused(refusal), ["refused: ", wanted, ""])?;
+        expect_verdict(&rt, Verdict::Refused(refusal), ["refused: ", wanted, ""]);
     }
-    Ok(())
 }
 
 /// Layers, and the name of each.
@@ -336,13 +353,12 @@ const LAYERS: [(Layer, &str); 7] = [
 ];
 
 #[test]
-fn refused_layers(rt: HostRuntime) -> Result<(), Fail> {
-    for (layer, name) in LAYERS {
-        let refusal = Refusal::Transport(Proto::Udp, HeaderSliceError::Len(too_short(layer)));
+fn refused_layers(rt: HostRuntime) {
+    for (layer, name) in &LAYERS {
+        let refusal = Refusal::Transport(Proto::Udp, HeaderSliceError::Len(too_short(*layer)));
         let wanted = ["refused: ", name, " needs 8 bytes, has 7"];
-        expect_verdict(&rt, Verdict::Refused(refusal), wanted)?;
+        expect_verdict(&rt, Verdict::Refused(refusal), wanted);
     }
-    Ok(())
 }
 
 /// Errors of the headers of IP, and what is written of each.
@@ -362,9 +378,8 @@ const IP_ERRORS: [(IpError, &str); 10] = [
 ];
 
 #[test]
-fn refused_headers_of_ip(rt: HostRuntime) -> Result<(), Fail> {
-    for (error, wanted) in IP_ERRORS {
-        expect_verdict(&rt, Verdict::Refused(Refusal::Ip(error)), ["", wanted, ""])?;
+fn refused_headers_of_ip(rt: HostRuntime) {
+    for (error, wanted) in &IP_ERRORS {
+        expect_verdict(&rt, Verdict::Refused(Refusal::Ip(*error)), ["", wanted, ""]);
     }
-    Ok(())
 }

@@ -1,13 +1,11 @@
 use super::flow_of_ipv4;
-use crate::expect::expect_text;
-use crate::summary::{judge, refuse};
+use crate::expect::{expect_ok, expect_text};
+use crate::summary::{judge, new_summary, refuse};
 use capture_file::pcapng::TimeResolution;
 use capture_file::{LinkType, PacketTime};
 use capture_summary::{CaptureInfo, FrameLen, Protocol, RefusalKind, Summary, VerdictKind};
 use capture_text::write_summary;
-use std::hash::RandomState;
 use std::process::Abort;
-use std::test::Fail;
 
 /// The whole summary of no packet.
 const OF_NO_PACKET: &str = "\
@@ -63,49 +61,45 @@ fn info_of(seconds: u64, len: u64) -> CaptureInfo {
 }
 
 /// Counts two packets of UDP, one in each direction.
-fn judge_both_ways(summary: &mut Summary) -> Result<(), Fail> {
+fn judge_both_ways(rt: &impl Abort, summary: &mut Summary) {
     let there = flow_of_ipv4();
     for (flow, len) in [(there, 1000), (there.reversed(), 44)] {
         let info = info_of(1_700_000_000, len);
-        judge(summary, Protocol::Udp, VerdictKind::Right, Some(flow), info)?;
+        judge(
+            rt,
+            summary,
+            Protocol::Udp,
+            VerdictKind::Right,
+            Some(flow),
+            info,
+        );
     }
-    Ok(())
 }
 
 /// Counts two refused packets of unknown protocols.
-fn refuse_two(summary: &mut Summary) -> Result<(), Fail> {
+fn refuse_two(rt: &impl Abort, summary: &mut Summary) {
     for _ in 0..2 {
         let info = info_of(1_699_999_999, 34);
-        refuse(summary, Protocol::Unknown, RefusalKind::IpVersion, info)?;
+        refuse(rt, summary, Protocol::Unknown, RefusalKind::IpVersion, info);
     }
-    Ok(())
 }
 
 /// Stops the test unless this is the text of a summary with the ten busiest conversations.
-fn expect_tables(
-    rt: &(impl Abort + AllocGlobal),
-    summary: &Summary,
-    wanted: &str,
-) -> Result<(), Fail> {
-    let busiest = summary.flows().busiest(rt.alloc(), 10)?;
+fn expect_tables(rt: &(impl Abort + AllocGlobal), summary: &Summary, wanted: &str) {
+    let busiest = expect_ok(rt, summary.flows().busiest(rt.alloc(), 10));
     let mut text = Vec::new(rt.alloc());
-    write_summary(&mut text, summary, &busiest)?;
-    expect_text(rt, text, wanted)
+    expect_ok(rt, write_summary(&mut text, summary, &busiest));
+    expect_text(rt, &text, wanted);
 }
 
 #[test]
-fn the_tables_of_a_summary(rt: HostRuntime) -> Result<(), Fail> {
-    let mut summary = Summary::new(rt.alloc(), RandomState::new(&rt)?);
-    expect_tables(&rt, &summary, OF_NO_PACKET)?;
-    judge_both_ways(&mut summary)?;
+fn the_tables_of_a_summary(rt: HostRuntime) {
+    let mut summary = new_summary(&rt);
+    expect_tables(&rt, &summary, OF_NO_PACKET);
+    judge_both_ways(&rt, &mut summary);
     let info = info_of(1_700_000_004, 200);
-    judge(
-        &mut summary,
-        Protocol::Icmpv6,
-        VerdictKind::Wrong,
-        None,
-        info,
-    )?;
-    refuse_two(&mut summary)?;
-    expect_tables(&rt, &summary, OF_FIVE_PACKETS)
+    let protocol = Protocol::Icmpv6;
+    judge(&rt, &mut summary, protocol, VerdictKind::Wrong, None, info);
+    refuse_two(&rt, &mut summary);
+    expect_tables(&rt, &summary, OF_FIVE_PACKETS);
 }

@@ -1,8 +1,8 @@
 use super::{OVER_IPV4, expect_transport};
+use crate::expect::{expect_ok, joined};
 use capture_packet::Transport;
 use etherparse_transport::{TcpSlice, TransportSlice, ip_number};
 use std::process::Abort;
-use std::test::Fail;
 
 /// Stops the test unless the three texts together are what is written of a TCP segment with these flags, the urgent pointer 7, these
 /// options and two bytes of payload.
@@ -11,8 +11,8 @@ fn expect_segment(
     flags: [u8; 2],
     options: &[u8],
     wanted: [&str; 3],
-) -> Result<(), Fail> {
-    let words = u8::try_from(5 + options.len() / 4)?;
+) {
+    let words = expect_ok(rt, u8::try_from(5 + options.len() / 4));
     let offset = words.saturating_mul(16) | flags[0];
     let parts: [&[u8]; 4] = [
         &[0xC0, 1, 0, 80, 0, 0, 3, 0xE8, 0, 0, 0, 9],
@@ -20,13 +20,10 @@ fn expect_segment(
         options,
         &[1, 2],
     ];
-    let mut bytes = Vec::new(rt.alloc());
-    for part in parts {
-        bytes.extend_from_slice(part)?;
-    }
-    let segment = TcpSlice::from_slice(&bytes)?;
+    let bytes = joined(rt, &parts);
+    let segment = expect_ok(rt, TcpSlice::from_slice(&bytes));
     let transport = Transport::Read(TransportSlice::Tcp(segment));
-    expect_transport(rt, OVER_IPV4, ip_number::TCP, transport, wanted)
+    expect_transport(rt, OVER_IPV4, ip_number::TCP, transport, wanted);
 }
 
 /// Flags, in the last bit of byte 12 and in byte 13, and what is written of them.
@@ -51,12 +48,11 @@ const FLAGS: [([u8; 2], &str); 15] = [
 ];
 
 #[test]
-fn flags_of_segments(rt: HostRuntime) -> Result<(), Fail> {
+fn flags_of_segments(rt: HostRuntime) {
     for (flags, wanted) in &FLAGS {
         let before = "192.0.2.1:49153 > 192.0.2.2:80 TCP flags ";
-        expect_segment(&rt, *flags, &[], [before, wanted, ", payload 2"])?;
+        expect_segment(&rt, *flags, &[], [before, wanted, ", payload 2"]);
     }
-    Ok(())
 }
 
 /// Options, and what is written of them.
@@ -82,11 +78,10 @@ const OPTIONS: [(&[u8], &str); 13] = [
 ];
 
 #[test]
-fn options_of_segments(rt: HostRuntime) -> Result<(), Fail> {
+fn options_of_segments(rt: HostRuntime) {
     for (options, wanted) in &OPTIONS {
         let before =
             "192.0.2.1:49153 > 192.0.2.2:80 TCP flags SYN, sequence 1000, acknowledgment 9, window 64240, options [";
-        expect_segment(&rt, [0, 2], options, [before, wanted, "], payload 2"])?;
+        expect_segment(&rt, [0, 2], options, [before, wanted, "], payload 2"]);
     }
-    Ok(())
 }

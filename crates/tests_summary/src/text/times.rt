@@ -1,10 +1,9 @@
-use crate::expect::expect_text;
+use crate::expect::{expect_ok, expect_text};
 use capture_file::PacketTime;
 use capture_file::classic::{Resolution, Time};
 use capture_file::pcapng::TimeResolution;
 use capture_words::{write_absolute, write_since};
 use std::process::Abort;
-use std::test::Fail;
 
 const SECONDS: TimeResolution = TimeResolution::PowerOfTen(0);
 
@@ -18,10 +17,10 @@ fn expect_since(
     first: Option<PacketTime>,
     time: Option<PacketTime>,
     wanted: &str,
-) -> Result<(), Fail> {
+) {
     let mut text = Vec::new(rt.alloc());
-    write_since(&mut text, first, time)?;
-    expect_text(rt, text, wanted)
+    expect_ok(rt, write_since(&mut text, first, time));
+    expect_text(rt, &text, wanted);
 }
 
 /// The seconds and the fraction of the first packet and of another, and the text of the time between them.
@@ -49,12 +48,11 @@ fn time_of(resolution: Resolution, (seconds, fraction): (u32, u32)) -> Option<Pa
 }
 
 #[test]
-fn times_since_the_first_packet(rt: HostRuntime) -> Result<(), Fail> {
+fn times_since_the_first_packet(rt: HostRuntime) {
     for (resolution, first, time, wanted) in &SINCE_FIRST {
         let first = time_of(*resolution, *first);
-        expect_since(&rt, first, time_of(*resolution, *time), wanted)?;
+        expect_since(&rt, first, time_of(*resolution, *time), wanted);
     }
-    Ok(())
 }
 
 /// 10.25 seconds after the beginning of 1970.
@@ -90,16 +88,17 @@ const IN_OTHER_RESOLUTIONS: [(Option<PacketTime>, Option<PacketTime>, &str); 12]
 ];
 
 #[test]
-fn times_in_other_resolutions(rt: HostRuntime) -> Result<(), Fail> {
+fn times_in_other_resolutions(rt: HostRuntime) {
     for (first, time, wanted) in &IN_OTHER_RESOLUTIONS {
-        expect_since(&rt, *first, *time, wanted)?;
+        expect_since(&rt, *first, *time, wanted);
     }
-    Ok(())
 }
 
 /// The seconds, the fraction and the offset of a time, and its date and time of day.
+type DateRow = (TimeResolution, u64, u64, i64, &'static str);
+
 #[rattlefmt::skip]
-const DATES: [(TimeResolution, u64, u64, i64, &str); 14] = [
+static DATES: [DateRow; 14] = [
     (MICROSECONDS, 0, 0, 0, "1970-01-01T00:00:00.000000Z"),
     (MICROSECONDS, 1_700_000_000, 200, 0, "2023-11-14T22:13:20.000200Z"),
     (NANOSECONDS, 1_700_000_000, 200, -3_600, "2023-11-14T21:13:20.000000200Z"),
@@ -116,18 +115,23 @@ const DATES: [(TimeResolution, u64, u64, i64, &str); 14] = [
     (SECONDS, u64::MAX, 0, i64::MAX, "27670116110564327422.000000"),
 ];
 
+/// Stops the test unless the time of a row has the text of the row.
+fn expect_date(rt: &(impl Abort + AllocGlobal), row: &DateRow) {
+    let (resolution, seconds, fraction, offset, wanted) = *row;
+    let time = PacketTime {
+        seconds,
+        fraction,
+        resolution,
+        offset,
+    };
+    let mut text = Vec::new(rt.alloc());
+    expect_ok(rt, write_absolute(&mut text, time));
+    expect_text(rt, &text, wanted);
+}
+
 #[test]
-fn dates_and_times_of_day(rt: HostRuntime) -> Result<(), Fail> {
-    for (resolution, seconds, fraction, offset, wanted) in &DATES {
-        let time = PacketTime {
-            seconds: *seconds,
-            fraction: *fraction,
-            resolution: *resolution,
-            offset: *offset,
-        };
-        let mut text = Vec::new(rt.alloc());
-        write_absolute(&mut text, time)?;
-        expect_text(&rt, text, wanted)?;
+fn dates_and_times_of_day(rt: HostRuntime) {
+    for row in &DATES {
+        expect_date(&rt, row);
     }
-    Ok(())
 }
