@@ -1,12 +1,13 @@
 use crate::expect::{
-    bytes_from, bytes_to, expect_clone, expect_debug_text, expect_equal, expect_ok, expect_some,
+    bytes_from, bytes_to, expect_bytes, expect_clone, expect_debug_text, expect_equal, expect_ok,
+    expect_some,
 };
 use etherparse_transport::TcpOptionElement::{MaximumSegmentSize, Noop, Timestamp};
 use etherparse_transport::err::tcp::{HeaderError, HeaderSliceError};
 use etherparse_transport::err::{Layer, LenError, ValueTooBigError, ValueType};
 use etherparse_transport::{
     Ipv4Header, Ipv4HeaderSlice, Ipv6Header, Ipv6HeaderSlice, LenSource, TcpHeader, TcpHeaderSlice,
-    TcpOptionElement, TcpOptionWriteError, TcpOptions,
+    TcpOptionElement, TcpOptionWriteError, TcpOptions, TcpOptionsIterator,
 };
 use std::hash::{DefaultHasher, Hash, Hasher};
 use std::process::Abort;
@@ -89,17 +90,59 @@ fn header_slice<'a>(rt: &impl Abort, bytes: &'a [u8]) -> TcpHeaderSlice<'a> {
     expect_ok(rt, TcpHeaderSlice::from_slice(bytes))
 }
 
+/// The header at the front of these bytes.
+fn header_of(rt: &impl Abort, bytes: &[u8]) -> TcpHeader {
+    expect_ok(rt, TcpHeader::from_slice(bytes)).0
+}
+
 /// The header is written as these bytes.
-fn expect_bytes(rt: &impl Abort, header: &TcpHeader, bytes: &[u8]) {
-    expect_equal(rt, &header.to_bytes().as_slice(), &bytes);
+fn expect_header_bytes(rt: &impl Abort, header: &TcpHeader, bytes: &[u8]) {
+    expect_bytes(rt, &header.to_bytes(), bytes);
+}
+
+/// The header and the bytes after it are these.
+fn expect_pair(rt: &impl Abort, read: &(TcpHeader, &[u8]), header: &TcpHeader, after: &[u8]) {
+    expect_equal(rt, &read.0, header);
+    expect_bytes(rt, read.1, after);
 }
 
 /// The header and these bytes after it are read from the packet, by both calls.
 fn expect_read(rt: &impl Abort, packet: &[u8], header: &TcpHeader, after: &[u8]) {
-    let (read, rest) = expect_ok(rt, TcpHeader::from_slice(packet));
-    expect_equal(rt, &(&read, rest), &(header, after));
-    let (read, rest) = expect_ok(rt, TcpHeader::read_from_slice(packet));
-    expect_equal(rt, &(&read, rest), &(header, after));
+    let read = expect_ok(rt, TcpHeader::from_slice(packet));
+    expect_pair(rt, &read, header, after);
+    let read = expect_ok(rt, TcpHeader::read_from_slice(packet));
+    expect_pair(rt, &read, header, after);
+}
+
+/// The checksum, or the error of a payload that is too long.
+type Sum = Result<u16, ValueTooBigError<usize>>;
+
+/// The checksum is computed, and is this one.
+fn expect_sum(rt: &impl Abort, sum: Sum, expected: u16) {
+    expect_equal(rt, &sum, &Ok(expected));
+}
+
+/// The first element is this one.
+fn expect_first_element(
+    rt: &impl Abort,
+    items: TcpOptionsIterator<'_>,
+    expected: TcpOptionElement,
+) {
+    let mut items = items;
+    expect_equal(rt, &items.next(), &Some(Ok(expected)));
+}
+
+/// The slice of the header of `SEGMENT` with its checksum between these addresses.
+fn expect_segment_slice(
+    rt: &impl Abort,
+    slice: &TcpHeaderSlice<'_>,
+    source: [u8; 4],
+    destination: [u8; 4],
+) {
+    expect_equal(rt, &slice.syn(), &true);
+    let sum = slice.calc_checksum_ipv4_raw(source, destination, &[]);
+    expect_sum(rt, sum, slice.checksum());
+    expect_first_element(rt, slice.options_iterator(), MaximumSegmentSize(1460));
 }
 
 #[test]
@@ -107,23 +150,13 @@ fn a_segment_is_read_tested_and_written(rt: HostRuntime) {
     let (source, destination) = ([10, 0, 0, 1], [10, 0, 0, 2]);
     let mut header = segment_header(&rt);
     header.checksum = expect_ok(&rt, header.calc_checksum_ipv4_raw(source, destination, &[]));
-    let bytes = header.to_bytes();
-    expect_equal(
+    let bytes = &header.to_bytes();
+    expect_bytes(
         &rt,
-        &bytes_to(&rt, bytes_from(&rt, &bytes, 16), 2),
-        &[0x84, 0x1A].as_slice(),
+        bytes_to(&rt, bytes_from(&rt, bytes, 16), 2),
+        &[0x84, 0x1A],
     );
-
-    let slice = header_slice(&rt, &bytes);
-    expect_equal(&rt, &slice.syn(), &true);
-    let checksum = slice.calc_checksum_ipv4_raw(source, destination, &[]);
-    expect_equal(&rt, &checksum, &Ok(slice.checksum()));
-    let first = slice.options_iterator().next();
-    expect_equal(
-        &rt,
-        &first,
-        &Some(Ok(TcpOptionElement::MaximumSegmentSize(1460))),
-    );
+    expect_segment_slice(&rt, &header_slice(&rt, bytes), source, destination);
 }
 
 /// Byte 12, a length, and the data offset that is too small.
@@ -133,22 +166,18 @@ static TOO_SMALL: [(u8, usize, u8); 2] = [(0x40, 20, 4), (0x0F, 20, 0)];
 #[rattlefmt::skip]
 static CUT_OFF: [(u8, usize, usize); 5] = [(0xF0, 20, 60), (0x60, 20, 24), (0x40, 19, 20), (0xF0, 19, 20), (0x50, 0, 20)];
 
+/// The call returned this error.
+fn expect_error(rt: &impl Abort, error: Option<HeaderSliceError>, expected: &HeaderSliceError) {
+    expect_equal(rt, &expect_some(rt, error), expected);
+}
+
 /// Zeros but for byte 12 are refused, by each of three calls.
 fn expect_refused(rt: &impl Abort, offset_byte: u8, len: usize, expected: &HeaderSliceError) {
     let bytes = zeros_with(offset_byte, 0);
     let slice = bytes_to(rt, &bytes, len);
-    let errors = [
-        TcpHeader::from_slice(slice).err(),
-        TcpHeader::read_from_slice(slice).err(),
-        TcpHeaderSlice::from_slice(slice).err(),
-    ];
-    for error in &errors {
-        expect_equal(
-            rt,
-            &(offset_byte, len, error.as_ref()),
-            &(offset_byte, len, Some(expected)),
-        );
-    }
+    expect_error(rt, TcpHeader::from_slice(slice).err(), expected);
+    expect_error(rt, TcpHeader::read_from_slice(slice).err(), expected);
+    expect_error(rt, TcpHeaderSlice::from_slice(slice).err(), expected);
 }
 
 #[test]
@@ -167,10 +196,10 @@ fn headers_that_are_not_whole_are_refused(rt: HostRuntime) {
 #[test]
 fn headers_are_read_and_written(rt: HostRuntime) {
     let header = segment_header(&rt);
-    expect_bytes(&rt, &header, &SEGMENT);
-    expect_bytes(&rt, &full_header(), &FULL_BYTES);
+    expect_header_bytes(&rt, &header, &SEGMENT);
+    expect_header_bytes(&rt, &full_header(), &FULL_BYTES);
     expect_equal(&rt, &TcpHeader::default(), &TcpHeader::new(0, 0, 0, 0));
-    expect_bytes(&rt, &TcpHeader::default(), &zeros_with(0x50, 0));
+    expect_header_bytes(&rt, &TcpHeader::default(), &zeros_with(0x50, 0));
 
     let mut packet = [0xAA; 26];
     packet[..24].copy_from_slice(&SEGMENT);
@@ -191,10 +220,10 @@ fn expect_lengths_and_options(rt: &impl Abort, header: &TcpHeader) {
         ),
         &(6, 24, 24, 4),
     );
-    expect_equal(rt, &header.options(), &[2, 4, 0x05, 0xB4].as_slice());
+    expect_bytes(rt, header.options(), &[2, 4, 0x05, 0xB4]);
     let mut elements = header.options_iterator();
-    let items = (elements.next(), elements.next());
-    expect_equal(rt, &items, &(Some(Ok(MaximumSegmentSize(1460))), None));
+    expect_equal(rt, &elements.next(), &Some(Ok(MaximumSegmentSize(1460))));
+    expect_equal(rt, &elements.next(), &None);
 }
 
 /// `full_header` with one of its fields changed, by their order in the struct. What comes after the fields are forty bytes of options.
@@ -231,14 +260,13 @@ fn expect_changed(rt: &impl Abort, field: usize, header: &TcpHeader) {
     let copy = expect_ok(rt, header.clone());
     expect_equal(rt, &copy, header);
     expect_equal(rt, &hash_of(&copy), &hash_of(header));
-    expect_bytes(rt, &copy, &header.to_bytes());
+    expect_header_bytes(rt, &copy, &header.to_bytes());
 }
 
 /// The slice of these bytes differs from that of the full header, and its clone has the bytes.
 fn expect_changed_slice(rt: &impl Abort, field: usize, bytes: &[u8]) {
     let slice = header_slice(rt, bytes);
-    let copy = expect_ok(rt, slice.clone());
-    expect_equal(rt, &copy.slice(), &bytes);
+    expect_bytes(rt, expect_ok(rt, slice.clone()).slice(), bytes);
     let is_same = slice == header_slice(rt, &FULL_BYTES);
     expect_equal(rt, &(field, is_same), &(field, false));
 }
@@ -278,39 +306,50 @@ fn expect_full_numbers(rt: &impl Abort, header: &TcpHeaderSlice<'_>) {
 
 /// The slice has the options of `FULL_BYTES`, and is compared.
 fn expect_full_slice(rt: &impl Abort, header: &TcpHeaderSlice<'_>) {
-    expect_equal(rt, &header.options(), &[3, 3, 7, 0].as_slice());
-    let first = header.options_iterator().next();
-    expect_equal(rt, &first, &Some(Ok(TcpOptionElement::WindowScale(7))));
+    expect_bytes(rt, header.options(), &[3, 3, 7, 0]);
+    expect_first_element(
+        rt,
+        header.options_iterator(),
+        TcpOptionElement::WindowScale(7),
+    );
     expect_equal(rt, &header.to_header(), &full_header());
     expect_clone(rt, header);
-    let is_same = (
-        *header == header_slice(rt, &FULL_BYTES),
-        *header == header_slice(rt, &SEGMENT),
-    );
-    expect_equal(rt, &is_same, &(true, false));
+    expect_same_slice(rt, header, &FULL_BYTES, true);
+    expect_same_slice(rt, header, &SEGMENT, false);
+}
+
+/// Whether the slice is equal to the slice of these bytes.
+fn expect_same_slice(rt: &impl Abort, header: &TcpHeaderSlice<'_>, bytes: &[u8], expected: bool) {
+    let is_same = *header == header_slice(rt, bytes);
+    expect_equal(rt, &is_same, &expected);
 }
 
 #[test]
 fn slices_keep_the_header(rt: HostRuntime) {
     let mut packet = [0xAA; 26];
     packet[..24].copy_from_slice(&FULL_BYTES);
-    let header = header_slice(&rt, &packet);
-    expect_equal(&rt, &header.slice(), &FULL_BYTES.as_slice());
-    expect_full_numbers(&rt, &header);
-    expect_full_slice(&rt, &header);
+    let packet = &packet;
+    let header = &header_slice(&rt, packet);
+    expect_bytes(&rt, header.slice(), &FULL_BYTES);
+    expect_full_numbers(&rt, header);
+    expect_full_slice(&rt, header);
 
     // The slice of the options lives as long as the input, and longer than the struct.
-    let bytes = header_slice(&rt, &packet).slice();
-    expect_equal(&rt, &bytes, &FULL_BYTES.as_slice());
-    let zeros = zeros_with(0x50, 0);
+    let bytes = header_slice(&rt, packet).slice();
+    expect_bytes(&rt, bytes, &FULL_BYTES);
+    expect_shown(&rt);
+}
+
+/// The debug texts of a slice and of a header.
+fn expect_shown(rt: &(impl Abort + AllocGlobal)) {
     expect_debug_text(
-        &rt,
-        &header_slice(&rt, &zeros),
+        rt,
+        &header_slice(rt, &zeros_with(0x50, 0)),
         "TcpHeaderSlice { slice: [0, 0, 0, 0, 0, 0, 0, 0, 0, 0, 0, 0, 80, 0, 0, 0, 0, 0, 0, 0] }",
     );
     expect_debug_text(
-        &rt,
-        &segment_header(&rt),
+        rt,
+        &segment_header(rt),
         "TcpHeader { source_port: 1, destination_port: 2, sequence_number: 3, acknowledgment_number: 0, ns: false, fin: false, syn: true, rst: false, psh: false, ack: false, urg: false, ece: false, cwr: false, window_size: 4, checksum: 0, urgent_pointer: 0, options: [MaximumSegmentSize(1460)] }",
     );
 }
@@ -338,6 +377,15 @@ fn header_with_flag(set: usize) -> TcpHeader {
     }
 }
 
+/// The flags of which only the one at this place is set.
+pub fn flag_at(place: usize) -> [bool; 9] {
+    let mut flags = [false; 9];
+    if place < 9 {
+        flags[place] = true;
+    }
+    flags
+}
+
 /// The flags of a slice, in the order of the struct.
 fn flags_of(slice: &TcpHeaderSlice<'_>) -> [bool; 9] {
     [
@@ -355,13 +403,10 @@ fn flags_of(slice: &TcpHeaderSlice<'_>) -> [bool; 9] {
 
 /// The header with this flag is written as the bytes, and read from them.
 fn expect_flag(rt: &impl Abort, bytes: &[u8], set: usize) {
-    let header = header_with_flag(set);
-    expect_equal(rt, &(set, header.to_bytes().as_slice()), &(set, bytes));
-    let (read, _) = expect_ok(rt, TcpHeader::from_slice(bytes));
-    expect_equal(rt, &(set, read), &(set, header));
-    for (flag, is_set) in flags_of(&header_slice(rt, bytes)).into_iter().enumerate() {
-        expect_equal(rt, &(flag, set, is_set), &(flag, set, flag == set));
-    }
+    let header = &header_with_flag(set);
+    expect_header_bytes(rt, header, bytes);
+    expect_equal(rt, &header_of(rt, bytes), header);
+    expect_equal(rt, &flags_of(&header_slice(rt, bytes)), &flag_at(set));
 }
 
 #[test]
@@ -384,34 +429,44 @@ static SUMS: [(u8, u16, u16); 16] = [
 fn expect_sums(rt: &impl Abort, row: &(u8, u16, u16)) {
     let (offset_byte, of_bytes, of_header) = *row;
     let bytes = zeros_with(offset_byte, 0);
-    let slice = header_slice(rt, &bytes);
-    let header = slice.to_header();
-    let over_ipv4 = (
+    let slice = &header_slice(rt, &bytes);
+    expect_slice_sums(rt, slice, of_bytes);
+    expect_header_sums(rt, &slice.to_header(), of_header);
+}
+
+/// The checksum of a slice, over IPv4 and over IPv6.
+fn expect_slice_sums(rt: &impl Abort, slice: &TcpHeaderSlice<'_>, expected: u16) {
+    expect_sum(
+        rt,
         slice.calc_checksum_ipv4_raw([0; 4], [0; 4], &[]),
-        header.calc_checksum_ipv4_raw([0; 4], [0; 4], &[]),
+        expected,
     );
-    expect_equal(
+    expect_sum(
         rt,
-        &(offset_byte, over_ipv4),
-        &(offset_byte, (Ok(of_bytes), Ok(of_header))),
-    );
-    let over_ipv6 = (
         slice.calc_checksum_ipv6_raw([0; 16], [0; 16], &[]),
-        header.calc_checksum_ipv6_raw([0; 16], [0; 16], &[]),
+        expected,
     );
-    expect_equal(
+}
+
+/// The checksum of a header, over IPv4 and over IPv6.
+fn expect_header_sums(rt: &impl Abort, header: &TcpHeader, expected: u16) {
+    expect_sum(
         rt,
-        &(offset_byte, over_ipv6),
-        &(offset_byte, (Ok(of_bytes), Ok(of_header))),
+        header.calc_checksum_ipv4_raw([0; 4], [0; 4], &[]),
+        expected,
+    );
+    expect_sum(
+        rt,
+        header.calc_checksum_ipv6_raw([0; 16], [0; 16], &[]),
+        expected,
     );
 }
 
 #[test]
 fn unused_bits_are_summed_by_slices_alone(rt: HostRuntime) {
-    let bytes = zeros_with(0x5F, 0);
-    let (header, _) = expect_ok(&rt, TcpHeader::from_slice(&bytes));
+    let header = header_of(&rt, &zeros_with(0x5F, 0));
     expect_equal(&rt, &header.ns, &true);
-    expect_bytes(&rt, &header, &zeros_with(0x51, 0));
+    expect_header_bytes(&rt, &header, &zeros_with(0x51, 0));
     for row in &SUMS {
         expect_sums(&rt, row);
     }
@@ -424,21 +479,22 @@ fn expect_sums_over_ipv4(rt: &impl Abort, header: &TcpHeader, slice: &TcpHeaderS
     bytes[0] = 0x45;
     bytes[12..].copy_from_slice(&[10, 0, 0, 1, 10, 0, 0, 2]);
     let ip = expect_some(rt, Ipv4HeaderSlice::from_slice(&bytes));
-    let sums = [
-        header.calc_checksum_ipv4_raw(source, destination, &[]),
-        header.calc_checksum_ipv4(
-            &Ipv4Header {
-                source,
-                destination,
-            },
-            &[],
-        ),
+    expect_sum(rt, slice.calc_checksum_ipv4(&ip, &[]), 0x841A);
+    expect_sum(
+        rt,
         slice.calc_checksum_ipv4_raw(source, destination, &[]),
-        slice.calc_checksum_ipv4(&ip, &[]),
-    ];
-    for sum in &sums {
-        expect_equal(rt, sum, &Ok(0x841A));
-    }
+        0x841A,
+    );
+    expect_sum(
+        rt,
+        header.calc_checksum_ipv4_raw(source, destination, &[]),
+        0x841A,
+    );
+    let ip = Ipv4Header {
+        source,
+        destination,
+    };
+    expect_sum(rt, header.calc_checksum_ipv4(&ip, &[]), 0x841A);
 }
 
 /// Each call over IPv6 returns the checksum of `SEGMENT`.
@@ -446,25 +502,29 @@ fn expect_sums_over_ipv6(rt: &impl Abort, header: &TcpHeader, slice: &TcpHeaderS
     let mut bytes = [0; 40];
     bytes[0] = 0x60;
     let ip = expect_some(rt, Ipv6HeaderSlice::from_slice(&bytes));
-    let sums = [
-        header.calc_checksum_ipv6_raw([0; 16], [0; 16], &[]),
-        header.calc_checksum_ipv6(&Ipv6Header::default(), &[]),
+    expect_sum(rt, slice.calc_checksum_ipv6(&ip, &[]), 0x981D);
+    expect_sum(
+        rt,
         slice.calc_checksum_ipv6_raw([0; 16], [0; 16], &[]),
-        slice.calc_checksum_ipv6(&ip, &[]),
-    ];
-    for sum in &sums {
-        expect_equal(rt, sum, &Ok(0x981D));
-    }
+        0x981D,
+    );
+    expect_sum(
+        rt,
+        header.calc_checksum_ipv6_raw([0; 16], [0; 16], &[]),
+        0x981D,
+    );
+    let ip = Ipv6Header::default();
+    expect_sum(rt, header.calc_checksum_ipv6(&ip, &[]), 0x981D);
 }
 
 #[test]
 fn checksums_of_headers(rt: HostRuntime) {
-    let header = segment_header(&rt);
-    let slice = header_slice(&rt, &SEGMENT);
-    expect_sums_over_ipv4(&rt, &header, &slice);
-    expect_sums_over_ipv6(&rt, &header, &slice);
+    let header = &segment_header(&rt);
+    let slice = &header_slice(&rt, &SEGMENT);
+    expect_sums_over_ipv4(&rt, header, slice);
+    expect_sums_over_ipv6(&rt, header, slice);
     let sum = TcpHeader::default().calc_checksum_ipv4_raw([0; 4], [0; 4], &[1]);
-    expect_equal(&rt, &sum, &Ok(0xAEE4));
+    expect_sum(&rt, sum, 0xAEE4);
 }
 
 /// The header is written to a slice of this length, or the slice stays as it was.
@@ -505,50 +565,48 @@ fn headers_are_written_to_slices(rt: HostRuntime) {
 }
 
 /// The checksum over IPv4 with this many zeros as payload.
-fn sum_of_zeros(
-    rt: &impl Abort,
-    header: &TcpHeader,
-    len: usize,
-) -> Result<u16, ValueTooBigError<usize>> {
+fn sum_of_zeros(rt: &impl Abort, header: &TcpHeader, len: usize) -> Sum {
     header.calc_checksum_ipv4_raw([0; 4], [0; 4], bytes_to(rt, &ZEROS, len))
 }
 
 /// The same of the slice of a header.
-fn slice_sum_of_zeros(
-    rt: &impl Abort,
-    header: &[u8],
-    len: usize,
-) -> Result<u16, ValueTooBigError<usize>> {
+fn slice_sum_of_zeros(rt: &impl Abort, header: &[u8], len: usize) -> Sum {
     header_slice(rt, header).calc_checksum_ipv4_raw([0; 4], [0; 4], bytes_to(rt, &ZEROS, len))
+}
+
+/// A payload of this length is refused.
+fn expect_too_big(rt: &impl Abort, sum: Sum, actual: usize, max_allowed: usize) {
+    expect_equal(rt, &sum, &Err(too_big(actual, max_allowed)));
 }
 
 #[test]
 fn long_payloads_are_refused(rt: HostRuntime) {
     let mut header = TcpHeader::default();
-    let bytes = header.to_bytes();
-    expect_equal(&rt, &sum_of_zeros(&rt, &header, 65515), &Ok(0xAFF9));
-    expect_equal(&rt, &slice_sum_of_zeros(&rt, &bytes, 65515), &Ok(0xAFF9));
-    expect_equal(
-        &rt,
-        &sum_of_zeros(&rt, &header, 65516),
-        &Err(too_big(65516, 65515)),
-    );
-    expect_equal(
-        &rt,
-        &slice_sum_of_zeros(&rt, &bytes, 65516),
-        &Err(too_big(65516, 65515)),
-    );
+    expect_sum(&rt, sum_of_zeros(&rt, &header, 65515), 0xAFF9);
+    expect_too_big(&rt, sum_of_zeros(&rt, &header, 65516), 65516, 65515);
     // Over IPv6 this is below the limit: the length is 65536, and its two words add 1.
     let checksum = header.calc_checksum_ipv6_raw([0; 16], [0; 16], &ZEROS);
-    expect_equal(&rt, &checksum, &Ok(0xAFF8));
+    expect_sum(&rt, checksum, 0xAFF8);
 
     expect_ok(&rt, header.set_options_raw(&[0; 40]));
-    expect_equal(&rt, &sum_of_zeros(&rt, &header, 65475), &Ok(0x0FF9));
-    expect_equal(
-        &rt,
-        &sum_of_zeros(&rt, &header, 65476),
-        &Err(too_big(65476, 65475)),
-    );
+    expect_sum(&rt, sum_of_zeros(&rt, &header, 65475), 0x0FF9);
+    expect_too_big(&rt, sum_of_zeros(&rt, &header, 65476), 65476, 65475);
+
+    let bytes = &zeros_with(0x50, 0);
+    expect_sum(&rt, slice_sum_of_zeros(&rt, bytes, 65515), 0xAFF9);
+    expect_too_big(&rt, slice_sum_of_zeros(&rt, bytes, 65516), 65516, 65515);
+}
+
+/// The options are refused, since there is no room for their 41 bytes.
+fn expect_no_space(rt: &impl Abort, outcome: Result<(), TcpOptionWriteError>) {
+    expect_equal(rt, &outcome, &Err(TcpOptionWriteError::NotEnoughSpace(41)));
+}
+
+/// `full_header` with the bytes 1, 0, 0 and 0 as options.
+fn header_with_noop() -> TcpHeader {
+    let mut header = full_header();
+    header.options = TcpOptions::from([1, 0, 0, 0]);
+    header
 }
 
 #[test]
@@ -560,21 +618,19 @@ fn options_are_replaced_or_kept(rt: HostRuntime) {
         Timestamp(1, 2),
         Noop,
     ];
-    let mut header = full_header();
+    let header = &mut full_header();
     expect_ok(&rt, header.set_options_raw(&[1]));
-    expect_equal(&rt, &header.options(), &[1, 0, 0, 0].as_slice());
+    expect_equal(&rt, header, &header_with_noop());
     expect_equal(&rt, &header.data_offset(), &6);
-    let with_noop = expect_ok(&rt, header.clone());
-    let refused = Err(TcpOptionWriteError::NotEnoughSpace(41));
-    expect_equal(&rt, &header.set_options_raw(&[0; 41]), &refused);
-    expect_equal(&rt, &header, &with_noop);
-    expect_equal(&rt, &header.set_options(&too_many), &refused);
-    expect_equal(&rt, &header, &with_noop);
+    expect_no_space(&rt, header.set_options_raw(&[0; 41]));
+    expect_equal(&rt, header, &header_with_noop());
+    expect_no_space(&rt, header.set_options(&too_many));
+    expect_equal(&rt, header, &header_with_noop());
     expect_ok(&rt, header.set_options(expect_some(&rt, too_many.get(..4))));
-    let lengths = (
+    let lengths = [
         header.options_len(),
-        header.data_offset(),
+        usize::from(header.data_offset()),
         header.header_len(),
-    );
-    expect_equal(&rt, &lengths, &(40, 15, TcpHeader::MAX_LEN));
+    ];
+    expect_equal(&rt, &lengths, &[40, 15, TcpHeader::MAX_LEN]);
 }

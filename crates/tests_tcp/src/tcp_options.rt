@@ -4,7 +4,8 @@ mod translation;
 mod validity;
 
 use crate::expect::{
-    bytes_from, bytes_to, expect_clone, expect_debug_text, expect_equal, expect_ok, expect_some,
+    bytes_from, bytes_to, expect_at, expect_bytes, expect_clone, expect_debug_text, expect_equal,
+    expect_ok, expect_some,
 };
 use etherparse_transport::TcpOptionElement::{
     MaximumSegmentSize, Noop, SelectiveAcknowledgement, SelectiveAcknowledgementPermitted,
@@ -33,10 +34,20 @@ fn options_with(rt: &impl Abort, elements: &[TcpOptionElement]) -> TcpOptions {
 fn expect_elements(rt: &impl Abort, options: &TcpOptions, elements: &[TcpOptionElement]) {
     let mut items = options.elements_iter();
     for element in elements {
-        expect_equal(rt, &items.next(), &Some(Ok(expect_ok(rt, element.clone()))));
+        expect_element(rt, &mut items, element);
     }
+    expect_end(rt, &mut items);
+}
+
+/// The next item is this element.
+fn expect_element(rt: &impl Abort, items: &mut TcpOptionsIterator<'_>, element: &TcpOptionElement) {
+    expect_equal(rt, &expect_ok(rt, expect_some(rt, items.next())), element);
+}
+
+/// There is no next item, and no bytes are left after it.
+fn expect_end(rt: &impl Abort, items: &mut TcpOptionsIterator<'_>) {
     expect_equal(rt, &items.next(), &None);
-    expect_equal(rt, &items.rest(), &[].as_slice());
+    expect_bytes(rt, items.rest(), &[]);
 }
 
 #[test]
@@ -64,21 +75,15 @@ static PADDED: [(&[u8], &[u8], u8); 5] = [
 
 fn expect_padded(rt: &impl Abort, row: &(&[u8], &[u8], u8)) {
     let (slice, bytes, data_offset) = *row;
-    let options = options_of(rt, slice);
-    let len = (
-        options.len(),
-        usize::from(options.len_u8()),
-        options.is_empty(),
-    );
-    expect_equal(rt, &len, &(bytes.len(), bytes.len(), bytes.is_empty()));
-    expect_equal(
-        rt,
-        &(options.as_slice(), options.data_offset()),
-        &(bytes, data_offset),
-    );
-    expect_equal(rt, &options.elements_iter().rest(), &bytes);
-    expect_equal(rt, &expect_ok(rt, TcpOptions::try_from(slice)), &options);
-    expect_clone(rt, &options);
+    let options = &options_of(rt, slice);
+    let lengths = [options.len(), usize::from(options.len_u8())];
+    expect_equal(rt, &lengths, &[bytes.len(), bytes.len()]);
+    expect_equal(rt, &options.is_empty(), &bytes.is_empty());
+    expect_equal(rt, &options.data_offset(), &data_offset);
+    expect_bytes(rt, options.as_slice(), bytes);
+    expect_bytes(rt, options.elements_iter().rest(), bytes);
+    expect_equal(rt, &expect_ok(rt, TcpOptions::try_from(slice)), options);
+    expect_clone(rt, options);
 }
 
 #[test]
@@ -86,20 +91,29 @@ fn slices_are_padded(rt: HostRuntime) {
     for row in &PADDED {
         expect_padded(&rt, row);
     }
-    let zeros = [0; 41];
-    let refused = TcpOptionWriteError::NotEnoughSpace(41);
-    let errors = (
-        TcpOptions::try_from_slice(&zeros).err(),
-        TcpOptions::try_from(zeros.as_slice()).err(),
-    );
-    expect_equal(
-        &rt,
-        &(errors.0.as_ref(), errors.1.as_ref()),
-        &(Some(&refused), Some(&refused)),
-    );
-    expect_clone(&rt, &refused);
-    expect_equal(&rt, &TcpOptions::new().as_slice(), &[].as_slice());
+    expect_too_long(&rt, &[0; 41]);
+    expect_clone(&rt, &TcpOptionWriteError::NotEnoughSpace(41));
+    expect_bytes(&rt, TcpOptions::new().as_slice(), &[]);
     expect_equal(&rt, &TcpOptions::default(), &TcpOptions::new());
+}
+
+/// Both calls refuse a slice of 41 bytes.
+fn expect_too_long(rt: &impl Abort, slice: &[u8]) {
+    expect_refused(rt, TcpOptions::try_from_slice(slice), 41);
+    expect_refused(rt, TcpOptions::try_from(slice), 41);
+}
+
+/// The call refuses options of this many bytes.
+fn expect_refused(
+    rt: &impl Abort,
+    outcome: Result<TcpOptions, TcpOptionWriteError>,
+    needed: usize,
+) {
+    expect_equal(
+        rt,
+        &outcome,
+        &Err(TcpOptionWriteError::NotEnoughSpace(needed)),
+    );
 }
 
 /// The options have this length, and each byte is the length.
@@ -231,9 +245,8 @@ fn elements_are_written_and_read_back(rt: HostRuntime) {
 
 /// The elements need this many bytes, and are refused by both calls.
 fn expect_no_space(rt: &impl Abort, elements: &[TcpOptionElement], needed: usize) {
-    let refused = Err(TcpOptionWriteError::NotEnoughSpace(needed));
-    expect_equal(rt, &TcpOptions::try_from_elements(elements), &refused);
-    expect_equal(rt, &TcpOptions::try_from(elements), &refused);
+    expect_refused(rt, TcpOptions::try_from_elements(elements), needed);
+    expect_refused(rt, TcpOptions::try_from(elements), needed);
 }
 
 #[test]
@@ -249,17 +262,20 @@ fn elements_fill_all_forty_bytes(rt: HostRuntime) {
     expect_equal(&rt, &options.len(), &40);
     let last = bytes_from(&rt, options.as_slice(), 30);
     expect_equal(&rt, &last, &[8, 10, 0, 0, 0, 1, 0, 0, 0, 2].as_slice());
-    let elements = [const { Noop }; 41];
-    let noops = options_with(&rt, expect_some(&rt, elements.get(..40)));
-    expect_equal(&rt, &noops, &TcpOptions::from([tcp_option::KIND_NOOP; 40]));
-
     expect_no_space(&rt, &timestamps, 41);
-    expect_no_space(&rt, &elements, 41);
+    expect_forty_noops(&rt, &[const { Noop }; 41]);
     let blocks = [
         SelectiveAcknowledgement((1, 2), [Some((3, 4)), Some((5, 6)), Some((7, 8))]),
         SelectiveAcknowledgement((1, 2), [Some((3, 4)), Some((5, 6)), Some((7, 8))]),
     ];
     expect_no_space(&rt, &blocks, 68);
+}
+
+/// There is room for the first forty elements, each of one byte.
+fn expect_forty_noops(rt: &impl Abort, elements: &[TcpOptionElement; 41]) {
+    let noops = options_with(rt, expect_some(rt, elements.get(..40)));
+    expect_equal(rt, &noops, &TcpOptions::from([tcp_option::KIND_NOOP; 40]));
+    expect_no_space(rt, elements, 41);
 }
 
 #[test]
@@ -293,9 +309,9 @@ fn expect_spelling(
     elements: &[TcpOptionElement],
     least: &TcpOptions,
 ) {
-    let options = options_of(rt, bytes);
-    expect_elements(rt, &options, elements);
-    expect_equal(rt, &(*least <= options), &true);
+    let options = &options_of(rt, bytes);
+    expect_elements(rt, options, elements);
+    expect_equal(rt, &(*least <= *options), &true);
 }
 
 #[test]
@@ -343,7 +359,8 @@ fn expect_in_slice(rt: &impl Abort, options: &TcpOptions, bytes: &[u8], len: usi
         }
         Ok(bytes.len())
     };
-    expect_equal(rt, &(len, written, buffer), &(len, result, expected));
+    expect_at(rt, &len, &written, &result);
+    expect_at(rt, &len, &buffer, &expected);
 }
 
 #[test]
@@ -378,16 +395,21 @@ static FAULTS: [(&[u8], TcpOptionReadError); 13] = [
 /// The fault is the first item, and no bytes are left after it.
 fn expect_fault(rt: &impl Abort, bytes: &[u8], fault: &TcpOptionReadError) {
     let mut items = TcpOptionsIterator::from_slice(bytes);
-    expect_equal(rt, &items.rest(), &bytes);
-    let first = items.next();
-    expect_equal(
-        rt,
-        &(bytes, first),
-        &(bytes, Some(Err(expect_ok(rt, fault.clone())))),
-    );
-    expect_equal(rt, &items.rest(), &[].as_slice());
-    expect_equal(rt, &items.next(), &None);
-    expect_equal(rt, &items.rest(), &[].as_slice());
+    expect_bytes(rt, items.rest(), bytes);
+    expect_read_error(rt, bytes, items.next(), fault);
+    expect_bytes(rt, items.rest(), &[]);
+    expect_end(rt, &mut items);
+}
+
+/// The item of these bytes is this fault.
+fn expect_read_error(
+    rt: &impl Abort,
+    bytes: &[u8],
+    item: Option<Result<TcpOptionElement, TcpOptionReadError>>,
+    fault: &TcpOptionReadError,
+) {
+    let error = expect_some(rt, expect_some(rt, item).err());
+    expect_at(rt, &bytes, &error, fault);
 }
 
 #[test]
@@ -400,19 +422,22 @@ fn faults_end_the_reading(rt: HostRuntime) {
 #[test]
 fn the_end_ends_the_reading(rt: HostRuntime) {
     let mut items = TcpOptionsIterator::from_slice(&[1, 0, 7, 7]);
-    expect_equal(&rt, &items.next(), &Some(Ok(Noop)));
-    expect_equal(&rt, &items.rest(), &[0, 7, 7].as_slice());
-    expect_clone(&rt, &items);
-    expect_equal(&rt, &(items == TcpOptionsIterator::from_slice(&[])), &false);
-    expect_equal(&rt, &items.next(), &None);
-    expect_equal(&rt, &items.rest(), &[].as_slice());
+    expect_element(&rt, &mut items, &Noop);
+    expect_end_ahead(&rt, &items);
+    expect_end(&rt, &mut items);
     expect_equal(&rt, &items.next(), &None);
     expect_equal(&rt, &items, &TcpOptionsIterator::from_slice(&[]));
 
     let mut items = TcpOptionsIterator::from_slice(&[8, 10, 0, 0, 0, 30, 0, 0, 0, 31]);
-    expect_equal(&rt, &items.next(), &Some(Ok(Timestamp(30, 31))));
-    expect_equal(&rt, &items.next(), &None);
-    expect_equal(&rt, &items.rest(), &[].as_slice());
+    expect_element(&rt, &mut items, &Timestamp(30, 31));
+    expect_end(&rt, &mut items);
+}
+
+/// The bytes 0, 7 and 7 are left.
+fn expect_end_ahead(rt: &impl Abort, items: &TcpOptionsIterator<'_>) {
+    expect_bytes(rt, items.rest(), &[0, 7, 7]);
+    expect_clone(rt, items);
+    expect_equal(rt, &(*items == TcpOptionsIterator::from_slice(&[])), &false);
 }
 
 /// Elements of every kind, their numbers with the high bit set, and each with one number or block changed.
@@ -451,11 +476,22 @@ fn expect_cloned_element(rt: &impl Abort, element: &TcpOptionElement) {
 #[test]
 fn every_number_of_an_element_is_compared_and_cloned(rt: HostRuntime) {
     let elements = DIFFERENT;
-    for (i, element) in elements.iter().enumerate() {
-        for (j, other) in elements.iter().enumerate() {
-            expect_equal(&rt, &(i, j, *element == *other), &(i, j, i == j));
-        }
+    for (place, element) in elements.iter().enumerate() {
+        expect_different(&rt, &elements, place, element);
         expect_cloned_element(&rt, element);
+    }
+}
+
+/// The element is the one at this place, and differs from the others.
+fn expect_different(
+    rt: &impl Abort,
+    elements: &[TcpOptionElement],
+    place: usize,
+    element: &TcpOptionElement,
+) {
+    for (other_place, other) in elements.iter().enumerate() {
+        let is_same = *element == *other;
+        expect_at(rt, &(place, other_place), &is_same, &(place == other_place));
     }
 }
 

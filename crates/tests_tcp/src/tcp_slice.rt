@@ -1,7 +1,8 @@
-use crate::expect::{bytes_to, expect_clone, expect_equal, expect_ok};
+use crate::expect::{bytes_from, bytes_to, expect_bytes, expect_clone, expect_equal, expect_ok};
+use crate::tcp_header::flag_at;
 use etherparse_transport::err::tcp::HeaderSliceError;
 use etherparse_transport::err::{Layer, LenError, LenSource};
-use etherparse_transport::{TcpHeader, TcpOptionElement, TcpSlice};
+use etherparse_transport::{TcpHeader, TcpOptionElement, TcpOptionsIterator, TcpSlice};
 use std::process::Abort;
 
 /// From ports 1 to 2, sequence number 3, SYN, window 4, the maximum segment size 1460, and three bytes of payload, with this checksum.
@@ -43,40 +44,44 @@ fn expect_numbers(rt: &impl Abort, segment: &TcpSlice<'_>) {
     );
 }
 
+/// The first option is the maximum segment size 1460.
+fn expect_first_element(rt: &impl Abort, items: TcpOptionsIterator<'_>) {
+    let mut items = items;
+    let size = TcpOptionElement::MaximumSegmentSize(1460);
+    expect_equal(rt, &items.next(), &Some(Ok(size)));
+}
+
 /// The options of `segment_with`.
 fn expect_options(rt: &impl Abort, segment: &TcpSlice<'_>) {
-    let first = segment.options_iterator().next();
-    expect_equal(
-        rt,
-        &first,
-        &Some(Ok(TcpOptionElement::MaximumSegmentSize(1460))),
-    );
+    expect_first_element(rt, segment.options_iterator());
     expect_equal(rt, &segment.raw_options_iterator().next().is_some(), &true);
+}
+
+/// The segment has the header and the payload that the header is read with.
+fn expect_header_and_payload(rt: &impl Abort, segment: &TcpSlice<'_>, bytes: &[u8]) {
+    let (header, payload) = expect_ok(rt, TcpHeader::from_slice(bytes));
+    expect_equal(rt, &segment.to_header(), &header);
+    expect_bytes(rt, segment.payload(), payload);
+}
+
+/// The slices of the segment with these bytes, of which the header is the first 24.
+fn expect_slices(rt: &impl Abort, segment: &TcpSlice<'_>, bytes: &[u8]) {
+    let header = bytes_to(rt, bytes, 24);
+    expect_bytes(rt, segment.slice(), bytes);
+    expect_bytes(rt, segment.header_slice(), header);
+    expect_equal(rt, &segment.header_len(), &24);
+    expect_bytes(rt, segment.options(), bytes_from(rt, header, 20));
 }
 
 #[test]
 fn segments_are_header_and_payload(rt: HostRuntime) {
-    let bytes = segment_with(0x1234);
-    let segment = segment_of(&rt, &bytes);
-    let (header, payload) = expect_ok(&rt, TcpHeader::from_slice(&bytes));
-    expect_equal(
-        &rt,
-        &(segment.to_header(), segment.payload()),
-        &(header, payload),
-    );
-    expect_equal(
-        &rt,
-        &(
-            segment.slice(),
-            segment.header_slice(),
-            segment.header_len(),
-            segment.options(),
-        ),
-        &(bytes.as_slice(), &bytes[..24], 24, &bytes[20..24]),
-    );
-    expect_numbers(&rt, &segment);
-    expect_options(&rt, &segment);
-    expect_clone(&rt, &segment);
+    let bytes = &segment_with(0x1234);
+    let segment = &segment_of(&rt, bytes);
+    expect_header_and_payload(&rt, segment, bytes);
+    expect_slices(&rt, segment, bytes);
+    expect_numbers(&rt, segment);
+    expect_options(&rt, segment);
+    expect_clone(&rt, segment);
 }
 
 /// Bytes 12 and 13 of a segment with one flag, in the order of the flags.
@@ -85,13 +90,9 @@ static FLAG_BITS: [(u8, u8); 9] = [
     (0x51, 0), (0x50, 0x01), (0x50, 0x02), (0x50, 0x04), (0x50, 0x08), (0x50, 0x10), (0x50, 0x20), (0x50, 0x40), (0x50, 0x80),
 ];
 
-/// The segment with these bytes 12 and 13 has only the flag that is at this place.
-fn expect_flag(rt: &impl Abort, place: usize, byte_12: u8, byte_13: u8) {
-    let mut bytes = [0; 20];
-    bytes[12] = byte_12;
-    bytes[13] = byte_13;
-    let segment = segment_of(rt, &bytes);
-    let flags = [
+/// The flags of a segment, in this order.
+fn flags_of(segment: &TcpSlice<'_>) -> [bool; 9] {
+    [
         segment.ns(),
         segment.fin(),
         segment.syn(),
@@ -101,14 +102,16 @@ fn expect_flag(rt: &impl Abort, place: usize, byte_12: u8, byte_13: u8) {
         segment.urg(),
         segment.ece(),
         segment.cwr(),
-    ];
-    for (flag, is_set) in flags.into_iter().enumerate() {
-        expect_equal(
-            rt,
-            &(byte_13, flag, is_set),
-            &(byte_13, flag, flag == place),
-        );
-    }
+    ]
+}
+
+/// The segment with these bytes 12 and 13 has only the flag that is at this place.
+fn expect_flag(rt: &impl Abort, place: usize, byte_12: u8, byte_13: u8) {
+    let mut bytes = [0; 20];
+    bytes[12] = byte_12;
+    bytes[13] = byte_13;
+    let flags = flags_of(&segment_of(rt, &bytes));
+    expect_equal(rt, &flags, &flag_at(place));
 }
 
 #[test]
@@ -128,30 +131,28 @@ static ADDRESSES_IPV6: [[u8; 16]; 2] = [
 #[rattlefmt::skip]
 static VALIDITY: [(u16, bool, bool); 3] = [(0x5063, true, false), (0x7842, false, true), (0x0000, false, false)];
 
+fn expect_validity_ipv4(rt: &impl Abort, segment: &TcpSlice<'_>, expected: bool) {
+    let (client, server) = ([192, 168, 1, 1], [192, 168, 1, 2]);
+    let is_valid = segment.is_checksum_valid_ipv4(client, server);
+    expect_equal(rt, &is_valid, &expected);
+    let checksum = expect_ok(rt, segment.calc_checksum_ipv4(client, server));
+    expect_equal(rt, &checksum, &0x5063);
+}
+
+fn expect_validity_ipv6(rt: &impl Abort, segment: &TcpSlice<'_>, expected: bool) {
+    let [client, server] = ADDRESSES_IPV6;
+    let is_valid = segment.is_checksum_valid_ipv6(client, server);
+    expect_equal(rt, &is_valid, &expected);
+    let checksum = expect_ok(rt, segment.calc_checksum_ipv6(client, server));
+    expect_equal(rt, &checksum, &0x7842);
+}
+
 fn expect_validity(rt: &impl Abort, row: &(u16, bool, bool)) {
     let (checksum, over_ipv4, over_ipv6) = *row;
-    let (client, server) = ([192, 168, 1, 1], [192, 168, 1, 2]);
     let bytes = segment_with(checksum);
-    let segment = segment_of(rt, &bytes);
-    let of_ipv4 = (
-        segment.is_checksum_valid_ipv4(client, server),
-        segment.calc_checksum_ipv4(client, server),
-    );
-    expect_equal(
-        rt,
-        &(checksum, of_ipv4),
-        &(checksum, (over_ipv4, Ok(0x5063))),
-    );
-    let (client, server) = (ADDRESSES_IPV6[0], ADDRESSES_IPV6[1]);
-    let of_ipv6 = (
-        segment.is_checksum_valid_ipv6(client, server),
-        segment.calc_checksum_ipv6(client, server),
-    );
-    expect_equal(
-        rt,
-        &(checksum, of_ipv6),
-        &(checksum, (over_ipv6, Ok(0x7842))),
-    );
+    let segment = &segment_of(rt, &bytes);
+    expect_validity_ipv4(rt, segment, over_ipv4);
+    expect_validity_ipv6(rt, segment, over_ipv6);
 }
 
 #[test]

@@ -5,8 +5,8 @@ use super::TcpOptionElement::{
     Timestamp, WindowScale,
 };
 use crate::expect::{
-    bytes_from, bytes_to, expect_clone, expect_debug_text, expect_equal, expect_ok, expect_some,
-    expect_text,
+    bytes_from, bytes_to, expect_at, expect_bytes, expect_clone, expect_debug_text, expect_equal,
+    expect_ok, expect_some, expect_text,
 };
 use etherparse_transport::TcpOptionReadError::{UnexpectedSize, UnknownId};
 use etherparse_transport::{
@@ -71,64 +71,82 @@ fn expect_items(
     second: &Option<Item>,
 ) {
     let mut read = TcpRawOptionsIterator::from_slice(bytes);
-    expect_equal(rt, &read.rest(), &bytes);
-    expect_equal(rt, &read.next(), first);
-    expect_equal(rt, &read.next(), second);
-    expect_equal(rt, &read.next(), &None);
-    expect_equal(rt, &read.rest(), &[].as_slice());
+    expect_bytes(rt, read.rest(), bytes);
+    expect_item(rt, &mut read, first);
+    expect_item(rt, &mut read, second);
+    expect_item(rt, &mut read, &None);
+    expect_bytes(rt, read.rest(), &[]);
+}
+
+/// The next item is this one, or the end.
+fn expect_item(rt: &impl Abort, read: &mut TcpRawOptionsIterator<'_>, expected: &Option<Item>) {
+    expect_equal(rt, &read.next(), expected);
+}
+
+/// The next item is this option.
+fn expect_option(
+    rt: &impl Abort,
+    read: &mut TcpRawOptionsIterator<'_>,
+    kind: u8,
+    value: &'static [u8],
+) {
+    expect_item(rt, read, &Some(option(kind, value)));
+}
+
+fn expect_row(rt: &impl Abort, row: &(&'static [u8], Option<Row>, Option<Row>)) {
+    expect_items(rt, row.0, &item(rt, &row.1), &item(rt, &row.2));
+}
+
+/// Forty bytes of one kind are forty items.
+fn expect_forty_items(rt: &impl Abort, noops: &[u8; 40]) {
+    let mut read = TcpRawOptionsIterator::from_slice(noops);
+    for left in 0..40usize {
+        expect_bytes(rt, read.rest(), bytes_from(rt, noops, left));
+        expect_option(rt, &mut read, 1, &[]);
+    }
+    expect_item(rt, &mut read, &None);
 }
 
 #[test]
 fn options_of_every_kind_are_read(rt: HostRuntime) {
-    for (bytes, first, second) in &ITEMS {
-        expect_items(&rt, bytes, &item(&rt, first), &item(&rt, second));
+    for row in &ITEMS {
+        expect_row(&rt, row);
     }
-    let noops = [tcp_option::KIND_NOOP; 40];
-    let mut read = TcpRawOptionsIterator::from_slice(&noops);
-    for left in 0..40usize {
-        expect_equal(&rt, &read.rest(), &bytes_from(&rt, &noops, left));
-        expect_equal(&rt, &read.next(), &Some(option(1, &[])));
-    }
-    expect_equal(&rt, &read.next(), &None);
+    expect_forty_items(&rt, &[tcp_option::KIND_NOOP; 40]);
 }
 
-/// A maximum segment size, Fast Open, a user timeout and a window scale.
-fn known_and_unknown() -> [Item; 4] {
-    [
-        option(2, &[0x05, 0xB4]),
-        option(34, &[]),
-        option(28, &[0x80, 0x05]),
-        option(3, &[7]),
-    ]
+/// The items are a maximum segment size, Fast Open, a user timeout and a window scale, and then the end.
+fn expect_known_and_unknown(rt: &impl Abort, options: TcpRawOptionsIterator<'_>) {
+    let mut options = options;
+    let read = &mut options;
+    expect_option(rt, read, 2, &[0x05, 0xB4]);
+    expect_option(rt, read, 34, &[]);
+    expect_option(rt, read, 28, &[0x80, 0x05]);
+    expect_option(rt, read, 3, &[7]);
+    expect_bytes(rt, read.rest(), &[0, 0, 0]);
+    expect_item(rt, read, &None);
 }
 
-/// The items are `known_and_unknown`, and then the end.
-fn expect_known_and_unknown(rt: &impl Abort, mut options: TcpRawOptionsIterator<'_>) {
-    for expected in known_and_unknown() {
-        expect_equal(rt, &options.next(), &Some(expected));
-    }
-    expect_equal(rt, &options.rest(), &[0, 0, 0].as_slice());
-    assert_eq!(rt; options.next(), None);
+/// The elements end at the unknown option.
+fn expect_one_element(rt: &impl Abort, elements: TcpOptionsIterator<'_>) {
+    let mut elements = elements;
+    let size = TcpOptionElement::MaximumSegmentSize(1460);
+    let unknown = TcpOptionReadError::UnknownId(34);
+    expect_equal(rt, &elements.next(), &Some(Ok(size)));
+    expect_equal(rt, &elements.next(), &Some(Err(unknown)));
+    expect_equal(rt, &elements.next(), &None);
 }
 
 #[test]
 fn an_unknown_option_hides_no_later_one(rt: HostRuntime) {
     let bytes = [2, 4, 0x05, 0xB4, 34, 2, 28, 4, 0x80, 0x05, 3, 3, 7, 0, 0, 0];
-    let header = TcpHeader {
-        options: TcpOptions::from(bytes),
-        ..TcpHeader::new(1, 2, 3, 4)
-    };
+    let mut header = TcpHeader::new(1, 2, 3, 4);
+    header.options = TcpOptions::from(bytes);
     expect_known_and_unknown(&rt, header.raw_options_iterator());
+    expect_one_element(&rt, header.options_iterator());
     let written = header.to_bytes();
     let slice = expect_ok(&rt, TcpHeaderSlice::from_slice(&written));
     expect_known_and_unknown(&rt, slice.raw_options_iterator());
-
-    let mut elements = header.options_iterator();
-    let size = TcpOptionElement::MaximumSegmentSize(1460);
-    let unknown = TcpOptionReadError::UnknownId(34);
-    expect_equal(&rt, &elements.next(), &Some(Ok(size)));
-    expect_equal(&rt, &elements.next(), &Some(Err(unknown)));
-    expect_equal(&rt, &elements.next(), &None);
 }
 
 /// What the first item is over `left` of the bytes `kind`, `len`, A0, 01, 00 and A3.
@@ -173,13 +191,9 @@ fn expect_first_item(rt: &impl Abort, kind: u8, len: u8, left: usize) -> Option<
     let slice = bytes_to(rt, &bytes, left);
     let mut items = TcpRawOptionsIterator::from_slice(slice);
     let expected = first_item(kind, len, left);
-    expect_equal(
-        rt,
-        &(kind, len, left, &items.next()),
-        &(kind, len, left, &expected),
-    );
+    expect_at(rt, &(kind, len, left), &items.next(), &expected);
     let read = read_len(&expected, kind, len, left);
-    expect_equal(rt, &items.rest(), &bytes_from(rt, slice, read));
+    expect_bytes(rt, items.rest(), bytes_from(rt, slice, read));
     expected
 }
 
@@ -241,13 +255,13 @@ static NO_ELEMENTS_OF_LONG: [(u8, usize, TcpOptionReadError); 3] = [
 fn expect_no_element(rt: &impl Abort, kind: u8, value: &[u8], expected: &TcpOptionReadError) {
     let element = TcpRawOption { kind, value }.element();
     let key = (kind, value.len());
-    expect_equal(rt, &(key, element.as_ref().err()), &(key, Some(expected)));
+    expect_at(rt, &key, &expect_some(rt, element.err()), expected);
 }
 
 fn expect_element(rt: &impl Abort, kind: u8, value: &[u8], expected: TcpOptionElement) {
     let element = TcpRawOption { kind, value }.element();
     let key = (kind, value.len());
-    expect_equal(rt, &(key, element), &(key, Ok(expected)));
+    expect_at(rt, &key, &element, &Ok(expected));
 }
 
 /// Elements of the first `len` bytes of `NUMBERS`, of kind 5.
@@ -268,14 +282,17 @@ fn elements_of_options_are_read_or_refused(rt: HostRuntime) {
     expect_blocks(&rt, 24, [Some((3, 4)), Some((5, 6)), None]);
     expect_blocks(&rt, 32, [Some((3, 4)), Some((5, 6)), Some((7, 8))]);
     expect_element(&rt, 8, bytes_to(&rt, &NUMBERS, 8), Timestamp(1, 2));
-    for (kind, value, expected) in &NO_ELEMENTS {
-        expect_no_element(&rt, *kind, value, expected);
+    for row in &NO_ELEMENTS {
+        expect_no_element(&rt, row.0, row.1, &row.2);
     }
-    for (kind, len, expected) in &NO_ELEMENTS_OF_NUMBERS {
-        expect_no_element(&rt, *kind, bytes_to(&rt, &NUMBERS, *len), expected);
-    }
-    for (kind, len, expected) in &NO_ELEMENTS_OF_LONG {
-        expect_no_element(&rt, *kind, bytes_to(&rt, &LONG, *len), expected);
+    expect_no_elements_of(&rt, &NUMBERS, &NO_ELEMENTS_OF_NUMBERS);
+    expect_no_elements_of(&rt, &LONG, &NO_ELEMENTS_OF_LONG);
+}
+
+/// The first bytes of the value are no element, for each row of a kind, a length and the error.
+fn expect_no_elements_of(rt: &impl Abort, value: &[u8], rows: &[(u8, usize, TcpOptionReadError)]) {
+    for row in rows {
+        expect_no_element(rt, row.0, bytes_to(rt, value, row.1), &row.2);
     }
 }
 
@@ -293,7 +310,7 @@ fn expect_same_element(rt: &impl Abort, kind: u8, len: u8) -> bool {
         _ => false,
     };
     let other = TcpOptionsIterator::from_slice(&bytes).next();
-    expect_equal(rt, &(kind, len, item), &(kind, len, other));
+    expect_at(rt, &(kind, len), &item, &other);
     is_element
 }
 
@@ -332,17 +349,26 @@ fn raw_options_are_cloned_compared_and_shown(rt: HostRuntime) {
     );
     let copy = expect_ok(&rt, read.clone());
     expect_equal(&rt, &copy, &read);
-    expect_equal(&rt, &read.next(), &Some(option(1, &[])));
+    expect_option(&rt, &mut read, 1, &[]);
     expect_equal(&rt, &(copy == read), &false);
-    let cookie = expect_ok(&rt, expect_some(&rt, read.next()));
-    expect_clone(&rt, &cookie);
+    expect_unlike(&rt, &expect_ok(&rt, expect_some(&rt, read.next())));
+    for row in &TEXTS {
+        expect_error_text(&rt, &row.0, row.1);
+    }
+}
+
+/// The option is its clone, and none of `UNLIKE`.
+fn expect_unlike(rt: &impl Abort, cookie: &TcpRawOption<'_>) {
+    expect_clone(rt, cookie);
     for (kind, value) in &UNLIKE {
         let other = TcpRawOption { kind: *kind, value };
-        expect_equal(&rt, &(other == cookie), &false);
+        expect_equal(rt, &(other == *cookie), &false);
     }
-    for (error, expected) in &TEXTS {
-        expect_clone(&rt, error);
-        expect_text(&rt, error, expected);
-        expect_text(&rt, &error.text(), expected);
-    }
+}
+
+/// The error is its clone, and is shown as this text by both calls.
+fn expect_error_text(rt: &(impl Abort + AllocGlobal), error: &TcpRawOptionError, expected: &str) {
+    expect_clone(rt, error);
+    expect_text(rt, error, expected);
+    expect_text(rt, &error.text(), expected);
 }

@@ -6,7 +6,9 @@ use super::TcpOptionElement::{
     Timestamp, WindowScale,
 };
 use super::{end_of_slice, wrong_size};
-use crate::expect::{bytes_from, bytes_to, expect_equal, expect_ok, expect_some};
+use crate::expect::{
+    bytes_from, bytes_to, expect_at, expect_bytes, expect_equal, expect_ok, expect_some,
+};
 use etherparse_transport::err::tcp::{HeaderError, HeaderSliceError};
 use etherparse_transport::err::{Layer, LenError};
 use etherparse_transport::{
@@ -67,33 +69,51 @@ fn has_fields(header: &TcpHeader, ns: bool, options: &[u8]) -> bool {
 fn expect_accepted(rt: &impl Abort, slice: &[u8], header_len: usize) {
     let (front, after) = expect_some(rt, slice.split_at_checked(header_len));
     let (header, rest) = expect_ok(rt, TcpHeader::from_slice(slice));
-    let has_fields = has_fields(&header, false, bytes_from(rt, front, 20));
-    expect_equal(rt, &(&header, has_fields), &(&header, true));
-    expect_equal(rt, &rest, &after);
-    expect_equal(rt, &header.to_bytes().as_slice(), &front);
-    expect_equal(
+    expect_fields(rt, &header, false, front);
+    expect_bytes(rt, rest, after);
+    expect_bytes(rt, &header.to_bytes(), front);
+    expect_slice(rt, slice, front);
+    expect_read(rt, slice, &header, after);
+}
+
+/// The header has the fields of `header_bytes` and the options of this header.
+fn expect_fields(rt: &impl Abort, header: &TcpHeader, ns: bool, front: &[u8]) {
+    let has_fields = has_fields(header, ns, bytes_from(rt, front, 20));
+    expect_at(rt, header, &has_fields, &true);
+}
+
+/// The slice of the header at the front of these bytes is the front.
+fn expect_slice(rt: &impl Abort, bytes: &[u8], front: &[u8]) {
+    expect_bytes(
         rt,
-        &expect_ok(rt, TcpHeaderSlice::from_slice(slice)).slice(),
-        &front,
+        expect_ok(rt, TcpHeaderSlice::from_slice(bytes)).slice(),
+        front,
     );
-    expect_equal(
-        rt,
-        &expect_ok(rt, TcpHeader::read_from_slice(slice)),
-        &(header, rest),
-    );
+}
+
+/// The other call reads the header and these bytes after it too.
+fn expect_read(rt: &impl Abort, bytes: &[u8], header: &TcpHeader, after: &[u8]) {
+    let (read, rest) = expect_ok(rt, TcpHeader::read_from_slice(bytes));
+    expect_equal(rt, &read, header);
+    expect_bytes(rt, rest, after);
 }
 
 /// Each call refuses the slice with this error.
 fn expect_refused(rt: &impl Abort, slice: &[u8], data_offset: u8, expected: &HeaderSliceError) {
-    let errors = [
-        TcpHeader::from_slice(slice).err(),
-        TcpHeader::read_from_slice(slice).err(),
-        TcpHeaderSlice::from_slice(slice).err(),
-    ];
-    for error in &errors {
-        let key = (data_offset, slice.len());
-        expect_equal(rt, &(key, error.as_ref()), &(key, Some(expected)));
-    }
+    let key = &(data_offset, slice.len());
+    expect_error(rt, key, TcpHeader::from_slice(slice).err(), expected);
+    expect_error(rt, key, TcpHeader::read_from_slice(slice).err(), expected);
+    expect_error(rt, key, TcpHeaderSlice::from_slice(slice).err(), expected);
+}
+
+/// The call returned this error. The key is the data offset and the length.
+fn expect_error(
+    rt: &impl Abort,
+    key: &(u8, usize),
+    error: Option<HeaderSliceError>,
+    expected: &HeaderSliceError,
+) {
+    expect_at(rt, key, &expect_some(rt, error), expected);
 }
 
 /// How many slices are short, have a data offset that is too small, are cut off, and are accepted.
@@ -154,18 +174,19 @@ fn expect_byte_12(rt: &impl Abort, byte_12: u8) {
     let header_len = usize::from(byte_12 >> 4) * 4;
     let front = bytes_to(rt, &bytes, header_len);
     let (header, rest) = expect_ok(rt, TcpHeader::from_slice(&bytes));
-    let has_fields = has_fields(&header, byte_12 & 1 == 1, bytes_from(rt, front, 20));
-    expect_equal(rt, &(&header, has_fields), &(&header, true));
-    expect_equal(rt, &rest, &bytes_from(rt, &bytes, header_len));
+    let header = &header;
+    expect_fields(rt, header, byte_12 & 1 == 1, front);
+    expect_bytes(rt, rest, bytes_from(rt, &bytes, header_len));
     let canonical = header_bytes(byte_12 & 0xF1);
-    expect_equal(
-        rt,
-        &header.to_bytes().as_slice(),
-        &bytes_to(rt, &canonical, header_len),
-    );
-    let slice = expect_ok(rt, TcpHeaderSlice::from_slice(&bytes));
-    expect_equal(rt, &slice.slice(), &front);
-    expect_equal(rt, &slice.to_header(), &header);
+    expect_bytes(rt, &header.to_bytes(), bytes_to(rt, &canonical, header_len));
+    expect_slice(rt, &bytes, front);
+    expect_header_of_slice(rt, &bytes, header);
+}
+
+/// The header of the slice of these bytes is this one.
+fn expect_header_of_slice(rt: &impl Abort, bytes: &[u8], header: &TcpHeader) {
+    let slice = expect_ok(rt, TcpHeaderSlice::from_slice(bytes));
+    expect_equal(rt, &slice.to_header(), header);
 }
 
 #[test]
@@ -233,12 +254,9 @@ fn expect_first_item(rt: &impl Abort, kind: u8, size: u8) -> Item {
     bytes[1] = size;
     let mut items = TcpOptionsIterator::from_slice(&bytes);
     let expected = first_item(kind, size);
-    expect_equal(rt, &(kind, size, &items.next()), &(kind, size, &expected));
-    expect_equal(
-        rt,
-        &items.rest(),
-        &bytes_from(rt, &bytes, read_len(&expected, kind, size)),
-    );
+    expect_at(rt, &(kind, size), &items.next(), &expected);
+    let read = read_len(&expected, kind, size);
+    expect_bytes(rt, items.rest(), bytes_from(rt, &bytes, read));
     expected
 }
 
@@ -265,8 +283,8 @@ fn expect_cut_off(rt: &impl Abort, kind: u8, size: u8, len: usize) {
     let required = if kind == 5 && len == 1 { 2 } else { size };
     let mut items = TcpOptionsIterator::from_slice(bytes_to(rt, &bytes, len));
     let fault = Some(Err(end_of_slice(kind, required, len)));
-    expect_equal(rt, &(kind, len, items.next()), &(kind, len, fault));
-    expect_equal(rt, &items.rest(), &[].as_slice());
+    expect_at(rt, &(kind, len), &items.next(), &fault);
+    expect_bytes(rt, items.rest(), &[]);
 }
 
 #[test]
