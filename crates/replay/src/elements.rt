@@ -1,5 +1,5 @@
 use crate::option_items::write_items;
-use crate::values::{Hex, NoSpace, Set};
+use crate::values::{NoSpace, write_bytes, write_number, write_set};
 use etherparse_transport::{TcpHeader, TcpOptionElement, TcpOptions};
 use std::alloc::{AllocError, Global};
 use std::io;
@@ -88,19 +88,16 @@ pub fn write_elements<W: Write>(output: &mut W, elements: &[TcpOptionElement]) -
     }
     let mut header = TcpHeader::new(1, 2, 3, 4);
     header.set_options_raw(&OLD_OPTIONS).unwrap();
-    write!(output, " set={}", Set(header.set_options(elements)))?;
-    write!(output, " header={}", Hex(header.to_bytes().as_slice()))
+    write_set(output, "set", header.set_options(elements))?;
+    write_bytes(output, "header", header.to_bytes().as_slice())
 }
 
 /// Writes options that were made.
 fn write_options<W: Write>(output: &mut W, options: &TcpOptions) -> io::Result<()> {
-    write!(
-        output,
-        "res=ok options={} len={} data_offset={} empty={} items=",
-        Hex(options.as_slice()),
-        options.len(),
-        options.data_offset(),
-        u8::from(options.is_empty())
-    )?;
-    write_items(output, options.elements_iter())
+    write!(output, "res=ok")?;
+    write_bytes(output, "options", options.as_slice())?;
+    write_number(output, "len", options.len() as u64)?;
+    write_number(output, "data_offset", u64::from(options.data_offset()))?;
+    write_number(output, "empty", u64::from(options.is_empty()))?;
+    write_items(output, "items", options.elements_iter())
 }

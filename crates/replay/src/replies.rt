@@ -2,6 +2,7 @@ ghost use Rattle.std.specs.Prelude.{◌≡◌, IfOk, IsNone, IsSomeAnd, MatchRes
 ghost use Rattle.hex.specs.Hex.{decode_of};
 
 use crate::elements::{elements_of, write_elements};
+use crate::values::write_number;
 use crate::{icmpv4, icmpv6, tcp, udp};
 use etherparse_transport::Proto;
 use hex::FromHexError;
@@ -16,28 +17,28 @@ pub fn write_reply<W: Write>(alloc: Global, line: &[u8], output: &mut W) -> io::
     } else {
         write_packet_reply(alloc, line, output)?;
     }
-    writeln!(output)
+    output.write_all(b"\n")
 }
 
 /// Writes the reply to a list of option elements.
 fn write_elements_reply<W: Write>(alloc: Global, list: &[u8], output: &mut W) -> io::Result<()> {
     let Ok(list) = str::from_utf8(list) else {
-        return write!(output, "bad");
+        return output.write_all(b"bad");
     };
     match elements_of(alloc, list)? {
         Some(elements) => write_elements(output, elements.as_slice()),
-        None => write!(output, "bad"),
+        None => output.write_all(b"bad"),
     }
 }
 
 /// Writes the reply to a packet.
 fn write_packet_reply<W: Write>(alloc: Global, line: &[u8], output: &mut W) -> io::Result<()> {
     let Some((protocol, digits)) = packet_of(line) else {
-        return write!(output, "bad");
+        return output.write_all(b"bad");
     };
     match bytes_of(alloc, digits)? {
         Some(packet) => write_packet(alloc, protocol, packet.as_slice(), output),
-        None => write!(output, "bad"),
+        None => output.write_all(b"bad"),
     }
 }
 
@@ -78,7 +79,8 @@ fn write_packet<W: Write>(
     packet: &[u8],
     output: &mut W,
 ) -> io::Result<()> {
-    write!(output, "{} n={}", word_of(protocol), packet.len())?;
+    output.write_all(word_of(protocol).as_bytes())?;
+    write_number(output, "n", packet.len() as u64)?;
     match protocol {
         Proto::Udp => udp::write_packet(output, packet),
         Proto::Tcp => tcp::write_packet(output, packet),

@@ -3,25 +3,28 @@ use crate::addresses::{
     ipv6_header, ipv6_packet,
 };
 use crate::option_items::write_items;
-use crate::values::{Checksum, Hex, NoSpace, RefusedHeader, Set};
+use crate::values::{
+    NoSpace, write_bytes, write_checksum, write_number, write_numbers, write_refused_header,
+    write_set, write_value, write_word,
+};
 use etherparse_transport::{
     Ipv4HeaderSlice, Ipv6HeaderSlice, TcpHeader, TcpHeaderSlice, TcpOptionWriteError, TcpOptions,
     TcpOptionsIterator,
 };
+use std::io;
 use std::io::{ErrorKind, Write};
-use std::{fmt, io};
 
 /// Writes what the calls of TCP return for a packet.
 pub fn write_packet<W: Write>(output: &mut W, packet: &[u8]) -> io::Result<()> {
     let decoded = TcpHeader::from_slice(packet);
     match &decoded {
         Ok((header, rest)) => write_header(output, header, rest)?,
-        Err(error) => write!(output, " dec={}", RefusedHeader(error))?,
+        Err(error) => write_refused_header(output, "dec", error)?,
     }
     let slice = TcpHeaderSlice::from_slice(packet);
     match &slice {
         Ok(header) => write_slice(output, header)?,
-        Err(error) => write!(output, " slice={}", RefusedHeader(error))?,
+        Err(error) => write_refused_header(output, "slice", error)?,
     }
     if let (Ok((header, rest)), Ok(slice)) = (&decoded, &slice) {
         write_checksums(output, header, rest)?;
@@ -33,131 +36,104 @@ pub fn write_packet<W: Write>(output: &mut W, packet: &[u8]) -> io::Result<()> {
 
 /// Writes a header that was read, and the bytes after it.
 fn write_header<W: Write>(output: &mut W, header: &TcpHeader, rest: &[u8]) -> io::Result<()> {
-    write_numbers(output, header)?;
-    write_flags(output, header)?;
-    write_window(output, header)?;
-    write!(
-        output,
-        " options={} options_len={} header_len={} header_len_u16={}",
-        Hex(header.options()),
-        header.options_len(),
-        header.header_len(),
-        header.header_len_u16()
-    )?;
-    write!(
-        output,
-        " bytes={} rest_len={} rest={} items=",
-        Hex(header.to_bytes().as_slice()),
-        rest.len(),
-        Hex(rest)
-    )?;
-    write_items(output, header.options_iterator())
+    write_word(output, "dec", "ok")?;
+    write_fields(output, header)?;
+    write_bytes(output, "options", header.options())?;
+    let lengths = [
+        ("options_len", header.options_len() as u64),
+        ("header_len", header.header_len() as u64),
+        ("header_len_u16", u64::from(header.header_len_u16())),
+    ];
+    write_numbers(output, &lengths)?;
+    write_bytes(output, "bytes", header.to_bytes().as_slice())?;
+    write_number(output, "rest_len", rest.len() as u64)?;
+    write_bytes(output, "rest", rest)?;
+    write_items(output, "items", header.options_iterator())
 }
 
-/// Writes the fields of a header before its flags.
-fn write_numbers<W: Write>(output: &mut W, header: &TcpHeader) -> io::Result<()> {
-    write!(
-        output,
-        " dec=ok source_port={} destination_port={} sequence_number={} acknowledgment_number={} data_offset={}",
-        header.source_port,
-        header.destination_port,
-        header.sequence_number,
-        header.acknowledgment_number,
-        header.data_offset()
-    )
-}
-
-/// Writes the flags of a header.
-fn write_flags<W: Write>(output: &mut W, header: &TcpHeader) -> io::Result<()> {
-    write!(
-        output,
-        " ns={} fin={} syn={} rst={} psh={} ack={} urg={} ece={} cwr={}",
-        u8::from(header.ns),
-        u8::from(header.fin),
-        u8::from(header.syn),
-        u8::from(header.rst),
-        u8::from(header.psh),
-        u8::from(header.ack),
-        u8::from(header.urg),
-        u8::from(header.ece),
-        u8::from(header.cwr)
-    )
-}
-
-/// Writes the fields of a header between its flags and its options.
-fn write_window<W: Write>(output: &mut W, header: &TcpHeader) -> io::Result<()> {
-    write!(
-        output,
-        " window_size={} checksum={} urgent_pointer={}",
-        header.window_size, header.checksum, header.urgent_pointer
-    )
+/// Writes the fields of a header before its options.
+fn write_fields<W: Write>(output: &mut W, header: &TcpHeader) -> io::Result<()> {
+    let numbers = [
+        ("source_port", u64::from(header.source_port)),
+        ("destination_port", u64::from(header.destination_port)),
+        ("sequence_number", u64::from(header.sequence_number)),
+        (
+            "acknowledgment_number",
+            u64::from(header.acknowledgment_number),
+        ),
+        ("data_offset", u64::from(header.data_offset())),
+        ("ns", u64::from(header.ns)),
+        ("fin", u64::from(header.fin)),
+        ("syn", u64::from(header.syn)),
+        ("rst", u64::from(header.rst)),
+        ("psh", u64::from(header.psh)),
+        ("ack", u64::from(header.ack)),
+        ("urg", u64::from(header.urg)),
+        ("ece", u64::from(header.ece)),
+        ("cwr", u64::from(header.cwr)),
+        ("window_size", u64::from(header.window_size)),
+        ("checksum", u64::from(header.checksum)),
+        ("urgent_pointer", u64::from(header.urgent_pointer)),
+    ];
+    write_numbers(output, &numbers)
 }
 
 /// Writes the header's bytes that a slice holds, and its getters.
 fn write_slice<W: Write>(output: &mut W, header: &TcpHeaderSlice) -> io::Result<()> {
-    write!(output, " slice=ok slice.slice={}", Hex(header.slice()))?;
-    write_slice_numbers(output, header)?;
-    write_slice_flags(output, header)?;
-    write_slice_window(output, header)?;
-    write!(
-        output,
-        " slice.options={} slice.to_header={} slice.items=",
-        Hex(header.options()),
-        Hex(header.to_header().to_bytes().as_slice())
-    )?;
-    write_items(output, header.options_iterator())
+    write_word(output, "slice", "ok")?;
+    write_bytes(output, "slice.slice", header.slice())?;
+    write_slice_fields(output, header)?;
+    write_bytes(output, "slice.options", header.options())?;
+    let bytes = header.to_header().to_bytes();
+    write_bytes(output, "slice.to_header", bytes.as_slice())?;
+    write_items(output, "slice.items", header.options_iterator())
 }
 
-/// Writes the getters of a slice before its flags.
-fn write_slice_numbers<W: Write>(output: &mut W, header: &TcpHeaderSlice) -> io::Result<()> {
-    write!(
-        output,
-        " slice.source_port={} slice.destination_port={} slice.sequence_number={} slice.acknowledgment_number={} slice.data_offset={}",
-        header.source_port(),
-        header.destination_port(),
-        header.sequence_number(),
-        header.acknowledgment_number(),
-        header.data_offset()
-    )
-}
-
-/// Writes the flags of a slice.
-fn write_slice_flags<W: Write>(output: &mut W, header: &TcpHeaderSlice) -> io::Result<()> {
-    write!(
-        output,
-        " slice.ns={} slice.fin={} slice.syn={} slice.rst={} slice.psh={} slice.ack={} slice.urg={} slice.ece={} slice.cwr={}",
-        u8::from(header.ns()),
-        u8::from(header.fin()),
-        u8::from(header.syn()),
-        u8::from(header.rst()),
-        u8::from(header.psh()),
-        u8::from(header.ack()),
-        u8::from(header.urg()),
-        u8::from(header.ece()),
-        u8::from(header.cwr())
-    )
-}
-
-/// Writes the getters of a slice between its flags and its options.
-fn write_slice_window<W: Write>(output: &mut W, header: &TcpHeaderSlice) -> io::Result<()> {
-    write!(
-        output,
-        " slice.window_size={} slice.checksum={} slice.urgent_pointer={}",
-        header.window_size(),
-        header.checksum(),
-        header.urgent_pointer()
-    )
+/// Writes the getters of a slice before its options.
+fn write_slice_fields<W: Write>(output: &mut W, header: &TcpHeaderSlice) -> io::Result<()> {
+    let numbers = [
+        ("slice.source_port", u64::from(header.source_port())),
+        (
+            "slice.destination_port",
+            u64::from(header.destination_port()),
+        ),
+        ("slice.sequence_number", u64::from(header.sequence_number())),
+        (
+            "slice.acknowledgment_number",
+            u64::from(header.acknowledgment_number()),
+        ),
+        ("slice.data_offset", u64::from(header.data_offset())),
+        ("slice.ns", u64::from(header.ns())),
+        ("slice.fin", u64::from(header.fin())),
+        ("slice.syn", u64::from(header.syn())),
+        ("slice.rst", u64::from(header.rst())),
+        ("slice.psh", u64::from(header.psh())),
+        ("slice.ack", u64::from(header.ack())),
+        ("slice.urg", u64::from(header.urg())),
+        ("slice.ece", u64::from(header.ece())),
+        ("slice.cwr", u64::from(header.cwr())),
+        ("slice.window_size", u64::from(header.window_size())),
+        ("slice.checksum", u64::from(header.checksum())),
+        ("slice.urgent_pointer", u64::from(header.urgent_pointer())),
+    ];
+    write_numbers(output, &numbers)
 }
 
 /// Writes the checksums of a header that was read, the bytes after it being the payload.
 fn write_checksums<W: Write>(output: &mut W, header: &TcpHeader, payload: &[u8]) -> io::Result<()> {
-    write!(
+    let raw = header.calc_checksum_ipv4_raw(IPV4_SOURCE, IPV4_DESTINATION, payload);
+    write_checksum(output, "calc4_raw", raw)?;
+    write_checksum(
         output,
-        " calc4_raw={} calc4={} calc6_raw={} calc6={}",
-        Checksum(header.calc_checksum_ipv4_raw(IPV4_SOURCE, IPV4_DESTINATION, payload)),
-        Checksum(header.calc_checksum_ipv4(&ipv4_header(), payload)),
-        Checksum(header.calc_checksum_ipv6_raw(IPV6_SOURCE, IPV6_DESTINATION, payload)),
-        Checksum(header.calc_checksum_ipv6(&ipv6_header(), payload))
+        "calc4",
+        header.calc_checksum_ipv4(&ipv4_header(), payload),
+    )?;
+    let raw = header.calc_checksum_ipv6_raw(IPV6_SOURCE, IPV6_DESTINATION, payload);
+    write_checksum(output, "calc6_raw", raw)?;
+    write_checksum(
+        output,
+        "calc6",
+        header.calc_checksum_ipv6(&ipv6_header(), payload),
     )
 }
 
@@ -170,13 +146,19 @@ fn write_slice_checksums<W: Write>(
     let (ipv4, ipv6) = (ipv4_packet(), ipv6_packet());
     let ipv4 = Ipv4HeaderSlice::from_slice(&ipv4).ok_or(ErrorKind::InvalidData)?;
     let ipv6 = Ipv6HeaderSlice::from_slice(&ipv6).ok_or(ErrorKind::InvalidData)?;
-    write!(
+    let raw = header.calc_checksum_ipv4_raw(IPV4_SOURCE, IPV4_DESTINATION, payload);
+    write_checksum(output, "slice.calc4_raw", raw)?;
+    write_checksum(
         output,
-        " slice.calc4_raw={} slice.calc4={} slice.calc6_raw={} slice.calc6={}",
-        Checksum(header.calc_checksum_ipv4_raw(IPV4_SOURCE, IPV4_DESTINATION, payload)),
-        Checksum(header.calc_checksum_ipv4(&ipv4, payload)),
-        Checksum(header.calc_checksum_ipv6_raw(IPV6_SOURCE, IPV6_DESTINATION, payload)),
-        Checksum(header.calc_checksum_ipv6(&ipv6, payload))
+        "slice.calc4",
+        header.calc_checksum_ipv4(&ipv4, payload),
+    )?;
+    let raw = header.calc_checksum_ipv6_raw(IPV6_SOURCE, IPV6_DESTINATION, payload);
+    write_checksum(output, "slice.calc6_raw", raw)?;
+    write_checksum(
+        output,
+        "slice.calc6",
+        header.calc_checksum_ipv6(&ipv6, payload),
     )
 }
 
@@ -186,41 +168,32 @@ fn write_rest_as_options<W: Write>(
     header: &TcpHeader,
     rest: &[u8],
 ) -> io::Result<()> {
-    write!(
-        output,
-        " try_rest={}",
-        Made(&TcpOptions::try_from_slice(rest))
-    )?;
+    write_made(output, "try_rest", &TcpOptions::try_from_slice(rest))?;
     let mut changed = header.clone()?;
-    write!(output, " set_raw={}", Set(changed.set_options_raw(rest)))?;
-    write!(
-        output,
-        " set_raw.bytes={}",
-        Hex(changed.to_bytes().as_slice())
-    )
+    write_set(output, "set_raw", changed.set_options_raw(rest))?;
+    write_bytes(output, "set_raw.bytes", changed.to_bytes().as_slice())
 }
 
 /// Writes all bytes of a packet taken as options.
 fn write_packet_as_options<W: Write>(output: &mut W, packet: &[u8]) -> io::Result<()> {
     let options = TcpOptions::try_from_slice(packet);
-    write!(output, " try_all={}", Made(&options))?;
+    write_made(output, "try_all", &options)?;
+    let key = "try_all.data_offset";
     match &options {
-        Ok(options) => write!(output, " try_all.data_offset={}", options.data_offset())?,
-        Err(_) => write!(output, " try_all.data_offset=-")?,
+        Ok(options) => write_number(output, key, u64::from(options.data_offset()))?,
+        Err(_) => write_word(output, key, "-")?,
     }
-    write!(output, " items_all=")?;
-    write_items(output, TcpOptionsIterator::from_slice(packet))
+    write_items(output, "items_all", TcpOptionsIterator::from_slice(packet))
 }
 
-/// The bytes of options that were made, or the room that they need.
-#[derive(Clone, Copy)]
-struct Made<'a>(&'a Result<TcpOptions, TcpOptionWriteError>);
-
-impl<'a> fmt::Display for Made<'a> {
-    fn fmt<W: fmt::Write>(&self, f: &mut fmt::Formatter<W>) -> fmt::Result {
-        match self.0 {
-            Ok(options) => write!(f, "{}", Hex(options.as_slice())),
-            Err(error) => write!(f, "{}", NoSpace(error)),
-        }
+/// Writes the bytes of options that were made, or the room that they need.
+fn write_made<W: Write>(
+    output: &mut W,
+    key: &str,
+    made: &Result<TcpOptions, TcpOptionWriteError>,
+) -> io::Result<()> {
+    match made {
+        Ok(options) => write_bytes(output, key, options.as_slice()),
+        Err(error) => write_value(output, key, &NoSpace(error)),
     }
 }
