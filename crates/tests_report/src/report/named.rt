@@ -4,7 +4,7 @@ use super::{
     ALL, Captures, FaultyWriter, LINE, ONLY_LINES, Ran, changed_capture, expect_beginning,
     expect_first_text, expect_ran, run_over,
 };
-use crate::expect::{expect_equal, expect_text};
+use crate::expect::{expect_equal, expect_ok, expect_text};
 use capture_run::{ExitStatus, Format, Lines, Open, Parts, WriteError, run};
 use std::alloc::Global;
 use std::hash::RandomState;
@@ -12,7 +12,6 @@ use std::io;
 use std::io::{Cursor, ErrorKind};
 use std::process::Abort;
 use std::random::RandomSource;
-use std::test::Fail;
 
 /// The names that can be opened. Each is a capture of the packet in which a byte is changed: in the port, in the length of UDP, in the
 /// version, in the link type, in the captured length, and in the magic number.
@@ -115,11 +114,7 @@ fn parts_of(asked: Asked) -> Parts {
 }
 
 /// Runs a report over captures with these names.
-fn run_named(
-    rt: &(impl AllocGlobal + RandomSource),
-    parts: Parts,
-    names: &[&str],
-) -> io::Result<Ran> {
+fn run_named(rt: &(impl Abort + AllocGlobal + RandomSource), parts: Parts, names: &[&str]) -> Ran {
     run_over(rt, parts, names, &Changed { alloc: rt.alloc() })
 }
 
@@ -267,38 +262,31 @@ const OBJECTS: &str = r#"{"type":"file","file":"right"}
 "#;
 
 /// Stops the test unless the run of a row has the status of the row, and writes what the row says.
-fn expect_named(rt: &(impl Abort + AllocGlobal + RandomSource), row: &RunRow) -> Result<(), Fail> {
+fn expect_named(rt: &(impl Abort + AllocGlobal + RandomSource), row: &RunRow) {
     let (names, asked, status, output, errors) = *row;
-    expect_ran(
-        rt,
-        run_named(rt, parts_of(asked), names)?,
-        status,
-        output,
-        errors,
-    )
+    let ran = run_named(rt, parts_of(asked), names);
+    expect_ran(rt, &ran, status, output, errors);
 }
 
 #[test]
-fn one_capture_is_reported_without_a_heading(rt: HostRuntime) -> Result<(), Fail> {
+fn one_capture_is_reported_without_a_heading(rt: HostRuntime) {
     for row in &RUNS_OF_ONE {
-        expect_named(&rt, row)?;
+        expect_named(&rt, row);
     }
-    Ok(())
 }
 
 #[test]
-fn captures_are_reported_one_after_the_other(rt: HostRuntime) -> Result<(), Fail> {
+fn captures_are_reported_one_after_the_other(rt: HostRuntime) {
     for row in &RUNS {
-        expect_named(&rt, row)?;
+        expect_named(&rt, row);
     }
-    Ok(())
 }
 
 #[test]
-fn standard_input_that_cannot_be_opened(rt: HostRuntime) -> Result<(), Fail> {
-    let ran = run_over(&rt, ALL, &[], &Captures { named: &[] })?;
+fn standard_input_that_cannot_be_opened(rt: HostRuntime) {
+    let ran = run_over(&rt, ALL, &[], &Captures { named: &[] });
     let errors = "capture_report: -: entity not found\n";
-    expect_ran(&rt, ran, 3, "", errors)
+    expect_ran(&rt, &ran, 3, "", errors);
 }
 
 /// The names of captures, what is asked of their report, the status, and what the output begins with: the lines, an empty line, and the
@@ -317,57 +305,56 @@ static SUMMARIES: [SummaryRow; 5] = [
 ];
 
 /// Stops the test unless the run of a row begins as the row says.
-fn expect_summary(
-    rt: &(impl Abort + AllocGlobal + RandomSource),
-    row: &SummaryRow,
-) -> Result<(), Fail> {
+fn expect_summary(rt: &(impl Abort + AllocGlobal + RandomSource), row: &SummaryRow) {
     let (names, asked, status, wanted) = *row;
-    expect_first_text(rt, run_named(rt, parts_of(asked), names)?, status, wanted)
+    let ran = run_named(rt, parts_of(asked), names);
+    expect_first_text(rt, &ran, status, wanted);
 }
 
 #[test]
-fn the_summary_is_of_all_captures(rt: HostRuntime) -> Result<(), Fail> {
+fn the_summary_is_of_all_captures(rt: HostRuntime) {
     for row in &SUMMARIES {
-        expect_summary(&rt, row)?;
+        expect_summary(&rt, row);
     }
-    Ok(())
+}
+
+/// The kind of the fault of a writer, if a run returned it.
+fn kind_of(outcome: Result<ExitStatus, WriteError>) -> Option<ErrorKind> {
+    match outcome {
+        Err(WriteError::Write(error)) => Some(error.kind()),
+        _ => None,
+    }
 }
 
 /// Stops the test unless a run that can't write one of its errors reports the captures, and then returns that fault. The fault is at the
 /// call after `calls`.
-fn expect_without_errors(
-    rt: &(impl Abort + AllocGlobal + RandomSource),
-    calls: usize,
-) -> Result<(), Fail> {
+fn expect_without_errors(rt: &(impl Abort + AllocGlobal + RandomSource), calls: usize) {
+    let state = expect_ok(rt, RandomState::new(rt));
+    let opener = Changed { alloc: rt.alloc() };
+    let names = ["right", "missing", "wrong"];
     let mut output = Vec::new(rt.alloc());
     let mut errors = FaultyWriter {
         written: Vec::new(rt.alloc()),
         calls,
         takes_nothing: false,
     };
-    let status = run(
+    let outcome = run(
         rt.alloc(),
-        RandomState::new(rt)?,
+        state,
         CHECKED_LINES,
-        &["right", "missing", "wrong"],
-        &Changed { alloc: rt.alloc() },
+        &names,
+        &opener,
         &mut output,
         &mut errors,
     );
-    let kind = match status {
-        Err(WriteError::Write(error)) => Some(error.kind()),
-        _ => None,
-    };
-    expect_equal(rt, &kind, &Some(ErrorKind::BrokenPipe));
-    expect_text(rt, output, WITH_MISSING)
+    expect_equal(rt, &kind_of(outcome), &Some(ErrorKind::BrokenPipe));
+    expect_text(rt, &output, WITH_MISSING);
 }
 
 #[test]
-fn errors_that_cannot_be_written(rt: HostRuntime) -> Result<(), Fail> {
-    for calls in [0, 20] {
-        expect_without_errors(&rt, calls)?;
-    }
-    Ok(())
+fn errors_that_cannot_be_written(rt: HostRuntime) {
+    expect_without_errors(&rt, 0);
+    expect_without_errors(&rt, 20);
 }
 
 /// How many calls of the writer come before its fault, which is in the first heading, in the line after it, in the empty line before the
@@ -376,10 +363,10 @@ fn errors_that_cannot_be_written(rt: HostRuntime) -> Result<(), Fail> {
 static CALLS: [usize; 6] = [0, 5, 14, 98, 99, 113];
 
 #[test]
-fn write_faults_within_headings(rt: HostRuntime) -> Result<(), Fail> {
+fn write_faults_within_headings(rt: HostRuntime) {
     let opener = Changed { alloc: rt.alloc() };
     let names = ["right", "right"];
-    let whole = run_over(&rt, ONLY_LINES, &names, &opener)?;
+    let whole = run_over(&rt, ONLY_LINES, &names, &opener);
     expect_equal(&rt, &whole.status, &0);
     for calls in &CALLS {
         expect_beginning(
@@ -390,7 +377,6 @@ fn write_faults_within_headings(rt: HostRuntime) -> Result<(), Fail> {
             &whole.output,
             *calls,
             false,
-        )?;
+        );
     }
-    Ok(())
 }
