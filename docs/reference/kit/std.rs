@@ -10,6 +10,7 @@ pub mod prelude {
     pub use crate::convert::{From, TryFrom};
     pub use crate::default::Default;
     pub use crate::iter::Iterator;
+    pub use crate::runtime::HostRuntime;
     pub use crate::string::String;
     pub use crate::vec::Vec;
 }
@@ -98,6 +99,12 @@ pub mod hash {
     pub struct RandomState;
 }
 
+pub mod env {
+    pub trait Env {}
+
+    pub enum FillError {}
+}
+
 pub mod io {
     pub struct Error;
 
@@ -123,6 +130,11 @@ pub mod iter {
 
 pub mod marker {
     pub trait Model {}
+}
+
+pub mod runtime {
+    /// What a program has of its host: arguments, files, streams and memory.
+    pub struct HostRuntime;
 }
 
 pub mod string {
