@@ -347,15 +347,28 @@ fn expect_verdict(
     expect_at(rt, &len, &packet.verdict, expected);
 }
 
+/// Stops the test unless this is the verdict on the frames of each link type with this length, whether the capture cut them or not.
+fn expect_verdicts(rt: &(impl Abort + AllocGlobal), len: u8, expected: &Verdict) {
+    for (link_type, before) in &BEFORE_SESSION {
+        expect_verdict(rt, *link_type, before, len, false, expected);
+        expect_verdict(rt, *link_type, before, len, true, expected);
+    }
+}
+
 #[test]
 fn payloads_of_pppoe_end_at_their_length(rt: HostRuntime) {
     for (len, expected) in &PAYLOAD_LENS {
-        for (link_type, before) in &BEFORE_SESSION {
-            for is_cut in [false, true] {
-                expect_verdict(&rt, *link_type, before, *len, is_cut, expected);
-            }
-        }
+        expect_verdicts(&rt, *len, expected);
     }
+}
+
+/// Stops the test unless the payload of the packet in a frame of PPPoE has three bytes, and is of another protocol.
+fn expect_three_bytes(rt: &impl Abort, frame: &[u8], is_cut: bool) {
+    let link_type = LinkType::PppOverEthernet;
+    let packet = read_frame(link_type, ByteOrder::BigEndian, frame, is_cut);
+    let is_counted = matches!(packet.content, Content::Ip { payload_len: 3, .. });
+    expect_equal(rt, &is_counted, &true);
+    expect_equal(rt, &packet.verdict, &OTHER_PROTOCOL);
 }
 
 #[test]
@@ -364,39 +377,24 @@ fn packets_without_a_length_end_with_their_pppoe_payload(rt: HostRuntime) {
         0x11, 0, 0, 1, 0, 25, 0, 0x21, 0x45, 0, 0, 0, 0, 1, 0x40, 0, 64, 200, 0, 0, 10, 0, 0, 1,
         10, 0, 0, 2, 1, 2, 3, 0xEE, 0xEE,
     ];
-    for is_cut in [false, true] {
-        let packet = read_frame(
-            LinkType::PppOverEthernet,
-            ByteOrder::BigEndian,
-            &frame,
-            is_cut,
-        );
-        let is_counted = matches!(packet.content, Content::Ip { payload_len: 3, .. });
-        expect_equal(
-            &rt,
-            &(is_counted, &packet.verdict),
-            &(true, &OTHER_PROTOCOL),
-        );
-    }
+    expect_three_bytes(&rt, &frame, false);
+    expect_three_bytes(&rt, &frame, true);
+}
+
+/// Stops the test unless this is the verdict on a frame of PPPoE that ends before its payload.
+fn expect_early_end(rt: &impl Abort, is_cut: bool, expected: Verdict) {
+    let link_type = LinkType::PppOverEthernet;
+    let frame = [0x11, 0, 0, 1, 0, 33, 0, 0x21, 0x45, 0, 0];
+    let packet = read_frame(link_type, ByteOrder::BigEndian, &frame, is_cut);
+    expect_equal(rt, &packet.verdict, &expected);
 }
 
 #[test]
 fn frames_end_before_their_pppoe_payload(rt: HostRuntime) {
+    expect_early_end(&rt, true, CUT_OFF);
     let refusal = IpError::HeaderCutOff {
         required_len: 20,
         len: 3,
     };
-    let frame = [0x11, 0, 0, 1, 0, 33, 0, 0x21, 0x45, 0, 0];
-    for (is_cut, expected) in [
-        (true, CUT_OFF),
-        (false, Verdict::Refused(Refusal::Ip(refusal))),
-    ] {
-        let packet = read_frame(
-            LinkType::PppOverEthernet,
-            ByteOrder::BigEndian,
-            &frame,
-            is_cut,
-        );
-        expect_equal(&rt, &packet.verdict, &expected);
-    }
+    expect_early_end(&rt, false, Verdict::Refused(Refusal::Ip(refusal)));
 }

@@ -132,28 +132,27 @@ const V4_CUT: Header = Header::Bytes(&[
     0x45, 0, 0, 60, 0, 1, 0, 0, 64, 17, 0, 0, 10, 0, 0, 1, 10, 0, 0,
 ]);
 
-/// A packet of these headers and these bytes after them.
-fn packet_of(rt: &(impl Abort + AllocGlobal), header: Header, payload: &[u8]) -> Vec<u8> {
-    let mut packet = Vec::new(rt.alloc());
+/// The bytes of these headers.
+fn header_of(rt: &(impl Abort + AllocGlobal), header: Header) -> Vec<u8> {
     match header {
         Header::Ipv4(first, total_len, flags, protocol) => {
             let header = [
                 first, 0, 0, total_len, 0, 1, flags, 0, 64, protocol, 0, 0, 10, 0, 0, 1, 10, 0, 0,
                 2,
             ];
-            append(rt, &mut packet, &header);
+            joined(rt, &[&header])
         }
         Header::Ipv6(payload_len, next_header) => {
-            append(
-                rt,
-                &mut packet,
-                &[0x60, 0, 0, 0, 0, payload_len, next_header, 63],
-            );
-            append(rt, &mut packet, &IPV6_SOURCE);
-            append(rt, &mut packet, &IPV6_DESTINATION);
+            let first = [0x60, 0, 0, 0, 0, payload_len, next_header, 63];
+            joined(rt, &[&first, &IPV6_SOURCE, &IPV6_DESTINATION])
         }
-        Header::Bytes(bytes) => append(rt, &mut packet, bytes),
+        Header::Bytes(bytes) => joined(rt, &[bytes]),
     }
+}
+
+/// A packet of these headers and these bytes after them.
+fn packet_of(rt: &(impl Abort + AllocGlobal), header: Header, payload: &[u8]) -> Vec<u8> {
+    let mut packet = header_of(rt, header);
     append(rt, &mut packet, payload);
     packet
 }
@@ -198,12 +197,23 @@ fn kind_of(packet: &Packet<'_>) -> Kind {
     }
 }
 
-/// A packet over IPv4 with this transport.
-pub(crate) fn over_ipv4(protocol: IpNumber, transport: TransportSlice<'_>) -> Content<'_> {
-    let addresses = IpAddresses::Ipv4 {
-        source: &[10, 0, 0, 1],
-        destination: &[10, 0, 0, 2],
-    };
+/// The addresses 10.0.0.1 and 10.0.0.2.
+const OVER_IPV4: IpAddresses = IpAddresses::Ipv4 {
+    source: &[10, 0, 0, 1],
+    destination: &[10, 0, 0, 2],
+};
+
+const OVER_IPV6: IpAddresses = IpAddresses::Ipv6 {
+    source: &IPV6_SOURCE,
+    destination: Some(&IPV6_DESTINATION),
+};
+
+/// A packet between these addresses with this transport.
+fn content_of<'a>(
+    addresses: IpAddresses<'a>,
+    protocol: IpNumber,
+    transport: TransportSlice<'a>,
+) -> Content<'a> {
     Content::Ip {
         addresses,
         protocol,
@@ -213,19 +223,14 @@ pub(crate) fn over_ipv4(protocol: IpNumber, transport: TransportSlice<'_>) -> Co
     }
 }
 
+/// A packet over IPv4 with this transport.
+pub(crate) fn over_ipv4(protocol: IpNumber, transport: TransportSlice<'_>) -> Content<'_> {
+    content_of(OVER_IPV4, protocol, transport)
+}
+
 /// A packet over IPv6 with this transport.
 pub(crate) fn over_ipv6(protocol: IpNumber, transport: TransportSlice<'_>) -> Content<'_> {
-    let addresses = IpAddresses::Ipv6 {
-        source: &IPV6_SOURCE,
-        destination: Some(&IPV6_DESTINATION),
-    };
-    Content::Ip {
-        addresses,
-        protocol,
-        proto: Some(transport.proto()),
-        payload_len: transport.payload().len(),
-        transport: Transport::Read(transport),
-    }
+    content_of(OVER_IPV6, protocol, transport)
 }
 
 /// The packet of `IPV4_UDP` and `UDP_OVER_IPV4`.
@@ -548,26 +553,35 @@ fn checksums_are_tested(rt: HostRuntime) {
 }
 
 /// The first byte of a packet and its number of bytes, and its hop limit. Each further byte is the number of its place.
+type HopLimitRow = (u8, u8, Option<HopLimit>);
+
 #[rattlefmt::skip]
-static HOP_LIMITS: [(u8, u8, Option<HopLimit>); 8] = [
+static HOP_LIMITS: [HopLimitRow; 8] = [
     (0x45, 20, Some(HopLimit::Ipv4(8))), (0x45, 19, None), (0x44, 20, Some(HopLimit::Ipv4(8))), (0x44, 19, None),
     (0x60, 40, Some(HopLimit::Ipv6(7))), (0x60, 39, None), (0x50, 40, None), (0x45, 1, None),
 ];
 
+/// This byte, and this many bytes with it. Each further byte is the number of its place.
+fn counted_bytes(rt: &(impl Abort + AllocGlobal), first: u8, len: u8) -> Vec<u8> {
+    let mut bytes = joined(rt, &[&[first]]);
+    for byte in 1..len {
+        append(rt, &mut bytes, &[byte]);
+    }
+    bytes
+}
+
+/// Stops the test unless the packet of a row has the hop limit of the row.
+fn expect_hop_limit(rt: &(impl Abort + AllocGlobal), row: &HopLimitRow) {
+    let (first, len, hop_limit) = *row;
+    let bytes = counted_bytes(rt, first, len);
+    let packet = read_raw(&bytes, false);
+    expect_at(rt, row, &packet.hop_limit, &hop_limit);
+}
+
 #[test]
 fn hop_limits_of_complete_headers(rt: HostRuntime) {
-    for (first, len, hop_limit) in &HOP_LIMITS {
-        let mut bytes = Vec::new(rt.alloc());
-        append(&rt, &mut bytes, &[*first]);
-        for byte in 1..*len {
-            append(&rt, &mut bytes, &[byte]);
-        }
-        let packet = read_raw(&bytes, false);
-        expect_equal(
-            &rt,
-            &(first, len, packet.hop_limit),
-            &(first, len, *hop_limit),
-        );
+    for row in &HOP_LIMITS {
+        expect_hop_limit(&rt, row);
     }
 }
 

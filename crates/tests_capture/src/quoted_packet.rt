@@ -4,6 +4,7 @@ use crate::expect::{expect_at, expect_equal, expect_ok, joined};
 use capture_packet::{QuotedPacket, Transport};
 use etherparse_transport::ip::{IpAddresses, proto_over};
 use etherparse_transport::{Icmpv4Slice, Icmpv6Slice, IpNumber, TransportSlice};
+use std::process::Abort;
 
 /// 192.0.2.1 and 198.51.100.7.
 const OVER_IPV4: IpAddresses = IpAddresses::Ipv4 {
@@ -186,25 +187,37 @@ fn expected_of(row: &QuoteRow) -> Option<QuotedPacket<'static>> {
     })
 }
 
+/// Stops the test unless a transport quotes the packet of a row.
+fn expect_quoted(rt: &impl Abort, transport: TransportSlice<'_>, row: &QuoteRow) {
+    let quoted = Transport::Read(transport).quoted_packet();
+    expect_at(rt, &row.0, &quoted, &expected_of(row));
+}
+
+/// Stops the test unless the ICMPv4 message of a row quotes the packet of the row.
+fn expect_icmpv4(rt: &(impl Abort + AllocGlobal), row: &QuoteRow) {
+    let message = joined(rt, row.0);
+    let slice = expect_ok(rt, Icmpv4Slice::from_slice(&message));
+    expect_quoted(rt, TransportSlice::Icmpv4(slice), row);
+}
+
 #[test]
 fn packets_that_icmpv4_errors_quote(rt: HostRuntime) {
     for row in &ICMPV4_ERRORS {
-        let message = joined(&rt, row.0);
-        let slice = expect_ok(&rt, Icmpv4Slice::from_slice(&message));
-        let transport = Transport::Read(TransportSlice::Icmpv4(slice));
-        let expected = expected_of(row);
-        expect_at(&rt, &row.0, &transport.quoted_packet(), &expected);
+        expect_icmpv4(&rt, row);
     }
+}
+
+/// Stops the test unless the ICMPv6 message of a row quotes the packet of the row.
+fn expect_icmpv6(rt: &(impl Abort + AllocGlobal), row: &QuoteRow) {
+    let message = joined(rt, row.0);
+    let slice = expect_ok(rt, Icmpv6Slice::from_slice(&message));
+    expect_quoted(rt, TransportSlice::Icmpv6(slice), row);
 }
 
 #[test]
 fn packets_that_icmpv6_errors_quote(rt: HostRuntime) {
     for row in &ICMPV6_ERRORS {
-        let message = joined(&rt, row.0);
-        let slice = expect_ok(&rt, Icmpv6Slice::from_slice(&message));
-        let transport = Transport::Read(TransportSlice::Icmpv6(slice));
-        let expected = expected_of(row);
-        expect_at(&rt, &row.0, &transport.quoted_packet(), &expected);
+        expect_icmpv6(&rt, row);
     }
 }
 

@@ -21,47 +21,55 @@ const CLASSIC_LITTLE_ENDIAN: &[u8] =
 const PCAPNG: &[u8] =
     b"\x0A\x0D\x0D\x0A\x1C\0\0\0\x4D\x3C\x2B\x1A\x01\0\0\0\xFF\xFF\xFF\xFF\xFF\xFF\xFF\xFF\x1C\0\0\0\x01\0\0\0\x14\0\0\0\x65\0\0\0\0\0\0\0\x14\0\0\0\x01\0\0\0\x14\0\0\0\x01\0\0\0\0\0\0\0\x14\0\0\0\x06\0\0\0\x24\0\0\0\x01\0\0\0\0\0\0\0\x46\x4B\x4C\0\x03\0\0\0\x09\0\0\0abc\0\x24\0\0\0\x0A\x0D\x0D\x0A\0\0\0\x1C\x1A\x2B\x3C\x4D\0\x01\0\0\xFF\xFF\xFF\xFF\xFF\xFF\xFF\xFF\0\0\0\x1C\0\0\0\x01\0\0\0\x14\0\x01\0\0\0\0\0\0\0\0\0\x14\0\0\0\x06\0\0\0\x28\0\0\0\0\0\0\0\0\0\x6A\xCF\xC8\0\0\0\x05\0\0\0\x05defgh\0\0\0\0\0\0\x28";
 
-/// The packets of each of these files: the seconds and microseconds of their times, how many bytes they had, and those captured.
-static PACKETS: [(u64, u64, u32, &[u8]); 2] = [(5, 6, 9, b"abc"), (7, 8, 5, b"defgh")];
+/// The seconds and microseconds of the time of a packet, how many bytes it had, and those captured.
+type PacketRow = (u64, u64, u32, &'static [u8]);
 
-/// Stops the test unless this is the packet of a file with this number.
-fn expect_packet(rt: &impl Abort, number: usize, packet: CapturedPacket, buffer: &[u8]) {
-    let (seconds, fraction, original_len, captured) = PACKETS[number % 2];
-    let expected = CapturedPacket {
+/// The packets of each of these files.
+static PACKETS: [PacketRow; 2] = [(5, 6, 9, b"abc"), (7, 8, 5, b"defgh")];
+
+/// The packet of a row, with the byte order and the place of another packet.
+fn packet_of(row: &PacketRow, place: &CapturedPacket) -> CapturedPacket {
+    let (seconds, fraction, original_len, captured) = *row;
+    let time = PacketTime {
+        seconds,
+        fraction,
+        resolution: TimeResolution::PowerOfTen(6),
+        offset: 0,
+    };
+    CapturedPacket {
         link_type: Ok(LinkType::Ethernet),
-        byte_order: packet.byte_order,
-        time: Some(PacketTime {
-            seconds,
-            fraction,
-            resolution: TimeResolution::PowerOfTen(6),
-            offset: 0,
-        }),
-        start: packet.start,
+        byte_order: place.byte_order,
+        time: Some(time),
+        start: place.start,
         captured_len: captured.len(),
         original_len,
-    };
-    expect_equal(rt, &packet, &expected);
-    let kept = expect_some(rt, buffer.get(packet.start..));
-    expect_equal(rt, &kept.get(..captured.len()), &Some(captured));
+    }
 }
 
-/// How many packets are left, each of which is the one with its number, and what comes after them.
+/// Stops the test unless this is the packet of a row.
+fn expect_packet(rt: &impl Abort, row: &PacketRow, packet: &CapturedPacket, buffer: &[u8]) {
+    expect_equal(rt, packet, &packet_of(row, packet));
+    let kept = expect_some(rt, buffer.get(packet.start..));
+    expect_equal(rt, &kept.get(..row.3.len()), &Some(row.3));
+}
+
+/// How many packets are left, each of which is the one of its row, and what comes after them.
 fn read_rest(
     rt: &impl Abort,
     reader: &mut CaptureReader,
     input: &mut &[u8],
     buffer: &mut [u8],
 ) -> (usize, NextPacket) {
-    for number in 0..3 {
+    for (number, row) in PACKETS.iter().enumerate() {
         match expect_ok(rt, reader.next_packet(input, buffer)) {
-            NextPacket::Whole(packet) => expect_packet(rt, number, packet, buffer),
+            NextPacket::Whole(packet) => expect_packet(rt, row, &packet, buffer),
             last => return (number, last),
         }
     }
-    (3, NextPacket::End)
+    (2, expect_ok(rt, reader.next_packet(input, buffer)))
 }
 
-/// How many packets a file has, each of which is the one with its number, and what comes after them.
+/// How many packets a file has, each of which is the one of its row, and what comes after them.
 fn read_packets(rt: &impl Abort, file: &[u8]) -> (usize, Result<NextPacket, OpenError>) {
     let mut input = file;
     let mut buffer = [0u8; 64];

@@ -1,4 +1,4 @@
-use crate::expect::{append, expect_at, expect_equal, expect_ok, joined};
+use crate::expect::{append, expect_at, expect_equal, expect_ok, expect_some, joined};
 use crate::packet::{
     IPV4_UDP, IPV6_DESTINATION, IPV6_SOURCE, OTHER_PROTOCOL, RIGHT, UDP_OVER_IPV4, UDP_OVER_IPV6,
     over_ipv4, over_ipv6, read_raw,
@@ -39,29 +39,20 @@ enum Outer {
 
 /// The bytes of a header before this number of bytes.
 fn header_of(rt: &(impl Abort + AllocGlobal), outer: Outer, payload_len: u8) -> Vec<u8> {
-    let mut header = Vec::new(rt.alloc());
     match outer {
         Outer::Ipv4(protocol) => {
             let total_len = payload_len.saturating_add(20);
-            append(rt, &mut header, &[0x45, 0, 0, total_len, 0, 1, 0x40, 0, 9]);
-            append(
-                rt,
-                &mut header,
-                &[protocol, 0, 0, 192, 0, 2, 1, 192, 0, 2, 2],
-            );
+            let header = [
+                0x45, 0, 0, total_len, 0, 1, 0x40, 0, 9, protocol, 0, 0, 192, 0, 2, 1, 192, 0, 2, 2,
+            ];
+            joined(rt, &[&header])
         }
         Outer::Ipv6(next_header) => {
-            append(
-                rt,
-                &mut header,
-                &[0x60, 0, 0, 0, 0, payload_len, next_header, 7],
-            );
-            append(rt, &mut header, &IPV6_SOURCE);
-            append(rt, &mut header, &IPV6_DESTINATION);
+            let first = [0x60, 0, 0, 0, 0, payload_len, next_header, 7];
+            joined(rt, &[&first, &IPV6_SOURCE, &IPV6_DESTINATION])
         }
-        Outer::Gre(bytes) => append(rt, &mut header, bytes),
+        Outer::Gre(bytes) => joined(rt, &[bytes]),
     }
-    header
 }
 
 /// A packet with these headers before it, the outermost first.
@@ -77,21 +68,24 @@ fn packet_in(rt: &(impl Abort + AllocGlobal), outers: &[Outer], inner: &[u8]) ->
     packet
 }
 
-/// The UDP datagram over IPv4 or over IPv6, and the content of its packet.
-fn datagram(rt: &(impl Abort + AllocGlobal), is_ipv6: bool) -> (Vec<u8>, Content<'static>) {
-    let mut packet = Vec::new(rt.alloc());
-    let content = if is_ipv6 {
-        append(rt, &mut packet, &IPV6_UDP);
-        append(rt, &mut packet, &UDP_OVER_IPV6);
+/// The UDP datagram over IPv4 or over IPv6.
+fn datagram(rt: &(impl Abort + AllocGlobal), is_ipv6: bool) -> Vec<u8> {
+    if is_ipv6 {
+        joined(rt, &[&IPV6_UDP, &UDP_OVER_IPV6])
+    } else {
+        joined(rt, &[&IPV4_UDP, &UDP_OVER_IPV4])
+    }
+}
+
+/// The content of the packet with the datagram over IPv4 or over IPv6.
+fn content_of(rt: &impl Abort, is_ipv6: bool) -> Content<'static> {
+    if is_ipv6 {
         let udp = expect_ok(rt, UdpSlice::from_slice(&UDP_OVER_IPV6));
         over_ipv6(ip_number::UDP, TransportSlice::Udp(udp))
     } else {
-        append(rt, &mut packet, &IPV4_UDP);
-        append(rt, &mut packet, &UDP_OVER_IPV4);
         let udp = expect_ok(rt, UdpSlice::from_slice(&UDP_OVER_IPV4));
         over_ipv4(ip_number::UDP, TransportSlice::Udp(udp))
-    };
-    (packet, content)
+    }
 }
 
 /// The tunnel of a header, unless it is a GRE header.
@@ -127,24 +121,27 @@ static TUNNELS: [(&[Outer], bool); 13] = [
     (&[Outer::Ipv4(4), Outer::Ipv4(4), Outer::Ipv4(4), Outer::Ipv4(4)], false),
 ];
 
-/// Stops the test unless the datagram after the headers of a row is read, and these headers are its tunnels.
-fn expect_tunnels(rt: &(impl Abort + AllocGlobal), outers: &[Outer], is_ipv6: bool) {
-    let (inner, content) = datagram(rt, is_ipv6);
-    let hop_limit = if is_ipv6 {
+/// The packet with the datagram, in the tunnels of these headers.
+fn expected_of(rt: &impl Abort, outers: &[Outer], is_ipv6: bool) -> Packet<'static> {
+    let mut expected = Packet::in_no_tunnel(content_of(rt, is_ipv6), RIGHT);
+    expected.hop_limit = Some(if is_ipv6 {
         HopLimit::Ipv6(64)
     } else {
         HopLimit::Ipv4(64)
-    };
-    let frame = packet_in(rt, outers, inner.as_slice());
-    let mut expected = Packet::in_no_tunnel(content, RIGHT);
-    expected.hop_limit = Some(hop_limit);
+    });
     for outer in outers {
         if let Some(tunnel) = tunnel_of(*outer) {
-            expect_ok(rt, expected.tunnels.try_push(tunnel).map_err(|_| ()));
+            expect_some(rt, expected.tunnels.try_push(tunnel).ok());
         }
     }
+    expected
+}
+
+/// Stops the test unless the datagram after the headers of a row is read, and these headers are its tunnels.
+fn expect_tunnels(rt: &(impl Abort + AllocGlobal), outers: &[Outer], is_ipv6: bool) {
+    let frame = packet_in(rt, outers, &datagram(rt, is_ipv6));
     let packet = read_raw(&frame, false);
-    expect_at(rt, &outers, &packet, &expected);
+    expect_at(rt, &outers, &packet, &expected_of(rt, outers, is_ipv6));
 }
 
 #[test]
@@ -155,8 +152,10 @@ fn packets_in_tunnels(rt: HostRuntime) {
 }
 
 /// The bytes after an IPv4 header with this protocol and with this byte of flags. The inner packet is not read.
+type ClosedRow = (u8, u8, &'static [&'static [u8]]);
+
 #[rattlefmt::skip]
-static CLOSED: [(u8, u8, &[&[u8]]); 14] = [
+static CLOSED: [ClosedRow; 14] = [
     (4, 0, &[&IPV6_UDP, &UDP_OVER_IPV6]),
     (41, 0, &[&IPV4_UDP, &UDP_OVER_IPV4]),
     (4, 0, &[&[0x45, 0, 0, 31, 0, 1, 0x40, 0, 64, 17, 0, 0, 10, 0, 0, 1, 10, 0, 0]]),
@@ -182,59 +181,80 @@ fn shape_of(packet: &Packet<'_>) -> (usize, Option<u8>) {
     (packet.tunnels.len(), protocol)
 }
 
+/// An IPv4 packet with this protocol, of these bytes, in which the byte at this place is this one.
+fn changed_packet(
+    rt: &(impl Abort + AllocGlobal),
+    protocol: u8,
+    payload: &[u8],
+    place: usize,
+    byte: u8,
+) -> Vec<u8> {
+    let mut frame = packet_in(rt, &[Outer::Ipv4(protocol)], payload);
+    *expect_some(rt, frame.as_mut_slice().get_mut(place)) = byte;
+    frame
+}
+
+/// Stops the test unless the packet of a row is in no tunnel.
+fn expect_closed(rt: &(impl Abort + AllocGlobal), row: &ClosedRow) {
+    let (protocol, flags, parts) = *row;
+    let frame = changed_packet(rt, protocol, &joined(rt, parts), 6, flags);
+    let shape = shape_of(&read_raw(&frame, false));
+    expect_at(rt, row, &shape, &(0, Some(protocol)));
+}
+
 #[test]
 fn packets_without_an_inner_packet(rt: HostRuntime) {
-    for (protocol, flags, parts) in &CLOSED {
-        let payload = joined(&rt, parts);
-        let mut frame = packet_in(&rt, &[Outer::Ipv4(*protocol)], payload.as_slice());
-        if let Some(byte) = frame.get_mut(6) {
-            *byte = *flags;
-        }
-        let packet = read_raw(&frame, false);
-        let shape = shape_of(&packet);
-        expect_at(&rt, parts, &shape, &(0, Some(*protocol)));
+    for row in &CLOSED {
+        expect_closed(&rt, row);
     }
 }
 
-/// The bytes after an IPv4 header with protocol 4: whether the outer packet is cut off, and the verdict on the inner packet.
+/// The bytes after an IPv4 header with protocol 4, the total length in the header, and the verdict on the inner packet. With the length 60
+/// the outer packet is cut off.
+type RefusedRow = (&'static [u8], u8, Verdict);
+
 #[rattlefmt::skip]
-static REFUSED: [(&[u8], bool, Verdict); 3] = [
+static REFUSED: [RefusedRow; 3] = [
     (
-        &[0x46, 0, 0, 31, 0, 1, 0x40, 0, 64, 17, 0, 0, 10, 0, 0, 1, 10, 0, 0, 2], false,
+        &[0x46, 0, 0, 31, 0, 1, 0x40, 0, 64, 17, 0, 0, 10, 0, 0, 1, 10, 0, 0, 2], 40,
         Verdict::Refused(Refusal::Ip(IpError::HeaderCutOff { required_len: 24, len: 20 })),
     ),
     (
-        &[0x46, 0, 0, 31, 0, 1, 0x40, 0, 64, 17, 0, 0, 10, 0, 0, 1, 10, 0, 0, 2], true,
+        &[0x46, 0, 0, 31, 0, 1, 0x40, 0, 64, 17, 0, 0, 10, 0, 0, 1, 10, 0, 0, 2], 60,
         Verdict::Checksum(etherparse_transport::ChecksumVerdict::Untested(Untested::CutOff)),
     ),
     (
-        &[0x44, 0, 0, 31, 0, 1, 0x40, 0, 64, 17, 0, 0, 10, 0, 0, 1, 10, 0, 0, 2], false,
+        &[0x44, 0, 0, 31, 0, 1, 0x40, 0, 64, 17, 0, 0, 10, 0, 0, 1, 10, 0, 0, 2], 40,
         Verdict::Refused(Refusal::Ip(IpError::HeaderLength { header_len: 16 })),
     ),
 ];
 
+/// Stops the test unless the packet of a row is in one tunnel, and only its addresses are read.
+fn expect_refused(rt: &(impl Abort + AllocGlobal), row: &RefusedRow) {
+    let (inner, total_len, verdict) = row;
+    let frame = changed_packet(rt, 4, inner, 3, *total_len);
+    let packet = read_raw(&frame, false);
+    expect_at(rt, row, &packet.content, &Content::IpHeader(INNER));
+    expect_at(rt, row, &packet.verdict, verdict);
+    expect_at(rt, row, &packet.tunnels.len(), &1);
+}
+
+/// The addresses of the inner packet, 10.0.0.1 and 10.0.0.2.
+const INNER: IpAddresses = IpAddresses::Ipv4 {
+    source: &[10, 0, 0, 1],
+    destination: &[10, 0, 0, 2],
+};
+
 #[test]
 fn refused_inner_packets(rt: HostRuntime) {
-    for (inner, is_cut_off, verdict) in &REFUSED {
-        let mut frame = packet_in(&rt, &[Outer::Ipv4(4)], inner);
-        if *is_cut_off && let Some(len) = frame.get_mut(3) {
-            *len = 60;
-        }
-        let packet = read_raw(&frame, false);
-        let addresses = IpAddresses::Ipv4 {
-            source: &[10, 0, 0, 1],
-            destination: &[10, 0, 0, 2],
-        };
-        let expected = (&Content::IpHeader(addresses), verdict);
-        expect_equal(&rt, &(&packet.content, &packet.verdict), &expected);
-        expect_equal(&rt, &packet.tunnels.len(), &1);
+    for row in &REFUSED {
+        expect_refused(&rt, row);
     }
 }
 
 #[test]
 fn a_packet_in_five_tunnels(rt: HostRuntime) {
-    let (inner, _) = datagram(&rt, false);
-    let frame = packet_in(&rt, &[Outer::Ipv4(4); 5], inner.as_slice());
+    let frame = packet_in(&rt, &[Outer::Ipv4(4); 5], &datagram(&rt, false));
     let packet = read_raw(&frame, false);
     expect_equal(&rt, &shape_of(&packet), &(4, Some(4)));
     expect_equal(&rt, &packet.verdict, &OTHER_PROTOCOL);
