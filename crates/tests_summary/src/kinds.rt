@@ -178,8 +178,8 @@ fn expect_protocol(rt: &impl Abort, row: &ProtocolRow) {
 
 #[test]
 fn protocols_of_packets(rt: HostRuntime) {
-    for row in PROTOCOLS {
-        expect_protocol(&rt, &row);
+    for row in &PROTOCOLS {
+        expect_protocol(&rt, row);
     }
 }
 

@@ -4,9 +4,11 @@ use capture_packet::Transport;
 use etherparse_transport::{Icmpv4Slice, Icmpv6Slice, TransportSlice, ip_number};
 use std::process::Abort;
 
-/// ICMPv4 messages, and what is written of each.
+/// A message, and what is written of it.
+type MessageRow = (&'static [u8], &'static str);
+
 #[rattlefmt::skip]
-const ICMPV4_MESSAGES: [(&[u8], &str); 25] = [
+static ICMPV4_MESSAGES: [MessageRow; 25] = [
     (&[0, 0, 9, 9, 0, 1, 0, 2], "echo reply, code 0, identifier 1, sequence number 2, payload 0"),
     (&[8, 0, 9, 9, 0, 1, 0, 2, 7, 7, 7], "echo request, code 0, identifier 1, sequence number 2, payload 3"),
     (&[3, 0, 9, 9, 0, 0, 0, 0], "destination unreachable, code 0 (network), payload 0"),
@@ -45,8 +47,9 @@ const ICMPV4_MESSAGES: [(&[u8], &str); 25] = [
      "echo request, code 0, identifier 1, sequence number 2, payload 20"),
 ];
 
-/// Stops the test unless this is what is written of an ICMPv4 message.
-fn expect_icmpv4(rt: &(impl Abort + AllocGlobal), message: &[u8], wanted: &str) {
+/// Stops the test unless the ICMPv4 message of a row is written as the row says.
+fn expect_icmpv4(rt: &(impl Abort + AllocGlobal), row: &MessageRow) {
+    let (message, wanted) = *row;
     let message = expect_ok(rt, Icmpv4Slice::from_slice(message));
     let transport = Transport::Read(TransportSlice::Icmpv4(message));
     let wanted = ["192.0.2.1 > 192.0.2.2 ICMPv4 ", wanted, ""];
@@ -55,14 +58,13 @@ fn expect_icmpv4(rt: &(impl Abort + AllocGlobal), message: &[u8], wanted: &str) 
 
 #[test]
 fn messages_of_icmpv4(rt: HostRuntime) {
-    for (message, wanted) in &ICMPV4_MESSAGES {
-        expect_icmpv4(&rt, message, wanted);
+    for row in &ICMPV4_MESSAGES {
+        expect_icmpv4(&rt, row);
     }
 }
 
-/// ICMPv6 messages, and what is written of each.
 #[rattlefmt::skip]
-const ICMPV6_MESSAGES: [(&[u8], &str); 22] = [
+static ICMPV6_MESSAGES: [MessageRow; 22] = [
     (&[1, 0, 9, 9, 0, 0, 0, 0], "destination unreachable, code 0 (no route), payload 0"),
     (&[1, 5, 9, 9, 0, 0, 0, 0], "destination unreachable, code 5 (source address failed the policy), payload 0"),
     (&[1, 7, 9, 9, 0, 0, 0, 1], "type 1, code 7, bytes 5 to 8 00000001, payload 0"),
@@ -93,8 +95,9 @@ const ICMPV6_MESSAGES: [(&[u8], &str); 22] = [
     (&[42, 0, 9, 9, 1, 2, 0xAB, 0xCD], "type 42, code 0, bytes 5 to 8 0102ABCD, payload 0"),
 ];
 
-/// Stops the test unless this is what is written of an ICMPv6 message.
-fn expect_icmpv6(rt: &(impl Abort + AllocGlobal), message: &[u8], wanted: &str) {
+/// Stops the test unless the ICMPv6 message of a row is written as the row says.
+fn expect_icmpv6(rt: &(impl Abort + AllocGlobal), row: &MessageRow) {
+    let (message, wanted) = *row;
     let message = expect_ok(rt, Icmpv6Slice::from_slice(message));
     let transport = Transport::Read(TransportSlice::Icmpv6(message));
     let wanted = ["2001:db8::1 > 2001:db8::2 ICMPv6 ", wanted, ""];
@@ -103,7 +106,7 @@ fn expect_icmpv6(rt: &(impl Abort + AllocGlobal), message: &[u8], wanted: &str) 
 
 #[test]
 fn messages_of_icmpv6(rt: HostRuntime) {
-    for (message, wanted) in &ICMPV6_MESSAGES {
-        expect_icmpv6(&rt, message, wanted);
+    for row in &ICMPV6_MESSAGES {
+        expect_icmpv6(&rt, row);
     }
 }

@@ -1,34 +1,44 @@
 use super::OVER_IPV6;
-use crate::expect::expect_equal;
+use crate::expect::expect_at;
 use capture_packet::NetworkProtocol;
 use capture_summary::{ip_protocol_name, network_protocol_name};
 use etherparse_transport::IpNumber;
 use etherparse_transport::ip::proto_over;
+use std::process::Abort;
 
-/// Numbers of protocols over IPv6, and their names.
+/// The number of a protocol over IPv6, and its name.
+type NumberRow = (u8, Option<&'static str>);
+
 #[rattlefmt::skip]
-const OVER_IP: [(u8, Option<&str>); 26] = [
+static OVER_IP: [NumberRow; 26] = [
     (2, Some("IGMP")), (4, Some("IPv4")), (6, Some("TCP")), (17, Some("UDP")), (33, Some("DCCP")), (41, Some("IPv6")), (46, Some("RSVP")),
     (47, Some("GRE")), (50, Some("ESP")), (51, Some("AH")), (58, Some("ICMPv6")), (59, Some("no next header")), (88, Some("EIGRP")),
     (89, Some("OSPF")), (97, Some("EtherIP")), (103, Some("PIM")), (108, Some("IPComp")), (112, Some("VRRP")), (115, Some("L2TP")),
     (132, Some("SCTP")), (136, Some("UDP-Lite")), (137, Some("MPLS-in-IP")), (1, None), (3, None), (138, None), (255, None),
 ];
 
+/// Stops the test unless the protocol of a row has the name of the row.
+fn expect_number(rt: &impl Abort, row: &NumberRow) {
+    let number = IpNumber(row.0);
+    let name = ip_protocol_name(number, proto_over(OVER_IPV6, number));
+    expect_at(rt, &row.0, &name, &row.1);
+}
+
 #[test]
 fn names_over_ip(rt: HostRuntime) {
-    for (number, name) in &OVER_IP {
-        let number = IpNumber(*number);
-        expect_equal(
-            &rt,
-            &ip_protocol_name(number, proto_over(OVER_IPV6, number)),
-            name,
-        );
+    for row in &OVER_IP {
+        expect_number(&rt, row);
     }
+}
+
+/// Stops the test unless this protocol has this name.
+fn expect_name(rt: &impl Abort, protocol: NetworkProtocol, name: &Option<&'static str>) {
+    expect_at(rt, &protocol, &network_protocol_name(protocol), name);
 }
 
 /// Ether types, and the names of their protocols.
 #[rattlefmt::skip]
-const ETHER_TYPES: [(u16, Option<&str>); 17] = [
+static ETHER_TYPES: [(u16, Option<&str>); 17] = [
     (0x0806, Some("ARP")), (0x8035, Some("RARP")), (0x8137, Some("IPX")), (0x8809, Some("slow protocol")), (0x8847, Some("MPLS")),
     (0x8848, Some("MPLS")), (0x8863, Some("PPPoE discovery")), (0x8864, Some("PPPoE session")), (0x888E, Some("EAPOL")),
     (0x88CC, Some("LLDP")), (0x88E5, Some("MACsec")), (0x88F5, Some("MVRP")), (0x88F7, Some("PTP")), (0x8902, Some("CFM")),
@@ -37,23 +47,21 @@ const ETHER_TYPES: [(u16, Option<&str>); 17] = [
 
 #[test]
 fn names_by_ether_type(rt: HostRuntime) {
-    for (number, name) in &ETHER_TYPES {
-        let protocol = NetworkProtocol::EtherType(*number);
-        expect_equal(&rt, &network_protocol_name(protocol), name);
+    for row in &ETHER_TYPES {
+        expect_name(&rt, NetworkProtocol::EtherType(row.0), &row.1);
     }
 }
 
 /// Numbers of protocols in PPP, and their names.
 #[rattlefmt::skip]
-const OVER_PPP: [(u16, Option<&str>); 9] = [
+static OVER_PPP: [(u16, Option<&str>); 9] = [
     (0x8021, Some("IPCP")), (0x8057, Some("IPV6CP")), (0x80FD, Some("CCP")), (0xC021, Some("LCP")), (0xC023, Some("PAP")),
     (0xC025, Some("LQR")), (0xC223, Some("CHAP")), (0xC227, Some("EAP")), (0x0806, None),
 ];
 
 #[test]
 fn names_over_ppp(rt: HostRuntime) {
-    for (number, name) in &OVER_PPP {
-        let protocol = NetworkProtocol::PppProtocol(*number);
-        expect_equal(&rt, &network_protocol_name(protocol), name);
+    for row in &OVER_PPP {
+        expect_name(&rt, NetworkProtocol::PppProtocol(row.0), &row.1);
     }
 }
