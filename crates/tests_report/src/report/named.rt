@@ -80,36 +80,31 @@ enum Asked {
     AllOfTwo,
 }
 
+/// Which lines there are, whether there are a summary and a check, the format, and the limit of packets.
+fn options_of(asked: Asked) -> (Lines, bool, bool, Format, Option<u64>) {
+    match asked {
+        Asked::All => (Lines::All, true, false, Format::Text, None),
+        Asked::CheckedAll => (Lines::All, true, true, Format::Text, None),
+        Asked::CheckedLines => (Lines::All, false, true, Format::Text, None),
+        Asked::WrongLines => (Lines::Wrong, false, false, Format::Text, None),
+        Asked::OnlyStatus => (Lines::None, false, true, Format::Text, None),
+        Asked::OnlySummary => (Lines::None, true, false, Format::Text, None),
+        Asked::AllObjects => (Lines::All, true, false, Format::Json, None),
+        Asked::OnlyObjects => (Lines::All, false, false, Format::Json, None),
+        Asked::AllOfTwo => (Lines::All, true, false, Format::Text, Some(2)),
+    }
+}
+
 /// The parts of a report that a row asks for.
 fn parts_of(asked: Asked) -> Parts {
-    match asked {
-        Asked::All => ALL,
-        Asked::CheckedAll => Parts { check: true, ..ALL },
-        Asked::CheckedLines => CHECKED_LINES,
-        Asked::WrongLines => Parts {
-            lines: Lines::Wrong,
-            ..ONLY_LINES
-        },
-        Asked::OnlyStatus => Parts {
-            lines: Lines::None,
-            ..CHECKED_LINES
-        },
-        Asked::OnlySummary => Parts {
-            lines: Lines::None,
-            ..ALL
-        },
-        Asked::AllObjects => Parts {
-            format: Format::Json,
-            ..ALL
-        },
-        Asked::OnlyObjects => Parts {
-            format: Format::Json,
-            ..ONLY_LINES
-        },
-        Asked::AllOfTwo => Parts {
-            limit: Some(2),
-            ..ALL
-        },
+    let (lines, summary, check, format, limit) = options_of(asked);
+    Parts {
+        lines,
+        summary,
+        check,
+        format,
+        limit,
+        ..ALL
     }
 }
 
