@@ -1,6 +1,6 @@
 mod sweeps;
 
-use crate::expect::expect_equal;
+use crate::expect::{expect_at, expect_equal};
 use etherparse_transport::checksum::Sum16BitWords;
 use etherparse_transport::checksum_change::{
     ChecksumChange, updated_checksum, updated_udp_checksum,
@@ -131,10 +131,11 @@ fn a_lowered_time_to_live_is_updated(rt: HostRuntime) {
     for protocol in 0..=255u8 {
         let change = ChecksumChange::new().replace_2bytes([64, protocol], [63, protocol]);
         let updated = change.apply(header(64, protocol).ones_complement());
-        expect_equal(
+        expect_at(
             &rt,
-            &(&protocol, &updated),
-            &(&protocol, &header(63, protocol).ones_complement()),
+            &protocol,
+            &updated,
+            &header(63, protocol).ones_complement(),
         );
     }
 }

@@ -3,13 +3,14 @@ mod sweeps;
 mod transport;
 
 use crate::expect::{
-    bytes_between, bytes_from, bytes_to, expect_clone, expect_debug_text, expect_equal, expect_ok,
-    expect_text,
+    bytes_between, bytes_from, bytes_to, expect_at, expect_bytes, expect_clone, expect_debug_text,
+    expect_equal, expect_ok, expect_some, expect_text,
 };
 use etherparse_transport::ip::{
     IpAddresses, IpError, TransportInIp, transport_in_ip, transport_in_ip_lax,
 };
 use etherparse_transport::{IpNumber, ip_number};
+use std::fmt::Debug;
 use std::process::Abort;
 
 /// The payload of a whole UDP packet over IPv4, from 10.0.0.1 to 10.0.0.2.
@@ -47,6 +48,17 @@ fn found_by_both<'a>(rt: &impl Abort, packet: &'a [u8]) -> (TransportInIp<'a>, T
     )
 }
 
+/// Both calls find this in the packet.
+fn expect_both<K: Debug>(rt: &impl Abort, key: &K, packet: &[u8], expected: &TransportInIp<'_>) {
+    expect_at(rt, key, &expect_ok(rt, transport_in_ip(packet)), expected);
+    expect_at(
+        rt,
+        key,
+        &expect_ok(rt, transport_in_ip_lax(packet)),
+        expected,
+    );
+}
+
 /// The total length, bytes 6 and 7, and whether the packet is a fragment.
 type Ipv4Row = (u8, [u8; 2], bool);
 
@@ -70,8 +82,7 @@ fn expect_over_ipv4(rt: &impl Abort, row: &Ipv4Row) {
         is_later_fragment: fragment_bytes[1] != 0,
         ..over_ipv4(bytes_between(rt, &packet, 20, usize::from(total_len)))
     };
-    let found = found_by_both(rt, &packet);
-    expect_equal(rt, &(row, found), &(row, (expected, expected)));
+    expect_both(rt, row, &packet, &expected);
 }
 
 #[test]
@@ -81,28 +92,35 @@ fn ipv4_packets_carry_their_transport(rt: HostRuntime) {
     }
     let mut with_options = ipv4_packet(31, [0x40, 0]);
     with_options[0] = 0x46;
-    let expected = TransportInIp {
-        payload_offset: 24,
-        ..over_ipv4(bytes_between(&rt, &with_options, 24, 31))
-    };
-    let found = expect_ok(&rt, transport_in_ip(&with_options));
-    expect_equal(&rt, &found, &expected);
-    let cut_off = ipv4_packet(47, [0x40, 0]);
-    let expected = TransportInIp {
-        is_cut_off: true,
-        ..over_ipv4(bytes_from(&rt, &cut_off, 20))
-    };
-    let found = expect_ok(&rt, transport_in_ip_lax(&cut_off));
-    expect_equal(&rt, &found, &expected);
+    expect_with_options(&rt, &with_options);
+    expect_cut_off(&rt, &ipv4_packet(47, [0x40, 0]));
+}
+
+/// The header of the packet has six words.
+fn expect_with_options(rt: &impl Abort, packet: &[u8]) {
+    let mut expected = over_ipv4(bytes_between(rt, packet, 24, 31));
+    expected.payload_offset = 24;
+    let found = expect_ok(rt, transport_in_ip(packet));
+    expect_equal(rt, &found, &expected);
+}
+
+/// The packet is cut off.
+fn expect_cut_off(rt: &impl Abort, packet: &[u8]) {
+    let mut expected = over_ipv4(bytes_from(rt, packet, 20));
+    expected.is_cut_off = true;
+    let found = expect_ok(rt, transport_in_ip_lax(packet));
+    expect_equal(rt, &found, &expected);
 }
 
 /// Both calls refuse these bytes by this error.
 fn expect_refusal(rt: &impl Abort, packet: &[u8], error: IpError) {
-    let errors = (
-        transport_in_ip(packet).err(),
-        transport_in_ip_lax(packet).err(),
-    );
-    expect_equal(rt, &errors, &(Some(error), Some(error)));
+    expect_error(rt, transport_in_ip(packet), &error);
+    expect_error(rt, transport_in_ip_lax(packet), &error);
+}
+
+/// The call returned this error.
+fn expect_error(rt: &impl Abort, outcome: Result<TransportInIp<'_>, IpError>, error: &IpError) {
+    expect_equal(rt, &expect_some(rt, outcome.err()), error);
 }
 
 fn header_cut_off(required_len: usize, len: usize) -> IpError {
@@ -124,13 +142,18 @@ static REFUSED_FIRST_BYTES: [(u8, IpError); 5] = [
     ),
 ];
 
+/// An IPv4 packet that begins with this byte.
+fn packet_from(first: u8) -> [u8; 46] {
+    let mut packet = ipv4_packet(46, [0, 0]);
+    packet[0] = first;
+    packet
+}
+
 #[test]
 fn ipv4_headers_are_refused(rt: HostRuntime) {
     expect_refusal(&rt, &[], header_cut_off(1, 0));
     for (first, error) in &REFUSED_FIRST_BYTES {
-        let mut packet = ipv4_packet(46, [0, 0]);
-        packet[0] = *first;
-        expect_refusal(&rt, &packet, *error);
+        expect_refusal(&rt, &packet_from(*first), *error);
     }
     let packet = ipv4_packet(19, [0, 0]);
     expect_refusal(&rt, bytes_to(&rt, &packet, 19), header_cut_off(20, 19));
@@ -144,7 +167,7 @@ fn ipv4_headers_are_refused(rt: HostRuntime) {
         len: 46,
     };
     let packet = ipv4_packet(47, [0, 0]);
-    expect_equal(&rt, &transport_in_ip(&packet).err(), &Some(beyond));
+    expect_error(&rt, transport_in_ip(&packet), &beyond);
 }
 
 /// Bytes 6 and 7, the number that an authentication header of 24 bytes names, the protocol, where its payload begins, and whether it is
@@ -181,8 +204,7 @@ fn expect_authenticated(rt: &impl Abort, row: &AuthenticationRow) {
         is_later_fragment: start == 20,
         ..over_ipv4(bytes_from(rt, &packet, start))
     };
-    let found = found_by_both(rt, &packet);
-    expect_equal(rt, &(row, found), &(row, (expected, expected)));
+    expect_both(rt, row, &packet, &expected);
 }
 
 /// A total length, and what the error says of the authentication header: how many bytes it has, and how many are there.
@@ -198,16 +220,22 @@ fn authentication_headers_over_ipv4_are_passed_over(rt: HostRuntime) {
     for row in &AUTHENTICATED {
         expect_authenticated(&rt, row);
     }
-    for (total_len, required_len, len) in &CUT_OFF_AUTHENTICATION {
-        let error = IpError::ExtensionHeaderCutOff {
-            protocol: ip_number::AUTHENTICATION_HEADER,
-            offset: 20,
-            required_len: *required_len,
-            len: *len,
-        };
-        let packet = authenticated_packet(*total_len, [0x40, 0], 0);
-        expect_refusal(&rt, &packet, error);
+    for row in &CUT_OFF_AUTHENTICATION {
+        expect_cut_off_authentication(&rt, row);
     }
+}
+
+/// Both calls refuse the packet of a row.
+fn expect_cut_off_authentication(rt: &impl Abort, row: &(u8, usize, usize)) {
+    let (total_len, required_len, len) = *row;
+    let error = IpError::ExtensionHeaderCutOff {
+        protocol: ip_number::AUTHENTICATION_HEADER,
+        offset: 20,
+        required_len,
+        len,
+    };
+    let packet = authenticated_packet(total_len, [0x40, 0], 0);
+    expect_refusal(rt, &packet, error);
 }
 
 /// An IPv4 packet with these options, and 8 bytes after them.
@@ -265,8 +293,7 @@ fn expect_routed(rt: &impl Abort, row: &RouteRow) {
         payload_offset: 32,
         ..over_ipv4(bytes_from(rt, &packet, 32))
     };
-    let found = found_by_both(rt, &packet);
-    expect_equal(rt, &(row, found), &(row, (expected, expected)));
+    expect_both(rt, row, &packet, &expected);
 }
 
 #[test]
@@ -291,7 +318,7 @@ fn ipv6_headers_are_refused(rt: HostRuntime) {
         required_len: 105,
         len: 104,
     };
-    expect_equal(&rt, &transport_in_ip(&packet).err(), &Some(beyond));
+    expect_error(&rt, transport_in_ip(&packet), &beyond);
 }
 
 /// An IPv6 header with this next header, these bytes after it, of which there are at most 64, and how many bytes both are.
@@ -335,11 +362,11 @@ fn expect_read(
 ) {
     let addresses = ipv6_addresses(found.addresses);
     let expected = Some(([1; 16], destination));
-    expect_equal(rt, &(key, addresses), &(key, expected));
+    expect_at(rt, &key, &addresses, &expected);
     let read = (found.protocol.0, found.payload_offset, found.is_fragment);
-    expect_equal(rt, &(key, read), &(key, carried));
+    expect_at(rt, &key, &read, &carried);
     let flags = (found.is_cut_off, found.is_length_missing);
-    expect_equal(rt, &(key, flags), &(key, (false, false)));
+    expect_at(rt, &key, &flags, &(false, false));
 }
 
 /// Over IPv6 these bytes carry this payload, with this final destination.
@@ -354,8 +381,8 @@ fn expect_found(
     expect_read(rt, key, strict, carried, destination);
     expect_read(rt, key, lax, carried, destination);
     let payload = bytes_between(rt, &packet, carried.1, len);
-    expect_equal(rt, &(key, strict.payload), &(key, payload));
-    expect_equal(rt, &(key, lax.payload), &(key, payload));
+    expect_at(rt, &key, &strict.payload, &payload);
+    expect_at(rt, &key, &lax.payload, &payload);
 }
 
 #[rattlefmt::skip]
@@ -476,7 +503,7 @@ fn expect_home_address(rt: &impl Abort, row: &HomeRow) {
     after[2..8].copy_from_slice(&options);
     let addresses = strict_addresses(rt, number, &after);
     let expected = Some(([source; 16], destination));
-    expect_equal(rt, &(row, addresses), &(row, expected));
+    expect_at(rt, row, &addresses, &expected);
 }
 
 #[test]

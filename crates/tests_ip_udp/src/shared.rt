@@ -1,6 +1,6 @@
 use crate::expect::{
-    bytes_from, bytes_to, expect_clone, expect_debug_text, expect_equal, expect_ok, expect_some,
-    expect_text,
+    bytes_from, bytes_to, expect_at, expect_clone, expect_debug_text, expect_equal, expect_ok,
+    expect_some, expect_text,
 };
 use etherparse_transport::err::{
     ErrorText, Layer, LenError, TextPart, ValueTooBigError, ValueType,
@@ -223,7 +223,7 @@ static OPTION_ERRORS: [[TcpOptionReadError; 2]; 8] = [
 #[test]
 fn every_field_of_an_option_error_is_compared(rt: HostRuntime) {
     for pair in &OPTION_ERRORS {
-        expect_equal(&rt, &(pair, pair[0] == pair[1]), &(pair, false));
+        expect_at(&rt, pair, &(pair[0] == pair[1]), &false);
     }
     let (error, other) = (
         TcpOptionWriteError::NotEnoughSpace(41),
@@ -242,7 +242,7 @@ fn expect_other_ipv4(rt: &impl Abort, source: [u8; 4], destination: [u8; 4]) {
         source,
         destination,
     };
-    expect_equal(rt, &(&other, other == header), &(&other, false));
+    expect_at(rt, &other, &(other == header), &false);
 }
 
 /// The same of IPv6, with the address that has 16 bytes 1.
@@ -255,7 +255,7 @@ fn expect_other_ipv6(rt: &impl Abort, source: [u8; 16], destination: [u8; 16]) {
         source,
         destination,
     };
-    expect_equal(rt, &(&other, other == header), &(&other, false));
+    expect_at(rt, &other, &(other == header), &false);
 }
 
 #[test]
@@ -451,7 +451,7 @@ fn expect_fragment_fields(rt: &impl Abort, row: &FragmentRow) {
     );
     expect_equal(rt, &read, row);
     let is_valid = header.is_checksum_valid();
-    expect_equal(rt, &(row, is_valid), &(row, false));
+    expect_at(rt, row, &is_valid, &false);
 }
 
 #[test]

@@ -3,8 +3,8 @@ mod translation;
 mod validity;
 
 use crate::expect::{
-    bytes_between, bytes_from, bytes_to, expect_clone, expect_debug_text, expect_equal, expect_ok,
-    expect_some,
+    bytes_between, bytes_from, bytes_to, expect_at, expect_bytes, expect_clone, expect_debug_text,
+    expect_equal, expect_ok, expect_some,
 };
 use etherparse_transport::err::{Layer, LenError, ValueTooBigError, ValueType};
 use etherparse_transport::{
@@ -144,13 +144,18 @@ fn headers_are_read_and_written(rt: HostRuntime) {
 
 #[test]
 fn short_headers_are_refused(rt: HostRuntime) {
-    let expected = Some(len_error(8, 7, LenSource::Slice, Layer::UdpHeader));
-    let short = [0; 7];
-    expect_equal(&rt, &UdpHeader::from_slice(&short).err(), &expected);
-    expect_equal(&rt, &UdpHeader::read_from_slice(&short).err(), &expected);
-    expect_equal(&rt, &UdpHeaderSlice::from_slice(&short).err(), &expected);
-    expect_equal(&rt, &UdpSlice::from_slice(&short).err(), &expected);
-    expect_equal(&rt, &UdpSlice::from_slice_lax(&short).err(), &expected);
+    let short = &[0; 7];
+    expect_short(&rt, UdpHeader::from_slice(short).err());
+    expect_short(&rt, UdpHeader::read_from_slice(short).err());
+    expect_short(&rt, UdpHeaderSlice::from_slice(short).err());
+    expect_short(&rt, UdpSlice::from_slice(short).err());
+    expect_short(&rt, UdpSlice::from_slice_lax(short).err());
+}
+
+/// The call refused seven bytes.
+fn expect_short(rt: &impl Abort, error: Option<LenError>) {
+    let expected = len_error(8, 7, LenSource::Slice, Layer::UdpHeader);
+    expect_equal(rt, &expect_some(rt, error), &expected);
 }
 
 /// The header is written to a slice of at least 8 bytes, and a shorter one is refused and stays as it was.
@@ -159,13 +164,14 @@ fn expect_written(rt: &impl Abort, header: &UdpHeader, len: usize) {
     whole[..8].copy_from_slice(&header.to_bytes());
     let mut buffer = [0xAA; 10];
     let written = header.write_to_slice(expect_some(rt, buffer.get_mut(..len)));
-    let expected = if len < 8 {
+    if len < 8 {
         let short = len_error(8, len, LenSource::Slice, Layer::UdpHeader);
-        (Err(short), [0xAA; 10])
+        expect_at(rt, &len, &written, &Err(short));
+        expect_at(rt, &len, &buffer, &[0xAA; 10]);
     } else {
-        (Ok(8), whole)
-    };
-    expect_equal(rt, &(len, (written, buffer)), &(len, expected));
+        expect_at(rt, &len, &written, &Ok(8));
+        expect_at(rt, &len, &buffer, &whole);
+    }
 }
 
 #[test]
@@ -186,46 +192,55 @@ static SLICED: UdpHeader = UdpHeader {
 
 #[test]
 fn slices_are_cut_by_the_length_field(rt: HostRuntime) {
-    let bytes = [0x00, 0x35, 0x04, 0xD2, 0x00, 0x08, 0x12, 0x34, 0xAA];
-    let front = bytes_to(&rt, &bytes, 8);
-    let packet = expect_ok(&rt, UdpSlice::from_slice(&bytes));
-    expect_equal(&rt, &packet.slice(), &front);
-    expect_equal(&rt, &packet.header_slice(), &front);
-    expect_equal(&rt, &packet.payload(), &[].as_slice());
-    expect_equal(&rt, &packet.payload_len_source(), &LenSource::UdpHeaderLen);
-    expect_equal(
-        &rt,
-        &(packet.source_port(), packet.destination_port()),
-        &(53, 1234),
-    );
-    expect_equal(&rt, &(packet.length(), packet.checksum()), &(8, 0x1234));
-    expect_equal(
-        &rt,
-        &(packet.header_len(), packet.header_len_u16()),
-        &(8, 8),
-    );
-    expect_equal(&rt, &packet.to_header(), &SLICED);
-    expect_clone(&rt, &packet);
+    let bytes = &[0x00, 0x35, 0x04, 0xD2, 0x00, 0x08, 0x12, 0x34, 0xAA];
+    let front = bytes_to(&rt, bytes, 8);
+    let packet = &expect_ok(&rt, UdpSlice::from_slice(bytes));
+    expect_sliced_packet(&rt, packet, front);
+    expect_clone(&rt, packet);
     expect_debug_text(
         &rt,
-        &packet,
+        packet,
         "UdpSlice { slice: [0, 53, 4, 210, 0, 8, 18, 52] }",
     );
-    let header = expect_ok(&rt, UdpHeaderSlice::from_slice(&bytes));
-    expect_equal(&rt, &header.slice(), &front);
-    expect_equal(
-        &rt,
-        &(header.source_port(), header.destination_port()),
-        &(53, 1234),
-    );
-    expect_equal(&rt, &(header.length(), header.checksum()), &(8, 0x1234));
-    expect_equal(&rt, &header.to_header(), &SLICED);
-    expect_clone(&rt, &header);
+    let header = &expect_ok(&rt, UdpHeaderSlice::from_slice(bytes));
+    expect_sliced_header(&rt, header, front);
+    expect_clone(&rt, header);
     expect_debug_text(
         &rt,
-        &header,
+        header,
         "UdpHeaderSlice { slice: [0, 53, 4, 210, 0, 8, 18, 52] }",
     );
+}
+
+/// The packet is a header without a payload, which has these bytes and the fields of `SLICED`.
+fn expect_sliced_packet(rt: &impl Abort, packet: &UdpSlice<'_>, front: &[u8]) {
+    expect_bytes(rt, packet.slice(), front);
+    expect_bytes(rt, packet.header_slice(), front);
+    expect_bytes(rt, packet.payload(), &[]);
+    expect_equal(rt, &packet.payload_len_source(), &LenSource::UdpHeaderLen);
+    let fields = [
+        packet.source_port(),
+        packet.destination_port(),
+        packet.length(),
+        packet.checksum(),
+        packet.header_len_u16(),
+    ];
+    expect_equal(rt, &fields, &[53, 1234, 8, 0x1234, 8]);
+    expect_equal(rt, &packet.header_len(), &8);
+    expect_equal(rt, &packet.to_header(), &SLICED);
+}
+
+/// The header has these bytes and the fields of `SLICED`.
+fn expect_sliced_header(rt: &impl Abort, header: &UdpHeaderSlice<'_>, front: &[u8]) {
+    expect_bytes(rt, header.slice(), front);
+    let fields = [
+        header.source_port(),
+        header.destination_port(),
+        header.length(),
+        header.checksum(),
+    ];
+    expect_equal(rt, &fields, &[53, 1234, 8, 0x1234]);
+    expect_equal(rt, &header.to_header(), &SLICED);
 }
 
 /// The length field, how many bytes there are, and what the error says: the required length, the length, where it came from, and the
@@ -244,8 +259,8 @@ fn expect_refused(rt: &impl Abort, row: &RefusedRow) {
     let (length, len, required_len, error_len, source, layer) = *row;
     let bytes = packet(length);
     let error = UdpSlice::from_slice(bytes_to(rt, &bytes, len)).err();
-    let expected = Some(len_error(required_len, error_len, source, layer));
-    expect_equal(rt, &(row, error), &(row, expected));
+    let expected = len_error(required_len, error_len, source, layer);
+    expect_at(rt, row, &expect_some(rt, error), &expected);
 }
 
 #[test]
@@ -275,17 +290,21 @@ fn expect_kept(rt: &impl Abort, row: &KeptRow) {
     let (length, len, kept, source) = *row;
     let bytes = packet(length);
     let front = bytes_to(rt, &bytes, len);
-    let packet = expect_ok(rt, UdpSlice::from_slice_lax(front));
-    expect_clone(rt, &packet);
+    let packet = &expect_ok(rt, UdpSlice::from_slice_lax(front));
+    expect_clone(rt, packet);
     let kept = bytes_to(rt, &bytes, kept);
-    expect_equal(rt, &(row, packet.slice()), &(row, kept));
-    expect_equal(rt, &packet.header_slice(), &bytes_to(rt, &bytes, 8));
-    expect_equal(rt, &packet.payload(), &bytes_from(rt, kept, 8));
+    expect_at(rt, row, &packet.slice(), &kept);
+    expect_bytes(rt, packet.header_slice(), bytes_to(rt, &bytes, 8));
+    expect_bytes(rt, packet.payload(), bytes_from(rt, kept, 8));
     expect_equal(rt, &packet.payload_len_source(), &source);
     if length == 0 || (length >= 8 && usize::from(length) <= len) {
-        let strict = expect_ok(rt, UdpSlice::from_slice(front));
-        expect_equal(rt, &strict, &packet);
+        expect_strict(rt, front, packet);
     }
+}
+
+/// The strict call makes the same slice of these bytes.
+fn expect_strict(rt: &impl Abort, bytes: &[u8], packet: &UdpSlice<'_>) {
+    expect_equal(rt, &expect_ok(rt, UdpSlice::from_slice(bytes)), packet);
 }
 
 #[test]
@@ -308,7 +327,7 @@ fn expect_checksum(rt: &impl Abort, row: &ChecksumRow) {
         ..with_length_8()
     };
     let raw = expect_ok(rt, header.calc_checksum_ipv4_raw([0; 4], [0; 4], payload));
-    expect_equal(rt, &(row, raw), &(row, expected));
+    expect_at(rt, row, &raw, &expected);
     let calculated = header.calc_checksum_ipv4(&Ipv4Header::default(), payload);
     expect_equal(rt, &expect_ok(rt, calculated), &expected);
 }
@@ -381,30 +400,31 @@ fn checksums_over_ipv6(rt: HostRuntime) {
     expect_equal(&rt, &made, &expected);
 }
 
-/// The error of a payload of 65,528 bytes.
-fn too_big(value_type: ValueType) -> Option<ValueTooBigError<usize>> {
-    Some(ValueTooBigError {
+/// The call refused a payload of 65,528 bytes.
+fn expect_too_big(rt: &impl Abort, error: Option<ValueTooBigError<usize>>, value_type: ValueType) {
+    let expected = ValueTooBigError {
         actual: 65528,
         max_allowed: 65527,
         value_type,
-    })
+    };
+    expect_equal(rt, &expect_some(rt, error), &expected);
 }
 
 #[test]
 fn long_payloads_are_refused(rt: HostRuntime) {
-    let over_ipv4 = too_big(ValueType::UdpPayloadLengthIpv4);
     let header = with_length_8();
-    let nothing = Ipv4Header::default();
+    let nothing = &Ipv4Header::default();
+    let over_ipv4 = ValueType::UdpPayloadLengthIpv4;
     let without = UdpHeader::without_ipv4_checksum(1, 2, 65528);
-    expect_equal(&rt, &without.err(), &over_ipv4);
-    let with = UdpHeader::with_ipv4_checksum(1, 2, &nothing, &TOO_LONG);
-    expect_equal(&rt, &with.err(), &over_ipv4);
+    expect_too_big(&rt, without.err(), over_ipv4);
+    let with = UdpHeader::with_ipv4_checksum(1, 2, nothing, &TOO_LONG);
+    expect_too_big(&rt, with.err(), over_ipv4);
     let raw = header.calc_checksum_ipv4_raw([0; 4], [0; 4], &TOO_LONG);
-    expect_equal(&rt, &raw.err(), &over_ipv4);
-    let calculated = header.calc_checksum_ipv4(&nothing, &TOO_LONG);
-    expect_equal(&rt, &calculated.err(), &over_ipv4);
+    expect_too_big(&rt, raw.err(), over_ipv4);
+    let calculated = header.calc_checksum_ipv4(nothing, &TOO_LONG);
+    expect_too_big(&rt, calculated.err(), over_ipv4);
     let with = UdpHeader::with_ipv6_checksum(0, 0, &Ipv6Header::default(), &TOO_LONG);
-    expect_equal(&rt, &with.err(), &too_big(ValueType::UdpPayloadLengthIpv6));
+    expect_too_big(&rt, with.err(), ValueType::UdpPayloadLengthIpv6);
 }
 
 #[rattlefmt::skip]
@@ -423,6 +443,6 @@ static OTHER_HEADERS: [UdpHeader; 4] = [
 fn one_field_makes_a_difference(rt: HostRuntime) {
     expect_clone(&rt, &HEADER);
     for other in &OTHER_HEADERS {
-        expect_equal(&rt, &(other, HEADER == *other), &(other, false));
+        expect_at(&rt, other, &(HEADER == *other), &false);
     }
 }

@@ -1,11 +1,11 @@
 //! Chains of replacements in packets of every small length, beside sums over the changed packets.
 
-use crate::expect::expect_equal;
+use crate::expect::{bytes_to, expect_at, expect_equal, expect_ok, expect_some};
 use etherparse_transport::checksum::Sum16BitWords;
 use etherparse_transport::checksum_change::{
     ChecksumChange, updated_checksum, updated_udp_checksum,
 };
-use std::test::Fail;
+use std::process::Abort;
 
 /// Numbers that look random, the same ones in each run (a linear congruential generator).
 #[derive(Drop)]
@@ -49,17 +49,11 @@ struct Chain {
 
 impl Chain {
     /// Replaces a part at an even place by another, whose length is odd where that of the part is.
-    fn replace(
-        &mut self,
-        rt: &HostRuntime,
-        numbers: &mut Numbers,
-        kind: usize,
-    ) -> Result<(), Fail> {
+    fn replace(&mut self, rt: &(impl Abort + AllocGlobal), numbers: &mut Numbers, kind: usize) {
         let place = numbers.next() % (self.packet.len() / 2 + 1) * 2;
-        let (before, rest) = self.packet.split_at_checked(place).ok_or("short")?;
-        let (old, after) = rest
-            .split_at_checked(numbers.next() % (rest.len() + 1))
-            .ok_or("short")?;
+        let (before, rest) = expect_some(rt, self.packet.split_at_checked(place));
+        let old_len = numbers.next() % (rest.len() + 1);
+        let (old, after) = expect_some(rt, rest.split_at_checked(old_len));
         let bytes = numbers.bytes(kind);
         let new_len = match numbers.next() % 3 {
             0 => old.len() % 2 + numbers.next() % 8 * 2,
@@ -72,12 +66,16 @@ impl Chain {
         if new.len() != old.len() {
             self.other_lengths = self.other_lengths.saturating_add(1);
         }
-        let mut changed = before.to_vec(rt.alloc())?;
-        changed.extend_from_slice(new)?;
-        changed.extend_from_slice(after)?;
-        self.packet = changed;
-        Ok(())
+        self.packet = joined(rt, before, new, after);
     }
+}
+
+/// The three parts of a packet, one after the other.
+fn joined(rt: &(impl Abort + AllocGlobal), before: &[u8], part: &[u8], after: &[u8]) -> Vec<u8> {
+    let mut whole = expect_ok(rt, before.to_vec(rt.alloc()));
+    expect_ok(rt, whole.extend_from_slice(part));
+    expect_ok(rt, whole.extend_from_slice(after));
+    whole
 }
 
 /// The change with one replacement more, by the call for its length.
@@ -91,66 +89,83 @@ fn extended(change: ChecksumChange, old: &[u8], new: &[u8]) -> ChecksumChange {
 
 /// A chain of 1 to 5 replacements in a packet of 0 to 60 bytes.
 fn run_chain(
-    rt: &HostRuntime,
+    rt: &(impl Abort + AllocGlobal),
     numbers: &mut Numbers,
     packet: &[u8],
     kind: usize,
-) -> Result<Chain, Fail> {
+) -> Chain {
     let sum = Sum16BitWords::new().add_slice(packet);
     let mut chain = Chain {
-        packet: packet.to_vec(rt.alloc())?,
+        packet: expect_ok(rt, packet.to_vec(rt.alloc())),
         change: ChecksumChange::new(),
         udp_checksum: sum.to_ones_complement_with_no_zero(),
         replacements: 0,
         other_lengths: 0,
     };
     for _ in 0..numbers.next() % 5 + 1 {
-        chain.replace(rt, numbers, kind)?;
+        chain.replace(rt, numbers, kind);
     }
-    Ok(chain)
+    chain
+}
+
+/// The checksum of the chain is updated. Returns whether its packet has become all zeros, of which the update is 0 and the sum 65535.
+fn expect_updated(rt: &impl Abort, number: usize, chain: &Chain, sum: Sum16BitWords) -> bool {
+    let new = Sum16BitWords::new()
+        .add_slice(&chain.packet)
+        .ones_complement();
+    let updated = chain.change.apply(sum.ones_complement());
+    let is_zeros = chain.packet.iter().all(|byte| *byte == 0);
+    if is_zeros {
+        expect_equal(rt, &(updated, new), &(0, 0xFFFF));
+    } else {
+        expect_at(rt, &number, &updated, &new);
+    }
+    is_zeros
+}
+
+/// As UDP stores it, the update is right for packets of zeros too, and so is the way back.
+fn expect_updated_udp(rt: &impl Abort, number: usize, chain: &Chain, sum: Sum16BitWords) {
+    let udp = sum.to_ones_complement_with_no_zero();
+    let new = Sum16BitWords::new().add_slice(&chain.packet);
+    let new = new.to_ones_complement_with_no_zero();
+    expect_at(rt, &number, &chain.change.apply_udp(udp), &new);
+    expect_at(rt, &number, &chain.udp_checksum, &new);
+    expect_equal(rt, &chain.change.reversed().apply_udp(new), &udp);
+}
+
+/// How many parts were replaced, how many by a part of another length, and how many packets have become all zeros.
+type Counts = (usize, usize, usize);
+
+/// Runs the chain of this number, and returns the counts after it.
+fn expect_chain(
+    rt: &(impl Abort + AllocGlobal),
+    numbers: &mut Numbers,
+    number: usize,
+    counts: Counts,
+) -> Counts {
+    let (replacements, other_lengths, zeros) = counts;
+    let kind = number % 5;
+    let bytes = numbers.bytes(kind);
+    let packet = bytes_to(rt, &bytes, numbers.next() % 61);
+    let sum = Sum16BitWords::new().add_slice(packet);
+    let chain = run_chain(rt, numbers, packet, kind / 2);
+    let is_zeros = expect_updated(rt, number, &chain, sum);
+    expect_updated_udp(rt, number, &chain, sum);
+    (
+        replacements.saturating_add(chain.replacements),
+        other_lengths.saturating_add(chain.other_lengths),
+        zeros.saturating_add(usize::from(is_zeros)),
+    )
 }
 
 #[test]
-fn chains_of_replacements_are_updated(rt: HostRuntime) -> Result<(), Fail> {
+fn chains_of_replacements_are_updated(rt: HostRuntime) {
     let mut numbers = Numbers { state: 1624 };
-    let (mut replacements, mut other_lengths, mut zeros) = (0usize, 0usize, 0usize);
+    let mut counts = (0, 0, 0);
     for number in 0..2000usize {
-        let kind = number % 5;
-        let bytes = numbers.bytes(kind);
-        let packet = bytes.get(..numbers.next() % 61).ok_or("short")?;
-        let sum = Sum16BitWords::new().add_slice(packet);
-        let chain = run_chain(&rt, &mut numbers, packet, kind / 2)?;
-        let new_sum = Sum16BitWords::new().add_slice(&chain.packet);
-        let updated = chain.change.apply(sum.ones_complement());
-        if chain.packet.iter().all(|byte| *byte == 0) {
-            expect_equal(&rt, &(updated, new_sum.ones_complement()), &(0, 0xFFFF));
-            zeros = zeros.saturating_add(1);
-        } else {
-            expect_equal(
-                &rt,
-                &(&number, &updated),
-                &(&number, &new_sum.ones_complement()),
-            );
-        }
-        // As UDP stores it, it is right for packets of zeros too, and so is the way back.
-        let udp = sum.to_ones_complement_with_no_zero();
-        let new_udp = new_sum.to_ones_complement_with_no_zero();
-        expect_equal(
-            &rt,
-            &(&number, &chain.change.apply_udp(udp)),
-            &(&number, &new_udp),
-        );
-        expect_equal(&rt, &(&number, &chain.udp_checksum), &(&number, &new_udp));
-        expect_equal(&rt, &chain.change.reversed().apply_udp(new_udp), &udp);
-        replacements = replacements.saturating_add(chain.replacements);
-        other_lengths = other_lengths.saturating_add(chain.other_lengths);
+        counts = expect_chain(&rt, &mut numbers, number, counts);
     }
-    expect_equal(
-        &rt,
-        &(replacements, other_lengths, zeros),
-        &(6044, 1786, 473),
-    );
-    Ok(())
+    expect_equal(&rt, &counts, &(6044, 1786, 473));
 }
 
 /// Each part at an even place of one packet, also a part of an odd length.

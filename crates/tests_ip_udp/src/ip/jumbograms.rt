@@ -1,10 +1,14 @@
 //! Packets whose length is not in the length field of their header: jumbograms (RFC 2675), and packets that state no length. The checksums
 //! were computed apart from this crate, by RFC 1071.
 
-use super::{expect_refusal, found_by_both, header_cut_off, ipv4_packet, ipv6_packet};
-use crate::expect::{bytes_from, bytes_to, expect_equal, expect_ok};
-use etherparse_transport::ip::{IpError, checksum_verdict, transport_in_ip, transport_in_ip_lax};
-use etherparse_transport::{ChecksumVerdict, IpNumber, Untested};
+use super::{
+    expect_error, expect_refusal, found_by_both, header_cut_off, ipv4_packet, ipv6_packet,
+};
+use crate::expect::{bytes_from, bytes_to, expect_at, expect_bytes, expect_equal, expect_ok};
+use etherparse_transport::ip::{
+    IpError, TransportInIp, checksum_verdict, transport_in_ip, transport_in_ip_lax,
+};
+use etherparse_transport::{ChecksumVerdict, Untested};
 use std::process::Abort;
 
 /// The length of an IPv6 header, hop-by-hop options of 8 bytes and a UDP packet of 65,544 bytes.
@@ -42,8 +46,8 @@ fn expect_judged(rt: &impl Abort, packet: &mut [u8; LEN], row: &JudgedRow) {
     write_headers(packet, jumbo_payload_len, length, checksum);
     let found = expect_ok(rt, transport_in_ip(packet));
     let verdict = expect_ok(rt, checksum_verdict(&found));
-    let read = (found.payload.len(), verdict);
-    expect_equal(rt, &(row, read), &(row, (len, expected)));
+    expect_at(rt, row, &found.payload.len(), &len);
+    expect_at(rt, row, &verdict, &expected);
 }
 
 #[test]
@@ -57,7 +61,7 @@ fn jumbograms_are_judged(rt: HostRuntime) {
         required_len: 65_593,
         len: LEN,
     };
-    expect_equal(&rt, &transport_in_ip(&packet).err(), &Some(beyond));
+    expect_error(&rt, transport_in_ip(&packet), &beyond);
     let found = expect_ok(&rt, transport_in_ip_lax(&packet));
     expect_equal(
         &rt,
@@ -103,11 +107,8 @@ fn expect_errors(rt: &impl Abort, row: &RefusedRow) {
     after[8] = 17;
     let (mut packet, _) = ipv6_packet(next_header, &after);
     packet[5] = payload_len;
-    let errors = (
-        transport_in_ip(&packet).err(),
-        transport_in_ip_lax(&packet).err(),
-    );
-    expect_equal(rt, &(row, errors), &(row, (strict, lax)));
+    expect_at(rt, row, &transport_in_ip(&packet).err(), &strict);
+    expect_at(rt, row, &transport_in_ip_lax(&packet).err(), &lax);
 }
 
 #[test]
@@ -118,11 +119,14 @@ fn jumbograms_are_refused(rt: HostRuntime) {
     // hop-by-hop options that are not all there
     let (mut packet, _) = ipv6_packet(0, &[17, 2, 0xC2, 4, 0, 1, 0, 0]);
     packet[5] = 0;
-    for (len, required_len) in [(40, 48), (47, 48), (48, 64), (63, 64)] {
-        let front = bytes_to(&rt, &packet, len);
-        expect_refusal(&rt, front, header_cut_off(required_len, len));
+    for (len, required_len) in &CUT_OFF {
+        let front = bytes_to(&rt, &packet, *len);
+        expect_refusal(&rt, front, header_cut_off(*required_len, *len));
     }
 }
+
+/// A length, and the length that is required.
+static CUT_OFF: [(usize, usize); 4] = [(40, 48), (47, 48), (48, 64), (63, 64)];
 
 /// The next header of an IPv6 packet without a length, how many bytes of payload the strict call finds, and the protocol and the place
 /// where the payload of the lax call begins.
@@ -143,29 +147,27 @@ fn expect_without_length(rt: &impl Abort, row: &WithoutLengthRow) {
         Ok(transport) => Some(transport.payload.len()),
         Err(_) => None,
     };
-    expect_equal(rt, &(row, counted), &(row, strict));
+    expect_at(rt, row, &counted, &strict);
     let found = expect_ok(rt, transport_in_ip_lax(&packet));
-    expect_equal(rt, &found.payload, &bytes_from(rt, &packet, start));
-    let read = (found.protocol, found.payload_offset);
-    expect_equal(rt, &(row, read), &(row, (IpNumber(protocol), start)));
+    expect_bytes(rt, found.payload, bytes_from(rt, &packet, start));
+    let read = (found.protocol.0, found.payload_offset);
+    expect_at(rt, row, &read, &(protocol, start));
+    expect_length_missing(rt, &found);
+}
+
+/// The packet states no length.
+fn expect_length_missing(rt: &impl Abort, found: &TransportInIp<'_>) {
     let flags = (found.is_cut_off, found.is_length_missing);
-    expect_equal(rt, &(row, flags), &(row, (false, true)));
+    expect_equal(rt, &flags, &(false, true));
 }
 
 #[test]
 fn packets_without_a_length_are_read(rt: HostRuntime) {
     let over_ipv4 = ipv4_packet(0, [0x40, 0]);
     let found = expect_ok(&rt, transport_in_ip_lax(&over_ipv4));
-    expect_equal(
-        &rt,
-        &(found.payload, found.payload_offset),
-        &(bytes_from(&rt, &over_ipv4, 20), 20),
-    );
-    expect_equal(
-        &rt,
-        &(found.is_cut_off, found.is_length_missing),
-        &(false, true),
-    );
+    expect_bytes(&rt, found.payload, bytes_from(&rt, &over_ipv4, 20));
+    expect_equal(&rt, &found.payload_offset, &20);
+    expect_length_missing(&rt, &found);
     for row in &WITHOUT_LENGTH {
         expect_without_length(&rt, row);
     }
@@ -176,12 +178,14 @@ fn packets_with_no_next_header_have_no_payload(rt: HostRuntime) {
     let (mut packet, _) = ipv6_packet(59, &[7; 8]);
     packet[5] = 0;
     let (strict, lax) = found_by_both(&rt, &packet);
-    for found in [strict, lax] {
-        expect_equal(&rt, &(found.payload.len(), found.payload_offset), &(0, 40));
-        expect_equal(
-            &rt,
-            &(found.is_cut_off, found.is_length_missing),
-            &(false, false),
-        );
-    }
+    expect_no_payload(&rt, &strict);
+    expect_no_payload(&rt, &lax);
+}
+
+/// The packet is whole, and has no bytes after its header.
+fn expect_no_payload(rt: &impl Abort, found: &TransportInIp<'_>) {
+    let read = (found.payload.len(), found.payload_offset);
+    expect_equal(rt, &read, &(0, 40));
+    let flags = (found.is_cut_off, found.is_length_missing);
+    expect_equal(rt, &flags, &(false, false));
 }

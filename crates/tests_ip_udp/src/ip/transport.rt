@@ -1,6 +1,6 @@
 //! The transport of IP packets, and whether its checksum is right. The checksums were computed apart from this crate, by RFC 1071.
 
-use crate::expect::{bytes_to, expect_equal, expect_ok};
+use crate::expect::{bytes_to, expect_at, expect_equal, expect_ok};
 use arrayvec::ArrayVec;
 use etherparse_transport::err::tcp::{HeaderError, HeaderSliceError};
 use etherparse_transport::err::{Layer, LenError, LenSource};
@@ -84,7 +84,7 @@ fn expect_verdict(rt: &impl Abort, row: &VerdictRow) {
     let packet = packet_of(rt, version, protocol, byte_6, transport);
     let found = expect_ok(rt, transport_in_ip(&packet));
     let verdict = expect_ok(rt, checksum_verdict(&found));
-    expect_equal(rt, &(row, verdict), &(row, expected));
+    expect_at(rt, row, &verdict, &expected);
 }
 
 #[test]
@@ -99,7 +99,7 @@ fn expect_cut_off(rt: &impl Abort, packet: &[u8], len: usize) {
     let found = expect_ok(rt, transport_in_ip_lax(bytes_to(rt, packet, len)));
     let verdict = expect_ok(rt, checksum_verdict(&found));
     let expected = ChecksumVerdict::Untested(Untested::CutOff);
-    expect_equal(rt, &(len, verdict), &(len, expected));
+    expect_at(rt, &len, &verdict, &expected);
 }
 
 #[test]
@@ -179,12 +179,12 @@ fn expect_slice(rt: &impl Abort, row: &SliceRow) {
     let (version, protocol, byte_6, transport, expected) = *row;
     let packet = packet_of(rt, version, protocol, byte_6, transport);
     let found = expect_ok(rt, transport_in_ip(&packet));
-    expect_equal(rt, &(row, read_slice(rt, &found)), &(row, expected));
+    expect_at(rt, row, &read_slice(rt, &found), &expected);
     let proto = match expected {
         Some((proto, ..)) => Some(proto),
         None => None,
     };
-    expect_equal(rt, &(row, proto_in_ip(&found)), &(row, proto));
+    expect_at(rt, row, &proto_in_ip(&found), &proto);
     // The one fragment is of UDP.
     let over = if found.is_fragment {
         Some(Proto::Udp)
@@ -192,8 +192,8 @@ fn expect_slice(rt: &impl Abort, row: &SliceRow) {
         proto
     };
     let by_number = proto_over(found.addresses, found.protocol);
-    expect_equal(rt, &(row, by_number), &(row, over));
-    expect_equal(rt, &(row, found.proto()), &(row, over));
+    expect_at(rt, row, &by_number, &over);
+    expect_at(rt, row, &found.proto(), &over);
 }
 
 #[test]

@@ -1,10 +1,12 @@
 //! Every length and length field of a small world, beside plain functions of what UDP packets of that shape are.
 
 use super::len_error;
-use crate::expect::expect_equal;
+use crate::expect::{
+    bytes_from, bytes_to, expect_at, expect_bytes, expect_equal, expect_ok, expect_some,
+};
 use etherparse_transport::err::{Layer, LenError};
 use etherparse_transport::{LenSource, UdpHeader, UdpHeaderSlice, UdpSlice};
-use std::test::Fail;
+use std::process::Abort;
 
 /// The error of fewer bytes than a header has.
 fn short(len: usize) -> LenError {
@@ -39,87 +41,109 @@ fn packet(length: u8) -> [u8; 12] {
     [11, 12, 13, 14, 0, length, 17, 18, 19, 20, 21, 22]
 }
 
-#[test]
-fn every_length_below_the_header_is_refused(rt: HostRuntime) -> Result<(), Fail> {
-    let bytes = packet(8);
-    let mut refused = 0usize;
-    for len in 0..8usize {
-        let slice = &bytes[..len];
-        let errors = [
-            UdpHeader::from_slice(slice).err(),
-            UdpHeader::read_from_slice(slice).err(),
-            UdpHeaderSlice::from_slice(slice).err(),
-            UdpSlice::from_slice(slice).err(),
-            UdpSlice::from_slice_lax(slice).err(),
-        ];
-        for error in errors {
-            expect_equal(
-                &rt,
-                &(&len, &(error.ok_or("accepted")?)),
-                &(&len, &short(len)),
-            );
-        }
-        refused = refused.saturating_add(1);
-    }
-    expect_equal(&rt, &refused, &8);
-    Ok(())
+/// The call returned this error. The key is the length field and the length.
+fn expect_error(rt: &impl Abort, key: &(u8, usize), error: Option<LenError>, expected: &LenError) {
+    expect_at(rt, key, &expect_some(rt, error), expected);
+}
+
+/// Each of the five calls refuses these bytes, which are fewer than a header has.
+fn expect_short(rt: &impl Abort, slice: &[u8]) {
+    let key = &(8, slice.len());
+    let expected = &short(slice.len());
+    expect_error(rt, key, UdpHeader::from_slice(slice).err(), expected);
+    expect_error(rt, key, UdpHeader::read_from_slice(slice).err(), expected);
+    expect_error(rt, key, UdpHeaderSlice::from_slice(slice).err(), expected);
+    expect_error(rt, key, UdpSlice::from_slice(slice).err(), expected);
+    expect_error(rt, key, UdpSlice::from_slice_lax(slice).err(), expected);
 }
 
 #[test]
-fn every_length_field_is_kept_or_refused(rt: HostRuntime) -> Result<(), Fail> {
-    let mut accepted = 0usize;
-    let mut below_header = 0usize;
-    let mut above_slice = 0usize;
+fn every_length_below_the_header_is_refused(rt: HostRuntime) {
+    let bytes = packet(8);
+    let mut refused = 0usize;
+    for len in 0..8usize {
+        expect_short(&rt, bytes_to(&rt, &bytes, len));
+        refused = refused.saturating_add(1);
+    }
+    expect_equal(&rt, &refused, &8);
+}
+
+/// The strict slice keeps this many bytes.
+fn expect_kept(rt: &impl Abort, slice: &[u8], kept: usize) {
+    let strict = expect_ok(rt, UdpSlice::from_slice(slice));
+    expect_bytes(rt, strict.slice(), bytes_to(rt, slice, kept));
+}
+
+/// Reads the packet by the strict call, and returns what is expected of it: how many bytes are kept, or the error.
+fn expect_strict(rt: &impl Abort, slice: &[u8], length: u8) -> Result<usize, LenError> {
+    let expected = kept_by_strict(slice.len(), length);
+    match &expected {
+        Ok(kept) => expect_kept(rt, slice, *kept),
+        Err(error) => {
+            let key = &(length, slice.len());
+            expect_error(rt, key, UdpSlice::from_slice(slice).err(), error);
+        }
+    }
+    expected
+}
+
+/// The lax slice keeps what the length field counts, or all bytes.
+fn expect_lax(rt: &impl Abort, slice: &[u8], length: u8) {
+    let kept = kept_by_lax(slice.len(), length);
+    let front = bytes_to(rt, slice, kept);
+    let lax = &expect_ok(rt, UdpSlice::from_slice_lax(slice));
+    expect_bytes(rt, lax.slice(), front);
+    expect_bytes(rt, lax.payload(), bytes_from(rt, front, 8));
+    let source = if kept == usize::from(length) {
+        LenSource::UdpHeaderLen
+    } else {
+        LenSource::Slice
+    };
+    expect_equal(rt, &lax.payload_len_source(), &source);
+}
+
+/// The header is the same whatever its length field says.
+fn expect_header(rt: &impl Abort, slice: &[u8], length: u8) {
+    let expected = UdpHeader {
+        source_port: 0x0B0C,
+        destination_port: 0x0D0E,
+        length: u16::from(length),
+        checksum: 0x1112,
+    };
+    let (header, rest) = expect_ok(rt, UdpHeader::from_slice(slice));
+    expect_equal(rt, &header, &expected);
+    expect_bytes(rt, rest, bytes_from(rt, slice, 8));
+}
+
+/// How many packets are accepted, have a length field below the header's length, and have one above the slice's.
+type Counts = (usize, usize, usize);
+
+/// The counts after a packet of which this is expected.
+fn counted(counts: Counts, expected: &Result<usize, LenError>) -> Counts {
+    let (accepted, below_header, above_slice) = counts;
+    match expected {
+        Ok(_) => (accepted.saturating_add(1), below_header, above_slice),
+        Err(error) => match error.layer {
+            Layer::UdpPayload => (accepted, below_header, above_slice.saturating_add(1)),
+            _ => (accepted, below_header.saturating_add(1), above_slice),
+        },
+    }
+}
+
+#[test]
+fn every_length_field_is_kept_or_refused(rt: HostRuntime) {
+    let mut counts = (0, 0, 0);
     let mut accepted_lax = 0usize;
     for len in 8..13usize {
         for length in 0..14u8 {
             let bytes = packet(length);
-            let slice = &bytes[..len];
-            let strict = UdpSlice::from_slice(slice);
-            match kept_by_strict(len, length) {
-                Ok(kept) => {
-                    let strict = strict?;
-                    expect_equal(&rt, &Some(strict.slice()), &slice.get(..kept));
-                    accepted = accepted.saturating_add(1);
-                }
-                Err(error) => {
-                    expect_equal(
-                        &rt,
-                        &(&length, &len, &(strict.err().ok_or("accepted")?)),
-                        &(&length, &len, &error),
-                    );
-                    match error.layer {
-                        Layer::UdpPayload => above_slice = above_slice.saturating_add(1),
-                        _ => below_header = below_header.saturating_add(1),
-                    }
-                }
-            }
-            let lax = UdpSlice::from_slice_lax(slice)?;
-            let kept = kept_by_lax(len, length);
-            expect_equal(
-                &rt,
-                &(&length, &len, &Some(lax.slice())),
-                &(&length, &len, &slice.get(..kept)),
-            );
-            expect_equal(&rt, &Some(lax.payload()), &slice.get(8..kept));
-            let source = if kept == usize::from(length) {
-                LenSource::UdpHeaderLen
-            } else {
-                LenSource::Slice
-            };
-            expect_equal(&rt, &lax.payload_len_source(), &source);
+            let slice = bytes_to(&rt, &bytes, len);
+            counts = counted(counts, &expect_strict(&rt, slice, length));
+            expect_lax(&rt, slice, length);
+            expect_header(&rt, slice, length);
             accepted_lax = accepted_lax.saturating_add(1);
-            // The header is the same whatever its length field says.
-            let header = UdpHeader {
-                source_port: 0x0B0C,
-                destination_port: 0x0D0E,
-                length: u16::from(length),
-                checksum: 0x1112,
-            };
-            expect_equal(&rt, &UdpHeader::from_slice(slice)?, &(header, &slice[8..]));
         }
     }
-    expect_equal(&rt, &(accepted, below_header, above_slice), &(20, 35, 15));
+    expect_equal(&rt, &counts, &(20, 35, 15));
     expect_equal(&rt, &accepted_lax, &70);
-    Ok(())
 }

@@ -1,7 +1,6 @@
-use crate::expect::expect_equal;
+use crate::expect::{expect_equal, expect_ok};
 use etherparse_transport::UdpHeader;
 use etherparse_transport::checksum_change::ChecksumChange;
-use std::test::Fail;
 
 const PAYLOAD: [u8; 8] = [1, 2, 3, 4, 5, 6, 7, 8];
 
@@ -16,7 +15,7 @@ fn header(checksum: u16) -> UdpHeader {
 }
 
 #[test]
-fn addresses_and_ports_are_translated_over_ipv4(rt: HostRuntime) -> Result<(), Fail> {
+fn addresses_and_ports_are_translated_over_ipv4(rt: HostRuntime) {
     let (inside, peer, outside) = ([192, 168, 1, 1], [192, 168, 1, 2], [203, 0, 113, 7]);
 
     // A packet that goes out.
@@ -26,7 +25,10 @@ fn addresses_and_ports_are_translated_over_ipv4(rt: HostRuntime) -> Result<(), F
         source_port: 40000,
         ..header(0)
     };
-    expected.checksum = expected.calc_checksum_ipv4_raw(outside, peer, &PAYLOAD)?;
+    expected.checksum = expect_ok(
+        &rt,
+        expected.calc_checksum_ipv4_raw(outside, peer, &PAYLOAD),
+    );
     expect_equal(&rt, &translated, &expected);
     expect_equal(&rt, &translated.checksum, &0x50F5);
 
@@ -40,7 +42,7 @@ fn addresses_and_ports_are_translated_over_ipv4(rt: HostRuntime) -> Result<(), F
         destination_port: 40000,
         ..header(0)
     };
-    reply.checksum = reply.calc_checksum_ipv4_raw(peer, outside, &PAYLOAD)?;
+    reply.checksum = expect_ok(&rt, reply.calc_checksum_ipv4_raw(peer, outside, &PAYLOAD));
     reply.translate_destination_ipv4(outside, inside, 21);
     expect_equal(
         &rt,
@@ -50,7 +52,7 @@ fn addresses_and_ports_are_translated_over_ipv4(rt: HostRuntime) -> Result<(), F
     expect_equal(
         &rt,
         &reply.checksum,
-        &reply.calc_checksum_ipv4_raw(peer, inside, &PAYLOAD)?,
+        &expect_ok(&rt, reply.calc_checksum_ipv4_raw(peer, inside, &PAYLOAD)),
     );
 
     // The same step by a change that is kept for the flow.
@@ -59,19 +61,24 @@ fn addresses_and_ports_are_translated_over_ipv4(rt: HostRuntime) -> Result<(), F
         .replace_2bytes([0, 21], [0x9C, 0x40]);
     expect_equal(&rt, &change.apply_udp(0x677F), &0x50F5);
     expect_equal(&rt, &change.reversed().apply_udp(0x50F5), &0x677F);
-    Ok(())
 }
 
 #[test]
-fn addresses_and_ports_are_translated_over_ipv6(rt: HostRuntime) -> Result<(), Fail> {
+fn addresses_and_ports_are_translated_over_ipv6(rt: HostRuntime) {
     let inside = [0xFD, 0, 0, 0, 0, 0, 0, 0, 0, 0, 0, 0, 0, 0, 0, 1];
     let peer = [0x20, 0x01, 0x0D, 0xB8, 0, 0, 0, 0, 0, 0, 0, 0, 0, 0, 0, 2];
     let outside = [0x20, 0x01, 0x0D, 0xB8, 0, 1, 0, 2, 0, 3, 0, 4, 0, 5, 0, 6];
     let mut translated = header(0);
-    translated.checksum = translated.calc_checksum_ipv6_raw(inside, peer, &PAYLOAD)?;
-    let old = translated.clone()?;
+    translated.checksum = expect_ok(
+        &rt,
+        translated.calc_checksum_ipv6_raw(inside, peer, &PAYLOAD),
+    );
+    let old = expect_ok(&rt, translated.clone());
     translated.translate_source_ipv6(inside, outside, 40000);
-    let checksum = translated.calc_checksum_ipv6_raw(outside, peer, &PAYLOAD)?;
+    let checksum = expect_ok(
+        &rt,
+        translated.calc_checksum_ipv6_raw(outside, peer, &PAYLOAD),
+    );
     expect_equal(
         &rt,
         &(translated.source_port, translated.checksum),
@@ -81,18 +88,20 @@ fn addresses_and_ports_are_translated_over_ipv6(rt: HostRuntime) -> Result<(), F
     expect_equal(&rt, &translated, &old);
 
     translated.translate_destination_ipv6(peer, outside, 65535);
-    let checksum = translated.calc_checksum_ipv6_raw(inside, outside, &PAYLOAD)?;
+    let checksum = expect_ok(
+        &rt,
+        translated.calc_checksum_ipv6_raw(inside, outside, &PAYLOAD),
+    );
     expect_equal(
         &rt,
         &(translated.destination_port, translated.checksum),
         &(65535, checksum),
     );
-    Ok(())
 }
 
 /// A missing checksum stays missing, a wrong one stays wrong, and one that becomes 0 is stored as 65535.
 #[test]
-fn checksums_that_are_not_there_or_wrong_stay_so(rt: HostRuntime) -> Result<(), Fail> {
+fn checksums_that_are_not_there_or_wrong_stay_so(rt: HostRuntime) {
     let (old, peer, new) = ([10, 0, 0, 1], [10, 0, 0, 2], [10, 0, 0, 3]);
     let mut without = header(0);
     without.translate_source_ipv4(old, new, 5);
@@ -100,11 +109,10 @@ fn checksums_that_are_not_there_or_wrong_stay_so(rt: HostRuntime) -> Result<(), 
     expect_equal(&rt, &without.checksum, &0);
 
     let mut wrong = header(0);
-    wrong.checksum = wrong
-        .calc_checksum_ipv4_raw(old, peer, &PAYLOAD)?
-        .wrapping_add(7);
+    let checksum = expect_ok(&rt, wrong.calc_checksum_ipv4_raw(old, peer, &PAYLOAD));
+    wrong.checksum = checksum.wrapping_add(7);
     wrong.translate_source_ipv4(old, new, 5);
-    let right = wrong.calc_checksum_ipv4_raw(new, peer, &PAYLOAD)?;
+    let right = expect_ok(&rt, wrong.calc_checksum_ipv4_raw(new, peer, &PAYLOAD));
     expect_equal(&rt, &wrong.checksum, &right.wrapping_add(7));
 
     // The port takes the place of the checksum that was stored, so that the sum of the rest is all ones.
@@ -112,14 +120,13 @@ fn checksums_that_are_not_there_or_wrong_stay_so(rt: HostRuntime) -> Result<(), 
         source_port: 0,
         ..header(0)
     };
-    full.checksum = full.calc_checksum_ipv4_raw(old, peer, &PAYLOAD)?;
+    full.checksum = expect_ok(&rt, full.calc_checksum_ipv4_raw(old, peer, &PAYLOAD));
     let port = full.checksum;
     full.translate_source_ipv4(old, old, port);
     expect_equal(&rt, &full.checksum, &0xFFFF);
     expect_equal(
         &rt,
-        &full.calc_checksum_ipv4_raw(old, peer, &PAYLOAD)?,
+        &expect_ok(&rt, full.calc_checksum_ipv4_raw(old, peer, &PAYLOAD)),
         &0xFFFF,
     );
-    Ok(())
 }
