@@ -10,7 +10,7 @@ mod translations;
 mod transport_header;
 mod validity;
 
-use crate::expect::{bytes_from, expect_equal, expect_ok, expect_some};
+use crate::expect::{bytes_from, expect_at, expect_bytes, expect_ok, expect_some};
 use etherparse_transport::err::tcp::{HeaderError, HeaderSliceError};
 use etherparse_transport::err::{Layer, LenError};
 use etherparse_transport::{LenSource, Proto, canonical_header};
@@ -52,15 +52,18 @@ static CANONICAL: [(Proto, &[u8], &[u8], usize); 9] = [
 
 #[test]
 fn canonical_headers(rt: HostRuntime) {
-    for (protocol, packet, expected, rest_len) in &CANONICAL {
-        let (header, rest) = expect_ok(&rt, canonical_header(*protocol, packet));
-        expect_equal(
-            &rt,
-            &(protocol, packet, header.as_slice(), rest.len()),
-            &(protocol, packet, *expected, *rest_len),
-        );
-        expect_equal(&rt, &rest, &bytes_from(&rt, packet, expected.len()));
+    for row in &CANONICAL {
+        expect_canonical(&rt, row);
     }
+}
+
+/// The packet of a row has the canonical header of the row, and as many bytes after it.
+fn expect_canonical(rt: &impl Abort, row: &(Proto, &[u8], &[u8], usize)) {
+    let (protocol, packet, expected, rest_len) = *row;
+    let (header, rest) = expect_ok(rt, canonical_header(protocol, packet));
+    expect_at(rt, row, &header.as_slice(), &expected);
+    expect_at(rt, row, &rest.len(), &rest_len);
+    expect_bytes(rt, rest, bytes_from(rt, packet, expected.len()));
 }
 
 /// The protocol, a packet, how many bytes are needed, how many are there, and the layer of the error.
@@ -81,11 +84,7 @@ static FOUR_WORDS: [u8; 20] = [
 /// The packet is refused by this error.
 fn expect_refused(rt: &impl Abort, protocol: Proto, packet: &[u8], expected: HeaderSliceError) {
     let error = expect_some(rt, canonical_header(protocol, packet).err());
-    expect_equal(
-        rt,
-        &(protocol, packet, error),
-        &(protocol, packet, expected),
-    );
+    expect_at(rt, &(protocol, packet), &error, &expected);
 }
 
 #[test]

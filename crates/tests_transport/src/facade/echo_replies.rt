@@ -1,6 +1,6 @@
 //! Replies to echo requests. The bytes were computed apart from this crate, by RFC 791, RFC 792, RFC 8200, RFC 4443 and RFC 1071.
 
-use crate::expect::{expect_equal, expect_some, expect_text};
+use crate::expect::{expect_equal, expect_ok, expect_some, expect_text};
 use etherparse_transport::LenSource;
 use etherparse_transport::err::packet::AnswerEchoError;
 use etherparse_transport::err::{Layer, LenError};
@@ -234,18 +234,35 @@ fn answered(rt: &impl Abort, request: &[u8]) -> (Result<usize, AnswerEchoError>,
 fn echo_requests_become_their_replies(rt: HostRuntime) {
     for (request, reply, len) in &REPLIES {
         let (result, buffer) = answered(&rt, request);
-        expect_equal(&rt, &(result, buffer), &(Ok(*len), buffer_with(reply)));
+        expect_reply(&rt, result, &buffer, *len, reply);
         expect_equal(&rt, &is_reply_to(request, reply), &true);
     }
+}
+
+/// The call returns this length, and the buffer begins with the reply.
+fn expect_reply(
+    rt: &impl Abort,
+    answer: Result<usize, AnswerEchoError>,
+    buffer: &[u8; 72],
+    len: usize,
+    reply: &[u8],
+) {
+    expect_equal(rt, &expect_ok(rt, answer), &len);
+    expect_equal(rt, buffer, &buffer_with(reply));
 }
 
 #[test]
 fn packets_without_a_reply_stay_as_they_are(rt: HostRuntime) {
     for (error, packet) in &REFUSALS {
-        let (result, buffer) = answered(&rt, packet);
-        expect_equal(&rt, &result.as_ref().err(), &Some(error));
-        expect_equal(&rt, &buffer, &buffer_with(packet));
+        expect_refused(&rt, error, packet);
     }
+}
+
+/// The packet is refused by this error, and stays as it is.
+fn expect_refused(rt: &impl Abort, error: &AnswerEchoError, packet: &[u8]) {
+    let (result, buffer) = answered(rt, packet);
+    expect_equal(rt, &expect_some(rt, result.err()), error);
+    expect_equal(rt, &buffer, &buffer_with(packet));
 }
 
 #[test]
@@ -253,11 +270,11 @@ fn a_reply_has_the_passed_source(rt: HostRuntime) {
     let (request, reply, len) = OVER_IPV4;
     let mut buffer = buffer_with(request);
     let result = answer_echo_ipv4(&mut buffer, Some(IPV4_SOURCE), 64);
-    expect_equal(&rt, &(result, buffer), &(Ok(len), buffer_with(reply)));
+    expect_reply(&rt, result, &buffer, len, reply);
     let (request, reply, len) = OVER_IPV6;
     let mut buffer = buffer_with(request);
     let result = answer_echo_ipv6(&mut buffer, Some(IPV6_SOURCE), 64);
-    expect_equal(&rt, &(result, buffer), &(Ok(len), buffer_with(reply)));
+    expect_reply(&rt, result, &buffer, len, reply);
 }
 
 #[test]

@@ -1,6 +1,8 @@
 //! Constants and codes under their public names, and calls over several protocols.
 
-use crate::expect::{bytes_to, expect_debug_text, expect_equal, expect_ok, expect_some};
+use crate::expect::{
+    bytes_to, expect_bytes, expect_debug_text, expect_equal, expect_ok, expect_some,
+};
 use etherparse_transport::checksum::Sum16BitWords;
 use etherparse_transport::checksum_change::{
     ChecksumChange, updated_checksum, updated_udp_checksum,
@@ -88,13 +90,19 @@ fn ip_packets(rt: HostRuntime) {
         is_cut_off: true,
         ..transport
     };
-    for (packet, strict, lax) in [
-        (PACKET.as_slice(), Ok(transport), transport),
-        (bytes_to(&rt, &PACKET, 21), Err(cut_off), is_cut_off),
-    ] {
-        expect_equal(&rt, &transport_in_ip(packet), &strict);
-        expect_equal(&rt, &expect_ok(&rt, transport_in_ip_lax(packet)), &lax);
-    }
+    expect_read(&rt, &PACKET, &Ok(transport), &transport);
+    expect_read(&rt, bytes_to(&rt, &PACKET, 21), &Err(cut_off), &is_cut_off);
+}
+
+/// The strict call and the lax one return these.
+fn expect_read(
+    rt: &impl Abort,
+    packet: &[u8],
+    strict: &Result<TransportInIp<'_>, IpError>,
+    lax: &TransportInIp<'_>,
+) {
+    expect_equal(rt, &transport_in_ip(packet), strict);
+    expect_equal(rt, &expect_ok(rt, transport_in_ip_lax(packet)), lax);
 }
 
 #[test]
@@ -200,16 +208,17 @@ fn udp_checksums(rt: HostRuntime) {
     expect_equal(&rt, &header, &expected);
     let with_ipv4 = expect_ok(&rt, UdpHeader::with_ipv4_checksum(0, 0, &over_ipv4, &[]));
     let with_ipv6 = expect_ok(&rt, UdpHeader::with_ipv6_checksum(0, 0, &over_ipv6, &[]));
-    for checksum in [
-        Ok(with_ipv4.checksum),
-        Ok(with_ipv6.checksum),
-        header.calc_checksum_ipv4(&over_ipv4, &[]),
-        header.calc_checksum_ipv4_raw([0; 4], [0; 4], &[]),
-        header.calc_checksum_ipv6(&over_ipv6, &[]),
-        header.calc_checksum_ipv6_raw([0; 16], [0; 16], &[]),
-    ] {
-        expect_equal(&rt, &checksum, &Ok(0xFFDE));
-    }
+    expect_sum(&rt, Ok(with_ipv4.checksum));
+    expect_sum(&rt, Ok(with_ipv6.checksum));
+    expect_sum(&rt, header.calc_checksum_ipv4(&over_ipv4, &[]));
+    expect_sum(&rt, header.calc_checksum_ipv4_raw([0; 4], [0; 4], &[]));
+    expect_sum(&rt, header.calc_checksum_ipv6(&over_ipv6, &[]));
+    expect_sum(&rt, header.calc_checksum_ipv6_raw([0; 16], [0; 16], &[]));
+}
+
+/// The checksum of a header of zeros with length 8.
+fn expect_sum(rt: &impl Abort, sum: Result<u16, ValueTooBigError<usize>>) {
+    expect_equal(rt, &sum, &Ok(0xFFDE));
 }
 
 #[test]
@@ -225,7 +234,7 @@ fn tcp_raw_options(rt: HostRuntime) {
         value: &[7],
     };
     expect_equal(&rt, &options.next(), &Some(Ok(option)));
-    expect_equal(&rt, &options.rest(), &[1, 30, 1, 0, 0].as_slice());
+    expect_bytes(&rt, options.rest(), &[1, 30, 1, 0, 0]);
     let mut options = TcpRawOptionsIterator::from_slice(&[30, 1]);
     let fault = TcpRawOptionError::LengthBelowTwo { kind: 30, len: 1 };
     expect_equal(&rt, &options.next(), &Some(Err(fault)));
@@ -233,20 +242,21 @@ fn tcp_raw_options(rt: HostRuntime) {
 
 #[test]
 fn tcp_options_of_arrays(rt: HostRuntime) {
-    for (options, len) in [
-        (TcpOptions::from([1; 4]), 4),
-        (TcpOptions::from([1; 8]), 8),
-        (TcpOptions::from([1; 12]), 12),
-        (TcpOptions::from([1; 16]), 16),
-        (TcpOptions::from([1; 20]), 20),
-        (TcpOptions::from([1; 24]), 24),
-        (TcpOptions::from([1; 28]), 28),
-        (TcpOptions::from([1; 32]), 32),
-        (TcpOptions::from([1; 36]), 36),
-        (TcpOptions::from([1; 40]), 40),
-    ] {
-        expect_equal(&rt, &options.len(), &len);
-    }
+    expect_options_len(&rt, &TcpOptions::from([1; 4]), 4);
+    expect_options_len(&rt, &TcpOptions::from([1; 8]), 8);
+    expect_options_len(&rt, &TcpOptions::from([1; 12]), 12);
+    expect_options_len(&rt, &TcpOptions::from([1; 16]), 16);
+    expect_options_len(&rt, &TcpOptions::from([1; 20]), 20);
+    expect_options_len(&rt, &TcpOptions::from([1; 24]), 24);
+    expect_options_len(&rt, &TcpOptions::from([1; 28]), 28);
+    expect_options_len(&rt, &TcpOptions::from([1; 32]), 32);
+    expect_options_len(&rt, &TcpOptions::from([1; 36]), 36);
+    expect_options_len(&rt, &TcpOptions::from([1; 40]), 40);
+}
+
+/// The options have this length.
+fn expect_options_len(rt: &impl Abort, options: &TcpOptions, len: usize) {
+    expect_equal(rt, &options.len(), &len);
 }
 
 #[rattlefmt::skip]
@@ -527,8 +537,13 @@ static PROTOCOLS: [(Proto, &[u8], usize, &str); 4] = [
 #[test]
 fn protocols(rt: HostRuntime) {
     for (protocol, packet, header_len, name) in &PROTOCOLS {
-        let (header, rest) = expect_ok(&rt, canonical_header(*protocol, packet));
-        expect_equal(&rt, &(header.len(), rest.len()), &(*header_len, 1));
+        expect_lengths(&rt, *protocol, packet, *header_len);
         expect_debug_text(&rt, protocol, name);
     }
+}
+
+/// The canonical header has this length, and one byte is after it.
+fn expect_lengths(rt: &impl Abort, protocol: Proto, packet: &[u8], header_len: usize) {
+    let (header, rest) = expect_ok(rt, canonical_header(protocol, packet));
+    expect_equal(rt, &(header.len(), rest.len()), &(header_len, 1));
 }

@@ -2,7 +2,9 @@
 //! over each of its results.
 
 use super::len_error;
-use crate::expect::{bytes_from, bytes_to, expect_equal, expect_ok, expect_some};
+use crate::expect::{
+    bytes_from, bytes_to, expect_at, expect_bytes, expect_equal, expect_ok, expect_some,
+};
 use arrayvec::ArrayVec;
 use etherparse_transport::err::Layer;
 use etherparse_transport::err::tcp::{HeaderError, HeaderSliceError};
@@ -96,29 +98,41 @@ fn canonical(protocol: Proto, bytes: &[u8]) -> Result<Canonical<'_>, HeaderSlice
 /// The packet is accepted with a header of this length, and so is its canonical form, which does not change.
 fn expect_accepted(rt: &impl Abort, protocol: Proto, bytes: &[u8], header_len: usize) {
     let (header, rest) = expect_ok(rt, canonical(protocol, bytes));
-    expect_equal(
-        rt,
-        &(protocol, bytes, header.len()),
-        &(protocol, bytes, header_len),
-    );
-    expect_equal(rt, &rest, &bytes_from(rt, bytes, header_len));
+    let header = header.as_slice();
+    expect_at(rt, &(protocol, bytes), &header.len(), &header_len);
+    expect_bytes(rt, rest, bytes_from(rt, bytes, header_len));
+    expect_kept(rt, protocol, bytes, header);
+    let whole = joined(rt, header, rest);
+    expect_canonical(rt, protocol, whole.as_slice(), header, rest);
+}
+
+/// Each byte of the header has the bits of the packet that have a meaning.
+fn expect_kept(rt: &impl Abort, protocol: Proto, bytes: &[u8], header: &[u8]) {
     for (place, byte) in header.iter().enumerate() {
         let kept = at(bytes, place) & mask(protocol, bytes, place);
-        expect_equal(
-            rt,
-            &(place, protocol, bytes, *byte),
-            &(place, protocol, bytes, kept),
-        );
+        expect_at(rt, &(place, protocol, bytes), byte, &kept);
     }
-    let mut whole: ArrayVec<u8, 60> = ArrayVec::new();
-    expect_ok(rt, whole.try_extend_from_slice(header.as_slice()));
-    expect_ok(rt, whole.try_extend_from_slice(rest));
-    let (again, rest_again) = expect_ok(rt, canonical(protocol, whole.as_slice()));
-    expect_equal(
-        rt,
-        &(again.as_slice(), rest_again),
-        &(header.as_slice(), rest),
-    );
+}
+
+/// Both parts, one after the other.
+fn joined(rt: &impl Abort, first: &[u8], second: &[u8]) -> ArrayVec<u8, 60> {
+    let mut whole = ArrayVec::new();
+    expect_ok(rt, whole.try_extend_from_slice(first));
+    expect_ok(rt, whole.try_extend_from_slice(second));
+    whole
+}
+
+/// The packet has this canonical header, and these bytes after it.
+fn expect_canonical(rt: &impl Abort, protocol: Proto, packet: &[u8], header: &[u8], rest: &[u8]) {
+    let (found, after) = expect_ok(rt, canonical(protocol, packet));
+    expect_bytes(rt, found.as_slice(), header);
+    expect_bytes(rt, after, rest);
+}
+
+/// The packet is refused by this error.
+fn expect_refused(rt: &impl Abort, protocol: Proto, bytes: &[u8], expected: &HeaderSliceError) {
+    let error = expect_some(rt, canonical(protocol, bytes).err());
+    expect_at(rt, &(protocol, bytes), &error, expected);
 }
 
 impl Counts {
@@ -130,8 +144,7 @@ impl Counts {
                 self.accepted = self.accepted.saturating_add(1);
             }
             Err(expected) => {
-                let error = expect_some(rt, canonical(protocol, bytes).err());
-                expect_equal(rt, &(protocol, bytes, error), &(protocol, bytes, expected));
+                expect_refused(rt, protocol, bytes, &expected);
                 self.refused = self.refused.saturating_add(1);
             }
         }
@@ -187,9 +200,7 @@ fn try_types_and_codes(rt: &impl Abort, protocol: Proto, after: &[u8]) -> Counts
     let mut counts = NONE;
     for type_u8 in 0..=u8::MAX {
         for code_u8 in 0..=u8::MAX {
-            let mut bytes: ArrayVec<u8, 60> = ArrayVec::new();
-            expect_ok(rt, bytes.try_extend_from_slice(&[type_u8, code_u8]));
-            expect_ok(rt, bytes.try_extend_from_slice(after));
+            let bytes = joined(rt, &[type_u8, code_u8], after);
             counts.try_packet(rt, protocol, bytes.as_slice());
         }
     }

@@ -66,8 +66,8 @@ fn expect_ipv4(rt: &impl Abort, row: &ipv4::Row) {
     let (new, verdicts, packet, changes) = row;
     let mut buffer = buffer_with(packet);
     let result = translate_ipv4(expect_some(rt, buffer.get_mut(..packet.len())), new);
-    let expected = changed(rt, packet, changes);
-    expect_equal(rt, &(result, buffer), &(Ok(()), expected));
+    expect_ok(rt, result);
+    expect_equal(rt, &buffer, &changed(rt, packet, changes));
     expect_verdicts(rt, packet, changes, verdicts);
 }
 
@@ -90,8 +90,8 @@ fn expect_ipv6(rt: &impl Abort, row: &ipv6::Row) {
     let (new, verdicts, packet, changes) = row;
     let mut buffer = buffer_with(packet);
     let result = translate_ipv6(expect_some(rt, buffer.get_mut(..packet.len())), new);
-    let expected = changed(rt, packet, changes);
-    expect_equal(rt, &(result, buffer), &(Ok(()), expected));
+    expect_ok(rt, result);
+    expect_equal(rt, &buffer, &changed(rt, packet, changes));
     expect_verdicts(rt, packet, changes, verdicts);
 }
 
@@ -112,23 +112,33 @@ fn icmp_errors_over_ipv6_are_translated(rt: HostRuntime) {
 #[test]
 fn refused_ipv4_packets_stay_as_they_are(rt: HostRuntime) {
     for (error, packet) in &ipv4::REFUSALS {
-        let mut buffer = buffer_with(packet);
-        let refused = expect_some(&rt, buffer.get_mut(..packet.len()));
-        let result = translate_ipv4(refused, &ipv4::BOTH);
-        expect_equal(&rt, &result.as_ref().err(), &Some(error));
-        expect_equal(&rt, &buffer, &buffer_with(packet));
+        expect_refused_ipv4(&rt, error, packet);
     }
+}
+
+/// The packet is refused by this error, and stays as it is.
+fn expect_refused_ipv4(rt: &impl Abort, error: &TranslateError, packet: &[u8]) {
+    let mut buffer = buffer_with(packet);
+    let refused = expect_some(rt, buffer.get_mut(..packet.len()));
+    let result = translate_ipv4(refused, &ipv4::BOTH);
+    expect_equal(rt, &expect_some(rt, result.err()), error);
+    expect_equal(rt, &buffer, &buffer_with(packet));
 }
 
 #[test]
 fn refused_ipv6_packets_stay_as_they_are(rt: HostRuntime) {
     for (error, packet) in &ipv6::REFUSALS {
-        let mut buffer = buffer_with(packet);
-        let refused = expect_some(&rt, buffer.get_mut(..packet.len()));
-        let result = translate_ipv6(refused, &ipv6::BOTH);
-        expect_equal(&rt, &result.as_ref().err(), &Some(error));
-        expect_equal(&rt, &buffer, &buffer_with(packet));
+        expect_refused_ipv6(&rt, error, packet);
     }
+}
+
+/// The packet is refused by this error, and stays as it is.
+fn expect_refused_ipv6(rt: &impl Abort, error: &TranslateError, packet: &[u8]) {
+    let mut buffer = buffer_with(packet);
+    let refused = expect_some(rt, buffer.get_mut(..packet.len()));
+    let result = translate_ipv6(refused, &ipv6::BOTH);
+    expect_equal(rt, &expect_some(rt, result.err()), error);
+    expect_equal(rt, &buffer, &buffer_with(packet));
 }
 
 #[rattlefmt::skip]
