@@ -1,8 +1,6 @@
 -- The file to which the packets of a capture are written instead of a report.
-use Rattle.std.specs.Prelude.{◌≡◌, ℕ, ◌==◌, ◌&&◌, ◌++◌, not, Bool, false, if◌then◌else◌, IfOk, IsOk, List, [], ◌∷◌, codes, decimal, map, Option, Some, None, Result, Ok, Err}
+use Rattle.std.specs.Prelude.{◌≡◌, ℕ, ◌==◌, ◌&&◌, ◌++◌, Bool, false, IfOk, IsOk, List, [], ◌∷◌, codes, decimal, Option, Some, Result, Ok, Err}
 use Rattle.std.specs.Io.KnownBytes.{Keeps}
-use Rattle.std.specs.Option.{option_map}
-use Rattle.std.specs.Str.{bytes_eq}
 use Rattle.std.specs.declared.io.Error.{Error}
 use Rattle.capture_request.specs.Endings.{exit_status}
 use Rattle.capture_request.specs.ErrorLines.{AreEndLines, WritesSome}
