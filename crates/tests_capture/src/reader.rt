@@ -53,7 +53,7 @@ fn expect_packet(rt: &impl Abort, row: &PacketRow, packet: &CapturedPacket, buff
     expect_equal(rt, &kept.get(..row.3.len()), &Some(row.3));
 }
 
-/// How many packets are left, each of which is the one of its row, and what comes after them.
+/// Returns how many packets are left and what comes after them. Stops the test unless each is the packet of its row.
 fn read_rest(
     rt: &impl Abort,
     reader: &mut CaptureReader,
@@ -69,7 +69,7 @@ fn read_rest(
     (2, expect_ok(rt, reader.next_packet(input, buffer)))
 }
 
-/// How many packets a file has, each of which is the one of its row, and what comes after them.
+/// Returns how many packets a file has and what comes after them. Stops the test unless each is the packet of its row.
 fn read_packets(rt: &impl Abort, file: &[u8]) -> (usize, Result<NextPacket, OpenError>) {
     let mut input = file;
     let mut buffer = [0u8; 64];

@@ -30,7 +30,7 @@ pub fn expect_some<T>(rt: &impl Abort, value: Option<T>) -> T {
 
 /// Returns the value of a result. Stops the test if it is an error.
 ///
-/// Where `?` ends a function, each allocation is freed by code of its own, which is proved. A call of this function adds no such code.
+/// If `?` ends a function, separate code frees each allocation, and that code is proved too. A call of this function adds no such code.
 pub fn expect_ok<T, E: Debug>(rt: &impl Abort, outcome: Result<T, E>) -> T {
     outcome.expect(rt, "there is an error")
 }

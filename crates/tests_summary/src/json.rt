@@ -449,7 +449,7 @@ fn info_of(seconds: u64, len: u64) -> CaptureInfo {
     }
 }
 
-/// Counts three packets, of which one has ports.
+/// Counts three packets. One of them has ports.
 fn count_three(rt: &impl Abort, summary: &mut Summary) {
     let flow = Some(flow_of_ipv4());
     let info = info_of(1_700_000_000, 40);

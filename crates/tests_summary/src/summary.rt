@@ -567,7 +567,7 @@ static BOTH_WAYS: [BothWaysRow; 6] = [
     (OVER_UDP, CLIENT, CLIENT, (2, 20), (0, 0)),
 ];
 
-/// Stops the test unless a conversation is the one of a row.
+/// Stops the test unless this is the conversation of a row.
 fn expect_both_ways(rt: &impl Abort, count: &ConversationCount, row: &BothWaysRow) {
     let (protocol, source, destination, forward, reverse) = *row;
     expect_equal(rt, &count.flow, &flow(protocol, source, destination));
