@@ -1,23 +1,22 @@
 use super::run;
-use crate::expect::expect_equal;
+use crate::expect::{bytes_to, expect_at, expect_equal, expect_ok};
 use arrayvec::ArrayVec;
-use std::alloc::Global;
 use std::io;
 use std::io::{ErrorKind, Read, Write};
+use std::ops::Range;
 use std::process::Abort;
-use std::test::Fail;
 
 /// A TCP header of 60 bytes in which every bit is set, and 20 bytes after it.
-const LONGEST_TCP_LINE: &[u8] =
-    b"tcp FFFFFFFFFFFFFFFFFFFFFFFFFFFFFFFFFFFFFFFFFFFFFFFFFFFFFFFFFFFFFFFFFFFFFFFFFFFFFFFFFFFFFFFFFFFFFFFFFFFFFFFFFFFFFFFFFFFFFFFF0000000000000000000000000000000000000000\n";
+const LONGEST_TCP_LINE: &str =
+    "tcp FFFFFFFFFFFFFFFFFFFFFFFFFFFFFFFFFFFFFFFFFFFFFFFFFFFFFFFFFFFFFFFFFFFFFFFFFFFFFFFFFFFFFFFFFFFFFFFFFFFFFFFFFFFFFFFFFFFFFFFF0000000000000000000000000000000000000000\n";
 
 /// Its answer: the reserved bits of byte 12 are cleared.
-const LONGEST_TCP_TEXT: &[u8] =
-    b"ok fffffffffffffffffffffffff1ffffffffffffffffffffffffffffffffffffffffffffffffffffffffffffffffffffffffffffffffffffffffffffff 20\n";
+const LONGEST_TCP_TEXT: &str =
+    "ok fffffffffffffffffffffffff1ffffffffffffffffffffffffffffffffffffffffffffffffffffffffffffffffffffffffffffffffffffffffffffff 20\n";
 
 /// Lines, each with its answer.
-const ACCEPTED: [(&[u8], &[u8]); 2] = [
-    (b"udp 003504D200080000AA\n", b"ok 003504d200080000 1\n"),
+static ACCEPTED: [(&str, &str); 2] = [
+    ("udp 003504D200080000AA\n", "ok 003504d200080000 1\n"),
     (LONGEST_TCP_LINE, LONGEST_TCP_TEXT),
 ];
 
@@ -34,142 +33,156 @@ fn long_input() -> [u8; 8195] {
     input
 }
 
-fn expect_answer(rt: &impl Abort, mut input: &[u8], text: &[u8], status: u8) {
+fn expect_answer(rt: &impl Abort, mut input: &[u8], text: &str, status: u8) {
     let mut output: ArrayVec<u8, 160> = ArrayVec::new();
     let answered = run(&mut input, &mut output);
-    expect_equal(rt, &output.as_slice(), &text);
+    expect_equal(rt, &output.as_slice(), &text.as_bytes());
     expect_equal(rt, &answered, &status);
 }
 
-/// The answer to a line with a UDP packet of this length, in bytes.
-fn expect_len(rt: &impl Abort, alloc: Global, line: &[u8], len: usize) -> Result<(), Fail> {
-    let expected = if len < 8 {
-        format!(in alloc; "refused len UdpHeader 8 {len}\n")?
-    } else {
-        format!(in alloc; "ok 0123456789abcdef {}\n", len - 8)?
-    };
-    let status = if len < 8 { 1 } else { 0 };
-    expect_answer(rt, line, expected.as_bytes(), status);
-    Ok(())
+/// Stops the test unless the first `len` bytes of the input have this answer.
+fn expect_beginning(rt: &impl Abort, input: &[u8], len: usize, text: &str, status: u8) {
+    expect_answer(rt, bytes_to(rt, input, len), text, status);
+}
+
+/// Stops the test unless the length of this packet, in bytes, is refused.
+fn expect_refused_len(rt: &(impl Abort + AllocGlobal), line: &[u8], len: usize) {
+    let text = expect_ok(
+        rt,
+        format!(in rt.alloc(); "refused len UdpHeader 8 {len}\n"),
+    );
+    expect_answer(rt, line, text.as_str(), 1);
+}
+
+/// Stops the test unless the header of this packet is accepted, with so many bytes after it.
+fn expect_accepted_len(rt: &(impl Abort + AllocGlobal), line: &[u8], rest_len: usize) {
+    let text = expect_ok(
+        rt,
+        format!(in rt.alloc(); "ok 0123456789abcdef {rest_len}\n"),
+    );
+    expect_answer(rt, line, text.as_str(), 0);
+}
+
+/// Stops the test unless lines with UDP packets of these lengths, in bytes, have their answers.
+fn expect_lens(rt: &(impl Abort + AllocGlobal), input: &[u8], lens: Range<u16>) {
+    for len in lens {
+        let len = usize::from(len);
+        let line = bytes_to(rt, input, 4 + 2 * len);
+        match len.checked_sub(8) {
+            Some(rest_len) => expect_accepted_len(rt, line, rest_len),
+            None => expect_refused_len(rt, line, len),
+        }
+    }
+}
+
+/// Lines, each with its answer and its status.
+static LINES: [(&str, &str, u8); 42] = [
+    ("udp 003504D200080000AA\n", "ok 003504d200080000 1\n", 0),
+    ("udp 003504D200080000AA", "ok 003504d200080000 1\n", 0),
+    ("udp FFFFFFFFFFFFFFFF", "ok ffffffffffffffff 0\n", 0),
+    ("udp ffffFFFFffffFFFFaB", "ok ffffffffffffffff 1\n", 0),
+    (
+        "udp 14E90035000BcA85616263deADBEef0123456789abcdefABCDEF\n",
+        "ok 14e90035000bca85 18\n",
+        0,
+    ),
+    ("udp ", "refused len UdpHeader 8 0\n", 1),
+    ("udp 00000000000000\n", "refused len UdpHeader 8 7\n", 1),
+    ("udp 00350", "bad input\n", 2),
+    ("", "bad input\n", 2),
+    ("\n", "bad input\n", 2),
+    ("udp", "bad input\n", 2),
+    ("udp 0", "bad input\n", 2),
+    ("udp 0G", "bad input\n", 2),
+    ("udp 00 ", "bad input\n", 2),
+    ("udp 00\r\n", "bad input\n", 2),
+    ("udp  0000000000000000", "bad input\n", 2),
+    ("UDP 0000000000000000", "bad input\n", 2),
+    ("udp 0000000000000000\n\n", "bad input\n", 2),
+    ("udp 0000000000000000\r\n", "bad input\n", 2),
+    ("udp 00000000000000G0", "bad input\n", 2),
+    (
+        "udp 14E90035000BCA85616263deADBEef0123456789abcdefABCDEg\n",
+        "bad input\n",
+        2,
+    ),
+    (
+        "udp 14E90035000BCA85616263deADBEef0123456789abcdefABCDE\n",
+        "bad input\n",
+        2,
+    ),
+    (
+        "tcp 0000000000000000000000004000000000000000",
+        "refused offset 4\n",
+        1,
+    ),
+    (
+        "tcp 0000000000000000000000005F00000000000000",
+        "ok 0000000000000000000000005100000000000000 0\n",
+        0,
+    ),
+    (
+        "tcp 00000000000000000000000050",
+        "refused len TcpHeader 20 13\n",
+        1,
+    ),
+    (
+        "tcp 0000000000000000000000006000000000000000\n",
+        "refused len TcpHeader 24 20\n",
+        1,
+    ),
+    (LONGEST_TCP_LINE, LONGEST_TCP_TEXT, 0),
+    ("icmpv4 0D00", "refused len Icmpv4 8 2\n", 1),
+    ("icmpv4 03040000010205DC", "ok 03040000000005dc 0\n", 0),
+    (
+        "icmpv4 0D0000000000000000000000000000000000000000",
+        "refused len Icmpv4Timestamp 20 21\n",
+        1,
+    ),
+    (
+        "icmpv4 0E0000000000000000",
+        "refused len Icmpv4TimestampReply 20 9\n",
+        1,
+    ),
+    (
+        "icmpv4 0D000000000100020000000300000004000000FF\n",
+        "ok 0d000000000100020000000300000004000000ff 0\n",
+        0,
+    ),
+    ("icmpv6 88000000FFFFFFFF", "ok 88000000e0000000 0\n", 0),
+    ("icmpv6 8500000001020304AA", "ok 8500000000000000 1\n", 0),
+    ("icmpv6 ", "refused len Icmpv6 8 0\n", 1),
+    ("TCP 00", "bad input\n", 2),
+    ("tcp  00", "bad input\n", 2),
+    ("tcp", "bad input\n", 2),
+    ("icmp 0000000000000000", "bad input\n", 2),
+    ("icmpv40000000000000000", "bad input\n", 2),
+    ("icmpv5 0000000000000000", "bad input\n", 2),
+    (" udp 0000000000000000", "bad input\n", 2),
+];
+
+/// Stops the test unless the line of a row has the answer of the row.
+fn expect_row(rt: &impl Abort, row: &(&str, &str, u8)) {
+    expect_answer(rt, row.0.as_bytes(), row.1, row.2);
 }
 
 #[test]
 fn lines_are_answered(rt: HostRuntime) {
-    let rows: [(&[u8], &[u8], u8); 42] = [
-        (b"udp 003504D200080000AA\n", b"ok 003504d200080000 1\n", 0),
-        (b"udp 003504D200080000AA", b"ok 003504d200080000 1\n", 0),
-        (b"udp FFFFFFFFFFFFFFFF", b"ok ffffffffffffffff 0\n", 0),
-        (b"udp ffffFFFFffffFFFFaB", b"ok ffffffffffffffff 1\n", 0),
-        (
-            b"udp 14E90035000BcA85616263deADBEef0123456789abcdefABCDEF\n",
-            b"ok 14e90035000bca85 18\n",
-            0,
-        ),
-        (b"udp ", b"refused len UdpHeader 8 0\n", 1),
-        (b"udp 00000000000000\n", b"refused len UdpHeader 8 7\n", 1),
-        (b"udp 00350", b"bad input\n", 2),
-        (b"", b"bad input\n", 2),
-        (b"\n", b"bad input\n", 2),
-        (b"udp", b"bad input\n", 2),
-        (b"udp 0", b"bad input\n", 2),
-        (b"udp 0G", b"bad input\n", 2),
-        (b"udp 00 ", b"bad input\n", 2),
-        (b"udp 00\r\n", b"bad input\n", 2),
-        (b"udp  0000000000000000", b"bad input\n", 2),
-        (b"UDP 0000000000000000", b"bad input\n", 2),
-        (b"udp 0000000000000000\n\n", b"bad input\n", 2),
-        (b"udp 0000000000000000\r\n", b"bad input\n", 2),
-        (b"udp 00000000000000G0", b"bad input\n", 2),
-        (
-            b"udp 14E90035000BCA85616263deADBEef0123456789abcdefABCDEg\n",
-            b"bad input\n",
-            2,
-        ),
-        (
-            b"udp 14E90035000BCA85616263deADBEef0123456789abcdefABCDE\n",
-            b"bad input\n",
-            2,
-        ),
-        (
-            b"tcp 0000000000000000000000004000000000000000",
-            b"refused offset 4\n",
-            1,
-        ),
-        (
-            b"tcp 0000000000000000000000005F00000000000000",
-            b"ok 0000000000000000000000005100000000000000 0\n",
-            0,
-        ),
-        (
-            b"tcp 00000000000000000000000050",
-            b"refused len TcpHeader 20 13\n",
-            1,
-        ),
-        (
-            b"tcp 0000000000000000000000006000000000000000\n",
-            b"refused len TcpHeader 24 20\n",
-            1,
-        ),
-        (LONGEST_TCP_LINE, LONGEST_TCP_TEXT, 0),
-        (b"icmpv4 0D00", b"refused len Icmpv4 8 2\n", 1),
-        (b"icmpv4 03040000010205DC", b"ok 03040000000005dc 0\n", 0),
-        (
-            b"icmpv4 0D0000000000000000000000000000000000000000",
-            b"refused len Icmpv4Timestamp 20 21\n",
-            1,
-        ),
-        (
-            b"icmpv4 0E0000000000000000",
-            b"refused len Icmpv4TimestampReply 20 9\n",
-            1,
-        ),
-        (
-            b"icmpv4 0D000000000100020000000300000004000000FF\n",
-            b"ok 0d000000000100020000000300000004000000ff 0\n",
-            0,
-        ),
-        (b"icmpv6 88000000FFFFFFFF", b"ok 88000000e0000000 0\n", 0),
-        (b"icmpv6 8500000001020304AA", b"ok 8500000000000000 1\n", 0),
-        (b"icmpv6 ", b"refused len Icmpv6 8 0\n", 1),
-        (b"TCP 00", b"bad input\n", 2),
-        (b"tcp  00", b"bad input\n", 2),
-        (b"tcp", b"bad input\n", 2),
-        (b"icmp 0000000000000000", b"bad input\n", 2),
-        (b"icmpv40000000000000000", b"bad input\n", 2),
-        (b"icmpv5 0000000000000000", b"bad input\n", 2),
-        (b" udp 0000000000000000", b"bad input\n", 2),
-    ];
-    for (input, text, status) in rows {
-        expect_answer(&rt, input, text, status);
+    for row in &LINES {
+        expect_row(&rt, row);
     }
 }
 
 #[test]
 fn the_longest_line_is_answered(rt: HostRuntime) {
     let mut input = long_input();
-    // The bytes of the input, the answer and its status.
-    let rows: [(usize, &[u8], u8); 4] = [
-        (8192, b"ok 0123456789abcdef 4086\n", 0),
-        (8193, b"bad input\n", 2),
-        (8194, b"bad input\n", 2),
-        (8195, b"bad input\n", 2),
-    ];
-    for (len, text, status) in rows {
-        expect_answer(&rt, &input[..len], text, status);
-    }
+    expect_without_line_feed(&rt, &input);
     input[8192] = b'\n';
-    let rows: [(usize, &[u8], u8); 2] = [
-        (8193, b"ok 0123456789abcdef 4086\n", 0),
-        (8194, b"bad input\n", 2),
-    ];
-    for (len, text, status) in rows {
-        expect_answer(&rt, &input[..len], text, status);
-    }
+    expect_with_line_feed(&rt, &input);
     // The last byte of the longest line is no digit.
     input[8191] = b'x';
-    for len in [8192usize, 8193] {
-        expect_answer(&rt, &input[..len], b"bad input\n", 2);
-    }
+    expect_beginning(&rt, &input, 8192, "bad input\n", 2);
+    expect_beginning(&rt, &input, 8193, "bad input\n", 2);
 }
 
 /// A longest line whose last digits are these, and three digits more.
@@ -180,17 +193,17 @@ fn long_input_ending_in(digit: u8) -> [u8; 8195] {
 }
 
 /// The answers to a longest line without a line feed, and to three that are too long.
-fn expect_without_line_feed(rt: &impl Abort, input: &[u8; 8195]) {
-    expect_answer(rt, &input[..8192], b"ok 0123456789abcdef 4086\n", 0);
-    expect_answer(rt, &input[..8193], b"bad input\n", 2);
-    expect_answer(rt, &input[..8194], b"bad input\n", 2);
-    expect_answer(rt, input, b"bad input\n", 2);
+fn expect_without_line_feed(rt: &impl Abort, input: &[u8]) {
+    expect_beginning(rt, input, 8192, "ok 0123456789abcdef 4086\n", 0);
+    expect_beginning(rt, input, 8193, "bad input\n", 2);
+    expect_beginning(rt, input, 8194, "bad input\n", 2);
+    expect_beginning(rt, input, 8195, "bad input\n", 2);
 }
 
 /// The answers to a longest line with a line feed, and to one with a byte after it.
-fn expect_with_line_feed(rt: &impl Abort, input: &[u8; 8195]) {
-    expect_answer(rt, &input[..8193], b"ok 0123456789abcdef 4086\n", 0);
-    expect_answer(rt, &input[..8194], b"bad input\n", 2);
+fn expect_with_line_feed(rt: &impl Abort, input: &[u8]) {
+    expect_beginning(rt, input, 8193, "ok 0123456789abcdef 4086\n", 0);
+    expect_beginning(rt, input, 8194, "bad input\n", 2);
 }
 
 #[test]
@@ -207,35 +220,24 @@ fn the_longest_line_ends_in_every_digit(rt: HostRuntime) {
 fn long_lines_of_zeros_are_answered(rt: HostRuntime) {
     let mut input = [b'0'; 8194];
     input[..4].copy_from_slice(b"udp ");
-    expect_answer(&rt, &input[..8192], b"ok 0000000000000000 4086\n", 0);
-    expect_answer(&rt, &input, b"bad input\n", 2);
+    expect_beginning(&rt, &input, 8192, "ok 0000000000000000 4086\n", 0);
+    expect_answer(&rt, &input, "bad input\n", 2);
     input[8192] = b'\n';
-    expect_answer(&rt, &input[..8193], b"ok 0000000000000000 4086\n", 0);
+    expect_beginning(&rt, &input, 8193, "ok 0000000000000000 4086\n", 0);
     // One byte more than the longest line has.
     let mut input = [b'0'; 8193];
     input[..7].copy_from_slice(b"icmpv4 ");
-    expect_answer(&rt, &input, b"bad input\n", 2);
+    expect_answer(&rt, &input, "bad input\n", 2);
 }
 
 #[test]
-fn packets_of_many_lengths_are_answered(rt: HostRuntime) -> Result<(), Fail> {
+fn packets_of_many_lengths_are_answered(rt: HostRuntime) {
     let input = long_input();
-    for len in 0..259usize {
-        expect_len(&rt, rt.alloc(), &input[..4 + 2 * len], len)?;
-    }
-    for len in 510..515usize {
-        expect_len(&rt, rt.alloc(), &input[..4 + 2 * len], len)?;
-    }
-    for len in 1022..1027usize {
-        expect_len(&rt, rt.alloc(), &input[..4 + 2 * len], len)?;
-    }
-    for len in 2046..2051usize {
-        expect_len(&rt, rt.alloc(), &input[..4 + 2 * len], len)?;
-    }
-    for len in 4086..4095usize {
-        expect_len(&rt, rt.alloc(), &input[..4 + 2 * len], len)?;
-    }
-    Ok(())
+    expect_lens(&rt, &input, 0..259);
+    expect_lens(&rt, &input, 510..515);
+    expect_lens(&rt, &input, 1022..1027);
+    expect_lens(&rt, &input, 2046..2051);
+    expect_lens(&rt, &input, 4086..4095);
 }
 
 /// Gives a byte a read, and fails once, at the read after `reads`.
@@ -300,75 +302,98 @@ impl Write for FaultyWriter {
     }
 }
 
+/// A writer that fails, or takes nothing, at the call after `calls`.
+fn faulty_writer(calls: usize, takes_nothing: bool) -> FaultyWriter {
+    FaultyWriter {
+        written: ArrayVec::new(),
+        calls,
+        takes_nothing,
+    }
+}
+
+/// The bytes of the input, those that are not read, the answer and its status.
+static BYTE_BY_BYTE: [(usize, usize, &str, u8); 5] = [
+    (20, 0, "ok 0123456789abcdef 0\n", 0),
+    (8192, 0, "ok 0123456789abcdef 4086\n", 0),
+    (8193, 0, "bad input\n", 2),
+    (8194, 0, "bad input\n", 2),
+    (8195, 1, "bad input\n", 2),
+];
+
+/// Stops the test unless the beginning of the input that a row states has the answer of the row.
+fn expect_byte_by_byte(rt: &impl Abort, input: &[u8], row: &(usize, usize, &str, u8)) {
+    let mut reader = FaultyReader {
+        rest: bytes_to(rt, input, row.0),
+        reads: usize::MAX,
+    };
+    let mut writer = faulty_writer(usize::MAX, false);
+    expect_at(rt, row, &run(&mut reader, &mut writer), &row.3);
+    expect_at(rt, row, &writer.written.as_slice(), &row.2.as_bytes());
+    expect_at(rt, row, &reader.rest.len(), &row.1);
+}
+
 #[test]
 fn inputs_and_answers_come_byte_by_byte(rt: HostRuntime) {
     let input = long_input();
-    // The bytes of the input, those that are not read, the answer and its status.
-    let rows: [(usize, usize, &[u8], u8); 5] = [
-        (20, 0, b"ok 0123456789abcdef 0\n", 0),
-        (8192, 0, b"ok 0123456789abcdef 4086\n", 0),
-        (8193, 0, b"bad input\n", 2),
-        (8194, 0, b"bad input\n", 2),
-        (8195, 1, b"bad input\n", 2),
-    ];
-    for (len, unread, text, status) in rows {
-        let mut reader = FaultyReader {
-            rest: &input[..len],
-            reads: usize::MAX,
-        };
-        let mut writer = FaultyWriter {
-            written: ArrayVec::new(),
-            calls: usize::MAX,
-            takes_nothing: false,
-        };
-        assert_eq!(rt; run(&mut reader, &mut writer), status, "{len} bytes");
-        assert_eq!(rt; writer.written.as_slice(), text, "{len} bytes");
-        assert_eq!(rt; reader.rest.len(), unread, "{len} bytes");
+    for row in &BYTE_BY_BYTE {
+        expect_byte_by_byte(&rt, &input, row);
     }
+}
+
+/// Stops the test unless a line of which a read fails after `reads` has this answer and status.
+fn expect_after_reads(rt: &impl Abort, line: &[u8], reads: usize, text: &str, status: u8) {
+    let mut input = FaultyReader { rest: line, reads };
+    let mut output: ArrayVec<u8, 160> = ArrayVec::new();
+    expect_at(rt, &reads, &run(&mut input, &mut output), &status);
+    expect_at(rt, &reads, &output.as_slice(), &text.as_bytes());
+}
+
+/// Stops the test unless a line whose reads fail has no answer, and has its answer if no read fails.
+fn expect_read_faults(rt: &impl Abort, line: &[u8], text: &str) {
+    // Each byte takes a read, and the end of input one more.
+    for reads in 0..line.len() + 1 {
+        expect_after_reads(rt, line, reads, "", 3);
+    }
+    expect_after_reads(rt, line, line.len() + 1, text, 0);
 }
 
 #[test]
 fn read_faults_write_nothing(rt: HostRuntime) {
-    for (line, text) in ACCEPTED {
-        // Each byte takes a read, and the end of input one more.
-        for reads in 0..line.len() + 1 {
-            let mut input = FaultyReader { rest: line, reads };
-            let mut output: ArrayVec<u8, 160> = ArrayVec::new();
-            assert_eq!(rt; run(&mut input, &mut output), 3, "after {reads} reads");
-            assert!(rt; output.is_empty(), "after {reads} reads");
-        }
-        let mut input = FaultyReader {
-            rest: line,
-            reads: line.len() + 1,
-        };
-        let mut output: ArrayVec<u8, 160> = ArrayVec::new();
-        expect_equal(&rt, &run(&mut input, &mut output), &0);
-        expect_equal(&rt, &output.as_slice(), &text);
+    for row in &ACCEPTED {
+        expect_read_faults(&rt, row.0.as_bytes(), row.1);
     }
+}
+
+/// Stops the test unless this text and status are written if a write fails, or takes nothing, after `calls`.
+fn expect_after_calls(
+    rt: &impl Abort,
+    line: &[u8],
+    calls: usize,
+    takes_nothing: bool,
+    text: &[u8],
+    status: u8,
+) {
+    let mut input = line;
+    let mut output = faulty_writer(calls, takes_nothing);
+    expect_at(rt, &calls, &run(&mut input, &mut output), &status);
+    expect_at(rt, &calls, &output.written.as_slice(), &text);
+}
+
+/// Stops the test unless the beginning of an answer is written if a write fails, or takes nothing.
+fn expect_write_faults(rt: &impl Abort, line: &[u8], text: &[u8], takes_nothing: bool) {
+    // Each byte takes a write.
+    for calls in 0..text.len() {
+        expect_after_calls(rt, line, calls, takes_nothing, &text[..calls], 3);
+    }
+    // The flush is one call more.
+    expect_after_calls(rt, line, text.len(), takes_nothing, text, 3);
+    expect_after_calls(rt, line, text.len() + 1, takes_nothing, text, 0);
 }
 
 #[test]
 fn write_faults_leave_a_beginning(rt: HostRuntime) {
-    for (line, text) in ACCEPTED {
-        for takes_nothing in [false, true] {
-            // Each byte takes a write, and the flush is one call more.
-            for calls in 0..text.len() + 2 {
-                let mut input = line;
-                let mut output = FaultyWriter {
-                    written: ArrayVec::new(),
-                    calls,
-                    takes_nothing,
-                };
-                let status = run(&mut input, &mut output);
-                let expected = if calls <= text.len() { 3 } else { 0 };
-                assert_eq!(rt; status, expected, "after {calls} calls");
-                let written = calls.min(text.len());
-                assert_eq!(rt;
-                    output.written.as_slice(),
-                    &text[..written],
-                    "after {calls} calls"
-                );
-            }
-        }
+    for row in &ACCEPTED {
+        expect_write_faults(&rt, row.0.as_bytes(), row.1.as_bytes(), false);
+        expect_write_faults(&rt, row.0.as_bytes(), row.1.as_bytes(), true);
     }
 }
