@@ -54,7 +54,7 @@ fn expect_refused_len(rt: &(impl Abort + AllocGlobal), line: &[u8], len: usize) 
     expect_answer(rt, line, text.as_str(), 1);
 }
 
-/// Stops the test unless the header of this packet is accepted, with so many bytes after it.
+/// Stops the test unless the header of this packet is accepted, with this many bytes after it.
 fn expect_accepted_len(rt: &(impl Abort + AllocGlobal), line: &[u8], rest_len: usize) {
     let text = expect_ok(
         rt,
@@ -320,7 +320,7 @@ static BYTE_BY_BYTE: [(usize, usize, &str, u8); 5] = [
     (8195, 1, "bad input\n", 2),
 ];
 
-/// Stops the test unless the beginning of the input that a row states has the answer of the row.
+/// Stops the test unless the beginning of the input has the answer of a row.
 fn expect_byte_by_byte(rt: &impl Abort, input: &[u8], row: &(usize, usize, &str, u8)) {
     let mut reader = FaultyReader {
         rest: bytes_to(rt, input, row.0),
@@ -340,7 +340,7 @@ fn inputs_and_answers_come_byte_by_byte(rt: HostRuntime) {
     }
 }
 
-/// Stops the test unless a line of which a read fails after `reads` has this answer and status.
+/// Stops the test unless a line has this answer and this status if a read fails after `reads`.
 fn expect_after_reads(rt: &impl Abort, line: &[u8], reads: usize, text: &str, status: u8) {
     let mut input = FaultyReader { rest: line, reads };
     let mut output: ArrayVec<u8, 160> = ArrayVec::new();
@@ -348,7 +348,7 @@ fn expect_after_reads(rt: &impl Abort, line: &[u8], reads: usize, text: &str, st
     expect_at(rt, &reads, &output.as_slice(), &text.as_bytes());
 }
 
-/// Stops the test unless a line whose reads fail has no answer, and has its answer if no read fails.
+/// Stops the test unless nothing is written if a read fails, and this text if no read fails.
 fn expect_read_faults(rt: &impl Abort, line: &[u8], text: &str) {
     // Each byte takes a read, and the end of input one more.
     for reads in 0..line.len() + 1 {
@@ -364,7 +364,7 @@ fn read_faults_write_nothing(rt: HostRuntime) {
     }
 }
 
-/// Stops the test unless this text and status are written if a write fails, or takes nothing, after `calls`.
+/// Stops the test unless this text is written, with this status, if a write fails or takes nothing after `calls`.
 fn expect_after_calls(
     rt: &impl Abort,
     line: &[u8],
@@ -379,7 +379,7 @@ fn expect_after_calls(
     expect_at(rt, &calls, &output.written.as_slice(), &text);
 }
 
-/// Stops the test unless the beginning of an answer is written if a write fails, or takes nothing.
+/// Stops the test unless the beginning of the text is written if a write fails or takes nothing.
 fn expect_write_faults(rt: &impl Abort, line: &[u8], text: &[u8], takes_nothing: bool) {
     // Each byte takes a write.
     for calls in 0..text.len() {
