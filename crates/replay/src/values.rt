@@ -59,7 +59,7 @@ pub fn write_wrong_len<W: Write>(output: &mut W, key: &str, error: &LenError) ->
     )
 }
 
-/// Writes the fields of a refused TCP header: those of a refused length, or `offset,4`.
+/// Writes the fields of a refused TCP header: the fields of a refused length, or `offset,4`.
 pub fn write_refused_header<W: Write>(
     output: &mut W,
     key: &str,

@@ -408,7 +408,7 @@ fn next_error(rt: &impl Abort, blocks: &mut Blocks<'_>) -> Option<PlacedBlockErr
     }
 }
 
-/// Stops the test unless the blocks of the cut file are those of a row.
+/// Stops the test unless the cut file has the blocks of a row.
 fn expect_cut(rt: &impl Abort, file: &[u8], row: &CutRow) {
     let (cut, orders, error) = *row;
     let mut blocks = Blocks::new(expect_some(rt, file.get(..cut)));

@@ -330,7 +330,7 @@ static PCAPNG_FILES: [FileRow; 5] = [
      "capture_report: Packet 1, at byte 60 of the capture: its record has at least 64 bytes, and 57 are left.\n"),
 ];
 
-/// Stops the test unless the report of the file of a row is the one of the row.
+/// Stops the test unless the file of a row has the report of the row.
 fn expect_file(rt: &(impl Abort + AllocGlobal + RandomSource), row: &FileRow) {
     let (parts, status, output, errors) = *row;
     expect_run(rt, &joined(rt, parts), status, output, errors);
@@ -648,7 +648,7 @@ fn parts_of_port(port: u16, check: bool, limit: Option<u64>) -> Parts {
     }
 }
 
-/// Stops the test unless the report of the port of a row is the one of the row.
+/// Stops the test unless the port of a row has the report of the row.
 fn expect_port(rt: &(impl Abort + AllocGlobal + RandomSource), whole: &[u8], row: &PortRow) {
     let (port, status, wanted) = *row;
     let ran = run_alone(rt, parts_of_port(port, true, None), whole);
@@ -678,7 +678,7 @@ static LIMITS: [LimitRow; 6] = [
     (0, 114, 0, ["", "", ""]),
 ];
 
-/// Stops the test unless the report with the limit of a row is the one of the row.
+/// Stops the test unless the limit of a row has the report of the row.
 fn expect_limit(rt: &(impl Abort + AllocGlobal + RandomSource), whole: &[u8], row: &LimitRow) {
     let (limit, len, status, wanted) = *row;
     let parts = Parts {

@@ -377,7 +377,7 @@ fn header_with_flag(set: usize) -> TcpHeader {
     }
 }
 
-/// The flags of which only the one at this place is set.
+/// The nine flags. Only the flag at this place is set.
 pub fn flag_at(place: usize) -> [bool; 9] {
     let mut flags = [false; 9];
     if place < 9 {
@@ -416,7 +416,7 @@ fn flags_have_their_bits(rt: HostRuntime) {
     }
 }
 
-/// Byte 12, the checksum of the bytes, and that of the header read from them.
+/// Byte 12, the checksum of the bytes, and the checksum of the header read from them.
 #[rattlefmt::skip]
 static SUMS: [(u8, u16, u16); 16] = [
     (0x50, 0xAFE5, 0xAFE5), (0x51, 0xAEE5, 0xAEE5), (0x52, 0xADE5, 0xAFE5), (0x53, 0xACE5, 0xAEE5),

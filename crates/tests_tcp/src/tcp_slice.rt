@@ -64,7 +64,7 @@ fn expect_header_and_payload(rt: &impl Abort, segment: &TcpSlice<'_>, bytes: &[u
     expect_bytes(rt, segment.payload(), payload);
 }
 
-/// The slices of the segment with these bytes, of which the header is the first 24.
+/// The slices of the segment with these bytes. Its header is the first 24 bytes.
 fn expect_slices(rt: &impl Abort, segment: &TcpSlice<'_>, bytes: &[u8]) {
     let header = bytes_to(rt, bytes, 24);
     expect_bytes(rt, segment.slice(), bytes);

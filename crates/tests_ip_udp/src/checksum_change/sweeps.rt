@@ -108,7 +108,7 @@ fn run_chain(
     chain
 }
 
-/// The checksum of the chain is updated. Returns whether its packet has become all zeros, of which the update is 0 and the sum 65535.
+/// The checksum of the chain is updated. Returns whether its packet has become all zeros. Then the update is 0, and the sum 65535.
 fn expect_updated(rt: &impl Abort, number: usize, chain: &Chain, sum: Sum16BitWords) -> bool {
     let new = Sum16BitWords::new()
         .add_slice(&chain.packet)

@@ -118,7 +118,7 @@ fn expect_header(rt: &impl Abort, slice: &[u8], length: u8) {
 /// How many packets are accepted, have a length field below the header's length, and have one above the slice's.
 type Counts = (usize, usize, usize);
 
-/// The counts after a packet of which this is expected.
+/// The counts after a packet with this expected result.
 fn counted(counts: Counts, expected: &Result<usize, LenError>) -> Counts {
     let (accepted, below_header, above_slice) = counts;
     match expected {

@@ -50,7 +50,7 @@ static RECEIVED: [ReceivedRow; 25] = [
     // An even length.
     (0x0015_04D2_0010_677F_0102_0304_0506_0708, 16, true, false),
     (0x0015_04D2_0010_8F01_0102_0304_0506_0708, 16, false, true),
-    // FFFF in place of 0000 is not found.
+    // FFFF instead of 0000 is not found.
     (0x0015_04D2_000C_1639_0000_6162, 12, true, false),
     (0x0015_04D2_000C_1639_FFFF_6162, 12, true, false),
 ];
