@@ -27,6 +27,17 @@ Exit status:
   3  Opening, reading or writing failed, or no memory was left.
   141  The reader of standard output or standard error ended first.";
 
+/// The options with replacements: their names, and their texts in the help.
+static REPLACEMENTS: [(&str, &str); 4] = [
+    ("source", "Replace a network of source addresses"),
+    ("destination", "Replace a network of destination addresses"),
+    ("source-port", "Replace a source port of UDP and TCP"),
+    (
+        "destination-port",
+        "Replace a destination port of UDP and TCP",
+    ),
+];
+
 /// The options in the arguments.
 #[derive(Drop)]
 pub struct Options<'a> {
@@ -45,10 +56,7 @@ pub struct Options<'a> {
 pub fn requested_options<'a>(alloc: Global, words: &'a [String]) -> Result<Options<'a>, Error> {
     let matches = command(alloc)?.try_get_matches_from(words)?;
     let mut table = Table::new(alloc);
-    add_networks(alloc, &matches, "source", &mut table.source)?;
-    add_networks(alloc, &matches, "destination", &mut table.destination)?;
-    add_ports(alloc, &matches, "source-port", &mut table.source)?;
-    add_ports(alloc, &matches, "destination-port", &mut table.destination)?;
+    add_replacements(alloc, &matches, &mut table)?;
     if table.is_empty() {
         return Err(missing(alloc, "no replacement is given"));
     }
@@ -72,7 +80,24 @@ fn missing(alloc: Global, message: &str) -> Error {
 /// An error with this message and the usage.
 fn error_with_usage(alloc: Global, kind: ErrorKind, message: &str) -> Result<Error, Error> {
     let mut command = command(alloc)?;
+    error_of(&mut command, kind, message)
+}
+
+/// An error with this message and the usage of this command.
+fn error_of(command: &mut Command<'_>, kind: ErrorKind, message: &str) -> Result<Error, Error> {
     Ok(command.error(kind, message)?)
+}
+
+/// Adds all replacements that the arguments give.
+fn add_replacements(
+    alloc: Global,
+    matches: &ArgMatches<'_>,
+    table: &mut Table,
+) -> Result<(), Error> {
+    add_networks(alloc, matches, "source", &mut table.source)?;
+    add_networks(alloc, matches, "destination", &mut table.destination)?;
+    add_ports(alloc, matches, "source-port", &mut table.source)?;
+    add_ports(alloc, matches, "destination-port", &mut table.destination)
 }
 
 /// Adds the replacements of networks that an option gives.
@@ -122,33 +147,34 @@ fn invalid(alloc: Global, id: &str, text: &str, error: ReplacementError) -> Resu
 
 /// The command line.
 fn command<'a>(alloc: Global) -> Result<Command<'a>, Error> {
-    let command = Command::new(alloc, "translator")
-        .version(VERSION)
-        .about("Rewrites addresses and ports in a capture, with right checksums")
-        .after_help(AFTER_HELP);
-    Ok(with_options(alloc, command)?)
+    Ok(with_options(alloc)?)
 }
 
 /// The command line with the options and the name of the capture.
-fn with_options<'a>(alloc: Global, command: Command<'a>) -> Result<Command<'a>, AllocError> {
-    let source = replacement(alloc, "source", "Replace a network of source addresses");
-    let destination = replacement(
-        alloc,
-        "destination",
-        "Replace a network of destination addresses",
-    );
-    let source_port = replacement(alloc, "source-port", "Replace a source port of UDP and TCP");
-    let destination_port = replacement(
-        alloc,
-        "destination-port",
-        "Replace a destination port of UDP and TCP",
-    );
-    let file = Arg::new(alloc, "file")
-        .value_name("FILE")
-        .help("The capture; `-`, or none, is standard input")
-        .action(ArgAction::Set);
-    let command = command.arg(source)?.arg(destination)?;
-    command.arg(source_port)?.arg(destination_port)?.arg(file)
+fn with_options<'a>(alloc: Global) -> Result<Command<'a>, AllocError> {
+    let mut command = bare(alloc);
+    for (name, help) in &REPLACEMENTS {
+        command = with_replacement(alloc, command, name, help)?;
+    }
+    command.arg(file(alloc))
+}
+
+/// The command line without options.
+fn bare<'a>(alloc: Global) -> Command<'a> {
+    Command::new(alloc, "translator")
+        .version(VERSION)
+        .about("Rewrites addresses and ports in a capture, with right checksums")
+        .after_help(AFTER_HELP)
+}
+
+/// The command line with one more option with replacements.
+fn with_replacement<'a>(
+    alloc: Global,
+    command: Command<'a>,
+    name: &'a str,
+    help: &'a str,
+) -> Result<Command<'a>, AllocError> {
+    command.arg(replacement(alloc, name, help))
 }
 
 /// An option with replacements.
@@ -158,4 +184,12 @@ fn replacement<'a>(alloc: Global, name: &'a str, help: &'a str) -> Arg<'a> {
         .value_name("OLD=NEW")
         .help(help)
         .action(ArgAction::Append)
+}
+
+/// The name of the capture.
+fn file<'a>(alloc: Global) -> Arg<'a> {
+    Arg::new(alloc, "file")
+        .value_name("FILE")
+        .help("The capture; `-`, or none, is standard input")
+        .action(ArgAction::Set)
 }
