@@ -1,14 +1,15 @@
 //! The arguments of the program.
 
-ghost use Rattle.std.specs.Prelude.{◌≡◌, ◌⊎◌, Bool, IfErr, IfOk, None, Some, codes, false, if◌then◌else◌, map, option_map, string_bytes};
+ghost use Rattle.std.specs.Prelude.{◌≡◌, ◌⊎◌, ◌++◌, ◌-◌, ◌^◌, Bool, IfErr, IfOk, None, Some, codes, false, if◌then◌else◌, map, option_map, pos, string_bytes};
 ghost use Rattle.clap.specs.Words.{IsPlainArg, app_of, kind_of, rule_of};
+ghost use Rattle.clap.specs.declared.builder.value_parser.ValueParser.TheVariants as parsers;
 ghost use Rattle.clap.specs.declared.error.kind.ErrorKind.TheVariants as ErrorKind;
 ghost use Rattle.capture_arguments.specs.Arguments.{HasFlag, HasNumberOr};
 ghost use Rattle.capture_arguments.specs.Options.{IsOptionsOf, IsRefusedBy, names_of};
 ghost use Rattle.capture_arguments.specs.Conflicts.{conflict_in};
 ghost use Rattle.capture_arguments.specs.OutputFaults.{fault_of};
 ghost use Rattle.capture_arguments.specs.Rejections.{AreRejectedBy};
-ghost use Rattle.capture_arguments.specs.CommandLine.{AreRequestedBy, IsCommandLine, bare_command, choice_rules, count_rule, end_rules, file_rule, file_rules, flag_rule, form_rules, line_buffered_rule, line_rules, numeric_rule, output_rules, protocol_names, read_rule, repeated, top_rule, value_rule, verbose_rule, with_rules, write_rule};
+ghost use Rattle.capture_arguments.specs.CommandLine.{AreRequestedBy, IsCommandLine, bare_command, choice_rules, count_rule, end_rules, file_rule, file_rules, flag_rule, form_rules, line_buffered_rule, line_rules, numeric_rule, output_rules, parsed_rule, protocol_names, protocol_rule, read_rule, repeated, top_rule, value_rule, verbose_rule, with_rules, write_rule};
 ghost use Rattle.capture_summary.specs.Ranking.{default_top};
 ghost use Rattle.capture_words.specs.TimeText.{times_by};
 ghost use Rattle.capture_request.specs.declared.parts.Format.TheVariants as Format;
@@ -69,7 +70,7 @@ pub fn requested_options<'a>(alloc: Global, words: &'a [String]) -> Result<Optio
 {
     let options = given_options(alloc, words)?;
     match output_fault(&options) {
-        Some(fault) => Err(invalid_output(alloc, fault)?),
+        Some(fault) => Err(invalid_output(alloc, fault)),
         None => Ok(options),
     }
 }
@@ -82,8 +83,8 @@ fn given_options<'a>(alloc: Global, words: &'a [String]) -> Result<Options<'a>, 
     let matches = command(alloc)?.try_get_matches_from(words)?;
     match options_of(alloc, &matches) {
         Ok(options) => Ok(options),
-        Err(OptionsError::Conflict(first, second)) => Err(invalid_pair(alloc, first, second)?),
-        Err(OptionsError::Choice(error)) => Err(invalid_choice(alloc, error)?),
+        Err(OptionsError::Conflict(first, second)) => Err(invalid_pair(alloc, first, second)),
+        Err(OptionsError::Choice(error)) => Err(invalid_choice(alloc, error)),
         Err(OptionsError::NoMemory(error)) => Err(error.into()),
     }
 }
@@ -193,34 +194,39 @@ fn count_of(matches: &ArgMatches<'_>) -> Option<u64>
     matches.get_one("count")
 }
 
-/// The error for two options that are not used together, with the usage.
-fn invalid_pair(alloc: Global, first: &str, second: &str) -> Result<Error, Error>
-    ensures kind { IfOk result (λ error. kind_of error ≡ ErrorKind.ArgumentConflict) }
-    ensures memory { IfErr result (λ error. kind_of error ≡ ErrorKind.OutOfMemory) }
+/// The error for two options that are not used together, with the usage. If no memory is left for its text, the error is about the memory.
+fn invalid_pair(alloc: Global, first: &str, second: &str) -> Error
+    ensures { (kind_of result ≡ ErrorKind.ArgumentConflict) ⊎ (kind_of result ≡ ErrorKind.OutOfMemory) }
 {
-    let message = conflict_text(alloc, first, second)?;
-    let mut command = command(alloc)?;
-    Ok(command.error(ErrorKind::ArgumentConflict, message.as_str())?)
+    match conflict_text(alloc, first, second) {
+        Ok(message) => error_with_usage(alloc, ErrorKind::ArgumentConflict, message.as_str()),
+        Err(error) => error.into(),
+    }
 }
 
-/// The error for a choice of packets that is not valid, with the usage.
-fn invalid_choice(alloc: Global, error: ChoiceError<'_>) -> Result<Error, Error>
-    ensures kind { IfOk result (λ error. kind_of error ≡ ErrorKind.ValueValidation) }
-    ensures memory { IfErr result (λ error. kind_of error ≡ ErrorKind.OutOfMemory) }
+/// The error for a choice of packets that is not valid, with the usage. If no memory is left for its text, the error is about the memory.
+fn invalid_choice(alloc: Global, error: ChoiceError<'_>) -> Error
+    ensures { (kind_of result ≡ ErrorKind.ValueValidation) ⊎ (kind_of result ≡ ErrorKind.OutOfMemory) }
 {
-    let message = match error {
+    match choice_text(alloc, error) {
+        Ok(message) => error_with_usage(alloc, ErrorKind::ValueValidation, message.as_str()),
+        Err(error) => error.into(),
+    }
+}
+
+/// The message about a choice of packets that is not valid.
+fn choice_text(alloc: Global, error: ChoiceError<'_>) -> Result<String, AllocError> {
+    match error {
         ChoiceError::Host(text, error) => {
-            format!(in alloc; "invalid value '{text}' for '--host <ADDRESS>': {error}")?
+            format!(in alloc; "invalid value '{text}' for '--host <ADDRESS>': {error}")
         }
         ChoiceError::Port(text) => format!(in alloc;
             "invalid value '{text}' for '--port <N>': it is no number from 0 to 65535"
-        )?,
+        ),
         ChoiceError::TooMany(name) => {
-            format!(in alloc; "'--{name}' is given more than {MAX_CHOSEN} times")?
+            format!(in alloc; "'--{name}' is given more than {MAX_CHOSEN} times")
         }
-    };
-    let mut command = command(alloc)?;
-    Ok(command.error(ErrorKind::ValueValidation, message.as_str())?)
+    }
 }
 
 /// Why the packets of the captures can't be written to the requested file, if they can't: there are several captures, or the file is the
@@ -237,57 +243,59 @@ fn output_fault(options: &Options<'_>) -> Option<&'static str>
     }
 }
 
-/// The error for a file that can't be written, with the usage.
-fn invalid_output(alloc: Global, fault: &str) -> Result<Error, Error>
-    ensures kind { IfOk result (λ error. kind_of error ≡ ErrorKind.ArgumentConflict) }
-    ensures memory { IfErr result (λ error. kind_of error ≡ ErrorKind.OutOfMemory) }
+/// The error for a file that can't be written, with the usage. If no memory is left for its text, the error is about the memory.
+fn invalid_output(alloc: Global, fault: &str) -> Error
+    ensures { (kind_of result ≡ ErrorKind.ArgumentConflict) ⊎ (kind_of result ≡ ErrorKind.OutOfMemory) }
 {
-    let mut command = command(alloc)?;
-    Ok(command.error(ErrorKind::ArgumentConflict, fault)?)
+    error_with_usage(alloc, ErrorKind::ArgumentConflict, fault)
 }
 
 /// The error if the file to write is the capture, with the usage. If no memory is left for its text, the error is about the memory.
 pub fn output_is_capture(alloc: Global) -> Error
     ensures { (kind_of result ≡ ErrorKind.ArgumentConflict) ⊎ (kind_of result ≡ ErrorKind.OutOfMemory) }
 {
-    match invalid_output(alloc, OUTPUT_IS_CAPTURE) {
-        Ok(error) => error,
-        Err(error) => error,
-    }
+    invalid_output(alloc, OUTPUT_IS_CAPTURE)
 }
 
 /// The error if there is no capture to read, with the usage. If no memory is left for its text, the error is about the memory.
 pub fn no_capture(alloc: Global) -> Error
     ensures { (kind_of result ≡ ErrorKind.MissingRequiredArgument) ⊎ (kind_of result ≡ ErrorKind.OutOfMemory) }
 {
-    match try_no_capture(alloc) {
-        Ok(error) => error,
-        Err(error) => error,
+    error_with_usage(
+        alloc,
+        ErrorKind::MissingRequiredArgument,
+        "no FILE is named, and standard input is a terminal",
+    )
+}
+
+/// An error of this kind with this message and the usage. If no memory is left for its text, the error is about the memory.
+fn error_with_usage(alloc: Global, kind: ErrorKind, message: &str) -> Error
+    ensures { (kind_of result ≡ kind) ⊎ (kind_of result ≡ ErrorKind.OutOfMemory) }
+{
+    match command(alloc) {
+        Ok(mut command) => error_of(&mut command, kind, message),
+        Err(error) => error.into(),
     }
 }
 
-fn try_no_capture(alloc: Global) -> Result<Error, Error>
-    ensures kind { IfOk result (λ error. kind_of error ≡ ErrorKind.MissingRequiredArgument) }
-    ensures memory { IfErr result (λ error. kind_of error ≡ ErrorKind.OutOfMemory) }
+/// An error of this kind with this message and the usage of this command, or an error about the memory.
+fn error_of(command: &mut Command<'_>, kind: ErrorKind, message: &str) -> Error
+    ensures { (kind_of result ≡ kind) ⊎ (kind_of result ≡ ErrorKind.OutOfMemory) }
 {
-    let mut command = command(alloc)?;
-    Ok(command.error(
-        ErrorKind::MissingRequiredArgument,
-        "no FILE is named, and standard input is a terminal",
-    )?)
+    match command.error(kind, message) {
+        Ok(error) => error,
+        Err(error) => error.into(),
+    }
 }
 
 /// The command line.
-fn command<'a>(alloc: Global) -> Result<Command<'a>, Error>
-    ensures options { IfOk result (λ command. IsCommandLine (app_of command)) }
-    ensures memory { IfErr result (λ error. kind_of error ≡ ErrorKind.OutOfMemory) }
+fn command<'a>(alloc: Global) -> Result<Command<'a>, AllocError>
+    ensures { IfOk result (λ command. IsCommandLine (app_of command)) }
 {
     let command = with_lines(alloc, bare(alloc))?;
     let command = with_form(alloc, command)?;
     let command = with_choice(alloc, command)?;
-    let command = with_end(alloc, command)?;
-    let command = with_output(alloc, command)?;
-    Ok(with_files(alloc, command)?)
+    with_files(alloc, command)
 }
 
 /// The command line without options.
@@ -306,16 +314,39 @@ fn bare<'a>(alloc: Global) -> Command<'a>
 fn with_lines<'a>(alloc: Global, command: Command<'a>) -> Result<Command<'a>, AllocError>
     ensures { IfOk result (λ more. app_of more ≡ with_rules (app_of command.entry) line_rules) }
 {
-    let summary = flag(alloc, "summary").help("Write the summary alone");
-    let packets = flag(alloc, "packets").help("Write the lines of packets alone");
-    let wrong = flag(alloc, "wrong").help(
-        "Write a line only for a packet whose checksum or form is wrong",
-    );
     command
-        .arg(summary)?
-        .arg(packets)?
-        .arg(wrong)?
+        .arg(summary(alloc))?
+        .arg(packets(alloc))?
+        .arg(wrong(alloc))?
         .arg(verbose(alloc))
+}
+
+/// The option for the summary without lines.
+fn summary<'a>(alloc: Global) -> Arg<'a>
+    ensures rule { rule_of result ≡ flag_rule (codes "summary") }
+    ensures local { result.global ≡ false }
+{
+    flag(alloc, "summary", "Write the summary alone")
+}
+
+/// The option for lines without the summary.
+fn packets<'a>(alloc: Global) -> Arg<'a>
+    ensures rule { rule_of result ≡ flag_rule (codes "packets") }
+    ensures local { result.global ≡ false }
+{
+    flag(alloc, "packets", "Write the lines of packets alone")
+}
+
+/// The option for lines only of packets with a fault.
+fn wrong<'a>(alloc: Global) -> Arg<'a>
+    ensures rule { rule_of result ≡ flag_rule (codes "wrong") }
+    ensures local { result.global ≡ false }
+{
+    flag(
+        alloc,
+        "wrong",
+        "Write a line only for a packet whose checksum or form is wrong",
+    )
 }
 
 /// The option for further fields in the lines.
@@ -323,29 +354,59 @@ fn verbose<'a>(alloc: Global) -> Arg<'a>
     ensures rule { rule_of result ≡ verbose_rule }
     ensures local { result.global ≡ false }
 {
-    flag(alloc, "verbose")
-        .help("Write the time to live or the hop limit of packets too, which JSON always has")
-        .short('v')
+    flag(
+        alloc,
+        "verbose",
+        "Write the time to live or the hop limit of packets too, which JSON always has",
+    )
+    .short('v')
 }
 
 /// The command line with the options for the form of the report and for its exit status.
 fn with_form<'a>(alloc: Global, command: Command<'a>) -> Result<Command<'a>, AllocError>
     ensures { IfOk result (λ more. app_of more ≡ with_rules (app_of command.entry) form_rules) }
 {
-    let absolute = flag(alloc, "absolute").help(
-        "Write the date and time of packets, in UTC, in place of the time since the first",
-    );
-    let check = flag(alloc, "check").help(
-        "End with status 4 where the checksum or form of a packet is wrong",
-    );
-    let json = flag(alloc, "json").help(
-        "Write JSON: an object in a line for each packet, and one for the summary",
-    );
     command
-        .arg(absolute)?
-        .arg(check)?
-        .arg(json)?
+        .arg(absolute(alloc))?
+        .arg(check(alloc))?
+        .arg(json(alloc))?
         .arg(top(alloc))
+}
+
+/// The option for the date and time of packets.
+fn absolute<'a>(alloc: Global) -> Arg<'a>
+    ensures rule { rule_of result ≡ flag_rule (codes "absolute") }
+    ensures local { result.global ≡ false }
+{
+    flag(
+        alloc,
+        "absolute",
+        "Write the date and time of packets, in UTC, in place of the time since the first",
+    )
+}
+
+/// The option for an exit status of packets with a fault.
+fn check<'a>(alloc: Global) -> Arg<'a>
+    ensures rule { rule_of result ≡ flag_rule (codes "check") }
+    ensures local { result.global ≡ false }
+{
+    flag(
+        alloc,
+        "check",
+        "End with status 4 where the checksum or form of a packet is wrong",
+    )
+}
+
+/// The option for JSON.
+fn json<'a>(alloc: Global) -> Arg<'a>
+    ensures rule { rule_of result ≡ flag_rule (codes "json") }
+    ensures local { result.global ≡ false }
+{
+    flag(
+        alloc,
+        "json",
+        "Write JSON: an object in a line for each packet, and one for the summary",
+    )
 }
 
 /// The number of conversations in the summary.
@@ -362,40 +423,58 @@ fn top<'a>(alloc: Global) -> Arg<'a>
     .value_parser(value_parser!(usize))
 }
 
-/// The command line with the options that choose packets.
+/// The command line with the options that choose packets, and with the option for the end of the report.
 fn with_choice<'a>(alloc: Global, command: Command<'a>) -> Result<Command<'a>, AllocError>
     ensures { IfOk result (λ more. (names : _) × (map (λ name. name.now) names.now ≡ protocol_names)
-        × (app_of more ≡ with_rules (app_of command.entry) (choice_rules names))) }
+        × (app_of more ≡ with_rules (app_of command.entry) (choice_rules names ++ end_rules))) }
 {
-    let host = several(
+    command
+        .arg(host(alloc))?
+        .arg(port(alloc))?
+        .arg(protocol(alloc))?
+        .arg(count(alloc))
+}
+
+/// The hosts that choose packets.
+fn host<'a>(alloc: Global) -> Arg<'a>
+    ensures rule { rule_of result ≡ repeated (value_rule (codes "host")) }
+    ensures local { result.global ≡ false }
+{
+    several(
         alloc,
         "host",
         "ADDRESS",
         "Report only packets from or to this address, or a network such as 10.0.0.0/8; repeat it for any of several",
-    );
-    let port = several(
+    )
+}
+
+/// The ports that choose packets.
+fn port<'a>(alloc: Global) -> Arg<'a>
+    ensures rule { rule_of result ≡ repeated (parsed_rule (codes "port") (parsers.Signed (pos 0) (pos (2 ^ 16 - 1)))) }
+    ensures local { result.global ≡ false }
+{
+    several(
         alloc,
         "port",
         "N",
         "Report only packets from or to this port; repeat it for any of several",
     )
-    .value_parser(value_parser!(u16));
-    let protocol = several(
+    .value_parser(value_parser!(u16))
+}
+
+/// The protocols that choose packets.
+fn protocol<'a>(alloc: Global) -> Arg<'a>
+    ensures rule { (names : _) × (map (λ name. name.now) names.now ≡ protocol_names) × (rule_of result ≡ protocol_rule names) }
+    ensures local { result.global ≡ false }
+{
+    several(
         alloc,
         "protocol",
         "NAME",
         "Report only packets of this protocol; repeat it for any of several",
     )
     .value_parser(PROTOCOLS.as_slice())
-    .ignore_case(true);
-    command.arg(host)?.arg(port)?.arg(protocol)
-}
-
-/// The command line with the option for the end of the report.
-fn with_end<'a>(alloc: Global, command: Command<'a>) -> Result<Command<'a>, AllocError>
-    ensures { IfOk result (λ more. app_of more ≡ with_rules (app_of command.entry) end_rules) }
-{
-    command.arg(count(alloc))
+    .ignore_case(true)
 }
 
 /// The number of packets.
@@ -413,11 +492,16 @@ fn count<'a>(alloc: Global) -> Arg<'a>
     .value_parser(value_parser!(u64).range(1..))
 }
 
-/// The command line with the option for a capture in the place of a report.
-fn with_output<'a>(alloc: Global, command: Command<'a>) -> Result<Command<'a>, AllocError>
-    ensures { IfOk result (λ more. app_of more ≡ with_rules (app_of command.entry) output_rules) }
+/// The command line with the captures, with the option for a capture in the place of a report, and with the option for writing lines.
+fn with_files<'a>(alloc: Global, command: Command<'a>) -> Result<Command<'a>, AllocError>
+    ensures { IfOk result (λ more. app_of more ≡ with_rules (app_of command.entry) (output_rules ++ file_rules)) }
 {
-    command.arg(write(alloc))
+    command
+        .arg(write(alloc))?
+        .arg(line_buffered(alloc))?
+        .arg(numeric(alloc))?
+        .arg(read(alloc))?
+        .arg(file(alloc))
 }
 
 /// The file for the packets. An option for the form of a report has no effect on them.
@@ -434,25 +518,17 @@ fn write<'a>(alloc: Global) -> Arg<'a>
     .short('w')
 }
 
-/// The command line with the captures, and with the option for writing lines.
-fn with_files<'a>(alloc: Global, command: Command<'a>) -> Result<Command<'a>, AllocError>
-    ensures { IfOk result (λ more. app_of more ≡ with_rules (app_of command.entry) file_rules) }
-{
-    command
-        .arg(line_buffered(alloc))?
-        .arg(numeric(alloc))?
-        .arg(read(alloc))?
-        .arg(file(alloc))
-}
-
 /// The option for writing lines.
 fn line_buffered<'a>(alloc: Global) -> Arg<'a>
     ensures rule { rule_of result ≡ line_buffered_rule }
     ensures local { result.global ≡ false }
 {
-    flag(alloc, "line-buffered")
-        .help("Write each line out as soon as it is done, as to a terminal")
-        .short('l')
+    flag(
+        alloc,
+        "line-buffered",
+        "Write each line out as soon as it is done, as to a terminal",
+    )
+    .short('l')
 }
 
 /// The option of other programs that keeps numbers from being looked up, which this program does not do.
@@ -460,9 +536,12 @@ fn numeric<'a>(alloc: Global) -> Arg<'a>
     ensures rule { rule_of result ≡ numeric_rule }
     ensures local { result.global ≡ false }
 {
-    flag(alloc, "numeric")
-        .help("Has no effect: names of hosts and ports are never looked up")
-        .short('n')
+    flag(
+        alloc,
+        "numeric",
+        "Has no effect: names of hosts and ports are never looked up",
+    )
+    .short('n')
 }
 
 /// The captures that are named as in other programs.
@@ -513,10 +592,13 @@ fn valued<'a>(alloc: Global, name: &'a str, value: &'a str, help: &'a str) -> Ar
 }
 
 /// An argument without a value.
-fn flag<'a>(alloc: Global, name: &'a str) -> Arg<'a>
+fn flag<'a>(alloc: Global, name: &'a str, help: &'a str) -> Arg<'a>
     ensures rule { rule_of result ≡ flag_rule name.entry.now }
     ensures plain { IsPlainArg result }
     ensures local { result.global ≡ false }
 {
-    Arg::new(alloc, name).long(name).action(ArgAction::SetTrue)
+    Arg::new(alloc, name)
+        .long(name)
+        .help(help)
+        .action(ArgAction::SetTrue)
 }

@@ -6,7 +6,7 @@ use Rattle.capture_arguments.proofs.arguments.with_lines.Goals as goal
 -- one option after the other
 pub returns : goal.returns
 returns c =
-    let first = adds_rule _ _ _ _ _ _ c.in_ok-arg.ensures c.help-summary.ensures c.flag.ensures.local c.flag.ensures.rule refl in
-    let second = adds_rule _ _ _ _ _ _ c.in_ok-arg-2.ensures c.help-packets.ensures c.flag-2.ensures.local c.flag-2.ensures.rule first in
-    let third = adds_rule _ _ _ _ _ _ c.in_ok-arg-3.ensures c.help-wrong.ensures c.flag-3.ensures.local c.flag-3.ensures.rule second in
-    IfOk-weaker _ _ _ (λ more adds. adds_rule _ _ _ _ _ _ adds refl c.verbose.ensures.local c.verbose.ensures.rule third) c.arg-4.ensures
+    let first = adds_rule _ _ _ _ _ c.in_ok-arg.ensures c.summary.ensures.local c.summary.ensures.rule refl in
+    let second = adds_rule _ _ _ _ _ c.in_ok-arg-2.ensures c.packets.ensures.local c.packets.ensures.rule first in
+    let third = adds_rule _ _ _ _ _ c.in_ok-arg-3.ensures c.wrong.ensures.local c.wrong.ensures.rule second in
+    IfOk-weaker _ _ _ (λ more adds. adds_rule _ _ _ _ _ adds c.verbose.ensures.local c.verbose.ensures.rule third) c.arg-4.ensures
