@@ -1,9 +1,10 @@
 ghost use Rattle.std.specs.Prelude.{◌≡◌, ◌≢◌, ◌≤◌, ◌+◌, ◌++◌, [], IfErr, IfOk, None, Some, drop, false, length, slice_range, take, unwrap_or};
+ghost use Rattle.std.specs.Option.{option_map};
 ghost use Rattle.icmp_part.specs.Icmpv4Format.{wire as icmpv4_wire};
 ghost use Rattle.icmp_part.specs.Icmpv6Format.{wire as icmpv6_wire};
 ghost use Rattle.ip_part.specs.Addresses as addresses;
-ghost use Rattle.ip_part.specs.Ip.{counted_len, ipv4_header as header_bytes};
-ghost use Rattle.net_base.specs.IpHeaders.{ipv4_header_of, ipv6_header_of};
+ghost use Rattle.ip_part.specs.Ip.{Carries, IsAfterHeaders, IsOverIpv4, counted_len, ipv4_header as header_bytes, refusal};
+ghost use Rattle.net_base.specs.IpHeaders.{ipv4_header_of, ipv6_header_of, version};
 ghost use Rattle.net_base.specs.Refusals.{RefusesExactly};
 ghost use Rattle.word_sum.specs.Checksum.{Verifies, checksum_of, total};
 ghost use Rattle.word_sum.specs.ChecksumChange.{IsExtendedBy, added_value};
@@ -12,6 +13,7 @@ ghost use Rattle.etherparse_transport.specs.EchoReplies.{IsIpv4Request, IsIpv6Re
 ghost use Rattle.net_base.specs.IpNumbers.{icmpv4_number};
 ghost use Rattle.etherparse_transport.specs.Packets.{IsReadAs, ipv4_fields};
 ghost use Rattle.etherparse_transport.specs.ReplyTo.{CarriesIcmp, IsReplyTo, MayAnswerIpv4, MayAnswerIpv6, echoed};
+ghost use Rattle.etherparse_transport.specs.declared.err.packet.answer_echo_error.AnswerEchoError.TheVariants.{Ip};
 ghost use Rattle.etherparse_transport.specs.declared.transport_header.TransportHeader.TheVariants as headers;
 
 use crate::checksum_change::ChecksumChange;
@@ -201,7 +203,7 @@ fn ipv4_request(packet: &[u8]) -> Result<(Ipv4Header, usize), AnswerEchoError>
     ensures carried { IfOk result (λ _. CarriesIcmp packet.now
         (addresses.Ipv4 (slice_range packet.now 12 16) (slice_range packet.now 16 20)) (ipv4_message packet.now)) }
 {
-    let found = transport_in_ip(packet).map_err(AnswerEchoError::Ip)?;
+    let found = find_transport(packet)?;
     let Some(header) = Ipv4HeaderSlice::from_slice(packet) else {
         return Err(AnswerEchoError::NoEchoRequest);
     };
@@ -226,7 +228,7 @@ fn ipv6_request(packet: &[u8]) -> Result<(Ipv6Header, usize), AnswerEchoError>
     ensures carried { IfOk result (λ _. CarriesIcmp packet.now
         (addresses.Ipv6 (slice_range packet.now 8 24) (Some (slice_range packet.now 24 40))) (ipv6_message packet.now)) }
 {
-    let found = transport_in_ip(packet).map_err(AnswerEchoError::Ip)?;
+    let found = find_transport(packet)?;
     let Some(header) = Ipv6HeaderSlice::from_slice(packet) else {
         return Err(AnswerEchoError::NoEchoRequest);
     };
@@ -237,6 +239,23 @@ fn ipv6_request(packet: &[u8]) -> Result<(Ipv6Header, usize), AnswerEchoError>
         return Err(AnswerEchoError::RequestSource);
     }
     Ok((addresses, IPV6_LEN + found.payload.len()))
+}
+
+/// Finds the transport in an IP packet.
+#[inline(always)]
+fn find_transport(packet: &[u8]) -> Result<TransportInIp<'_>, AnswerEchoError>
+    ensures refused { RefusesExactly result (option_map Ip (refusal packet.now)) }
+    ensures accepted { IfOk result (λ _. refusal packet.now ≡ None) }
+    ensures found { IfOk result (λ transport. Carries packet.now transport) }
+    ensures whole { IfOk result (λ transport. transport.is_cut_off ≡ false) }
+    ensures stated { IfOk result (λ transport. transport.is_length_missing ≡ false) }
+    ensures parts { IfOk result (λ transport. IsAfterHeaders packet.now transport) }
+    ensures over_ipv4 { version packet.now ≡ 4 → IfOk result (λ transport. IsOverIpv4 packet.now transport) }
+{
+    match transport_in_ip(packet) {
+        Ok(found) => Ok(found),
+        Err(error) => Err(AnswerEchoError::Ip(error)),
+    }
 }
 
 /// Rejects a transport that is no whole message of this protocol directly after an IP header of this length.
