@@ -11,7 +11,7 @@ use Rattle.ip_part.specs.Ip.{Carries, IsAfterHeaders, IsOverIpv4, counted, count
 use Rattle.ip_part.specs.Ip as ip
 use Rattle.ip_part.specs.Protocols.{proto_over}
 use Rattle.ip_part.specs.declared.ip_error.IpError.{IpError}
-use Rattle.ip_part.specs.declared.ip_error.IpError.TheVariants.{HeaderCutOff, Version}
+use Rattle.ip_part.specs.declared.ip_error.IpError.TheVariants.{HeaderCutOff, HeaderLength, Version}
 use Rattle.ip_part.specs.declared.proto.Proto.TheVariants as protos
 use Rattle.ip_part.proofs.HeadersLemmas.{ended}
 use Rattle.ip_part.specs.declared.transport.TransportInIp.{TransportInIp}
@@ -23,7 +23,7 @@ use Rattle.etherparse_transport.proofs.BuiltLemmas.{none_first, none_if}
 use Rattle.etherparse_transport.proofs.EchoReplyLemmas.{is_number}
 use Rattle.etherparse_transport.proofs.UpdatedAlike.{translated_alike}
 use Rattle.etherparse_transport.specs.Packets.{number_of}
-use Rattle.etherparse_transport.specs.Ipv4Translations.{IsIpv4Place, ipv4_addresses, ipv4_flow_message, ipv4_is_later_fragment, ipv4_message_refusal, ipv4_place_refusal, ipv4_proto, ipv4_quoted, ipv4_quoted_refusal, ipv4_refusal, message_in_ipv4, sum_of_ipv4}
+use Rattle.etherparse_transport.specs.Ipv4Translations.{IsIpv4Place, has_source_route, ipv4_addresses, ipv4_flow_message, ipv4_is_later_fragment, ipv4_message_refusal, ipv4_place_refusal, ipv4_proto, ipv4_quoted, ipv4_quoted_refusal, ipv4_refusal, message_in_ipv4, sum_of_ipv4}
 use Rattle.etherparse_transport.specs.Ipv6Translations.{IsIpv6Place, ipv6_addresses, ipv6_flow_message, ipv6_is_later_fragment, ipv6_message_refusal, ipv6_place_refusal, ipv6_proto, ipv6_protocol, ipv6_quoted, ipv6_quoted_refusal, ipv6_refusal, message_in_ipv6, sum_of_ipv6}
 use Rattle.etherparse_transport.specs.Translations.{AreUpdatedAlike, counted_after, message_refusal, quoted_in, translated_in, with_bytes}
 use Rattle.std.specs.Prelude.{is_none, nat_lt}
@@ -31,7 +31,7 @@ use Rattle.std.specs.Option.{option_map}
 use Rattle.net_base.specs.Refusals.{first_of, refused_if}
 use Rattle.net_base.specs.declared.ip_number.IpNumber.{IpNumber}
 use Rattle.etherparse_transport.specs.declared.err.packet.translate_error.TranslateError.{TranslateError}
-use Rattle.etherparse_transport.specs.declared.err.packet.translate_error.TranslateError.TheVariants.{Ip, OtherVersion, Protocol}
+use Rattle.etherparse_transport.specs.declared.err.packet.translate_error.TranslateError.TheVariants.{Ip, OtherVersion, Protocol, SourceRoute}
 use Rattle.etherparse_transport.specs.declared.ip.message_place.Place.{Place}
 use Rattle.etherparse_transport.specs.declared.ip.ipv4_translation.Ipv4Translation.{Ipv4Translation}
 use Rattle.etherparse_transport.specs.declared.ip.ipv6_translation.Ipv6Translation.{Ipv6Translation}
@@ -341,7 +341,46 @@ second_accepts : {E : Type 0} (first second : Bool) (error error_too : E) (rules
 second_accepts true second error error_too rules none = absurd (cc none)
 second_accepts false second error error_too rules none = none_if second error_too (none_first (refused_if second error_too) rules none).0
 
--- a packet that is read has a whole header
+-- a rule whose test fails leaves the rules after it
+else_none : {E : Type 0} (test : Bool) (error : E) (rule : Option E) → (if test then Some error else rule) ≡ None → rule ≡ None
+else_none true error rule none = absurd (cc none)
+else_none false error rule none = none
+
+-- a packet that is read has a whole IPv4 header
+not_version_4 : (is : Bool) (packet : List ℕ) → is ≡ (version packet == 4) → ip.lax_refusal packet ≡ None → ¬ BeginsWithIpv4Header packet
+    → is ≡ false
+not_version_4 false packet test accepted other = refl
+not_version_4 true packet test accepted other =
+    let is : version packet ≡ 4 = is_number (version packet) 4 (sym test) in
+    let n : ℕ = ipv4_header_len packet in
+    let header = (none_first (ip.header_refusal packet) _ accepted).0 in
+    let by_version : ℕ → Option IpError = λ v. if length packet == 0 then Some (HeaderCutOff 1 0) else if v == 4 then ip.ipv4_refusal packet
+    else if v == 6 then ip.ipv6_refusal packet else Some (Version (version packet)) in
+    let rules : ip.ipv4_refusal packet ≡ None =
+    else_none (length packet == 0) (HeaderCutOff 1 0) (ip.ipv4_refusal packet) (sym (ap by_version is) ∙ header) in
+    let of_header = (none_first (ip.ipv4_header_refusal packet) _ rules).0 in
+    let after_shortest = none_first (refused_if (nat_lt (length packet) 20) (HeaderCutOff 20 (length packet))) _ of_header in
+    let after_words = none_first (refused_if (nat_lt n 20) (HeaderLength n)) _ after_shortest.1 in
+    let after_whole = none_first (refused_if (nat_lt (length packet) n) (HeaderCutOff n (length packet))) _ after_words.1 in
+    let shortest = none_if (nat_lt (length packet) 20) (HeaderCutOff 20 (length packet)) after_shortest.0 in
+    let five_words = none_if (nat_lt n 20) (HeaderLength n) after_words.0 in
+    let whole = none_if (nat_lt (length packet) n) (HeaderCutOff n (length packet)) after_whole.0 in
+    absurd (other (record {
+      shortest = grind (arith, nat_tests, shortest);
+      is_version_4 = is;
+      five_words = grind (arith, nat_tests, five_words);
+      whole = grind (arith, nat_tests, whole);
+    }))
+
+-- a packet that is read, and that does not begin with an IPv4 header, has another version
+pub no_version_4 : (packet : List ℕ) → ip.lax_refusal packet ≡ None → ¬ BeginsWithIpv4Header packet → ipv4_place_refusal packet ≡ Some OtherVersion
+no_version_4 packet accepted other =
+    let last : List (Option TranslateError) = refused_if (has_source_route packet) SourceRoute
+    ∷ refused_if (is_none (ipv4_proto packet)) (Protocol (record { 0 = slice_index packet 9 })) ∷ [] in
+    ap (λ refusal. first_of (option_map Ip refusal ∷ refused_if (not (version packet == 4)) OtherVersion ∷ last)) accepted
+    ∙ ap (λ is. first_of (None ∷ refused_if (not is) OtherVersion ∷ last)) (not_version_4 (version packet == 4) packet refl accepted other)
+
+-- a packet that is read has a whole IPv6 header
 not_version_6 : (is : Bool) (packet : List ℕ) → is ≡ (version packet == 6) → ip.lax_refusal packet ≡ None → ¬ BeginsWithIpv6Header packet
     → is ≡ false
 not_version_6 false packet test accepted other = refl

@@ -80,7 +80,10 @@ fn ipv4_place(packet: &[u8]) -> Result<Place, TranslateError>
     ensures place { IfOk result (λ place. specs.IsIpv4Place packet.now place) }
     ensures bytes { IsBytes packet.now }
 {
-    let found = transport_in_ip_lax(packet).map_err(TranslateError::Ip)?;
+    let found = match transport_in_ip_lax(packet) {
+        Ok(found) => found,
+        Err(error) => return Err(TranslateError::Ip(error)),
+    };
     let Some(header) = Ipv4HeaderSlice::from_slice(packet) else {
         return Err(TranslateError::OtherVersion);
     };

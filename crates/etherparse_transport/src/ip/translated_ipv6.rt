@@ -86,7 +86,10 @@ fn ipv6_place(packet: &[u8]) -> Result<Place, TranslateError>
     let Some(header) = Ipv6HeaderSlice::from_slice(packet) else {
         return Err(no_ipv6_header(packet));
     };
-    let found = transport_in_ip_lax(packet).map_err(TranslateError::Ip)?;
+    let found = match transport_in_ip_lax(packet) {
+        Ok(found) => found,
+        Err(error) => return Err(TranslateError::Ip(error)),
+    };
     let (start, protocol) = message_start(packet, header.next_header());
     let Some(proto) = proto_over(found.addresses, protocol) else {
         return Err(TranslateError::Protocol(protocol));
