@@ -56,26 +56,22 @@ impl TransportHeader {
         ensures written_back { IfOk result (λ found. wire found.0 ++ found.1.now ≡ canonical protocol slice.now) }
     {
         match protocol {
-            Proto::Udp => {
-                let (header, rest) = UdpHeader::from_slice(slice).map_err(HeaderSliceError::Len)?;
-                Ok((TransportHeader::Udp(header), rest))
-            }
-            Proto::Tcp => {
-                let (header, rest) = TcpHeader::from_slice(slice)?;
-                Ok((TransportHeader::Tcp(header), rest))
-            }
-            Proto::Icmpv4 => {
-                let (header, rest) = Icmpv4Header::from_slice(slice).map_err(
-                    HeaderSliceError::Len,
-                )?;
-                Ok((TransportHeader::Icmpv4(header), rest))
-            }
-            Proto::Icmpv6 => {
-                let (header, rest) = Icmpv6Header::from_slice(slice).map_err(
-                    HeaderSliceError::Len,
-                )?;
-                Ok((TransportHeader::Icmpv6(header), rest))
-            }
+            Proto::Udp => match UdpHeader::from_slice(slice) {
+                Ok((header, rest)) => Ok((TransportHeader::Udp(header), rest)),
+                Err(error) => Err(HeaderSliceError::Len(error)),
+            },
+            Proto::Tcp => match TcpHeader::from_slice(slice) {
+                Ok((header, rest)) => Ok((TransportHeader::Tcp(header), rest)),
+                Err(error) => Err(error),
+            },
+            Proto::Icmpv4 => match Icmpv4Header::from_slice(slice) {
+                Ok((header, rest)) => Ok((TransportHeader::Icmpv4(header), rest)),
+                Err(error) => Err(HeaderSliceError::Len(error)),
+            },
+            Proto::Icmpv6 => match Icmpv6Header::from_slice(slice) {
+                Ok((header, rest)) => Ok((TransportHeader::Icmpv6(header), rest)),
+                Err(error) => Err(HeaderSliceError::Len(error)),
+            },
         }
     }
 
