@@ -283,7 +283,10 @@ fn check_transport(
 fn check_icmpv4(message: &[u8]) -> Result<(), AnswerEchoError>
     ensures { RefusesExactly result (icmpv4_refusal message.now) }
 {
-    let message = Icmpv4Slice::from_slice(message).map_err(AnswerEchoError::Len)?;
+    let message = match Icmpv4Slice::from_slice(message) {
+        Ok(message) => message,
+        Err(error) => return Err(AnswerEchoError::Len(error)),
+    };
     if message.type_u8() != icmpv4::TYPE_ECHO_REQUEST || message.code_u8() != 0 {
         return Err(AnswerEchoError::NoEchoRequest);
     }
@@ -297,7 +300,10 @@ fn check_icmpv4(message: &[u8]) -> Result<(), AnswerEchoError>
 fn check_icmpv6(addresses: &Ipv6Header, message: &[u8]) -> Result<(), AnswerEchoError>
     ensures { RefusesExactly result (icmpv6_refusal addresses.now.source addresses.now.destination message.now) }
 {
-    let message = Icmpv6Slice::from_slice(message).map_err(AnswerEchoError::Len)?;
+    let message = match Icmpv6Slice::from_slice(message) {
+        Ok(message) => message,
+        Err(error) => return Err(AnswerEchoError::Len(error)),
+    };
     if message.type_u8() != icmpv6::TYPE_ECHO_REQUEST || message.code_u8() != 0 {
         return Err(AnswerEchoError::NoEchoRequest);
     }
