@@ -46,8 +46,10 @@ fn canonical_udp(slice: &[u8]) -> Result<(ArrayVec<u8, 60>, &[u8]), HeaderSliceE
     ensures decoded { IfOk result (λ found. WritesDecoded Proto.Udp slice.now found.0.items found.1.now) }
     ensures canonical { IfOk result (λ found. found.0.items ++ found.1.now ≡ canonical Proto.Udp slice.now) }
 {
-    let (_header, rest) = UdpHeader::from_slice(slice).map_err(HeaderSliceError::Len)?;
-    Ok((header_bytes(&slice[..UdpHeader::LEN]), rest))
+    match UdpHeader::from_slice(slice) {
+        Ok((_header, rest)) => Ok((header_bytes(&slice[..UdpHeader::LEN]), rest)),
+        Err(error) => Err(HeaderSliceError::Len(error)),
+    }
 }
 
 /// `canonical_header` for a TCP packet.
@@ -66,7 +68,10 @@ fn canonical_icmpv4(slice: &[u8]) -> Result<(ArrayVec<u8, 60>, &[u8]), HeaderSli
     ensures decoded { IfOk result (λ found. WritesDecoded Proto.Icmpv4 slice.now found.0.items found.1.now) }
     ensures canonical { IfOk result (λ found. found.0.items ++ found.1.now ≡ canonical Proto.Icmpv4 slice.now) }
 {
-    let (header, rest) = Icmpv4Header::from_slice(slice).map_err(HeaderSliceError::Len)?;
+    let (header, rest) = match Icmpv4Header::from_slice(slice) {
+        Ok(found) => found,
+        Err(error) => return Err(HeaderSliceError::Len(error)),
+    };
     let bytes = header.to_bytes();
     // This copies the eight bytes of all kinds except timestamps at once.
     if bytes.len() == Icmpv4Header::MIN_LEN {
@@ -81,8 +86,10 @@ fn canonical_icmpv6(slice: &[u8]) -> Result<(ArrayVec<u8, 60>, &[u8]), HeaderSli
     ensures decoded { IfOk result (λ found. WritesDecoded Proto.Icmpv6 slice.now found.0.items found.1.now) }
     ensures canonical { IfOk result (λ found. found.0.items ++ found.1.now ≡ canonical Proto.Icmpv6 slice.now) }
 {
-    let (header, rest) = Icmpv6Header::from_slice(slice).map_err(HeaderSliceError::Len)?;
-    Ok((header_bytes(header.to_bytes().as_slice()), rest))
+    match Icmpv6Header::from_slice(slice) {
+        Ok((header, rest)) => Ok((header_bytes(header.to_bytes().as_slice()), rest)),
+        Err(error) => Err(HeaderSliceError::Len(error)),
+    }
 }
 
 /// The same bytes in an array with room for the longest header.

@@ -4,7 +4,7 @@ use Rattle.etherparse_transport.proofs.canonical.canonical_icmpv4.Goals as goal
 
 pub returns-then-len-eq-MIN_LEN-clause-decoded : goal.returns-then-len-eq-MIN_LEN-clause-decoded
 returns-then-len-eq-MIN_LEN-clause-decoded c = record {
-  header = Icmpv4 c.in_ok-header.header;
+  header = Icmpv4 c.in-Ok.found.0;
   protocol_of_header = refl;
   decodes = search rules;
   written = search rules;
@@ -12,7 +12,7 @@ returns-then-len-eq-MIN_LEN-clause-decoded c = record {
 
 pub returns-clause-decoded : goal.returns-clause-decoded
 returns-clause-decoded c = record {
-  header = Icmpv4 c.in_ok-header.header;
+  header = Icmpv4 c.in-Ok.found.0;
   protocol_of_header = refl;
   decodes = search rules;
   written = search rules;

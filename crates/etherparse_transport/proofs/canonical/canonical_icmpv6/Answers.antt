@@ -2,9 +2,9 @@ use Rattle.std.proofs.Common.{refl, rules}
 use Rattle.etherparse_transport.specs.declared.transport_header.TransportHeader.TheVariants.{Icmpv6}
 use Rattle.etherparse_transport.proofs.canonical.canonical_icmpv6.Goals as goal
 
-pub returns-clause-decoded : goal.returns-clause-decoded
-returns-clause-decoded c = record {
-  header = Icmpv6 c.in_ok-header.header;
+pub returns-in-Ok-clause-decoded : goal.returns-in-Ok-clause-decoded
+returns-in-Ok-clause-decoded c = record {
+  header = Icmpv6 c.in-Ok.header;
   protocol_of_header = refl;
   decodes = search rules;
   written = search rules;
