@@ -1,12 +1,43 @@
-use Rattle.std.proofs.Common.{◌∙◌, subst}
+use Rattle.std.proofs.Common.{Some, None, ap, sym, ◌∙◌, subst}
 use Rattle.net_base.specs.PseudoHeader.{max_len_over_ipv4}
 use Rattle.net_base.specs.declared.err.value_type.ValueType.TheVariants.{TcpPayloadLengthIpv4}
+use Rattle.tcp_part.specs.TcpFormat.{checksummed_ipv4}
 use Rattle.tcp_part.specs.TcpValidity.{IsValidTcpIpv4}
-use Rattle.etherparse_transport_c.proofs.TcpLemmas.{built, counted, enough, passes_ipv4, payload_after}
+use Rattle.etherparse_transport_c.proofs.TcpLemmas.{built, enough, header_refused, passes_ipv4, payload_after, refused_by, sum_of_parts}
 use Rattle.etherparse_transport_c.proofs.tcp.checksum_ipv4.Goals as goal
+
+pub returns-in-Err-clause-refused : goal.returns-in-Err-clause-refused
+returns-in-Err-clause-refused c =
+    header_refused TcpPayloadLengthIpv4 max_len_over_ipv4 c.args.bytes.now c.in-Err.refused c.in-Err.ensures.refused
+    ∙ ap Some (sym c.of_header_slice.ensures.numbers)
+
+pub returns-in-Err-calc_checksum_ipv4_raw-clause-refused : goal.returns-in-Err-calc_checksum_ipv4_raw-clause-refused
+returns-in-Err-calc_checksum_ipv4_raw-clause-refused c =
+    let bytes = c.args.bytes.now in
+    let front = c.in-Ok.ensures.kept in
+    let payload = payload_after bytes c.slice.result.now c.in-Ok.ensures.refused (c.slice.ensures ∙ front) in
+    refused_by TcpPayloadLengthIpv4 max_len_over_ipv4 bytes c.in-Ok.header _ (Some c.in-Err-calc_checksum_ipv4_raw.refused)
+    c.in-Ok.ensures.refused front payload c.in-Err-calc_checksum_ipv4_raw.ensures.refused
+    ∙ ap Some (sym c.of_value.ensures.numbers)
+
+pub returns-in-Ok-calc_checksum_ipv4_raw-clause-refused : goal.returns-in-Ok-calc_checksum_ipv4_raw-clause-refused
+returns-in-Ok-calc_checksum_ipv4_raw-clause-refused c =
+    let bytes = c.args.bytes.now in
+    let front = c.in-Ok.ensures.kept in
+    let payload = payload_after bytes c.slice.result.now c.in-Ok.ensures.refused (c.slice.ensures ∙ front) in
+    refused_by TcpPayloadLengthIpv4 max_len_over_ipv4 bytes c.in-Ok.header _ None c.in-Ok.ensures.refused front payload
+    c.in-Ok-calc_checksum_ipv4_raw.ensures.refused
 
 pub returns-in-Ok-calc_checksum_ipv4_raw-clause-header : goal.returns-in-Ok-calc_checksum_ipv4_raw-clause-header
 returns-in-Ok-calc_checksum_ipv4_raw-clause-header c = enough c.args.bytes.now c.in-Ok.ensures.refused
+
+pub returns-in-Ok-calc_checksum_ipv4_raw-clause-sum : goal.returns-in-Ok-calc_checksum_ipv4_raw-clause-sum
+returns-in-Ok-calc_checksum_ipv4_raw-clause-sum c =
+    let bytes = c.args.bytes.now in
+    let front = c.in-Ok.ensures.kept in
+    let payload = payload_after bytes c.slice.result.now c.in-Ok.ensures.refused (c.slice.ensures ∙ front) in
+    sum_of_parts (checksummed_ipv4 c.args.source.now c.args.destination.now) bytes c.in-Ok.header _ c.in-Ok-calc_checksum_ipv4_raw.computed
+    c.in-Ok-calc_checksum_ipv4_raw.ensures.sum front payload
 
 pub returns-in-Ok-calc_checksum_ipv4_raw-clause-valid : goal.returns-in-Ok-calc_checksum_ipv4_raw-clause-valid
 returns-in-Ok-calc_checksum_ipv4_raw-clause-valid c =
@@ -19,9 +50,5 @@ returns-in-Ok-calc_checksum_ipv4_raw-clause-valid c =
 pub returns-in-Ok-calc_checksum_ipv4_raw-clause-passes : goal.returns-in-Ok-calc_checksum_ipv4_raw-clause-passes
 returns-in-Ok-calc_checksum_ipv4_raw-clause-passes c =
     let bytes = c.args.bytes.now in
-    let front = c.in-Ok.ensures.kept in
-    let payload = payload_after bytes c.slice.result.now c.in-Ok.ensures.refused (c.slice.ensures ∙ front) in
-    let accepted = counted TcpPayloadLengthIpv4 max_len_over_ipv4 bytes c.in-Ok.header _ c.in-Ok.ensures.refused front payload
-    c.in-Ok-calc_checksum_ipv4_raw.ensures.refused in
-    passes_ipv4 c.args.source.now c.args.destination.now bytes c.in-Ok-calc_checksum_ipv4_raw.computed
-    (enough bytes c.in-Ok.ensures.refused) accepted (returns-in-Ok-calc_checksum_ipv4_raw-clause-valid c)
+    passes_ipv4 c.args.source.now c.args.destination.now bytes c.in-Ok-calc_checksum_ipv4_raw.computed (enough bytes c.in-Ok.ensures.refused)
+    (returns-in-Ok-calc_checksum_ipv4_raw-clause-refused c) (returns-in-Ok-calc_checksum_ipv4_raw-clause-valid c)
