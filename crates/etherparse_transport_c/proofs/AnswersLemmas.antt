@@ -1,5 +1,6 @@
 -- What a test of a checksum answers of a valid packet.
 use Rattle.std.proofs.Common.{◌≡◌, ◌⊎◌, ℕ, Bool, true, false, Option, None, Some, inl, inr, refl}
+use Rattle.std.specs.Prelude.{◌↔◌, IsTrue, if◌then◌else◌}
 use Rattle.etherparse_transport_c.specs.Errors.{Answers, Tells}
 use Rattle.etherparse_transport_c.specs.Numbers as numbers
 use Rattle.etherparse_transport_c.specs.declared.error.EtherparseError.{EtherparseError}
@@ -16,3 +17,10 @@ pub answers_ok : (refusal : Option EtherparseError) (absent : Bool) (Valid : Typ
 answers_ok None false Valid accepted present valid = (inl (refl, valid), λ other told. only_ok other Valid valid told)
 answers_ok (Some error) absent Valid accepted present valid = cc
 answers_ok None true Valid accepted present valid = cc
+
+-- what a test of a packet with a checksum answers
+pub told : (refusal : Option EtherparseError) (valid : Bool) (Valid : Type 0) (status : ℕ) → refusal ≡ None → (IsTrue valid ↔ Valid)
+    → status ≡ (if valid then numbers.status_ok else numbers.status_checksum_wrong) → Tells refusal false Valid status
+told (Some error) valid Valid status accepted is answered = cc
+told None true Valid status accepted is answered = inl (answered, is.0 refl)
+told None false Valid status accepted is answered = inr (answered, λ valid. let clash : false ≡ true = is.1 valid in cc)

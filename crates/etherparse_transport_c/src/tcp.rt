@@ -1,4 +1,4 @@
-ghost use Rattle.std.specs.Prelude.{◌≡◌, ◌≤◌, IfOk, None, length, unwrap_or};
+ghost use Rattle.std.specs.Prelude.{◌≡◌, ◌≤◌, ◌++◌, IfOk, None, length, unwrap_or};
 ghost use Rattle.net_base.specs.PseudoHeader.{max_len_over_ipv4, max_len_over_ipv6};
 ghost use Rattle.net_base.specs.Refusals.{RefusesExactly};
 ghost use Rattle.net_base.specs.declared.err.value_type.ValueType.TheVariants.{TcpPayloadLengthIpv4, TcpPayloadLengthIpv6};
@@ -427,6 +427,29 @@ pub extern "C" fn etherparse_tcp_checksum_store_ipv6(
     }
 }
 
+/// The header of a segment and its payload, unless they are longer than a pseudo header can count.
+fn counted_parts<'a>(
+    bytes: &'a [u8],
+    limit: usize,
+    value_type: ValueType,
+) -> Result<(TcpHeaderSlice<'a>, &'a [u8]), EtherparseError>
+    requires { 60 ≤ limit }
+    ensures refused { RefusesExactly result (checksum_refusal value_type limit bytes.now) }
+    ensures whole { IfOk result (λ parts. parts.0 ++ parts.1.now ≡ bytes.now) }
+{
+    match TcpHeaderSlice::from_slice(bytes) {
+        Ok(header) => {
+            let header_len = header.slice().len();
+            let payload = &bytes[header_len..];
+            match check_payload_len(payload.len(), limit - header_len, value_type) {
+                Ok(()) => Ok((header, payload)),
+                Err(refused) => Err(of_value(&refused)),
+            }
+        }
+        Err(refused) => Err(of_header_slice(&refused)),
+    }
+}
+
 /// Tests the checksum of a segment over IPv4 (RFC 9293, section 3.1). The segment is all bytes, header and payload.
 ///
 /// # Errors
@@ -445,23 +468,12 @@ pub extern "C" fn etherparse_tcp_checksum_test_ipv4(
     ensures status { TestTellsIpv4 source.now destination.now bytes.now result.status }
     ensures error { Leaves error result (test_error (checksum_refusal TcpPayloadLengthIpv4 max_len_over_ipv4 bytes.now) result.status error.before) }
 {
-    match TcpHeaderSlice::from_slice(bytes) {
-        Ok(header) => {
-            let header_len = header.slice().len();
-            let payload = &bytes[header_len..];
-            if let Err(refused) = check_payload_len(
-                payload.len(),
-                u16::MAX as usize - header_len,
-                ValueType::TcpPayloadLengthIpv4,
-            ) {
-                return refuse(error, of_value(&refused));
-            }
-            verdict(
-                header.is_checksum_valid_ipv4(*source, *destination, payload),
-                error,
-            )
-        }
-        Err(refused) => refuse(error, of_header_slice(&refused)),
+    match counted_parts(bytes, u16::MAX as usize, ValueType::TcpPayloadLengthIpv4) {
+        Ok((header, payload)) => verdict(
+            header.is_checksum_valid_ipv4(*source, *destination, payload),
+            error,
+        ),
+        Err(refused) => refuse(error, refused),
     }
 }
 
@@ -484,22 +496,11 @@ pub extern "C" fn etherparse_tcp_checksum_test_ipv6(
     ensures status { TestTellsIpv6 source.now destination.now bytes.now result.status }
     ensures error { Leaves error result (test_error (checksum_refusal TcpPayloadLengthIpv6 max_len_over_ipv6 bytes.now) result.status error.before) }
 {
-    match TcpHeaderSlice::from_slice(bytes) {
-        Ok(header) => {
-            let header_len = header.slice().len();
-            let payload = &bytes[header_len..];
-            if let Err(refused) = check_payload_len(
-                payload.len(),
-                u32::MAX as usize - header_len,
-                ValueType::TcpPayloadLengthIpv6,
-            ) {
-                return refuse(error, of_value(&refused));
-            }
-            verdict(
-                header.is_checksum_valid_ipv6(*source, *destination, payload),
-                error,
-            )
-        }
-        Err(refused) => refuse(error, of_header_slice(&refused)),
+    match counted_parts(bytes, u32::MAX as usize, ValueType::TcpPayloadLengthIpv6) {
+        Ok((header, payload)) => verdict(
+            header.is_checksum_valid_ipv6(*source, *destination, payload),
+            error,
+        ),
+        Err(refused) => refuse(error, refused),
     }
 }
