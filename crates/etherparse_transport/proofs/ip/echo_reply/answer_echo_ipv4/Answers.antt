@@ -24,12 +24,12 @@ message packet len is len_is = ap (slice_range packet 20) len_is ∙ message_ran
 
 pub icmpv4_reply_to-reply-requires : goal.icmpv4_reply_to-reply-requires
 icmpv4_reply_to-reply-requires c =
-    let is : IsIpv4Request c.args.packet.now = search rules in
-    record { accepted = ap icmpv4_refusal (message c.args.packet.now c.in_ok-addresses.len is (search rules)) ∙ is.message }
+    let is : IsIpv4Request c.args.packet.now = c.in_ok-addresses.ensures.request in
+    record { accepted = ap icmpv4_refusal (message c.args.packet.now c.in_ok-addresses.len is c.in_ok-addresses.ensures.len) ∙ is.message }
 
 source : (c : goal.After-slice_known-2-1) → c.unwrap_or-source.result ≡ unwrap_or c.args.source (slice_range c.args.packet.now 16 20)
 source c =
-    let is : c.in_ok-addresses.addresses ≡ ipv4_header_of c.args.packet.now = search rules in
+    let is : c.in_ok-addresses.addresses ≡ ipv4_header_of c.args.packet.now = c.in_ok-addresses.ensures.addresses in
     c.unwrap_or-source.ensures ∙ ap (λ addresses. unwrap_or c.args.source addresses.destination) is
 
 source_len : (c : goal.After-slice_known-2-1) → length (unwrap_or c.args.source (slice_range c.args.packet.now 16 20)) ≡ 4
@@ -37,24 +37,24 @@ source_len c = let len : length c.unwrap_or-source.result ≡ 4 = search rules i
 
 destination_len : (c : goal.After-slice_known-2-1) → length (slice_range c.args.packet.now 12 16) ≡ 4
 destination_len c =
-    let is : c.in_ok-addresses.addresses ≡ ipv4_header_of c.args.packet.now = search rules in
+    let is : c.in_ok-addresses.addresses ≡ ipv4_header_of c.args.packet.now = c.in_ok-addresses.ensures.addresses in
     let len : length c.in_ok-addresses.addresses.source ≡ 4 = search rules in
     ap (λ addresses. length addresses.source) (sym is) ∙ len
 
 reply : (c : goal.After-slice_known-2-1) → c.icmpv4_reply_to-reply.result ≡ icmpv4_reply_to (message_after 20 c.args.packet.now)
 reply c =
-    c.icmpv4_reply_to-reply.ensures.header ∙ ap icmpv4_reply_to (message c.args.packet.now c.in_ok-addresses.len (search rules) (search rules))
+    c.icmpv4_reply_to-reply.ensures.header ∙ ap icmpv4_reply_to (message c.args.packet.now c.in_ok-addresses.len c.in_ok-addresses.ensures.request c.in_ok-addresses.ensures.len)
 
 -- what the reply repeats is in the message of the request
 abbrev pub IsSame : List ℕ → Type 0
 IsSame message = echoed (wire (icmpv4_reply_to message) ++ drop 8 message) ≡ echoed message
 
 same : (c : goal.After-slice_known-2-1) → IsSame (message_after 20 c.args.packet.now)
-same c = subst IsSame (message c.args.packet.now c.in_ok-addresses.len (search rules) (search rules)) c.icmpv4_reply_to-reply.ensures.echoed
+same c = subst IsSame (message c.args.packet.now c.in_ok-addresses.len c.in_ok-addresses.ensures.request c.in_ok-addresses.ensures.len) c.icmpv4_reply_to-reply.ensures.echoed
 
 pub reply_header_checksum-checksum-requires-clause-len : goal.reply_header_checksum-checksum-requires-clause-len
 reply_header_checksum-checksum-requires-clause-len c =
-    let is : IsIpv4Request c.args.packet.now = search rules in
+    let is : IsIpv4Request c.args.packet.now = c.in_ok-addresses.ensures.request in
     length-take-le 20 c.args.packet.now (omega (arith, is.end, is.there))
 
 pub returns-clause-answered : goal.returns-clause-answered
@@ -65,7 +65,7 @@ returns-clause-answered c =
     let found : List ℕ = c.unwrap_or-source.result in
     let from : List ℕ = unwrap_or c.args.source (slice_range packet 16 20) in
     let receiver : List ℕ = slice_range packet 12 16 in
-    let is : c.in_ok-addresses.addresses ≡ ipv4_header_of packet = search rules in
+    let is : c.in_ok-addresses.addresses ≡ ipv4_header_of packet = c.in_ok-addresses.ensures.addresses in
     let start : c.copy_from_slice.new.self ≡ take 8 packet = search rules in
     let checksum : ℕ = c.reply_header_checksum-checksum.result in
     let checksum_is : checksum ≡ checksum_of (total (ipv4_fields (take 8 packet) time_to_live 1 from receiver 0)) =
@@ -79,7 +79,7 @@ returns-clause-answered c =
     ∙ ap (λ addresses. ipv4_fields (take 8 packet) time_to_live 1 from addresses.source checksum) is
     ∙ ap (ipv4_fields (take 8 packet) time_to_live 1 from receiver) checksum_is in
     let second = c.to_bytes-header.ensures.written ∙ ap wire (reply c) in
-    ipv4_written packet _ _ _ from time_to_live (search rules) (source_len c) (destination_len c) first (first_four _ _ _ _ _ (c.deref.ensures.0 ∙ second) (c.deref-2.ensures.0 ∙ second) (c.deref-3.ensures.0 ∙ second) (c.deref-4.ensures.0 ∙ second)) (same c)
+    ipv4_written packet _ _ _ from time_to_live c.in_ok-addresses.ensures.request (source_len c) (destination_len c) first (first_four _ _ _ _ _ (c.deref.ensures.0 ∙ second) (c.deref-2.ensures.0 ∙ second) (c.deref-3.ensures.0 ∙ second) (c.deref-4.ensures.0 ∙ second)) (same c)
     c.replace_front.ensures
 
 pub returns-clause-read : goal.returns-clause-read
@@ -91,7 +91,7 @@ returns-clause-read c =
     let IsRead : List ℕ → Type 0 =
     λ bytes. IsReadAs bytes (addresses.Ipv4 from (slice_range packet 12 16)) (headers.Icmpv4 (icmpv4_reply_to (message_after 20 packet))) payload in
     subst IsRead (sym (returns-clause-answered c))
-    (ipv4_reply_read packet from (slice_range packet 12 16) c.args.time_to_live (echo_of (message_after 20 packet) 4) (search rules) (source_len c)
+    (ipv4_reply_read packet from (slice_range packet 12 16) c.args.time_to_live (echo_of (message_after 20 packet) 4) c.in_ok-addresses.ensures.request (source_len c)
     (destination_len c) (subst IsBack (reply c) (c.to_bytes-header.ensures.reads_back payload)))
 
 pub returns-clause-verifies : goal.returns-clause-verifies
@@ -100,17 +100,17 @@ returns-clause-verifies c =
     let from : List ℕ = unwrap_or c.args.source (slice_range packet 16 20) in
     let Sums : List ℕ → Type 0 = λ bytes. Verifies [] (ip.ipv4_header bytes) in
     subst Sums (sym (returns-clause-answered c))
-    (ipv4_reply_verifies packet from (slice_range packet 12 16) _ c.args.time_to_live (search rules) (source_len c) (destination_len c))
+    (ipv4_reply_verifies packet from (slice_range packet 12 16) _ c.args.time_to_live c.in_ok-addresses.ensures.request (source_len c) (destination_len c))
 
 pub returns-clause-replies : goal.returns-clause-replies
 returns-clause-replies c answers =
     let packet : List ℕ = c.args.packet.now in
-    let is : IsIpv4Request packet = search rules in
+    let is : IsIpv4Request packet = c.in_ok-addresses.ensures.request in
     let from : List ℕ = unwrap_or c.args.source (slice_range packet 16 20) in
     let payload : List ℕ = drop 8 (message_after 20 packet) in
     let IsBack : Icmpv4Header → Type 0 = λ header. IsReadBack (headers.Icmpv4 header) payload in
     subst (IsReplyTo packet) (sym (returns-clause-answered c))
-    (ipv4_is_reply packet from c.args.time_to_live is (search rules) (source_len c) (destination_len c)
+    (ipv4_is_reply packet from c.args.time_to_live is c.in_ok-addresses.ensures.carried (source_len c) (destination_len c)
     (subst IsBack (reply c) (c.to_bytes-header.ensures.reads_back payload)).accepted
     (same c)
     (ipv4_reply_verifies packet from (slice_range packet 12 16) _ c.args.time_to_live is (source_len c) (destination_len c)) answers)
