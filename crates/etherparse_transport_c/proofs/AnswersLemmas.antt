@@ -24,3 +24,9 @@ pub told : (refusal : Option EtherparseError) (valid : Bool) (Valid : Type 0) (s
 told (Some error) valid Valid status accepted is answered = cc
 told None true Valid status accepted is answered = inl (answered, is.0 refl)
 told None false Valid status accepted is answered = inr (answered, λ valid. let clash : false ≡ true = is.1 valid in cc)
+
+-- the same, if whether there is a checksum is not known before
+pub told_present : (refusal : Option EtherparseError) (absent valid : Bool) (Valid : Type 0) (status : ℕ) → refusal ≡ None → absent ≡ false
+    → (IsTrue valid ↔ Valid) → status ≡ (if valid then numbers.status_ok else numbers.status_checksum_wrong) → Tells refusal absent Valid status
+told_present refusal true valid Valid status accepted present is answered = cc
+told_present refusal false valid Valid status accepted present is answered = told refusal valid Valid status accepted is answered
