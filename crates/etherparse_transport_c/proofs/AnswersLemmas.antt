@@ -18,14 +18,14 @@ answers_ok None false Valid accepted present valid = (inl (refl, valid), λ othe
 answers_ok (Some error) absent Valid accepted present valid = cc
 answers_ok None true Valid accepted present valid = cc
 
--- what a test of a packet with a checksum answers
+-- the status of a test, if the packet is accepted and has a checksum
 pub told : (refusal : Option EtherparseError) (valid : Bool) (Valid : Type 0) (status : ℕ) → refusal ≡ None → (IsTrue valid ↔ Valid)
     → status ≡ (if valid then numbers.status_ok else numbers.status_checksum_wrong) → Tells refusal false Valid status
 told (Some error) valid Valid status accepted is answered = cc
 told None true Valid status accepted is answered = inl (answered, is.0 refl)
 told None false Valid status accepted is answered = inr (answered, λ valid. let clash : false ≡ true = is.1 valid in cc)
 
--- the same, if whether there is a checksum is not known before
+-- the same for a protocol in which a packet may have no checksum
 pub told_present : (refusal : Option EtherparseError) (absent valid : Bool) (Valid : Type 0) (status : ℕ) → refusal ≡ None → absent ≡ false
     → (IsTrue valid ↔ Valid) → status ≡ (if valid then numbers.status_ok else numbers.status_checksum_wrong) → Tells refusal absent Valid status
 told_present refusal true valid Valid status accepted present is answered = cc

@@ -116,7 +116,7 @@ refusal-with_checksum value_type limit bytes checksum enough whole =
     let strict : strict_refusal (with_checksum 6 bytes checksum) ≡ strict_refusal bytes = rw (len, field) refl in
     rw (strict, cut_len) refl
 
--- a refused packet, and an accepted packet whose payload is too long
+-- if the packet is refused, its checksum is refused with the same error; otherwise only a payload that is too long is refused
 pub packet_refused : (value_type : ValueType) (limit : ℕ) (bytes : List ℕ) (error : LenError) → strict_refusal bytes ≡ Some error
     → checksum_refusal value_type limit bytes ≡ Some (of_len error)
 packet_refused value_type limit bytes error is =
