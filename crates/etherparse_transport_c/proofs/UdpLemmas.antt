@@ -1,12 +1,8 @@
 -- Laws of the checksum in the bytes of a UDP packet.
-use Rattle.std.proofs.Common.{◌≡◌, ◌≢◌, ℕ, Bool, true, false, Option, None, Some, refl, subst, ◌+◌, ◌-◌, ◌<◌, ◌≤◌, List, [], ◌∷◌, ◌++◌, length, length-take, take, drop, inr, sym, ap, ◌∙◌, arith}
+use Rattle.std.proofs.Common.{◌≡◌, ◌≢◌, ℕ, Bool, true, false, None, refl, subst, ◌+◌, ◌<◌, ◌≤◌, List, [], ◌∷◌, ◌++◌, length, length-take, take, drop, inr, sym, ap, ◌∙◌, arith}
 use Rattle.std.proofs.lemmas.Bool.Decides.{nat_tests}
-use Rattle.std.specs.Option.{option_map}
 use Rattle.net_base.specs.Bytes.{IsBytes}
 use Rattle.net_base.specs.PseudoHeader.{ipv4_pseudo_header, ipv6_pseudo_header, max_len_over_ipv4, max_len_over_ipv6}
-use Rattle.net_base.specs.Refusals.{too_big}
-use Rattle.net_base.specs.declared.err.len_error.LenError.{LenError}
-use Rattle.net_base.specs.declared.err.value_too_big_error.ValueTooBigError.{ValueTooBigError}
 use Rattle.net_base.specs.declared.err.value_type.ValueType.{ValueType}
 use Rattle.net_base.specs.declared.err.value_type.ValueType.TheVariants.{UdpPayloadLengthIpv4, UdpPayloadLengthIpv6}
 use Rattle.word_sum.specs.Checksum.{folded, total, udp_checksum_of}
@@ -16,7 +12,7 @@ use Rattle.udp_part.specs.UdpFormat.{DecodesAs, header_of, max_payload_len, max_
 use Rattle.udp_part.specs.UdpSlice.{cut, length_counts, length_field, strict_refusal}
 use Rattle.udp_part.specs.UdpValidity.{IsValidUdpIpv4, IsValidUdpIpv6, checksum_field}
 use Rattle.etherparse_transport_c.specs.Checksums.{with_checksum}
-use Rattle.etherparse_transport_c.specs.Errors.{Answers, at_front, first_refusal, of_len, of_value}
+use Rattle.etherparse_transport_c.specs.Errors.{Answers, at_front}
 use Rattle.etherparse_transport_c.specs.Numbers as numbers
 use Rattle.etherparse_transport_c.specs.Udp.{TestTellsIpv4, TestTellsIpv6, checksum_refusal, checksummed_ipv4, checksummed_ipv6, fields_of, has_no_checksum, header_in}
 use Rattle.etherparse_transport_c.specs.declared.udp.EtherparseUdpHeader.{EtherparseUdpHeader}
@@ -115,18 +111,6 @@ refusal-with_checksum value_type limit bytes checksum enough whole =
     ap length (cut-with_checksum bytes checksum enough) ∙ length-with_checksum 6 (cut bytes) checksum (omega (arith, whole)) in
     let strict : strict_refusal (with_checksum 6 bytes checksum) ≡ strict_refusal bytes = rw (len, field) refl in
     rw (strict, cut_len) refl
-
--- if the packet is refused, its checksum is refused with the same error; otherwise only a payload that is too long is refused
-pub packet_refused : (value_type : ValueType) (limit : ℕ) (bytes : List ℕ) (error : LenError) → strict_refusal bytes ≡ Some error
-    → checksum_refusal value_type limit bytes ≡ Some (of_len error)
-packet_refused value_type limit bytes error is =
-    ap (λ refusal. first_refusal (option_map of_len refusal) (option_map of_value (too_big value_type limit (length (cut bytes) - 8)))) is
-
-pub refused_by : (value_type : ValueType) (limit : ℕ) (bytes packet : List ℕ) (big : Option (ValueTooBigError ℕ)) → strict_refusal bytes ≡ None
-    → packet ≡ cut bytes → too_big value_type limit (length packet - 8) ≡ big → checksum_refusal value_type limit bytes ≡ option_map of_value big
-refused_by value_type limit bytes packet big accepted kept is =
-    ap (λ refusal. first_refusal (option_map of_len refusal) (option_map of_value (too_big value_type limit (length (cut bytes) - 8)))) accepted
-    ∙ ap (option_map of_value) (sym (ap (λ packet. too_big value_type limit (length packet - 8)) kept) ∙ is)
 
 -- a checksum that is stored is there
 present : (bytes : List ℕ) (sum checksum : ℕ) → 8 ≤ length bytes → 8 ≤ length (cut bytes) → checksum < 65536 → checksum ≡ udp_checksum_of sum

@@ -1,5 +1,0 @@
-use Rattle.std.proofs.Common.{refl}
-use Rattle.etherparse_transport_c.proofs.tcp.has.Goals as goal
-
-pub returns : goal.returns
-returns c = refl
