@@ -1,0 +1,102 @@
+//! The command line of the program `capture_report`.
+
+use crate::expect::{expect_at, expect_equal, expect_ok, expect_some};
+use capture_arguments::{Arguments, no_capture, output_is_capture, requested_options, words_of};
+use std::env::FillError;
+use std::process::Abort;
+
+/// The arguments of a test, the name of the program first.
+#[derive(Drop)]
+struct Given {
+    words: &'static [&'static [u8]],
+}
+
+impl Arguments for Given {
+    ghost holds = { λ arguments place bytes. Unit {0} };
+
+    ghost ends = { λ arguments place. Unit {0} };
+
+    fn argument(&self, place: usize, buffer: &mut [u8]) -> Result<usize, FillError> {
+        let Some(word) = self.words.get(place) else {
+            return Err(FillError::NotPresent);
+        };
+        let Some(room) = buffer.get_mut(..word.len()) else {
+            return Err(FillError::TooLong);
+        };
+        room.copy_from_slice(word);
+        Ok(word.len())
+    }
+}
+
+/// Arguments that are accepted: the number of captures, the file for the packets, and whether lines are written out at once.
+static ACCEPTED: [(&[&[u8]], usize, Option<&str>, bool); 5] = [
+    (&[b"capture_report"], 0, None, false),
+    (&[b"capture_report", b"a.pcap", b"-l"], 1, None, true),
+    (
+        &[b"capture_report", b"-r", b"a.pcap", b"b.pcap"],
+        2,
+        None,
+        false,
+    ),
+    (
+        &[b"capture_report", b"-w", b"-", b"a.pcap"],
+        1,
+        Some("-"),
+        false,
+    ),
+    (&[b"capture_report", b"\xFF.pcap"], 1, None, false),
+];
+
+/// Arguments that are rejected, or request a text, with the exit status.
+static REJECTED: [(&[&[u8]], i32); 6] = [
+    (&[b"capture_report", b"--help"], 0),
+    (&[b"capture_report", b"--version"], 0),
+    (&[b"capture_report", b"--unknown"], 2),
+    (&[b"capture_report", b"--summary", b"--packets"], 2),
+    (&[b"capture_report", b"--port", b"65536"], 2),
+    (&[b"capture_report", b"-w", b"a.pcap", b"a.pcap"], 2),
+];
+
+/// The words of these arguments.
+fn words(rt: &(impl Abort + AllocGlobal), words: &'static [&'static [u8]]) -> Vec<String> {
+    expect_ok(rt, words_of(rt.alloc(), &Given { words }))
+}
+
+/// Stops the test unless the arguments of a row have the options of the row.
+fn expect_options(
+    rt: &(impl Abort + AllocGlobal),
+    row: &(&'static [&'static [u8]], usize, Option<&str>, bool),
+) {
+    let words = words(rt, row.0);
+    let options = expect_some(rt, requested_options(rt.alloc(), words.as_slice()).ok());
+    expect_at(rt, row, &options.files.len(), &row.1);
+    expect_at(rt, row, &options.write, &row.2);
+    expect_at(rt, row, &options.line_buffered, &row.3);
+}
+
+/// Stops the test unless the arguments of a row have the exit status of the row.
+fn expect_rejected(rt: &(impl Abort + AllocGlobal), row: &(&'static [&'static [u8]], i32)) {
+    let words = words(rt, row.0);
+    let error = expect_some(rt, requested_options(rt.alloc(), words.as_slice()).err());
+    expect_at(rt, row, &error.exit_code(), &row.1);
+}
+
+#[test]
+fn arguments_are_options(rt: HostRuntime) {
+    for row in &ACCEPTED {
+        expect_options(&rt, row);
+    }
+}
+
+#[test]
+fn arguments_are_rejected(rt: HostRuntime) {
+    for row in &REJECTED {
+        expect_rejected(&rt, row);
+    }
+}
+
+#[test]
+fn errors_about_the_captures_have_status_2(rt: HostRuntime) {
+    expect_equal(&rt, &no_capture(rt.alloc()).exit_code(), &2);
+    expect_equal(&rt, &output_is_capture(rt.alloc()).exit_code(), &2);
+}
