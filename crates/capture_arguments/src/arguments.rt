@@ -492,7 +492,7 @@ fn count<'a>(alloc: Global) -> Arg<'a>
     .value_parser(value_parser!(u64).range(1..))
 }
 
-/// The command line with the captures, with the option for a capture in the place of a report, and with the option for writing lines.
+/// The command line with the captures, and with the options for writing packets or lines.
 fn with_files<'a>(alloc: Global, command: Command<'a>) -> Result<Command<'a>, AllocError>
     ensures { IfOk result (λ more. app_of more ≡ with_rules (app_of command.entry) (output_rules ++ file_rules)) }
 {
