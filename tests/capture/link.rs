@@ -1,0 +1,400 @@
+use crate::capture::packet::{
+    CUT_OFF, IPV4_UDP, OTHER_PROTOCOL, RIGHT, UDP_OVER_IPV4, read_frame, udp_packet,
+};
+use crate::expect::{expect_at, expect_equal, joined};
+use capture_file::{ByteOrder, LinkType};
+use capture_link::LinkHeaderCutOff;
+use capture_packet::{Content, NetworkProtocol, Packet, Refusal, Verdict};
+use etherparse_transport::ip::IpError;
+use std::process::Abort;
+
+/// LLC and SNAP headers with the ether type of IPv4 (RFC 1042).
+const SNAP: [u8; 8] = [0xAA, 0xAA, 3, 0, 0, 0, 8, 0];
+
+/// The duration, three addresses and the sequence number 1 of a data frame.
+const ADDRESSES: [u8; 22] = [
+    0x2C, 0, 2, 0, 0, 0, 0, 2, 2, 0, 0, 0, 0, 1, 2, 0, 0, 0, 0, 3, 0x10, 0,
+];
+
+/// Stops the test unless the packet in a frame of these parts is the UDP packet, and its checksum is right.
+fn expect_udp(rt: &(impl Abort + AllocGlobal), link_type: LinkType, parts: &[&[u8]]) {
+    let frame = joined(rt, parts);
+    let packet = read_frame(link_type, ByteOrder::BigEndian, &frame, false);
+    let expected = udp_packet(rt);
+    expect_at(rt, &frame, &packet, &expected);
+}
+
+/// Stops the test unless in this frame another protocol comes next, or the frame ends within a link header of this length.
+fn expect_other(
+    rt: &impl Abort,
+    link_type: LinkType,
+    frame: &[u8],
+    expected: Result<NetworkProtocol, usize>,
+) {
+    let len = frame.len();
+    let expected = match expected {
+        Ok(protocol) => Packet::in_no_tunnel(Content::NotIp(protocol), OTHER_PROTOCOL),
+        Err(required_len) => Packet::in_no_tunnel(
+            Content::Unread,
+            Verdict::Refused(Refusal::Link(LinkHeaderCutOff { required_len, len })),
+        ),
+    };
+    let packet = read_frame(link_type, ByteOrder::LittleEndian, frame, false);
+    expect_at(rt, &frame, &packet, &expected);
+}
+
+/// The Frame Control field, and what comes after the sequence number: address 4, QoS Control and HT Control.
+#[rattlefmt::skip]
+static WIRELESS: [(&[u8], &[u8]); 9] = [
+    (&[0x08, 0x01], &[]),
+    (&[0x08, 0x0A], &[]),
+    (&[0x18, 0x00], &[]),
+    (&[0x08, 0x03], &[2, 0, 0, 0, 0, 4]),
+    (&[0x08, 0x81], &[]),
+    (&[0x88, 0x01], &[5, 0x80]),
+    (&[0x88, 0x03], &[0x80, 0, 0, 0, 0, 4, 0x60, 0]),
+    (&[0x88, 0x81], &[0, 0, 1, 2, 3, 4]),
+    (&[0x88, 0x83], &[2, 0, 0, 0, 0, 4, 0, 0, 1, 2, 3, 4]),
+];
+
+/// The link types of such frames, and what comes before them.
+#[rattlefmt::skip]
+static BEFORE_WIRELESS: [(LinkType, &[u8]); 9] = [
+    (LinkType::Ieee80211, &[]),
+    (LinkType::Radiotap, &[0, 0, 8, 0, 0, 0, 0, 0]),
+    (LinkType::Radiotap, &[0, 7, 9, 0, 2, 0, 0, 0, 0x10]),
+    (LinkType::Prism, &[0; 144]),
+    (LinkType::Prism, &[0x80, 0x21, 0x10, 1, 0, 0, 0, 12, 0, 0, 0, 0]),
+    (LinkType::Prism, &[0x80, 0x21, 0x10, 2, 0, 0, 0, 8]),
+    (LinkType::Avs, &[0x80, 0x21, 0x10, 1, 0, 0, 0, 12, 0, 0, 0, 0]),
+    (LinkType::Avs, &[0x80, 0x21, 0x10, 3, 0, 0, 0, 8]),
+    (LinkType::Ppi, &[0, 0, 8, 0, 105, 0, 0, 0]),
+];
+
+/// Stops the test unless the packet in a data frame with these headers is read, after each of the headers before it.
+fn expect_wireless(rt: &(impl Abort + AllocGlobal), frame_control: &[u8], rest: &[u8]) {
+    for (link_type, radiotap) in &BEFORE_WIRELESS {
+        let parts: [&[u8]; 8] = [
+            radiotap,
+            frame_control,
+            &ADDRESSES,
+            rest,
+            &SNAP,
+            &IPV4_UDP,
+            &UDP_OVER_IPV4,
+            &[1, 2, 3, 4],
+        ];
+        expect_udp(rt, *link_type, &parts);
+    }
+}
+
+#[test]
+fn wireless_headers_are_passed_over(rt: HostRuntime) {
+    for (frame_control, rest) in &WIRELESS {
+        expect_wireless(&rt, frame_control, rest);
+    }
+}
+
+/// The Frame Control field, the sequence number's first byte, what comes after it, and the protocol that is found, or the length of the
+/// header that is cut off.
+type WirelessRow = (
+    &'static [u8],
+    &'static [u8],
+    &'static [u8],
+    Result<NetworkProtocol, usize>,
+);
+
+#[rattlefmt::skip]
+static OTHER_WIRELESS: [WirelessRow; 17] = [
+    (&[0x80, 0x00], &[0x10], &[], Ok(NetworkProtocol::Ieee80211 { frame_control: 0x8000 })),
+    (&[0xD4, 0x00], &[0x10], &[], Ok(NetworkProtocol::Ieee80211 { frame_control: 0xD400 })),
+    (&[0x48, 0x01], &[0x10], &SNAP, Ok(NetworkProtocol::Ieee80211 { frame_control: 0x4801 })),
+    (&[0xC8, 0x01], &[0x10], &[0, 0], Ok(NetworkProtocol::Ieee80211 { frame_control: 0xC801 })),
+    (&[0x08, 0x41], &[0x10], &SNAP, Ok(NetworkProtocol::Ieee80211 { frame_control: 0x0841 })),
+    (&[0x08, 0x05], &[0x10], &SNAP, Ok(NetworkProtocol::Ieee80211 { frame_control: 0x0805 })),
+    (&[0x08, 0x01], &[0x11], &SNAP, Ok(NetworkProtocol::Ieee80211 { frame_control: 0x0801 })),
+    (&[0x0C, 0x01], &[0x10], &SNAP, Ok(NetworkProtocol::Ieee80211 { frame_control: 0x0C01 })),
+    (&[0x09, 0x01], &[0x10], &SNAP, Ok(NetworkProtocol::Ieee80211 { frame_control: 0x0901 })),
+    (&[0x88, 0x02], &[0x10], &[0x80, 0], Ok(NetworkProtocol::Ieee80211 { frame_control: 0x8802 })),
+    (&[0x08, 0x01], &[0x10], &[0x42, 0x43, 3], Ok(NetworkProtocol::Llc { dsap: 0x42, ssap: 0x43 })),
+    (
+        &[0x08, 0x01], &[0x10], &[0xAA, 0xAA, 3, 0, 0, 0x0C, 0x20, 0],
+        Ok(NetworkProtocol::Snap { organization_code: 0x0C, protocol: 0x2000 }),
+    ),
+    (&[0x08, 0x01], &[0x10], &[0xAA, 0xAA, 3, 0, 0, 0, 8, 6], Ok(NetworkProtocol::EtherType(0x0806))),
+    (&[0x08, 0x01], &[0x10], &[0xAA, 0xAA], Err(27)),
+    (&[0x08, 0x01], &[0x10], &[0xAA, 0xAA, 3, 0, 0, 0, 8], Err(32)),
+    (&[0x88, 0x03], &[0x10], &[0, 0, 0, 0, 0, 0, 0], Err(32)),
+    (&[0x88, 0x81], &[0x10], &[0, 0], Err(30)),
+];
+
+/// Stops the test unless the frame of a row has the protocol of the row, or ends within its header.
+fn expect_other_wireless(rt: &(impl Abort + AllocGlobal), row: &WirelessRow) {
+    let (frame_control, sequence, rest, expected) = *row;
+    let parts: [&[u8]; 5] = [frame_control, &ADDRESSES[..20], sequence, &[0], rest];
+    let frame = joined(rt, &parts);
+    expect_other(rt, LinkType::Ieee80211, &frame, expected);
+}
+
+#[test]
+fn other_wireless_frames(rt: HostRuntime) {
+    for row in &OTHER_WIRELESS {
+        expect_other_wireless(&rt, row);
+    }
+}
+
+#[rattlefmt::skip]
+static RADIOTAP: [(&[u8], Result<NetworkProtocol, usize>); 6] = [
+    (&[0, 0, 8, 0, 0, 0, 0], Err(8)),
+    (&[0, 0, 8, 0, 0, 0, 0, 0, 0x80], Err(10)),
+    (&[0, 0, 0, 1, 0, 0, 0, 0, 0x80, 0], Err(258)),
+    (&[1, 0, 8, 0, 0, 0, 0, 0, 0x80, 0], Ok(NetworkProtocol::Radiotap { version: 1, len: 8 })),
+    (&[0, 0, 7, 0, 0, 0, 0, 0, 0x80, 0], Ok(NetworkProtocol::Radiotap { version: 0, len: 7 })),
+    (&[0, 0, 9, 0, 0, 0, 0, 0, 8, 0x80, 0], Ok(NetworkProtocol::Ieee80211 { frame_control: 0x8000 })),
+];
+
+#[test]
+fn radiotap_headers(rt: HostRuntime) {
+    for (frame, expected) in &RADIOTAP {
+        expect_other(&rt, LinkType::Radiotap, frame, *expected);
+    }
+}
+
+#[rattlefmt::skip]
+static SERIAL: [(LinkType, &[u8]); 20] = [
+    (LinkType::Ppp, &[0xFF, 3, 0, 0x21]),
+    (LinkType::Ppp, &[0, 0x21]),
+    (LinkType::Ppp, &[0x21]),
+    (LinkType::Ppp, &[0xFF, 3, 0x21]),
+    (LinkType::Ppp, &[0, 0x57]),
+    (LinkType::Ppp, &[0x57]),
+    (LinkType::Ppp, &[0xFF, 3, 2, 0x81, 0, 1, 1, 64]),
+    (LinkType::Ppp, &[2, 0x83, 0, 1, 0, 64, 0, 2, 1, 63]),
+    (LinkType::PppHdlc, &[0xFF, 3, 0, 0x21]),
+    (LinkType::PppHdlc, &[0x21]),
+    (LinkType::PppHdlc, &[0x0F, 0, 8, 0]),
+    (LinkType::PppHdlc, &[0x8F, 0, 0x86, 0xDD]),
+    (LinkType::FrameRelay, &[0x18, 0x41, 3, 0xCC]),
+    (LinkType::FrameRelay, &[0xFE, 0xFF, 3, 0, 0xCC]),
+    (LinkType::FrameRelay, &[0x18, 0x41, 8, 0]),
+    (LinkType::FrameRelay, &[0, 1, 0x86, 0xDD]),
+    (LinkType::FrameRelay, &[0, 1, 3, 0x8E]),
+    (LinkType::FrameRelay, &[0, 1, 3, 0x80, 0, 0, 0, 8, 0]),
+    (LinkType::FrameRelay, &[0, 1, 3, 0, 0x80, 0, 0, 0, 8, 0]),
+    (LinkType::FrameRelay, &[0, 1, 3, 0, 0x80, 0, 0, 0, 0x81, 0, 0, 1, 8, 0]),
+];
+
+#[test]
+fn headers_of_serial_lines_are_passed_over(rt: HostRuntime) {
+    for (link_type, header) in &SERIAL {
+        expect_udp(&rt, *link_type, &[header, &IPV4_UDP, &UDP_OVER_IPV4]);
+    }
+}
+
+/// The link type, a frame, and its protocol, or the length of the header that is cut off.
+type SerialRow = (LinkType, &'static [u8], Result<NetworkProtocol, usize>);
+
+#[rattlefmt::skip]
+static OTHER_SERIAL: [SerialRow; 25] = [
+    (LinkType::Ppp, &[0xFF, 3, 0xC0, 0x21], Ok(NetworkProtocol::PppProtocol(0xC021))),
+    (LinkType::Ppp, &[0x80, 0x21], Ok(NetworkProtocol::PppProtocol(0x8021))),
+    (LinkType::Ppp, &[0xFD, 0x21], Ok(NetworkProtocol::PppProtocol(0xFD))),
+    (LinkType::Ppp, &[0xFF], Ok(NetworkProtocol::PppProtocol(0xFF))),
+    (LinkType::Ppp, &[0xFF, 2, 0, 0x21], Ok(NetworkProtocol::PppProtocol(0xFF))),
+    (LinkType::Ppp, &[], Err(1)),
+    (LinkType::Ppp, &[0], Err(2)),
+    (LinkType::Ppp, &[0xFF, 3], Err(3)),
+    (LinkType::Ppp, &[0xFF, 3, 0], Err(4)),
+    (LinkType::Ppp, &[0x0F, 0, 8, 0], Ok(NetworkProtocol::PppProtocol(0x0F))),
+    (LinkType::Ppp, &[2, 0x81, 0, 1, 1, 64, 0], Ok(NetworkProtocol::PppProtocol(0x0281))),
+    (LinkType::Ppp, &[0xFF, 3, 2, 0x83, 0, 1, 1], Err(8)),
+    (LinkType::PppHdlc, &[], Err(1)),
+    (LinkType::PppHdlc, &[0x8F, 0, 0x80], Err(4)),
+    (LinkType::PppHdlc, &[0x8F, 0, 0x80, 0x35], Ok(NetworkProtocol::EtherType(0x8035))),
+    (LinkType::FrameRelay, &[0, 1, 3], Err(4)),
+    (LinkType::FrameRelay, &[0, 1, 3, 0], Err(5)),
+    (LinkType::FrameRelay, &[0, 1, 3, 0x80, 0, 0, 0, 8], Err(9)),
+    (LinkType::FrameRelay, &[0, 1, 3, 8], Ok(NetworkProtocol::Nlpid(8))),
+    (LinkType::FrameRelay, &[0, 1, 0x7F, 0xCC], Ok(NetworkProtocol::FrameRelay { header: 0x17F })),
+    (LinkType::FrameRelay, &[0x18, 0x41, 8, 6], Ok(NetworkProtocol::FrameRelay { header: 0x18_4108 })),
+    (LinkType::FrameRelay, &[0, 0, 8, 0], Ok(NetworkProtocol::FrameRelay { header: 8 })),
+    (LinkType::FrameRelay, &[1, 1, 8, 0], Ok(NetworkProtocol::FrameRelay { header: 0x1_0108 })),
+    (LinkType::FrameRelay, &[0, 0, 3, 0xCC], Ok(NetworkProtocol::FrameRelay { header: 3 })),
+    (LinkType::FrameRelay, &[1, 1, 3, 0xCC], Ok(NetworkProtocol::FrameRelay { header: 0x1_0103 })),
+];
+
+#[test]
+fn other_frames_of_serial_lines(rt: HostRuntime) {
+    for (link_type, frame, expected) in &OTHER_SERIAL {
+        expect_other(&rt, *link_type, frame, *expected);
+    }
+}
+
+/// What comes after the addresses of an Ethernet frame, in front of an IPv4 packet.
+#[rattlefmt::skip]
+static ETHER_TYPES: [&[u8]; 8] = [
+    &[0x88, 0x64, 0x11, 0, 0, 1, 0, 33, 0, 0x21],
+    &[0x81, 0, 0, 5, 0x88, 0x64, 0x11, 0, 0xFF, 0xFF, 0, 33, 0, 0x57],
+    &[0x88, 0x47, 0, 1, 1, 64],
+    &[0x88, 0x48, 0, 1, 0, 64, 0, 2, 0xFE, 63, 0, 3, 0xFF, 62],
+    &[0x81, 0, 0, 5, 0x88, 0x47, 0, 1, 1, 64],
+    &[0x88, 0x47, 0, 1, 0, 64, 0, 0, 1, 64],
+    &[0x92, 0, 0, 5, 8, 0],
+    &[0x92, 0, 0, 5, 0x92, 0, 0, 6, 0x81, 0, 0, 7, 8, 0],
+];
+
+/// Stops the test unless the packet in an Ethernet frame with these bytes after its addresses is read.
+fn expect_in_ethernet(rt: &(impl Abort + AllocGlobal), after: &[u8]) {
+    let parts: [&[u8]; 4] = [&ADDRESSES[2..14], after, &IPV4_UDP, &UDP_OVER_IPV4];
+    expect_udp(rt, LinkType::Ethernet, &parts);
+}
+
+#[test]
+fn headers_after_an_ether_type_are_passed_over(rt: HostRuntime) {
+    for after in &ETHER_TYPES {
+        expect_in_ethernet(&rt, after);
+    }
+}
+
+/// What comes after the addresses of an Ethernet frame, and its protocol, or the length of the header that is cut off.
+type EthernetRow = (&'static [u8], Result<NetworkProtocol, usize>);
+
+#[rattlefmt::skip]
+static OTHER_ETHER_TYPES: [EthernetRow; 31] = [
+    (&[0x88, 0x64, 0x11, 0, 0, 1, 0], Err(20)),
+    (&[0x88, 0x64, 0x11, 0, 0, 1, 0, 2], Err(21)),
+    (&[0x88, 0x64, 0x11, 0, 0, 1, 0, 2, 0], Err(22)),
+    (&[0x88, 0x64, 0x11, 0, 0, 1, 0, 2, 0xC0, 0x21], Ok(NetworkProtocol::PppProtocol(0xC021))),
+    (&[0x88, 0x64, 0x11, 0, 0, 1, 0, 3, 0xC0, 0x21], Ok(NetworkProtocol::PppProtocol(0xC021))),
+    (&[0x88, 0x64, 0x11, 0, 0, 1, 0, 1, 0xC1, 0x21], Ok(NetworkProtocol::PppProtocol(0xC1))),
+    (&[0x88, 0x64, 0x11, 0, 0, 1, 0, 1, 0xC0, 0x21], Ok(NetworkProtocol::EtherType(0x8864))),
+    (&[0x88, 0x64, 0x11, 0, 0, 1, 0, 0, 0xC0, 0x21], Ok(NetworkProtocol::EtherType(0x8864))),
+    (&[0x88, 0x64, 0x11, 0, 0, 1, 0, 0], Ok(NetworkProtocol::EtherType(0x8864))),
+    (&[0x88, 0x64, 0x11, 0, 0, 1, 0, 6, 2, 0x81, 0, 1, 1, 64, 0x45], Ok(NetworkProtocol::EtherType(0x8864))),
+    (&[0x88, 0x64, 0x11, 0xA7, 0, 1, 0, 0], Ok(NetworkProtocol::EtherType(0x8864))),
+    (&[0x88, 0x64, 0x21, 0, 0, 1, 0, 2, 0, 0x21], Ok(NetworkProtocol::EtherType(0x8864))),
+    (&[0x88, 0x63, 0x11, 9, 0, 0, 0, 0], Ok(NetworkProtocol::EtherType(0x8863))),
+    (&[0x88, 0x47, 0, 1, 1], Err(18)),
+    (&[0x88, 0x47, 0, 1, 0, 64], Err(22)),
+    (&[0x88, 0x47, 0, 1, 0, 64, 0, 2, 0, 64, 0, 3, 1], Err(26)),
+    (&[0x88, 0x47, 0, 1, 1, 64], Err(19)),
+    (&[0x88, 0x47, 0, 1, 1, 64, 0x00], Ok(NetworkProtocol::EtherType(0x8847))),
+    (&[0x88, 0x48, 0, 1, 1, 64, 0x50], Ok(NetworkProtocol::EtherType(0x8848))),
+    (&[0x81, 0, 0, 1, 0x88, 0x47, 0, 1, 1, 64], Err(23)),
+    (&[0x88, 0x47, 0, 1, 1, 64, 0x44], Ok(NetworkProtocol::EtherType(0x8847))),
+    (&[0x88, 0x47, 0, 1, 1, 64, 0x70], Ok(NetworkProtocol::EtherType(0x8847))),
+    (&[0, 38, 0x42, 0x42, 3], Ok(NetworkProtocol::Llc { dsap: 0x42, ssap: 0x42 })),
+    (&[5, 0xFF, 0xAA, 0xAA, 3, 0, 0, 0x0C, 0x20, 0], Ok(NetworkProtocol::Snap { organization_code: 0x0C, protocol: 0x2000 })),
+    (&[0, 8, 0xAA, 0xAA, 3, 0, 0, 0, 8, 6], Ok(NetworkProtocol::EtherType(0x0806))),
+    (&[0, 4, 0xFE, 0xFE, 3, 0x83], Ok(NetworkProtocol::Nlpid(0x83))),
+    (&[0, 3, 0xFE, 0xFE, 3], Err(18)),
+    (&[0, 2, 0x42, 0x42], Err(17)),
+    (&[0, 7, 0xAA, 0xAA, 3, 0, 0, 0, 8], Err(22)),
+    (&[6, 0, 0x42, 0x42, 3], Ok(NetworkProtocol::EtherType(0x0600))),
+    (&[0x81, 0, 0, 1, 0, 3, 0x42, 0x42, 3], Ok(NetworkProtocol::Llc { dsap: 0x42, ssap: 0x42 })),
+];
+
+/// Stops the test unless the Ethernet frame of a row has the protocol of the row, or ends within its header.
+fn expect_other_ether_type(rt: &(impl Abort + AllocGlobal), row: &EthernetRow) {
+    let (after, expected) = *row;
+    let frame = joined(rt, &[&ADDRESSES[2..14], after]);
+    expect_other(rt, LinkType::Ethernet, &frame, expected);
+}
+
+#[test]
+fn other_headers_after_an_ether_type(rt: HostRuntime) {
+    for row in &OTHER_ETHER_TYPES {
+        expect_other_ether_type(&rt, row);
+    }
+}
+
+/// The link types of frames of PPPoE, and what comes before the PPPoE header.
+static BEFORE_SESSION: [(LinkType, &[u8]); 2] = [
+    (
+        LinkType::Ethernet,
+        &[2, 0, 0, 0, 0, 2, 2, 0, 0, 0, 0, 1, 0x88, 0x64],
+    ),
+    (LinkType::PppOverEthernet, &[]),
+];
+
+/// The length in a PPPoE header, and the verdict on the frame. After the PPP protocol number it has a UDP packet of 31 bytes, and four bytes
+/// of padding.
+#[rattlefmt::skip]
+static PAYLOAD_LENS: [(u8, Verdict); 8] = [
+    (0, OTHER_PROTOCOL),
+    (1, OTHER_PROTOCOL),
+    (2, Verdict::Refused(Refusal::Ip(IpError::HeaderCutOff { required_len: 1, len: 0 }))),
+    (21, Verdict::Refused(Refusal::Ip(IpError::HeaderCutOff { required_len: 20, len: 19 }))),
+    (32, CUT_OFF),
+    (33, RIGHT),
+    (37, RIGHT),
+    (38, RIGHT),
+];
+
+/// Stops the test unless this is the verdict on a frame with this length in its PPPoE header, after these bytes.
+fn expect_verdict(
+    rt: &(impl Abort + AllocGlobal),
+    link_type: LinkType,
+    before: &[u8],
+    len: u8,
+    is_cut: bool,
+    expected: &Verdict,
+) {
+    let header = [0x11, 0, 0, 1, 0, len, 0, 0x21];
+    let parts: [&[u8]; 5] = [before, &header, &IPV4_UDP, &UDP_OVER_IPV4, &[0xEE; 4]];
+    let frame = joined(rt, &parts);
+    let packet = read_frame(link_type, ByteOrder::BigEndian, &frame, is_cut);
+    expect_at(rt, &len, &packet.verdict, expected);
+}
+
+/// Stops the test unless this is the verdict on the frames of each link type with this length, whether the capture cut them or not.
+fn expect_verdicts(rt: &(impl Abort + AllocGlobal), len: u8, expected: &Verdict) {
+    for (link_type, before) in &BEFORE_SESSION {
+        expect_verdict(rt, *link_type, before, len, false, expected);
+        expect_verdict(rt, *link_type, before, len, true, expected);
+    }
+}
+
+#[test]
+fn payloads_of_pppoe_end_at_their_length(rt: HostRuntime) {
+    for (len, expected) in &PAYLOAD_LENS {
+        expect_verdicts(&rt, *len, expected);
+    }
+}
+
+/// Stops the test unless the payload of the packet in a frame of PPPoE has three bytes, and is of another protocol.
+fn expect_three_bytes(rt: &impl Abort, frame: &[u8], is_cut: bool) {
+    let link_type = LinkType::PppOverEthernet;
+    let packet = read_frame(link_type, ByteOrder::BigEndian, frame, is_cut);
+    let is_counted = matches!(packet.content, Content::Ip { payload_len: 3, .. });
+    expect_equal(rt, &is_counted, &true);
+    expect_equal(rt, &packet.verdict, &OTHER_PROTOCOL);
+}
+
+#[test]
+fn packets_without_a_length_end_with_their_pppoe_payload(rt: HostRuntime) {
+    let frame = [
+        0x11, 0, 0, 1, 0, 25, 0, 0x21, 0x45, 0, 0, 0, 0, 1, 0x40, 0, 64, 200, 0, 0, 10, 0, 0, 1,
+        10, 0, 0, 2, 1, 2, 3, 0xEE, 0xEE,
+    ];
+    expect_three_bytes(&rt, &frame, false);
+    expect_three_bytes(&rt, &frame, true);
+}
+
+/// Stops the test unless this is the verdict on a frame of PPPoE that ends before its payload.
+fn expect_early_end(rt: &impl Abort, is_cut: bool, expected: Verdict) {
+    let link_type = LinkType::PppOverEthernet;
+    let frame = [0x11, 0, 0, 1, 0, 33, 0, 0x21, 0x45, 0, 0];
+    let packet = read_frame(link_type, ByteOrder::BigEndian, &frame, is_cut);
+    expect_equal(rt, &packet.verdict, &expected);
+}
+
+#[test]
+fn frames_end_before_their_pppoe_payload(rt: HostRuntime) {
+    expect_early_end(&rt, true, CUT_OFF);
+    let refusal = IpError::HeaderCutOff {
+        required_len: 20,
+        len: 3,
+    };
+    expect_early_end(&rt, false, Verdict::Refused(Refusal::Ip(refusal)));
+}

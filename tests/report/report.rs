@@ -1,0 +1,795 @@
+mod named;
+mod selection;
+
+use crate::expect::{
+    append, expect_all_written, expect_at, expect_equal, expect_ok, expect_some, expect_written,
+    joined, joined_in, joined_texts,
+};
+use capture_run::{Choice, ExitStatus, Format, Lines, Open, Parts, STANDARD_INPUT, Times, run};
+use capture_summary::{BUSIEST, MAX_CHOSEN};
+use std::alloc::{AllocError, Global};
+use std::hash::RandomState;
+use std::io;
+use std::io::{ErrorKind, Read, Write};
+use std::process::Abort;
+use std::random::RandomSource;
+
+/// The whole report.
+const ALL: Parts = Parts {
+    choice: Choice::ALL,
+    lines: Lines::All,
+    times: Times::SinceFirst,
+    verbose: false,
+    summary: true,
+    format: Format::Text,
+    top: BUSIEST,
+    check: false,
+    limit: None,
+};
+
+/// Only the lines of packets.
+const ONLY_LINES: Parts = Parts {
+    summary: false,
+    ..ALL
+};
+
+/// A UDP packet over IPv4, from 192.0.2.1, port 7, to 192.0.2.2, port 9, with a payload of 1 byte. Its checksum is right.
+const UDP: [u8; 29] = [
+    0x45, 0, 0, 29, 0, 1, 0x40, 0, 64, 17, 0, 0, 192, 0, 2, 1, 192, 0, 2, 2, // IPv4
+    0, 7, 0, 9, 0, 9, 0x19, 0xC8, 0x62, // UDP
+];
+
+/// The line of this packet alone.
+const LINE: &str =
+    "1 00:00:00.000000 length 29: 192.0.2.1:7 > 192.0.2.2:9 UDP length 9, payload 1; checksum right\n";
+
+/// The end of this line, after the length of the frame.
+const AFTER_LENGTH: &str = "192.0.2.1:7 > 192.0.2.2:9 UDP length 9, payload 1; checksum right\n";
+
+/// The number of a link type, what comes before an IPv4 packet, and the length of the frame.
+type LinkRow = (u32, &'static [u8], &'static str);
+
+#[rattlefmt::skip]
+static LINKS: [LinkRow; 5] = [
+    (1, &[2, 0, 0, 0, 0, 2, 2, 0, 0, 0, 0, 1, 0x08, 0x00], "43"),
+    (1, &[2, 0, 0, 0, 0, 2, 2, 0, 0, 0, 0, 1, 0x81, 0x00, 0, 5, 0x08, 0x00], "47"),
+    (101, &[], "29"),
+    (113, &[0, 0, 0, 1, 0, 6, 2, 0, 0, 0, 0, 1, 0, 0, 0x08, 0x00], "45"),
+    (276, &[0x08, 0x00, 0, 0, 0, 0, 0, 1, 0, 1, 0, 6, 2, 0, 0, 0, 0, 1, 0, 0], "49"),
+];
+
+/// The bytes of a number, in little-endian or in big-endian order.
+fn number_bytes(is_little_endian: bool, number: u32) -> [u8; 4] {
+    if is_little_endian {
+        number.to_le_bytes()
+    } else {
+        number.to_be_bytes()
+    }
+}
+
+/// A capture of this link type with one packet, after these bytes of its link.
+fn capture(
+    alloc: Global,
+    is_little_endian: bool,
+    link_type: u32,
+    link: &[u8],
+) -> Result<Vec<u8>, AllocError> {
+    let len = u32::try_from(UDP.len() + link.len()).unwrap_or(u32::MAX);
+    // Version 2.4, in two numbers of two bytes.
+    let version = if is_little_endian { 0x4_0002 } else { 0x2_0004 };
+    let number = [
+        number_bytes(is_little_endian, 0xA1B2_C3D4),
+        number_bytes(is_little_endian, version),
+        number_bytes(is_little_endian, link_type),
+        number_bytes(is_little_endian, 5),
+        number_bytes(is_little_endian, 7),
+        number_bytes(is_little_endian, len),
+    ];
+    // The magic number, the version, what is not looked at, the link type, the time and both lengths.
+    let [magic, version, link_type, seconds, fraction, len] = &number;
+    let parts: [&[u8]; 10] = [
+        magic, version, &[0; 12], link_type, seconds, fraction, len, len, link, &UDP,
+    ];
+    joined_in(alloc, &parts)
+}
+
+/// A big-endian capture of raw IP of the UDP packet.
+fn raw_capture(alloc: Global) -> Result<Vec<u8>, AllocError> {
+    capture(alloc, false, 101, &[])
+}
+
+/// The same capture, in which the byte at this place is this one.
+fn changed_capture(alloc: Global, place: usize, byte: u8) -> Result<Vec<u8>, AllocError> {
+    let mut bytes = raw_capture(alloc)?;
+    if let Some(changed) = bytes.as_mut_slice().get_mut(place) {
+        *changed = byte;
+    }
+    Ok(bytes)
+}
+
+/// A capture of the UDP packet, and of another one to this port.
+fn two_packets(rt: &(impl Abort + AllocGlobal), port: u8) -> Vec<u8> {
+    let first = expect_ok(rt, raw_capture(rt.alloc()));
+    let second = expect_ok(rt, changed_capture(rt.alloc(), 63, port));
+    let packet = expect_some(rt, second.as_slice().get(24..));
+    joined(rt, &[first.as_slice(), packet])
+}
+
+/// Captures by their names.
+#[derive(Drop)]
+struct Captures<'a> {
+    named: &'a [(&'a str, &'a [u8])],
+}
+
+impl<'a> Open for Captures<'a> {
+    type Input = &'a [u8];
+
+    ghost opens = { λ captures name input. Unit {0} };
+
+    ghost misses = { λ captures name. Unit {0} };
+
+    fn open(&self, name: &str) -> io::Result<&'a [u8]> {
+        for (given, bytes) in self.named {
+            if *given == name {
+                return Ok(*bytes);
+            }
+        }
+        Err(io::Error::from(ErrorKind::NotFound))
+    }
+}
+
+/// Runs a report into this output, and returns the exit status and what it wrote to standard error.
+fn run_into<O: Open, W: Write>(
+    rt: &(impl Abort + AllocGlobal + RandomSource),
+    parts: Parts,
+    names: &[&str],
+    opener: &O,
+    output: &mut W,
+) -> (u8, Vec<u8>) {
+    let state = expect_ok(rt, RandomState::new(rt));
+    let mut errors = Vec::new(rt.alloc());
+    let status = match run(rt.alloc(), state, parts, names, opener, output, &mut errors) {
+        Ok(status) => status,
+        Err(_) => ExitStatus::Failed,
+    };
+    (status.number(), errors)
+}
+
+/// What a run wrote, and its status.
+#[derive(Drop)]
+struct Ran {
+    status: u8,
+    output: Vec<u8>,
+    errors: Vec<u8>,
+}
+
+fn run_over<O: Open>(
+    rt: &(impl Abort + AllocGlobal + RandomSource),
+    parts: Parts,
+    names: &[&str],
+    opener: &O,
+) -> Ran {
+    let mut output = Vec::new(rt.alloc());
+    let (status, errors) = run_into(rt, parts, names, opener, &mut output);
+    Ran {
+        status,
+        output,
+        errors,
+    }
+}
+
+/// Runs a report of this capture as standard input, without a name.
+fn run_alone(rt: &(impl Abort + AllocGlobal + RandomSource), parts: Parts, input: &[u8]) -> Ran {
+    let named = [(STANDARD_INPUT, input)];
+    run_over(rt, parts, &[], &Captures { named: &named })
+}
+
+/// Stops the test unless a run has this status, and writes this output and these errors.
+fn expect_ran(rt: &impl Abort, ran: &Ran, status: u8, output: &str, errors: &str) {
+    expect_equal(rt, &ran.status, &status);
+    expect_written(rt, &ran.output, output);
+    expect_written(rt, &ran.errors, errors);
+}
+
+/// Stops the test unless a run over this capture that writes only lines has this status, and writes this output and these errors.
+fn expect_run(
+    rt: &(impl Abort + AllocGlobal + RandomSource),
+    input: &[u8],
+    status: u8,
+    output: &str,
+    errors: &str,
+) {
+    let ran = run_alone(rt, ONLY_LINES, input);
+    expect_ran(rt, &ran, status, output, errors);
+}
+
+/// The first bytes of a capture, or all of it if it has fewer.
+fn first_bytes(bytes: &[u8], len: usize) -> &[u8] {
+    &bytes[..len.min(bytes.len())]
+}
+
+/// Stops the test unless a run has this status, and an output that begins with these texts.
+fn expect_first_text(rt: &(impl Abort + AllocGlobal), ran: &Ran, status: u8, wanted: [&str; 3]) {
+    expect_equal(rt, &ran.status, &status);
+    let wanted = joined_texts(rt, &wanted);
+    let written = first_bytes(&ran.output, wanted.len());
+    expect_equal(rt, &written, &wanted.as_slice());
+}
+
+/// Stops the test unless the packet of a capture with the link type of a row has a line.
+fn expect_link(
+    rt: &(impl Abort + AllocGlobal + RandomSource),
+    row: &LinkRow,
+    is_little_endian: bool,
+) {
+    let (link_type, link, len) = *row;
+    let bytes = expect_ok(rt, capture(rt.alloc(), is_little_endian, link_type, link));
+    let ran = run_alone(rt, ONLY_LINES, &bytes);
+    expect_equal(rt, &ran.status, &0);
+    let start = "1 00:00:00.000000 length ";
+    expect_all_written(rt, &ran.output, &[start, len, ": ", AFTER_LENGTH]);
+    expect_written(rt, &ran.errors, "");
+}
+
+#[test]
+fn every_link_and_order_is_read(rt: HostRuntime) {
+    for row in &LINKS {
+        expect_link(&rt, row, false);
+        expect_link(&rt, row, true);
+    }
+}
+
+/// Inputs that are no captures, and the error of each.
+#[rattlefmt::skip]
+const NO_CAPTURES: [(&[u8], &str); 11] = [
+    (&[], "capture_report: The header of a capture has 24 bytes, and the input contains 0.\n"),
+    (b"\x0A\x0D\x0D\x0A and so on",
+     "capture_report: The byte-order magic of the section, its bytes 8 to 11, is 0x20736f20.\n"),
+    (b"\x0A\x0D\x0D\x0A\x10\0\0\0\x4D\x3C\x2B\x1A\x10\0\0\0",
+     "capture_report: The section header block has 16 bytes, and needs at least 28.\n"),
+    (b"PK\x03\x04, and then twenty bytes",
+     "capture_report: The input is no capture: its first four bytes are 0x504b0304.\n"),
+    (b"\x1F\x8B\x08\0, and then twenty bytes",
+     "capture_report: The capture is compressed, and is read by gzip -dc FILE | capture_report.\n"),
+    (b"\x28\xB5\x2F\xFD, and then twenty bytes",
+     "capture_report: The capture is compressed, and is read by zstd -dc FILE | capture_report.\n"),
+    (b"\x1F\x9D\x90\0, and then twenty bytes",
+     "capture_report: The capture is compressed, and is read by gzip -dc FILE | capture_report.\n"),
+    (b"\xFD7zX, and then twenty bytes",
+     "capture_report: The capture is compressed, and is read by xz -dc FILE | capture_report.\n"),
+    (b"BZh1, and then twenty bytes",
+     "capture_report: The capture is compressed, and is read by bzip2 -dc FILE | capture_report.\n"),
+    (b"BZh9, and then twenty bytes",
+     "capture_report: The capture is compressed, and is read by bzip2 -dc FILE | capture_report.\n"),
+    (b"\x04\x22\x4D\x18, and then twenty bytes",
+     "capture_report: The capture is compressed, and is read by lz4 -dc FILE | capture_report.\n"),
+];
+
+/// How many bytes of a capture there are, and the status and the error.
+#[rattlefmt::skip]
+const CUT_CAPTURES: [(usize, u8, &str); 3] = [
+    (23, 2, "capture_report: The header of a capture has 24 bytes, and the input contains 23.\n"),
+    (39, 1,
+     "capture_report: Packet 1, at byte 24 of the capture: its record has at least 16 bytes, and 15 are left.\n"),
+    (68, 1,
+     "capture_report: Packet 1, at byte 24 of the capture: its record has at least 45 bytes, and 44 are left.\n"),
+];
+
+#[test]
+fn faults_of_a_capture_are_named(rt: HostRuntime) {
+    for (input, error) in &NO_CAPTURES {
+        expect_run(&rt, input, 2, "", error);
+    }
+    let whole = expect_ok(&rt, capture(rt.alloc(), true, 101, &[]));
+    for (len, status, error) in &CUT_CAPTURES {
+        expect_run(&rt, first_bytes(&whole, *len), *status, "", error);
+    }
+}
+
+/// The section header block of a pcapng file, little-endian.
+const SECTION: &[u8] =
+    b"\x0A\x0D\x0D\x0A\x1C\0\0\0\x4D\x3C\x2B\x1A\x01\0\0\0\xFF\xFF\xFF\xFF\xFF\xFF\xFF\xFF\x1C\0\0\0";
+
+/// The description of an interface of raw IP.
+const RAW_IP: &[u8] = b"\x01\0\0\0\x14\0\0\0\x65\0\0\0\0\0\0\0\x14\0\0\0";
+
+/// The description of an interface whose link type, 147, is not read, with nanoseconds.
+const OTHER_LINK: &[u8] = b"\x01\0\0\0\x1C\0\0\0\x93\0\0\0\0\0\0\0\x09\0\x01\0\x09\0\0\0\x1C\0\0\0";
+
+/// A block of another type, which is passed over.
+const OTHER_BLOCK: &[u8] = b"\x05\0\0\0\x0C\0\0\0\x0C\0\0\0";
+
+/// What comes before the UDP packet in an enhanced packet block of the first interface, 5 units after the beginning of 1970.
+const ENHANCED: &[u8] = b"\x06\0\0\0\x40\0\0\0\0\0\0\0\0\0\0\0\x05\0\0\0\x1D\0\0\0\x1D\0\0\0";
+
+/// The same of the second interface, a unit later.
+const ENHANCED_OF_SECOND: &[u8] =
+    b"\x06\0\0\0\x40\0\0\0\x01\0\0\0\0\0\0\0\x06\0\0\0\x1D\0\0\0\x1D\0\0\0";
+
+/// What comes after it: the padding, and the length again.
+const ENHANCED_END: &[u8] = b"\0\0\0\x40\0\0\0";
+
+/// The same in a simple packet block.
+const SIMPLE: &[u8] = b"\x03\0\0\0\x30\0\0\0\x1D\0\0\0";
+
+const SIMPLE_END: &[u8] = b"\0\0\0\x30\0\0\0";
+
+/// The parts of a file, and the status, the output and the errors of its report.
+type FileRow = (&'static [&'static [u8]], u8, &'static str, &'static str);
+
+#[rattlefmt::skip]
+static PCAPNG_FILES: [FileRow; 5] = [
+    (&[SECTION, RAW_IP, OTHER_BLOCK, ENHANCED, &UDP, ENHANCED_END], 0, LINE, ""),
+    (&[SECTION, RAW_IP, OTHER_LINK, ENHANCED, &UDP, ENHANCED_END, ENHANCED_OF_SECOND, &UDP, ENHANCED_END], 0,
+     "1 00:00:00.000000 length 29: 192.0.2.1:7 > 192.0.2.2:9 UDP length 9, payload 1; checksum right\n2 -00:00:00.000004994 length 29: link type 147\n",
+     ""),
+    (&[SECTION, RAW_IP, SIMPLE, &UDP, SIMPLE_END], 0, "1 - length 29: 192.0.2.1:7 > 192.0.2.2:9 UDP length 9, payload 1; checksum right\n", ""),
+    (&[SECTION, RAW_IP, ENHANCED, &UDP, ENHANCED_END, ENHANCED_OF_SECOND, &UDP, ENHANCED_END], 1, LINE,
+     "capture_report: At byte 112 of the file: The packet is of interface 1, and the section has 1.\n"),
+    (&[SECTION, RAW_IP, OTHER_BLOCK, ENHANCED, &UDP], 1, "",
+     "capture_report: Packet 1, at byte 60 of the capture: its record has at least 64 bytes, and 57 are left.\n"),
+];
+
+/// Stops the test unless the file of a row has the report of the row.
+fn expect_file(rt: &(impl Abort + AllocGlobal + RandomSource), row: &FileRow) {
+    let (parts, status, output, errors) = *row;
+    expect_run(rt, &joined(rt, parts), status, output, errors);
+}
+
+#[test]
+fn pcapng_files_are_reported(rt: HostRuntime) {
+    for row in &PCAPNG_FILES {
+        expect_file(&rt, row);
+    }
+}
+
+/// The summary of a pcapng file of two interfaces and one of its packets, in each format.
+#[rattlefmt::skip]
+const OF_TWO_INTERFACES: [(Format, &str); 2] = [
+    (Format::Text,
+     "file type pcapng, byte order little-endian, interfaces 2\ninterface 0, snap length 0, time resolution 10^-6 s\ninterface 1, snap length 0, time resolution 10^-9 s\npackets 1, "),
+    (Format::Json,
+     r#"{"type":"summary","file_type":"pcapng","byte_order":"little-endian","interfaces":[{"snap_length":0,"time_resolution":"10^-6 s"},{"snap_length":0,"time_resolution":"10^-9 s"}],"packets":1,"#),
+];
+
+/// Stops the test unless the summary in this format begins with this text.
+fn expect_totals(
+    rt: &(impl Abort + AllocGlobal + RandomSource),
+    bytes: &[u8],
+    format: Format,
+    wanted: &str,
+) {
+    let parts = Parts {
+        lines: Lines::None,
+        format,
+        ..ALL
+    };
+    expect_first_text(rt, &run_alone(rt, parts, bytes), 0, [wanted, "", ""]);
+}
+
+#[test]
+fn interfaces_are_in_the_summary(rt: HostRuntime) {
+    let parts = [SECTION, RAW_IP, OTHER_LINK, ENHANCED, &UDP, ENHANCED_END];
+    let bytes = joined(&rt, &parts);
+    for (format, wanted) in &OF_TWO_INTERFACES {
+        expect_totals(&rt, &bytes, *format, wanted);
+    }
+}
+
+/// Stops the test unless the report of the first bytes of a file has no lines, and a status that tells where the file is cut.
+fn expect_cut(rt: &(impl Abort + AllocGlobal + RandomSource), bytes: &[u8], cut: usize) {
+    let ran = run_alone(rt, ONLY_LINES, first_bytes(bytes, cut));
+    let status = match cut {
+        0..28 => 2,
+        28 | 48 => 0,
+        _ => 1,
+    };
+    expect_at(rt, &cut, &ran.status, &status);
+    expect_at(rt, &cut, &ran.output.len(), &0);
+}
+
+#[test]
+fn pcapng_files_are_cut(rt: HostRuntime) {
+    let parts = [SECTION, RAW_IP, ENHANCED, &UDP, ENHANCED_END];
+    let bytes = joined(&rt, &parts);
+    for cut in 0..bytes.len() {
+        expect_cut(&rt, &bytes, cut);
+    }
+}
+
+/// A place in the capture and its byte, and the status without a check and with one. The places are in the port, the UDP length, the IP
+/// version, the total length, the magic number, the version of the capture, the link type, the captured length and the original length of
+/// the packet.
+type ChangeRow = (usize, u8, u8, u8);
+
+#[rattlefmt::skip]
+static CHANGES: [ChangeRow; 10] = [
+    (60, 0, 0, 0),
+    (60, 1, 0, 4),
+    (65, 0, 0, 4),
+    (40, 0x55, 0, 4),
+    (43, 0, 0, 0),
+    (0, 0xA0, 2, 2),
+    (7, 3, 1, 1),
+    (23, 147, 0, 0),
+    (35, 30, 1, 1),
+    (39, 30, 0, 0),
+];
+
+/// Stops the test unless a report of this capture with a check, or without one, has this status.
+fn expect_status(
+    rt: &(impl Abort + AllocGlobal + RandomSource),
+    row: &ChangeRow,
+    check: bool,
+    status: u8,
+) {
+    let bytes = expect_ok(rt, changed_capture(rt.alloc(), row.0, row.1));
+    let parts = Parts {
+        check,
+        ..ONLY_LINES
+    };
+    let ran = run_alone(rt, parts, &bytes);
+    expect_at(rt, row, &ran.status, &status);
+}
+
+#[test]
+fn the_status_says_what_is_wrong(rt: HostRuntime) {
+    for row in &CHANGES {
+        expect_status(&rt, row, false, row.2);
+        expect_status(&rt, row, true, row.3);
+    }
+}
+
+/// Gives a byte a read, and fails once, at the read after `reads`.
+#[derive(Drop)]
+struct FaultyReader<'a> {
+    rest: &'a [u8],
+    reads: usize,
+}
+
+impl<'a> Read for FaultyReader<'a> {
+    fn read(&mut self, buf: &mut [u8]) -> io::Result<usize> {
+        if self.reads == 0 {
+            self.reads = usize::MAX;
+            return Err(io::Error::from(ErrorKind::ConnectionReset));
+        }
+        self.reads -= 1;
+        match (self.rest.split_first(), buf.first_mut()) {
+            (Some((byte, rest)), Some(place)) => {
+                *place = *byte;
+                self.rest = rest;
+                Ok(1)
+            }
+            _ => Ok(0),
+        }
+    }
+}
+
+/// A capture whose reader is faulty.
+#[derive(Drop)]
+struct FaultyCapture<'a> {
+    bytes: &'a [u8],
+    reads: usize,
+}
+
+impl<'a> Open for FaultyCapture<'a> {
+    type Input = FaultyReader<'a>;
+
+    ghost opens = { λ capture name input. Unit {0} };
+
+    ghost misses = { λ capture name. Unit {0} };
+
+    fn open(&self, _name: &str) -> io::Result<FaultyReader<'a>> {
+        Ok(FaultyReader {
+            rest: self.bytes,
+            reads: self.reads,
+        })
+    }
+}
+
+/// Stops the test unless a run whose reader fails after this many reads has the lines of the packets before the fault. The first packet
+/// ends after `one` bytes.
+fn expect_lines_before(
+    rt: &(impl Abort + AllocGlobal + RandomSource),
+    bytes: &[u8],
+    one: usize,
+    reads: usize,
+) {
+    let ran = run_over(rt, ONLY_LINES, &[], &FaultyCapture { bytes, reads });
+    let len = if reads < one {
+        0
+    } else if reads < bytes.len() {
+        LINE.len()
+    } else {
+        LINE.len().saturating_mul(2)
+    };
+    expect_at(rt, &reads, &ran.status, &3);
+    expect_at(rt, &reads, &ran.output.len(), &len);
+}
+
+#[test]
+fn read_faults_leave_the_report_before_them(rt: HostRuntime) {
+    let one = expect_ok(&rt, raw_capture(rt.alloc())).len();
+    let bytes = two_packets(&rt, 9);
+    // Each byte takes a read, and the end of the capture one more.
+    for reads in 0..bytes.len() + 1 {
+        expect_lines_before(&rt, &bytes, one, reads);
+    }
+}
+
+/// Takes a byte a write, and fails, or takes nothing, once, at the call after `calls`, a flush being a call.
+#[derive(Drop)]
+struct FaultyWriter {
+    written: Vec<u8>,
+    calls: usize,
+    takes_nothing: bool,
+}
+
+impl FaultyWriter {
+    fn call(&mut self) -> io::Result<()> {
+        if self.calls == 0 {
+            self.calls = usize::MAX;
+            return Err(io::Error::from(ErrorKind::BrokenPipe));
+        }
+        self.calls -= 1;
+        Ok(())
+    }
+}
+
+impl Write for FaultyWriter {
+    fn write(&mut self, buf: &[u8]) -> io::Result<usize> {
+        if self.takes_nothing && self.calls == 0 {
+            self.calls = usize::MAX;
+            return Ok(0);
+        }
+        self.call()?;
+        match buf.first() {
+            Some(byte) => {
+                self.written.push(*byte)?;
+                Ok(1)
+            }
+            None => Ok(0),
+        }
+    }
+
+    fn flush(&mut self) -> io::Result<()> {
+        self.call()
+    }
+}
+
+/// Stops the test unless a run whose writer fails, or takes nothing, at the call after `calls` has written the beginning of a report
+/// that is `whole` without the fault.
+fn expect_beginning<O: Open>(
+    rt: &(impl Abort + AllocGlobal + RandomSource),
+    parts: Parts,
+    names: &[&str],
+    opener: &O,
+    whole: &[u8],
+    calls: usize,
+    takes_nothing: bool,
+) {
+    let mut output = FaultyWriter {
+        written: Vec::new(rt.alloc()),
+        calls,
+        takes_nothing,
+    };
+    let (status, _) = run_into(rt, parts, names, opener, &mut output);
+    // Each byte takes a write, and the flush is one call more.
+    let expected = if calls <= whole.len() { 3 } else { 0 };
+    expect_at(rt, &calls, &status, &expected);
+    let written = output.written.as_slice();
+    expect_at(rt, &calls, &written, &first_bytes(whole, calls));
+}
+
+/// Stops the test unless a run over this capture whose writer fails, or takes nothing, has written the beginning of the lines.
+fn expect_beginnings(
+    rt: &(impl Abort + AllocGlobal + RandomSource),
+    captures: &Captures<'_>,
+    whole: &[u8],
+    takes_nothing: bool,
+) {
+    for calls in 0..whole.len().saturating_add(2) {
+        expect_beginning(rt, ONLY_LINES, &[], captures, whole, calls, takes_nothing);
+    }
+}
+
+#[test]
+fn write_faults_leave_a_beginning(rt: HostRuntime) {
+    let bytes = expect_ok(&rt, capture(rt.alloc(), true, 101, &[]));
+    let named = [(STANDARD_INPUT, bytes.as_slice())];
+    let captures = Captures { named: &named };
+    let whole = run_over(&rt, ONLY_LINES, &[], &captures);
+    expect_equal(&rt, &whole.status, &0);
+    expect_beginnings(&rt, &captures, &whole.output, false);
+    expect_beginnings(&rt, &captures, &whole.output, true);
+}
+
+#[test]
+fn write_faults_within_the_summary(rt: HostRuntime) {
+    let bytes = expect_ok(&rt, capture(rt.alloc(), true, 101, &[]));
+    let named = [(STANDARD_INPUT, bytes.as_slice())];
+    let captures = Captures { named: &named };
+    let whole = run_over(&rt, ALL, &[], &captures);
+    expect_equal(&rt, &whole.status, &0);
+    let output = whole.output.as_slice();
+    let len = output.len();
+    for calls in [len / 2, len.saturating_sub(1), len, len.saturating_add(1)] {
+        expect_beginning(&rt, ALL, &[], &captures, output, calls, false);
+    }
+}
+
+/// The line of a second packet, to port 10.
+const TO_TEN: &str =
+    "2 00:00:00.000000 length 29: 192.0.2.1:7 > 192.0.2.2:10 UDP length 9, payload 1; checksum wrong, 19C7 expected\n";
+
+/// The port that is chosen, the status, and the lines of packets and the totals.
+type PortRow = (u16, u8, [&'static str; 3]);
+
+#[rattlefmt::skip]
+static OF_PORTS: [PortRow; 4] = [
+    (7, 4, [LINE, TO_TEN, "\nfile type classic, byte order big-endian, snap length 0, time resolution 10^-6 s\npackets 2, bytes 58, bytes a packet 29\n"]),
+    (9, 0, [LINE, "", "\nfile type classic, byte order big-endian, snap length 0, time resolution 10^-6 s\npackets 1, bytes 29, bytes a packet 29\n"]),
+    (10, 4, ["", TO_TEN, "\nfile type classic, byte order big-endian, snap length 0, time resolution 10^-6 s\npackets 1, bytes 29, bytes a packet 29\n"]),
+    (11, 0, ["", "", "\nfile type classic, byte order big-endian, snap length 0, time resolution 10^-6 s\npackets 0, bytes 0\n"]),
+];
+
+/// The report of the packets of this port, with a limit of packets if there is one.
+fn parts_of_port(port: u16, check: bool, limit: Option<u64>) -> Parts {
+    let mut ports = [None; MAX_CHOSEN];
+    ports[0] = Some(port);
+    Parts {
+        choice: Choice {
+            ports: Some(ports),
+            ..Choice::ALL
+        },
+        check,
+        limit,
+        ..ALL
+    }
+}
+
+/// Stops the test unless the port of a row has the report of the row.
+fn expect_port(rt: &(impl Abort + AllocGlobal + RandomSource), whole: &[u8], row: &PortRow) {
+    let (port, status, wanted) = *row;
+    let ran = run_alone(rt, parts_of_port(port, true, None), whole);
+    expect_first_text(rt, &ran, status, wanted);
+}
+
+#[test]
+fn packets_that_are_not_chosen_are_left_out(rt: HostRuntime) {
+    let whole = two_packets(&rt, 10);
+    for row in &OF_PORTS {
+        expect_port(&rt, &whole, row);
+    }
+}
+
+/// A number of packets, the length of the capture that is read, the status, and the lines of packets and the totals. The first packet of a
+/// capture is complete after 69 bytes, and the second after 114.
+type LimitRow = (u64, usize, u8, [&'static str; 3]);
+
+#[rattlefmt::skip]
+static LIMITS: [LimitRow; 6] = [
+    (1, 114, 0, [LINE, "", "\nfile type classic, byte order big-endian, snap length 0, time resolution 10^-6 s\npackets 1, bytes 29, bytes a packet 29\n"]),
+    (2, 114, 0, [LINE, TO_TEN, "\nfile type classic, byte order big-endian, snap length 0, time resolution 10^-6 s\npackets 2, bytes 58, bytes a packet 29\n"]),
+    (3, 114, 0, [LINE, TO_TEN, "\nfile type classic, byte order big-endian, snap length 0, time resolution 10^-6 s\npackets 2, bytes 58, bytes a packet 29\n"]),
+    // What follows the last packet is not read.
+    (1, 113, 0, [LINE, "", "\nfile type classic, byte order big-endian, snap length 0, time resolution 10^-6 s\npackets 1, bytes 29, bytes a packet 29\n"]),
+    (2, 113, 1, [LINE, "", "\nfile type classic, byte order big-endian, snap length 0, time resolution 10^-6 s\npackets 1, bytes 29, bytes a packet 29\n"]),
+    (0, 114, 0, ["", "", ""]),
+];
+
+/// Stops the test unless the limit of a row has the report of the row.
+fn expect_limit(rt: &(impl Abort + AllocGlobal + RandomSource), whole: &[u8], row: &LimitRow) {
+    let (limit, len, status, wanted) = *row;
+    let parts = Parts {
+        limit: Some(limit),
+        ..ALL
+    };
+    let ran = run_alone(rt, parts, first_bytes(whole, len));
+    expect_first_text(rt, &ran, status, wanted);
+}
+
+#[test]
+fn the_report_ends_after_a_number_of_packets(rt: HostRuntime) {
+    let whole = two_packets(&rt, 10);
+    for row in &LIMITS {
+        expect_limit(&rt, &whole, row);
+    }
+}
+
+#[test]
+fn packets_that_are_not_chosen_do_not_count(rt: HostRuntime) {
+    let whole = two_packets(&rt, 10);
+    let ran = run_alone(&rt, parts_of_port(10, false, Some(1)), &whole);
+    let totals =
+        "\nfile type classic, byte order big-endian, snap length 0, time resolution 10^-6 s\npackets 1, bytes 29, bytes a packet 29\n";
+    expect_first_text(&rt, &ran, 0, [TO_TEN, "", totals]);
+}
+
+/// The header of a capture and of a record of a packet that has more bytes than are read.
+static LONG_HEADERS: [u32; 10] = [0xA1B2_C3D4, 0x2_0004, 0, 0, 0, 101, 5, 7, 528_384, 528_384];
+
+/// A capture of this packet.
+fn long_capture(rt: &(impl Abort + AllocGlobal)) -> Vec<u8> {
+    let mut bytes = Vec::new(rt.alloc());
+    for number in &LONG_HEADERS {
+        append(rt, &mut bytes, &number.to_be_bytes());
+    }
+    append_zeros(rt, &mut bytes);
+    bytes
+}
+
+/// Appends the bytes of this packet.
+fn append_zeros(rt: &impl Abort, bytes: &mut Vec<u8>) {
+    for _ in 0..129 {
+        append(rt, bytes, &[0; 4096]);
+    }
+}
+
+/// The forms of a report, and the line of this packet in each.
+#[rattlefmt::skip]
+static LONG_LINES: [(Format, &str); 2] = [
+    (Format::Text, "1 00:00:00.000000 length 528384: checksum not looked at: 528384 bytes, more than 524288\n"),
+    (Format::Json, "{\"type\":\"packet\",\"number\":1,\"time\":\"00:00:00.000000\",\"seconds\":5,\"nanoseconds\":7000,\"length\":528384,\"captured_length\":528384,\"checksum\":\"not_looked_at\",\"reason\":\"too_long\",\"required_length\":528384}\n"),
+];
+
+/// Stops the test unless this is the line of the packet in this format.
+fn expect_long_line(
+    rt: &(impl Abort + AllocGlobal + RandomSource),
+    bytes: &[u8],
+    format: Format,
+    line: &str,
+) {
+    let parts = Parts {
+        format,
+        check: true,
+        ..ONLY_LINES
+    };
+    expect_ran(rt, &run_alone(rt, parts, bytes), 0, line, "");
+}
+
+#[test]
+fn a_packet_that_is_too_long_is_not_read(rt: HostRuntime) {
+    let bytes = long_capture(&rt);
+    for (format, line) in &LONG_LINES {
+        expect_long_line(&rt, &bytes, *format, line);
+    }
+}
+
+/// The object of the packet.
+const OBJECT: &str =
+    r#"{"type":"packet","number":1,"time":"00:00:00.000000","seconds":5,"nanoseconds":7000,"length":29,"captured_length":29,"source":"192.0.2.1","destination":"192.0.2.2","protocol":17,"protocol_name":"UDP","source_port":7,"destination_port":9,"udp":{"length":9},"payload_length":1,"time_to_live":64,"checksum":"right"}"#;
+
+/// The first members of the object of the summary.
+const TOTALS: &str =
+    r#"{"type":"summary","file_type":"classic","byte_order":"big-endian","snap_length":0,"time_resolution":"10^-6 s","packets":1,"bytes":29,"bytes_per_packet":29,"conversations":1,"first_packet":"1970-01-01T00:00:05.000007Z","first_packet_seconds":5,"first_packet_nanoseconds":7000,"last_packet":"1970-01-01T00:00:05.000007Z","last_packet_seconds":5,"last_packet_nanoseconds":7000,"duration":"00:00:00.000000","duration_seconds":0,"duration_nanoseconds":0,"link_types":{"BSD_loopback":0,"#;
+
+/// Which lines there are, whether there is a summary, and what the report begins with.
+type ObjectsRow = (Lines, bool, [&'static str; 3]);
+
+#[rattlefmt::skip]
+static OBJECTS: [ObjectsRow; 3] = [
+    (Lines::All, false, [OBJECT, "\n", ""]),
+    (Lines::None, true, [TOTALS, "", ""]),
+    (Lines::Wrong, true, [TOTALS, "", ""]),
+];
+
+/// Stops the test unless the report in JSON of a row begins as the row says.
+fn expect_objects(rt: &(impl Abort + AllocGlobal + RandomSource), bytes: &[u8], row: &ObjectsRow) {
+    let (lines, summary, wanted) = *row;
+    let parts = Parts {
+        lines,
+        summary,
+        format: Format::Json,
+        ..ALL
+    };
+    expect_first_text(rt, &run_alone(rt, parts, bytes), 0, wanted);
+}
+
+#[test]
+fn a_report_in_json(rt: HostRuntime) {
+    let bytes = expect_ok(&rt, raw_capture(rt.alloc()));
+    for row in &OBJECTS {
+        expect_objects(&rt, &bytes, row);
+    }
+}

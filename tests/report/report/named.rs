@@ -1,0 +1,377 @@
+//! Runs over captures with names.
+
+use super::{
+    ALL, Captures, FaultyWriter, LINE, ONLY_LINES, Ran, changed_capture, expect_beginning,
+    expect_first_text, expect_ran, run_over,
+};
+use crate::expect::{expect_equal, expect_ok, expect_written};
+use capture_run::{ExitStatus, Format, Lines, Open, Parts, WriteError, run};
+use std::alloc::Global;
+use std::hash::RandomState;
+use std::io;
+use std::io::{Cursor, ErrorKind};
+use std::process::Abort;
+use std::random::RandomSource;
+
+/// The names that can be opened. Each is a capture of the packet in which a byte is changed: in the port, in the length of UDP, in the
+/// version, in the link type, in the captured length, and in the magic number.
+#[rattlefmt::skip]
+static CHANGED: [(&str, usize, u8); 8] = [
+    ("-", 60, 0),
+    ("right", 60, 0),
+    ("wrong", 60, 1),
+    ("zero", 65, 0),
+    ("version", 7, 3),
+    ("link", 23, 147),
+    ("cut", 35, 30),
+    ("magic", 0, 0xA0),
+];
+
+/// Opens these captures.
+#[derive(Drop)]
+struct Changed {
+    alloc: Global,
+}
+
+impl Open for Changed {
+    type Input = Cursor<Vec<u8>>;
+
+    ghost opens = { λ captures name input. Unit {0} };
+
+    ghost misses = { λ captures name. Unit {0} };
+
+    fn open(&self, name: &str) -> io::Result<Cursor<Vec<u8>>> {
+        for (given, place, byte) in &CHANGED {
+            if *given == name {
+                let bytes = changed_capture(self.alloc, *place, *byte)?;
+                return Ok(Cursor::new(bytes));
+            }
+        }
+        Err(io::Error::from(ErrorKind::NotFound))
+    }
+}
+
+/// Lines of packets with a check.
+const CHECKED_LINES: Parts = Parts {
+    check: true,
+    ..ONLY_LINES
+};
+
+/// The parts of the report of a row. `Parts` contains arrays, which the borrow checker does not cover in a table with references.
+#[derive(Clone, Copy)]
+enum Asked {
+    /// All that is written without options.
+    All,
+    /// The same with a check.
+    CheckedAll,
+    /// Lines of packets with a check.
+    CheckedLines,
+    /// Only the lines of packets that are wrong or refused.
+    WrongLines,
+    /// Nothing but the exit status of a check.
+    OnlyStatus,
+    /// Nothing but the summary.
+    OnlySummary,
+    /// Objects of packets and of the summary.
+    AllObjects,
+    /// Only the objects of packets.
+    OnlyObjects,
+    /// All of the first packets, up to two.
+    AllOfTwo,
+}
+
+/// Which lines there are, whether there are a summary and a check, the format, and the limit of packets.
+fn options_of(asked: Asked) -> (Lines, bool, bool, Format, Option<u64>) {
+    match asked {
+        Asked::All => (Lines::All, true, false, Format::Text, None),
+        Asked::CheckedAll => (Lines::All, true, true, Format::Text, None),
+        Asked::CheckedLines => (Lines::All, false, true, Format::Text, None),
+        Asked::WrongLines => (Lines::Wrong, false, false, Format::Text, None),
+        Asked::OnlyStatus => (Lines::None, false, true, Format::Text, None),
+        Asked::OnlySummary => (Lines::None, true, false, Format::Text, None),
+        Asked::AllObjects => (Lines::All, true, false, Format::Json, None),
+        Asked::OnlyObjects => (Lines::All, false, false, Format::Json, None),
+        Asked::AllOfTwo => (Lines::All, true, false, Format::Text, Some(2)),
+    }
+}
+
+/// The parts of a report that a row asks for.
+fn parts_of(asked: Asked) -> Parts {
+    let (lines, summary, check, format, limit) = options_of(asked);
+    Parts {
+        lines,
+        summary,
+        check,
+        format,
+        limit,
+        ..ALL
+    }
+}
+
+/// Runs a report over captures with these names.
+fn run_named(rt: &(impl Abort + AllocGlobal + RandomSource), parts: Parts, names: &[&str]) -> Ran {
+    run_over(rt, parts, names, &Changed { alloc: rt.alloc() })
+}
+
+/// The names of captures, what is asked of their report, the status, the output, and the errors.
+type RunRow = (
+    &'static [&'static str],
+    Asked,
+    u8,
+    &'static str,
+    &'static str,
+);
+
+/// At most one name: there is no heading, and an error names the capture.
+#[rattlefmt::skip]
+static RUNS_OF_ONE: [RunRow; 15] = [
+    (&[], Asked::CheckedLines, 0, LINE, ""),
+    (&["-"], Asked::CheckedLines, 0, LINE, ""),
+    (&["right"], Asked::OnlyObjects, 0, RIGHT_OBJECT, ""),
+    (&["wrong"], Asked::CheckedLines, 4,
+     "1 00:00:00.000000 length 29: 192.0.2.1:263 > 192.0.2.2:9 UDP length 9, payload 1; checksum wrong, 18C8 expected\n", ""),
+    // The length field of this packet is 0, so the packet is refused.
+    (&["zero"], Asked::CheckedLines, 4,
+     "1 00:00:00.000000 length 29: 192.0.2.1:7 > 192.0.2.2:9 UDP length 0, payload 1; refused: UDP header needs 8 bytes, the UDP length is 0\n", ""),
+    (&["zero"], Asked::OnlyObjects, 0, ZERO_OBJECT, ""),
+    (&["missing"], Asked::CheckedLines, 3, "", "capture_report: missing: entity not found\n"),
+    // A control character in a name is shown by its number. After NUL a name is escaped already.
+    (&["a\n\u{1B}[2J\u{9B}\u{FC}\\"], Asked::CheckedLines, 3, "", "capture_report: a\\x0A\\x1B[2J\\x9B\u{FC}\\: entity not found\n"),
+    (&["\0a\\xFC"], Asked::CheckedLines, 3, "", "capture_report: a\\xFC: entity not found\n"),
+    (&["tcp"], Asked::CheckedLines, 3, "", "capture_report: tcp: entity not found; filters are --host, --port and --protocol\n"),
+    (&["portrange"], Asked::CheckedLines, 3, "", "capture_report: portrange: entity not found; filters are --host, --port and --protocol\n"),
+    (&["tcp port 80"], Asked::CheckedLines, 3, "", "capture_report: tcp port 80: entity not found; filters are --host, --port and --protocol\n"),
+    (&["a tcp"], Asked::CheckedLines, 3, "", "capture_report: a tcp: entity not found\n"),
+    (&["version"], Asked::CheckedLines, 1, "", "capture_report: version: The capture has version 2.3, which is not read.\n"),
+    (&["link"], Asked::CheckedLines, 0, "1 00:00:00.000000 length 29: link type 147\n", ""),
+];
+
+const RIGHT_OBJECT: &str =
+    r#"{"type":"packet","number":1,"time":"00:00:00.000000","seconds":5,"nanoseconds":7000,"length":29,"captured_length":29,"source":"192.0.2.1","destination":"192.0.2.2","protocol":17,"protocol_name":"UDP","source_port":7,"destination_port":9,"udp":{"length":9},"payload_length":1,"time_to_live":64,"checksum":"right"}
+"#;
+
+const ZERO_OBJECT: &str =
+    r#"{"type":"packet","number":1,"time":"00:00:00.000000","seconds":5,"nanoseconds":7000,"length":29,"captured_length":29,"source":"192.0.2.1","destination":"192.0.2.2","protocol":17,"protocol_name":"UDP","source_port":7,"destination_port":9,"udp":{"length":0},"payload_length":1,"time_to_live":64,"refused":"UDP header needs 8 bytes, the UDP length is 0"}
+"#;
+
+/// Several names: each capture has a heading, unless no packet has a line. If a capture can't be read, the next one is still reported.
+#[rattlefmt::skip]
+static RUNS: [RunRow; 12] = [
+    (&["right", "wrong"], Asked::CheckedLines, 4, OF_TWO, ""),
+    (&["right", "missing", "wrong"], Asked::CheckedLines, 4, WITH_MISSING, "capture_report: missing: entity not found\n"),
+    (&["right", "version", "wrong", "cut"], Asked::CheckedLines, 4, OF_FOUR, ERRORS_OF_FOUR),
+    (&["right", "version", "wrong", "cut", "missing"], Asked::OnlyStatus, 4, "", ERRORS_WITH_MISSING),
+    (&["version", "right", "magic", "cut", "-"], Asked::CheckedLines, 2, OF_FIVE, ERRORS_OF_FIVE),
+    (&["right", "wrong", "right"], Asked::WrongLines, 0, OF_WRONG_LINES, ""),
+    (&["right", "missing", "zero"], Asked::OnlyStatus, 4, "", "capture_report: missing: entity not found\n"),
+    (&["right", "zero"], Asked::OnlyStatus, 4, "", ""),
+    (&["right", "a \"name\"", "wrong"], Asked::OnlyObjects, 3, OBJECTS, "capture_report: a \"name\": entity not found\n"),
+    (&["a\nb", "\0a\\xFC"], Asked::CheckedLines, 3, "==> a\\x0Ab <==\n\n==> a\\xFC <==\n",
+     "capture_report: a\\x0Ab: entity not found\ncapture_report: a\\xFC: entity not found\n"),
+    (&["a\nb", "\0a\\xFC"], Asked::OnlyObjects, 3, ESCAPED_OBJECTS,
+     "capture_report: a\\x0Ab: entity not found\ncapture_report: a\\xFC: entity not found\n"),
+    // The header of no capture is accepted, so there is no summary.
+    (&["missing", "version"], Asked::All, 3, "==> missing <==\n\n==> version <==\n",
+     "capture_report: missing: entity not found\ncapture_report: version: The capture has version 2.3, which is not read.\n"),
+];
+
+const ESCAPED_OBJECTS: &str = r#"{"type":"file","file":"a\nb"}
+{"type":"file","file":"a\\xFC"}
+"#;
+
+const OF_TWO: &str = "\
+==> right <==
+1 00:00:00.000000 length 29: 192.0.2.1:7 > 192.0.2.2:9 UDP length 9, payload 1; checksum right
+
+==> wrong <==
+1 00:00:00.000000 length 29: 192.0.2.1:263 > 192.0.2.2:9 UDP length 9, payload 1; checksum wrong, 18C8 expected
+";
+
+const WITH_MISSING: &str = "\
+==> right <==
+1 00:00:00.000000 length 29: 192.0.2.1:7 > 192.0.2.2:9 UDP length 9, payload 1; checksum right
+
+==> missing <==
+
+==> wrong <==
+1 00:00:00.000000 length 29: 192.0.2.1:263 > 192.0.2.2:9 UDP length 9, payload 1; checksum wrong, 18C8 expected
+";
+
+const OF_FOUR: &str = "\
+==> right <==
+1 00:00:00.000000 length 29: 192.0.2.1:7 > 192.0.2.2:9 UDP length 9, payload 1; checksum right
+
+==> version <==
+
+==> wrong <==
+1 00:00:00.000000 length 29: 192.0.2.1:263 > 192.0.2.2:9 UDP length 9, payload 1; checksum wrong, 18C8 expected
+
+==> cut <==
+";
+
+const ERRORS_OF_FOUR: &str = "\
+capture_report: version: The capture has version 2.3, which is not read.
+capture_report: cut: Packet 1, at byte 24 of the capture: its record has at least 46 bytes, and 45 are left.
+";
+
+const ERRORS_WITH_MISSING: &str = "\
+capture_report: version: The capture has version 2.3, which is not read.
+capture_report: cut: Packet 1, at byte 24 of the capture: its record has at least 46 bytes, and 45 are left.
+capture_report: missing: entity not found
+";
+
+const OF_FIVE: &str = "\
+==> version <==
+
+==> right <==
+1 00:00:00.000000 length 29: 192.0.2.1:7 > 192.0.2.2:9 UDP length 9, payload 1; checksum right
+
+==> magic <==
+
+==> cut <==
+
+==> - <==
+1 00:00:00.000000 length 29: 192.0.2.1:7 > 192.0.2.2:9 UDP length 9, payload 1; checksum right
+";
+
+const ERRORS_OF_FIVE: &str = "\
+capture_report: version: The capture has version 2.3, which is not read.
+capture_report: magic: The input is no capture: its first four bytes are 0xa0b2c3d4.
+capture_report: cut: Packet 1, at byte 24 of the capture: its record has at least 46 bytes, and 45 are left.
+";
+
+const OF_WRONG_LINES: &str = "\
+==> right <==
+
+==> wrong <==
+1 00:00:00.000000 length 29: 192.0.2.1:263 > 192.0.2.2:9 UDP length 9, payload 1; checksum wrong, 18C8 expected
+
+==> right <==
+";
+
+const OBJECTS: &str = r#"{"type":"file","file":"right"}
+{"type":"packet","number":1,"time":"00:00:00.000000","seconds":5,"nanoseconds":7000,"length":29,"captured_length":29,"source":"192.0.2.1","destination":"192.0.2.2","protocol":17,"protocol_name":"UDP","source_port":7,"destination_port":9,"udp":{"length":9},"payload_length":1,"time_to_live":64,"checksum":"right"}
+{"type":"file","file":"a \"name\""}
+{"type":"file","file":"wrong"}
+{"type":"packet","number":1,"time":"00:00:00.000000","seconds":5,"nanoseconds":7000,"length":29,"captured_length":29,"source":"192.0.2.1","destination":"192.0.2.2","protocol":17,"protocol_name":"UDP","source_port":263,"destination_port":9,"udp":{"length":9},"payload_length":1,"time_to_live":64,"checksum":"wrong","expected_checksum":6344}
+"#;
+
+/// Stops the test unless the run of a row has the status of the row, and writes what the row says.
+fn expect_named(rt: &(impl Abort + AllocGlobal + RandomSource), row: &RunRow) {
+    let (names, asked, status, output, errors) = *row;
+    let ran = run_named(rt, parts_of(asked), names);
+    expect_ran(rt, &ran, status, output, errors);
+}
+
+#[test]
+fn one_capture_is_reported_without_a_heading(rt: HostRuntime) {
+    for row in &RUNS_OF_ONE {
+        expect_named(&rt, row);
+    }
+}
+
+#[test]
+fn captures_are_reported_one_after_the_other(rt: HostRuntime) {
+    for row in &RUNS {
+        expect_named(&rt, row);
+    }
+}
+
+#[test]
+fn standard_input_that_cannot_be_opened(rt: HostRuntime) {
+    let ran = run_over(&rt, ALL, &[], &Captures { named: &[] });
+    let errors = "capture_report: -: entity not found\n";
+    expect_ran(&rt, &ran, 3, "", errors);
+}
+
+/// The names of captures, what is asked of their report, the status, and what the output begins with: the lines, an empty line, and the
+/// totals of all captures.
+type SummaryRow = (&'static [&'static str], Asked, u8, [&'static str; 3]);
+
+#[rattlefmt::skip]
+static SUMMARIES: [SummaryRow; 5] = [
+    // Neither the capture after the last packet nor its heading is part of the report.
+    (&["right", "wrong", "missing", "right"], Asked::AllOfTwo, 0, [OF_TWO, "\n", "packets 2, bytes 58, bytes a packet 29\nconversations 2\n"]),
+    (&["right", "missing", "wrong"], Asked::CheckedAll, 4, [WITH_MISSING, "\n", "packets 2, bytes 58, bytes a packet 29\nconversations 2\n"]),
+    (&["right", "wrong"], Asked::CheckedAll, 4, [OF_TWO, "\n", "packets 2, bytes 58, bytes a packet 29\nconversations 2\n"]),
+    (&["right", "cut", "zero"], Asked::OnlySummary, 1, ["", "", "packets 2, bytes 58, bytes a packet 29\nconversations 1\n"]),
+    (&["right", "a \"name\"", "wrong"], Asked::AllObjects, 3,
+     [OBJECTS, r#"{"type":"summary","packets":2,"bytes":58,"#, r#""bytes_per_packet":29,"conversations":2,"#]),
+];
+
+/// Stops the test unless the run of a row begins as the row says.
+fn expect_summary(rt: &(impl Abort + AllocGlobal + RandomSource), row: &SummaryRow) {
+    let (names, asked, status, wanted) = *row;
+    let ran = run_named(rt, parts_of(asked), names);
+    expect_first_text(rt, &ran, status, wanted);
+}
+
+#[test]
+fn the_summary_is_of_all_captures(rt: HostRuntime) {
+    for row in &SUMMARIES {
+        expect_summary(&rt, row);
+    }
+}
+
+/// The kind of the fault of a writer, if a run returned it.
+fn kind_of(outcome: Result<ExitStatus, WriteError>) -> Option<ErrorKind> {
+    match outcome {
+        Err(WriteError::Write(error)) => Some(error.kind()),
+        _ => None,
+    }
+}
+
+/// Stops the test unless a run that can't write one of its errors reports the captures, and then returns that fault. The fault is at the
+/// call after `calls`.
+fn expect_without_errors(rt: &(impl Abort + AllocGlobal + RandomSource), calls: usize) {
+    let state = expect_ok(rt, RandomState::new(rt));
+    let opener = Changed { alloc: rt.alloc() };
+    let names = ["right", "missing", "wrong"];
+    let mut output = Vec::new(rt.alloc());
+    let mut errors = FaultyWriter {
+        written: Vec::new(rt.alloc()),
+        calls,
+        takes_nothing: false,
+    };
+    let outcome = run(
+        rt.alloc(),
+        state,
+        CHECKED_LINES,
+        &names,
+        &opener,
+        &mut output,
+        &mut errors,
+    );
+    expect_equal(rt, &kind_of(outcome), &Some(ErrorKind::BrokenPipe));
+    expect_written(rt, &output, WITH_MISSING);
+}
+
+#[test]
+fn errors_that_cannot_be_written(rt: HostRuntime) {
+    expect_without_errors(&rt, 0);
+    expect_without_errors(&rt, 20);
+}
+
+/// How many calls of the writer come before its fault, which is in the first heading, in the line after it, in the empty line before the
+/// second heading, in the second heading, or in the line after it.
+#[rattlefmt::skip]
+static CALLS: [usize; 6] = [0, 5, 14, 98, 99, 113];
+
+#[test]
+fn write_faults_within_headings(rt: HostRuntime) {
+    let opener = Changed { alloc: rt.alloc() };
+    let names = ["right", "right"];
+    let whole = run_over(&rt, ONLY_LINES, &names, &opener);
+    expect_equal(&rt, &whole.status, &0);
+    for calls in &CALLS {
+        expect_beginning(
+            &rt,
+            ONLY_LINES,
+            &names,
+            &opener,
+            &whole.output,
+            *calls,
+            false,
+        );
+    }
+}

@@ -1,0 +1,112 @@
+mod conversations;
+mod facts;
+mod icmp;
+mod packet_lines;
+mod protocol_names;
+mod summary;
+mod tcp;
+mod times;
+
+use crate::expect::{expect_all_written, expect_ok};
+use capture_file::PacketTime;
+use capture_file::pcapng::TimeResolution;
+use capture_packet::{Content, Packet, Transport, Verdict};
+use capture_summary::{Flow, FlowProtocol, FrameLen};
+use capture_text::write_packet_line;
+use capture_words::Times;
+use etherparse_transport::ip::{IpAddresses, proto_over};
+use etherparse_transport::{ChecksumVerdict, IpNumber};
+use std::net::{IpAddr, SocketAddr};
+use std::process::Abort;
+
+/// 192.0.2.1 and 192.0.2.2.
+const OVER_IPV4: IpAddresses = IpAddresses::Ipv4 {
+    source: &[192, 0, 2, 1],
+    destination: &[192, 0, 2, 2],
+};
+
+/// 2001:db8::1 and 2001:db8::2.
+const OVER_IPV6: IpAddresses = IpAddresses::Ipv6 {
+    source: &[0x20, 1, 0x0D, 0xB8, 0, 0, 0, 0, 0, 0, 0, 0, 0, 0, 0, 1],
+    destination: Some(&[0x20, 1, 0x0D, 0xB8, 0, 0, 0, 0, 0, 0, 0, 0, 0, 0, 0, 2]),
+};
+
+/// The time of the first packet of a capture.
+const FIRST: PacketTime = PacketTime {
+    seconds: 1_000_000_000,
+    fraction: 0,
+    resolution: TimeResolution::PowerOfTen(6),
+    offset: 0,
+};
+
+/// The length of a frame that was captured whole.
+const WHOLE: FrameLen = FrameLen {
+    original: 60,
+    captured: 60,
+};
+
+/// What the first line of a capture begins with if its frame was captured whole.
+const START: &str = "1 00:00:00.000000 length 60: ";
+
+/// The first line of a capture, of this packet in a frame of this length.
+fn line_of(rt: &(impl Abort + AllocGlobal), len: Option<FrameLen>, packet: &Packet<'_>) -> Vec<u8> {
+    let time = Some(FIRST);
+    let times = Times::SinceFirst;
+    let mut line = Vec::new(rt.alloc());
+    let written = write_packet_line(&mut line, times, false, 1, time, time, len, packet);
+    expect_ok(rt, written);
+    line
+}
+
+/// Stops the test unless the three texts together are the first line of a capture, of this packet, after the length of its frame.
+fn expect_line_of(rt: &(impl Abort + AllocGlobal), packet: &Packet<'_>, wanted: [&str; 3]) {
+    let [before, wanted, after] = wanted;
+    let line = line_of(rt, Some(WHOLE), packet);
+    expect_all_written(rt, &line, &[START, before, wanted, after, "\n"]);
+}
+
+/// Stops the test unless the three texts together are the first line of a capture, of a packet in no tunnel, after the length of its frame.
+fn expect_line(
+    rt: &(impl Abort + AllocGlobal),
+    content: Content<'_>,
+    verdict: Verdict,
+    wanted: [&str; 3],
+) {
+    expect_line_of(rt, &Packet::in_no_tunnel(content, verdict), wanted);
+}
+
+/// Stops the test unless the three texts together are what is written of an IP packet with this transport, whose checksum is right.
+fn expect_transport(
+    rt: &(impl Abort + AllocGlobal),
+    addresses: IpAddresses<'_>,
+    protocol: IpNumber,
+    transport: Transport<'_>,
+    wanted: [&str; 3],
+) {
+    let content = Content::Ip {
+        addresses,
+        protocol,
+        proto: proto_over(addresses, protocol),
+        payload_len: transport.payload().len(),
+        transport,
+    };
+    let verdict = Verdict::Checksum(ChecksumVerdict::Right);
+    let [before, wanted, after] = wanted;
+    let line = line_of(rt, Some(WHOLE), &Packet::in_no_tunnel(content, verdict));
+    let end = "; checksum right\n";
+    expect_all_written(rt, &line, &[START, before, wanted, after, end]);
+}
+
+/// Stops the test unless the three texts together are what is written of this verdict on a packet that is not read.
+fn expect_verdict(rt: &(impl Abort + AllocGlobal), verdict: Verdict, wanted: [&str; 3]) {
+    expect_line(rt, Content::Unread, verdict, wanted);
+}
+
+/// The flow of UDP from 192.0.2.1, port 49152, to 192.0.2.2, port 53.
+pub(crate) fn flow_of_ipv4() -> Flow {
+    Flow {
+        protocol: FlowProtocol::Udp,
+        source: SocketAddr::new(IpAddr::from([192, 0, 2, 1]), 49152),
+        destination: SocketAddr::new(IpAddr::from([192, 0, 2, 2]), 53),
+    }
+}
