@@ -1,10 +1,8 @@
-use crate::capture::packet::{
-    CUT_OFF, IPV4_UDP, OTHER_PROTOCOL, RIGHT, UDP_OVER_IPV4, read_frame, udp_packet,
-};
+use crate::capture::packet::{CUT_OFF, IPV4_UDP, OTHER_PROTOCOL, RIGHT, UDP_OVER_IPV4, udp_packet};
 use crate::expect::{expect_at, expect_equal, joined};
 use capture_file::{ByteOrder, LinkType};
 use capture_link::LinkHeaderCutOff;
-use capture_packet::{Content, NetworkProtocol, Packet, Refusal, Verdict};
+use capture_packet::{Content, NetworkProtocol, Packet, Refusal, Verdict, read_packet};
 use etherparse_transport::ip::IpError;
 use std::process::Abort;
 
@@ -19,7 +17,7 @@ const ADDRESSES: [u8; 22] = [
 /// Stops the test unless the packet in a frame of these parts is the UDP packet, and its checksum is right.
 fn expect_udp(rt: &(impl Abort + AllocGlobal), link_type: LinkType, parts: &[&[u8]]) {
     let frame = joined(rt, parts);
-    let packet = read_frame(link_type, ByteOrder::BigEndian, &frame, false);
+    let packet = read_packet(link_type, ByteOrder::BigEndian, &frame, false);
     let expected = udp_packet(rt);
     expect_at(rt, &frame, &packet, &expected);
 }
@@ -39,7 +37,7 @@ fn expect_other(
             Verdict::Refused(Refusal::Link(LinkHeaderCutOff { required_len, len })),
         ),
     };
-    let packet = read_frame(link_type, ByteOrder::LittleEndian, frame, false);
+    let packet = read_packet(link_type, ByteOrder::LittleEndian, frame, false);
     expect_at(rt, &frame, &packet, &expected);
 }
 
@@ -343,7 +341,7 @@ fn expect_verdict(
     let header = [0x11, 0, 0, 1, 0, len, 0, 0x21];
     let parts: [&[u8]; 5] = [before, &header, &IPV4_UDP, &UDP_OVER_IPV4, &[0xEE; 4]];
     let frame = joined(rt, &parts);
-    let packet = read_frame(link_type, ByteOrder::BigEndian, &frame, is_cut);
+    let packet = read_packet(link_type, ByteOrder::BigEndian, &frame, is_cut);
     expect_at(rt, &len, &packet.verdict, expected);
 }
 
@@ -365,7 +363,7 @@ fn payloads_of_pppoe_end_at_their_length(rt: HostRuntime) {
 /// Stops the test unless the payload of the packet in a frame of PPPoE has three bytes, and is of another protocol.
 fn expect_three_bytes(rt: &impl Abort, frame: &[u8], is_cut: bool) {
     let link_type = LinkType::PppOverEthernet;
-    let packet = read_frame(link_type, ByteOrder::BigEndian, frame, is_cut);
+    let packet = read_packet(link_type, ByteOrder::BigEndian, frame, is_cut);
     let is_counted = matches!(packet.content, Content::Ip { payload_len: 3, .. });
     expect_equal(rt, &is_counted, &true);
     expect_equal(rt, &packet.verdict, &OTHER_PROTOCOL);
@@ -385,7 +383,7 @@ fn packets_without_a_length_end_with_their_pppoe_payload(rt: HostRuntime) {
 fn expect_early_end(rt: &impl Abort, is_cut: bool, expected: Verdict) {
     let link_type = LinkType::PppOverEthernet;
     let frame = [0x11, 0, 0, 1, 0, 33, 0, 0x21, 0x45, 0, 0];
-    let packet = read_frame(link_type, ByteOrder::BigEndian, &frame, is_cut);
+    let packet = read_packet(link_type, ByteOrder::BigEndian, &frame, is_cut);
     expect_equal(rt, &packet.verdict, &expected);
 }
 

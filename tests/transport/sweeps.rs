@@ -87,17 +87,9 @@ const NONE: Counts = Counts {
     refused: 0,
 };
 
-/// The canonical header of a packet, and the bytes after it.
-type Canonical<'a> = (ArrayVec<u8, 60>, &'a [u8]);
-
-/// `canonical_header`, which is proved once here.
-fn canonical(protocol: Proto, bytes: &[u8]) -> Result<Canonical<'_>, HeaderSliceError> {
-    canonical_header(protocol, bytes)
-}
-
 /// The packet is accepted with a header of this length, and so is its canonical form, which does not change.
 fn expect_accepted(rt: &impl Abort, protocol: Proto, bytes: &[u8], header_len: usize) {
-    let (header, rest) = expect_ok(rt, canonical(protocol, bytes));
+    let (header, rest) = expect_ok(rt, canonical_header(protocol, bytes));
     let header = header.as_slice();
     expect_at(rt, &(protocol, bytes), &header.len(), &header_len);
     expect_bytes(rt, rest, bytes_from(rt, bytes, header_len));
@@ -124,14 +116,14 @@ fn joined(rt: &impl Abort, first: &[u8], second: &[u8]) -> ArrayVec<u8, 60> {
 
 /// The packet has this canonical header, and these bytes after it.
 fn expect_canonical(rt: &impl Abort, protocol: Proto, packet: &[u8], header: &[u8], rest: &[u8]) {
-    let (found, after) = expect_ok(rt, canonical(protocol, packet));
+    let (found, after) = expect_ok(rt, canonical_header(protocol, packet));
     expect_bytes(rt, found.as_slice(), header);
     expect_bytes(rt, after, rest);
 }
 
 /// The packet is refused by this error.
 fn expect_refused(rt: &impl Abort, protocol: Proto, bytes: &[u8], expected: &HeaderSliceError) {
-    let error = expect_some(rt, canonical(protocol, bytes).err());
+    let error = expect_some(rt, canonical_header(protocol, bytes).err());
     expect_at(rt, &(protocol, bytes), &error, expected);
 }
 
