@@ -21,7 +21,25 @@ pub fn expect_at<K: Debug, T: PartialEq + Debug>(
 
 /// Stops the test unless these are the expected bytes.
 pub fn expect_bytes(rt: &impl Abort, bytes: &[u8], expected: &[u8]) {
-    expect_equal(rt, &bytes, &expected);
+    if !are_same(bytes, expected) {
+        expect_equal(rt, &bytes, &expected);
+    }
+}
+
+/// Whether both are the same bytes. In a checked build `==` takes several calls a byte, and the sweeps compare many bytes.
+pub fn are_same(bytes: &[u8], others: &[u8]) -> bool {
+    let len = bytes.len();
+    if len != others.len() {
+        return false;
+    }
+    let mut place = 0;
+    while place < len {
+        if bytes[place] != others[place] {
+            return false;
+        }
+        place += 1;
+    }
+    true
 }
 
 /// Stops the test unless the value is displayed as this text.

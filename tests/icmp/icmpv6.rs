@@ -1,5 +1,6 @@
 use crate::expect::{
-    bytes_to, expect_clone, expect_debug_text, expect_equal, expect_ok, expect_some,
+    are_same, bytes_to, expect_bytes, expect_clone, expect_debug_text, expect_equal, expect_ok,
+    expect_some,
 };
 use etherparse_transport::err::{Layer, LenError};
 use etherparse_transport::icmpv6::*;
@@ -47,11 +48,17 @@ static LISTED: [Row; 28] = [
     (136, 0, "NeighborAdvertisement(NeighborAdvertisementHeader { router: true, solicited: false, override_flag: true })", [0xA0, 0, 0, 0]),
 ];
 
-/// The row of a type and code.
+/// The row of a type and code. The loop is one without calls, which take most of the time of a checked build.
 fn listed(type_u8: u8, code_u8: u8) -> Option<&'static Row> {
-    LISTED
-        .iter()
-        .find(|row| row.0 == type_u8 && row.1 == code_u8)
+    let mut place = 0;
+    while place < LISTED.len() {
+        let row = &LISTED[place];
+        if row.0 == type_u8 && row.1 == code_u8 {
+            return Some(row);
+        }
+        place += 1;
+    }
+    None
 }
 
 /// The text of that row, or an empty text if there is none.
@@ -121,8 +128,8 @@ fn slice_of<'a>(rt: &impl Abort, bytes: &'a [u8]) -> Icmpv6Slice<'a> {
 }
 
 /// The header is written as these bytes.
-fn expect_bytes(rt: &impl Abort, header: &Icmpv6Header, bytes: &[u8]) {
-    expect_equal(rt, &header.to_bytes().as_slice(), &bytes);
+fn expect_header_bytes(rt: &impl Abort, header: &Icmpv6Header, bytes: &[u8]) {
+    expect_bytes(rt, &header.to_bytes(), bytes);
 }
 
 fn too_short(required_len: usize, len: usize) -> LenError {
@@ -149,7 +156,7 @@ fn an_echo_request_is_read_and_replied_to(rt: HostRuntime) {
     let echo = IcmpEchoHeader { id: 1, seq: 2 };
     expect_equal(&rt, &packet.icmp_type(), &Icmpv6Type::EchoRequest(echo));
     let reply = Icmpv6Type::EchoReply(echo).to_header(destination, source, packet.payload());
-    expect_bytes(
+    expect_header_bytes(
         &rt,
         &expect_ok(&rt, reply),
         &[0x81, 0x00, 0x44, 0x70, 0x00, 0x01, 0x00, 0x02],
@@ -343,7 +350,7 @@ fn expect_stored(
         Icmpv6Header::with_checksum(icmp_type, source, destination, payload),
     );
     let (read, rest) = header_of(rt, packet);
-    expect_bytes(rt, &header, &read.to_bytes());
+    expect_header_bytes(rt, &header, &read.to_bytes());
     expect_equal(rt, &rest, &payload);
     let is_valid = slice_of(rt, packet).is_checksum_valid(source, destination);
     expect_equal(rt, &is_valid, &true);
@@ -478,6 +485,27 @@ fn slices_give_their_parts(rt: HostRuntime) {
     );
 }
 
+/// The kind is the unknown one of this type and code, with these bytes 4 to 7.
+fn expect_unknown(
+    rt: &impl Abort,
+    icmp_type: &Icmpv6Type,
+    type_u8: u8,
+    code_u8: u8,
+    bytes: [u8; 4],
+) {
+    let is_expected = match icmp_type {
+        Icmpv6Type::Unknown {
+            type_u8: read_type,
+            code_u8: read_code,
+            bytes5to8,
+        } => *read_type == type_u8 && *read_code == code_u8 && are_same(bytes5to8, &bytes),
+        _ => false,
+    };
+    if !is_expected {
+        expect_equal(rt, icmp_type, &unknown(type_u8, code_u8, bytes));
+    }
+}
+
 /// The kind is that of the row of this type and code, or the unknown one. Returns whether there is a row, and what the kind keeps of
 /// bytes 4 to 7.
 fn expect_kind(
@@ -493,7 +521,7 @@ fn expect_kind(
         }
         None => {
             let bytes5to8 = [0xA1, 0xA2, 0xA3, 0xA4];
-            expect_equal(rt, icmp_type, &unknown(type_u8, code_u8, bytes5to8));
+            expect_unknown(rt, icmp_type, type_u8, code_u8, bytes5to8);
             (false, bytes5to8)
         }
     }
@@ -506,7 +534,7 @@ fn expect_packet(rt: &(impl Abort + AllocGlobal), type_u8: u8, code_u8: u8) -> b
     expect_equal(rt, &(header.checksum, rest), &(0x1234, &[]));
     let (is_listed, kept) = expect_kind(rt, &header.icmp_type, type_u8, code_u8);
     bytes[4..].copy_from_slice(&kept);
-    expect_bytes(rt, &header, &bytes);
+    expect_header_bytes(rt, &header, &bytes);
     let codes = (header.icmp_type.type_u8(), header.icmp_type.code_u8());
     expect_equal(rt, &codes, &(type_u8, code_u8));
     is_listed
@@ -605,7 +633,7 @@ fn expect_raw(rt: &impl Abort, type_u8: u8, code_u8: u8) -> bool {
         checksum: 0x1234,
     };
     let bytes = [type_u8, code_u8, 0x12, 0x34, 1, 2, 3, 4];
-    expect_bytes(rt, &raw, &bytes);
+    expect_header_bytes(rt, &raw, &bytes);
     let (header, rest) = header_of(rt, &bytes);
     expect_equal(rt, &(header.checksum, rest), &(0x1234, &[]));
     let kind = kind_of(type_u8, code_u8);

@@ -3,7 +3,7 @@
 
 use super::len_error;
 use crate::expect::{
-    bytes_from, bytes_to, expect_at, expect_bytes, expect_equal, expect_ok, expect_some,
+    are_same, bytes_to, expect_at, expect_bytes, expect_equal, expect_ok, expect_some,
 };
 use arrayvec::ArrayVec;
 use etherparse_transport::err::Layer;
@@ -49,12 +49,12 @@ fn header_len(protocol: Proto, bytes: &[u8]) -> Result<usize, HeaderSliceError> 
 
 /// The byte at this place, 0 where there is none.
 fn at(bytes: &[u8], place: usize) -> u8 {
-    bytes.get(place).copied().unwrap_or(0)
+    if place < bytes.len() { bytes[place] } else { 0 }
 }
 
-/// The bits of the header byte at this place that have a meaning.
-fn mask(protocol: Proto, bytes: &[u8], place: usize) -> u8 {
-    match (protocol, at(bytes, 0), at(bytes, 1), place) {
+/// The bits that have a meaning of the header byte at this place, in a header that begins with these two bytes.
+fn mask(protocol: Proto, first: u8, second: u8, place: usize) -> u8 {
+    match (protocol, first, second, place) {
         (Proto::Udp, _, _, _) => 0xFF,
         (Proto::Tcp, _, _, 12) => 0xF1,
         (Proto::Tcp, _, _, _) => 0xFF,
@@ -87,22 +87,31 @@ const NONE: Counts = Counts {
     refused: 0,
 };
 
-/// The packet is accepted with a header of this length, and so is its canonical form, which does not change.
+/// The packet is accepted with a header of this length, and so is its canonical form, which does not change. A packet with the header that
+/// was found is its own canonical form, so it is not read twice.
 fn expect_accepted(rt: &impl Abort, protocol: Proto, bytes: &[u8], header_len: usize) {
     let (header, rest) = expect_ok(rt, canonical_header(protocol, bytes));
     let header = header.as_slice();
-    expect_at(rt, &(protocol, bytes), &header.len(), &header_len);
-    expect_bytes(rt, rest, bytes_from(rt, bytes, header_len));
-    expect_kept(rt, protocol, bytes, header);
-    let whole = joined(rt, header, rest);
-    expect_canonical(rt, protocol, whole.as_slice(), header, rest);
+    let (front, after) = expect_some(rt, bytes.split_at_checked(header_len));
+    expect_bytes(rt, rest, after);
+    expect_kept(rt, protocol, front, header);
+    if !are_same(header, front) {
+        let whole = joined(rt, header, rest);
+        expect_canonical(rt, protocol, whole.as_slice(), header, rest);
+    }
 }
 
-/// Each byte of the header has the bits of the packet that have a meaning.
-fn expect_kept(rt: &impl Abort, protocol: Proto, bytes: &[u8], header: &[u8]) {
-    for (place, byte) in header.iter().enumerate() {
-        let kept = at(bytes, place) & mask(protocol, bytes, place);
-        expect_at(rt, &(place, protocol, bytes), byte, &kept);
+/// The header has the length of the one at the front of the packet, and each of its bytes has the bits of that one that have a meaning.
+fn expect_kept(rt: &impl Abort, protocol: Proto, front: &[u8], header: &[u8]) {
+    expect_at(rt, &(protocol, front), &header.len(), &front.len());
+    let (first, second) = (at(front, 0), at(front, 1));
+    let mut place = 0;
+    while place < header.len() {
+        let kept = front[place] & mask(protocol, first, second, place);
+        if header[place] != kept {
+            expect_at(rt, &(place, protocol, front), &header[place], &kept);
+        }
+        place += 1;
     }
 }
 
@@ -190,10 +199,13 @@ fn every_tcp_length_and_byte_12(rt: HostRuntime) {
 /// Tries every type and code over these bytes.
 fn try_types_and_codes(rt: &impl Abort, protocol: Proto, after: &[u8]) -> Counts {
     let mut counts = NONE;
+    let mut packet = joined(rt, &[0, 0], after);
+    let bytes = packet.as_mut_slice();
     for type_u8 in 0..=u8::MAX {
+        bytes[0] = type_u8;
         for code_u8 in 0..=u8::MAX {
-            let bytes = joined(rt, &[type_u8, code_u8], after);
-            counts.try_packet(rt, protocol, bytes.as_slice());
+            bytes[1] = code_u8;
+            counts.try_packet(rt, protocol, bytes);
         }
     }
     counts

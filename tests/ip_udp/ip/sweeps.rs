@@ -1,6 +1,6 @@
 //! Every header of a small world, beside plain functions of what packets of that shape carry.
 
-use crate::expect::{bytes_between, bytes_from, bytes_to, expect_equal, expect_ok};
+use crate::expect::{bytes_between, bytes_from, bytes_to, expect_bytes, expect_equal, expect_ok};
 use etherparse_transport::IpNumber;
 use etherparse_transport::ip::{IpError, transport_in_ip, transport_in_ip_lax};
 use std::process::Abort;
@@ -52,7 +52,7 @@ fn ipv4_outcome(rt: &impl Abort, packet: &[u8], words: usize, total_len: usize) 
     let error = match ipv4_payload(words, total_len, packet.len()) {
         Ok((start, end)) => {
             let payload = expect_ok(rt, strict).payload;
-            expect_equal(rt, &payload, &bytes_between(rt, packet, start, end));
+            expect_bytes(rt, payload, bytes_between(rt, packet, start, end));
             expect_equal(rt, &lax, &strict);
             return Outcome::Accepted;
         }
@@ -71,7 +71,7 @@ fn ipv4_outcome(rt: &impl Abort, packet: &[u8], words: usize, total_len: usize) 
         }
     };
     let found = expect_ok(rt, lax);
-    expect_equal(rt, &found.payload, &bytes_from(rt, packet, start));
+    expect_bytes(rt, found.payload, bytes_from(rt, packet, start));
     if is_cut_off {
         expect_equal(rt, &found.is_cut_off, &true);
         Outcome::CutOff
