@@ -4,7 +4,7 @@ use super::{
     ALL, ENHANCED, ENHANCED_END, ENHANCED_OF_SECOND, FaultyReader, FaultyWriter, OTHER_BLOCK,
     OTHER_LINK, RAW_IP, SECTION, SIMPLE, SIMPLE_END, UDP, first_bytes, long_capture, two_packets,
 };
-use crate::expect::{expect_at, expect_equal, expect_ok, expect_some, joined};
+use crate::expect::{expect_at, expect_equal, expect_some, joined};
 use capture_packet::MAX_PACKET_LEN;
 use capture_run::{CaptureError, Choice, ExitStatus, Lines, Parts};
 use capture_selection::{Counts, SelectionError, write_selected};
@@ -29,15 +29,11 @@ fn place_in(error: &CaptureError) -> Option<(u64, u64)> {
     }
 }
 
-/// Selects packets of a capture through this buffer.
-fn select_through<R: Read, W: Write>(
-    buffer: &mut [u8; MAX_PACKET_LEN],
-    input: &mut R,
-    output: &mut W,
-    parts: &Parts,
-) -> Selected {
+/// Selects packets of a capture. The buffer is an array, since a checked build fills and drops a vector byte by byte.
+fn select<R: Read, W: Write>(input: &mut R, output: &mut W, parts: &Parts) -> Selected {
+    let mut buffer = [0; MAX_PACKET_LEN];
     let mut counts = Counts::NONE;
-    let (status, place) = match write_selected(input, output, buffer, parts, &mut counts) {
+    let (status, place) = match write_selected(input, output, &mut buffer, parts, &mut counts) {
         Ok(()) => (Some(ExitStatus::Success), None),
         Err(SelectionError::Capture(error)) => (Some(error.status()), place_in(&error)),
         Err(SelectionError::Write(_)) => (None, None),
@@ -47,18 +43,6 @@ fn select_through<R: Read, W: Write>(
         counts,
         place,
     }
-}
-
-/// Selects packets of a capture.
-fn select<R: Read, W: Write>(
-    rt: &(impl Abort + AllocGlobal),
-    input: &mut R,
-    output: &mut W,
-    parts: &Parts,
-) -> Selected {
-    let mut bytes = expect_ok(rt, vec![in rt.alloc(); 0u8; MAX_PACKET_LEN]);
-    let buffer = expect_some(rt, bytes.as_mut_slice().as_mut_array());
-    select_through(buffer, input, output, parts)
 }
 
 /// The options that select packets of this port, if there is one.
@@ -115,7 +99,7 @@ fn expect_selection(rt: &(impl Abort + AllocGlobal), whole: &[u8], row: &Selecti
     let mut input = whole;
     let mut output = Vec::new(rt.alloc());
     let parts = of_port(port, lines, limit);
-    let selected = select(rt, &mut input, &mut output, &parts);
+    let selected = select(&mut input, &mut output, &parts);
     let records = expect_some(rt, whole.get(start..end));
     let wanted = joined(rt, &[first_bytes(whole, 24), records]);
     expect_equal(rt, &output.as_slice(), &wanted.as_slice());
@@ -150,7 +134,7 @@ fn expect_cut(rt: &(impl Abort + AllocGlobal), whole: &[u8], cut: usize, expecte
     let mut input = first_bytes(whole, cut);
     let mut output = Vec::new(rt.alloc());
     let parts = of_port(None, Lines::All, None);
-    let selected = select(rt, &mut input, &mut output, &parts);
+    let selected = select(&mut input, &mut output, &parts);
     let (status, len, read, place) = expected;
     expect_at(rt, &cut, &output.as_slice(), &first_bytes(whole, len));
     expect_at(rt, &cut, &selected.status, &Some(status));
@@ -185,7 +169,7 @@ fn expect_long(rt: &(impl Abort + AllocGlobal), whole: &[u8], row: &LongRow) {
     let mut input = bytes;
     let mut output = Vec::new(rt.alloc());
     let parts = of_port(port, Lines::All, None);
-    let selected = select(rt, &mut input, &mut output, &parts);
+    let selected = select(&mut input, &mut output, &parts);
     let len = if is_written { bytes.len() } else { 24 };
     let is_equal = output.as_slice() == first_bytes(bytes, len);
     expect_equal(rt, &is_equal, &true);
@@ -209,7 +193,7 @@ fn expect_beginning(rt: &(impl Abort + AllocGlobal), whole: &[u8], calls: usize)
         takes_nothing: false,
     };
     let parts = of_port(None, Lines::All, None);
-    let selected = select(rt, &mut input, &mut output, &parts);
+    let selected = select(&mut input, &mut output, &parts);
     expect_equal(rt, &selected.status, &None);
     let written = output.written.as_slice();
     expect_equal(rt, &written, &first_bytes(whole, calls));
@@ -228,7 +212,7 @@ fn expect_read_fault(rt: &(impl Abort + AllocGlobal), whole: &[u8], reads: usize
     let mut input = FaultyReader { rest: whole, reads };
     let mut output = Vec::new(rt.alloc());
     let parts = of_port(None, Lines::All, None);
-    let selected = select(rt, &mut input, &mut output, &parts);
+    let selected = select(&mut input, &mut output, &parts);
     let (len, place) = match reads {
         0..24 => (0, None),
         24..69 => (24, Some((1, 24))),
@@ -274,7 +258,7 @@ fn expect_blocks(rt: &(impl Abort + AllocGlobal), whole: &[u8], row: &FileRow) {
     let mut input = whole;
     let mut output = Vec::new(rt.alloc());
     let parts = of_port(port, lines, None);
-    let selected = select(rt, &mut input, &mut output, &parts);
+    let selected = select(&mut input, &mut output, &parts);
     let wanted = joined(rt, wanted);
     expect_equal(rt, &output.as_slice(), &wanted.as_slice());
     expect_equal(rt, &selected.status, &Some(ExitStatus::Success));
