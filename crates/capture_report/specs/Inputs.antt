@@ -17,8 +17,3 @@ IsRequestedBy name (File file) = (name ≢ codes "-") × (is_escaped name ≡ fa
 abbrev pub IsFileLen : Input → ℕ → Type 0
 IsFileLen (Standard stdin) len = len ≡ 0
 IsFileLen (File file) len = Unit {0}
-
--- the input is a file
-abbrev pub IsFile : Input → Type 0
-IsFile (Standard stdin) = ⊥
-IsFile (File file) = Unit {0}

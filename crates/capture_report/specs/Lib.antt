@@ -1,4 +1,5 @@
 pub mod Failures
 pub mod Inputs
+pub mod NewFiles
 pub mod Outputs
 pub mod Progress

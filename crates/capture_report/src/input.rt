@@ -1,7 +1,7 @@
 //! The source of captures.
 
-ghost use Rattle.std.specs.Prelude.{◌≡◌, IfOk, IsTrue};
-ghost use Rattle.capture_report.specs.Inputs.{IsFile, IsFileLen, IsRequestedBy, is_escaped};
+ghost use Rattle.std.specs.Prelude.{◌≡◌, IfOk};
+ghost use Rattle.capture_report.specs.Inputs.{IsFileLen, IsRequestedBy, is_escaped};
 ghost use Rattle.capture_report.specs.Outputs.{is_same_file};
 
 use capture_request::STANDARD_INPUT;
@@ -9,6 +9,9 @@ use std::fs::{File, Metadata};
 use std::io::{ErrorKind, Read, Stdin};
 use std::os::unix::fs::MetadataExt;
 use std::{fs, io};
+
+/// The name by which Linux describes the file that is standard input.
+const STANDARD_INPUT_FILE: &str = "/dev/stdin";
 
 /// The error for a name that is not UTF-8.
 const NOT_UTF8: &str = "The name is not UTF-8, and no file is opened by such a name.";
@@ -54,17 +57,13 @@ impl Input {
         }
     }
 
-    /// Whether this input is the file with this name, by the numbers of the device and of the file. Standard input is no such file.
-    pub fn is_named(&self, rt: &HostRuntime, name: &str) -> bool
-        ensures { IsTrue result → IsFile self.now }
-    {
-        let Input::File(file) = self else {
-            return false;
+    /// Whether this input is the file with this name, by the numbers of the device and of the file.
+    pub fn is_named(&self, rt: &HostRuntime, name: &str) -> bool {
+        let metadata = match self {
+            Input::Standard(_) => fs::metadata(rt, STANDARD_INPUT_FILE),
+            Input::File(file) => file.metadata(),
         };
-        is_same_file(
-            FileId::of(file.metadata()),
-            FileId::of(fs::metadata(rt, name)),
-        )
+        is_same_file(FileId::of(metadata), FileId::of(fs::metadata(rt, name)))
     }
 }
 

@@ -21,6 +21,7 @@ ghost use Rattle.capture_report.specs.Progress.{inner_of, next_of};
 ghost use Rattle.capture_arguments.specs.Rejections.{answer_number};
 
 mod input;
+mod new_file;
 mod progress;
 
 use capture_arguments::{
@@ -33,9 +34,9 @@ use capture_request::{
 use capture_run::{Open, WriteError, run};
 use capture_selection::{Counts, SelectionError, write_selected};
 use input::Input;
+use new_file::NewFile;
 use progress::{Progress, is_shown};
 use std::alloc::{AllocError, Global};
-use std::fs::File;
 use std::hash::RandomState;
 use std::io;
 use std::io::{BufReader, BufWriter, ErrorKind, IsTerminal, LineWriter, Read, Write};
@@ -124,8 +125,8 @@ fn report_to<W: Write>(rt: &HostRuntime, options: &Options<'_>, output: &mut W) 
     }
 }
 
-/// Writes the packets of the capture to the file with this name, or to standard output, and returns the exit status. The capture is opened
-/// before the file is created.
+/// Writes the packets of the capture to the file with this name, or to standard output, and returns the exit status. The file is created
+/// when the first bytes are written to it, so after the start of the capture was accepted.
 fn write_to(rt: &HostRuntime, options: &Options<'_>, name: &str) -> io::Result<u8> {
     let capture = options.files.as_slice().first().copied();
     let input = match Input::open(rt, capture.unwrap_or(STANDARD_INPUT)) {
@@ -142,19 +143,14 @@ fn write_to(rt: &HostRuntime, options: &Options<'_>, name: &str) -> io::Result<u
     if input.is_named(rt, name) {
         return answer(rt, output_is_capture(rt.alloc()));
     }
-    match create(rt, name) {
-        Ok(output) => {
-            let input = with_progress(rt, input, false);
-            write_packets(rt, &options.parts, capture, input, output)
+    let mut output = NewFile::new(rt, name);
+    let input = with_progress(rt, input, false);
+    match write_packets(rt, &options.parts, capture, input, &mut output) {
+        Err(error) if output.is_refused() => {
+            unopened(&mut rt.stderr(), rt.alloc(), name, &error)
         }
-        Err(error) => unopened(&mut rt.stderr(), rt.alloc(), name, &error),
+        result => result,
     }
-}
-
-/// Creates the file with this name. A clone of a file has a number above the numbers of the standard streams. If standard error is closed,
-/// the file itself could have its number, and would contain the messages.
-fn create(rt: &HostRuntime, name: &str) -> io::Result<File> {
-    File::create(rt, name)?.try_clone()
 }
 
 /// Writes the error of a file that can't be opened or created, and returns the exit status.

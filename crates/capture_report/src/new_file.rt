@@ -1,0 +1,69 @@
+//! The file to which the packets of a capture are written.
+
+ghost use Rattle.std.specs.Prelude.{◌≡◌, Bool, false, true};
+ghost use Rattle.capture_report.specs.NewFiles.{is_refused};
+
+use std::fs::File;
+use std::io;
+use std::io::Write;
+
+/// A file that is created when the first byte is written to it. Until then, a file with this name stays as it is.
+#[derive(Drop)]
+pub struct NewFile<'a> {
+    rt: &'a HostRuntime,
+    name: &'a str,
+    /// `None` until the file is created.
+    file: Option<File>,
+    is_refused: bool,
+}
+
+impl<'a> NewFile<'a> {
+    /// A file with this name, which is not created yet.
+    pub fn new(rt: &'a HostRuntime, name: &'a str) -> NewFile<'a>
+        ensures { is_refused result ≡ false }
+    {
+        NewFile {
+            rt,
+            name,
+            file: None,
+            is_refused: false,
+        }
+    }
+
+    /// Whether the system refused to create the file.
+    pub fn is_refused(&self) -> bool
+        ensures { result ≡ is_refused self.now }
+    {
+        self.is_refused
+    }
+
+    /// The file, which is created if it is not there yet.
+    fn created(&mut self) -> io::Result<File> {
+        if let Some(file) = self.file.take() {
+            return Ok(file);
+        }
+        let created = create(self.rt, self.name);
+        self.is_refused = created.is_err();
+        created
+    }
+}
+
+impl<'a> Write for NewFile<'a> {
+    fn write(&mut self, bytes: &[u8]) -> io::Result<usize> {
+        let mut file = self.created()?;
+        let written = file.write(bytes);
+        self.file = Some(file);
+        written
+    }
+
+    /// Nothing is kept back, since each write is a write of the file.
+    fn flush(&mut self) -> io::Result<()> {
+        Ok(())
+    }
+}
+
+/// Creates the file with this name. A clone of a file has a number above the numbers of the standard streams. If standard error is closed,
+/// the file itself could have its number, and would contain the messages.
+fn create(rt: &HostRuntime, name: &str) -> io::Result<File> {
+    File::create(rt, name)?.try_clone()
+}
