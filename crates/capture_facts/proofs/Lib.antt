@@ -1,2 +1,3 @@
+mod FactsExamples
 pub mod FactsLemmas
 pub mod ShownLemmas

@@ -1,3 +1,4 @@
 pub mod FrameLemmas
+pub mod PacketExamples
 mod TunnelExamples
 pub mod TunnelLemmas

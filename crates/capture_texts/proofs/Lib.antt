@@ -1,1 +1,2 @@
+pub mod TextsExamples
 pub mod TextsLemmas
