@@ -1,3 +1,4 @@
+mod JsonExamples
 mod JsonLaws
 mod JsonLemmas
 mod OptionLaws

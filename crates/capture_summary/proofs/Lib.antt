@@ -7,3 +7,4 @@ mod RankingLemmas
 mod RankingOrder
 mod RankingRows
 mod RankingSort
+pub mod SummaryExamples

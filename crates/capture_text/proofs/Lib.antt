@@ -1,2 +1,3 @@
 pub mod AddressLemmas
+mod LineExamples
 pub mod LineLaws

@@ -100,14 +100,14 @@ day_is : (y m d : ℕ) → IsCivilDate (pos y) m d → day_of_month y m (days_fr
 day_is y m d is =
     omega (arith, signed_arith, days_from_civil-day_count (pos y) m d, days_from_civil-day_count (pos y) m 1, day_count-day (pos y) m d 1 is.2.0 (omega arith), is.2.0, one_part (days_from_civil (pos y) m d -ℤ days_from_civil (pos y) m 1))
 
-text_is : (y m d : ℕ) → IsCivilDate (pos y) m d → day_text (days_from_civil (pos y) m d) ≡ date_text y m d
+pub text_is : (y m d : ℕ) → IsCivilDate (pos y) m d → day_text (days_from_civil (pos y) m d) ≡ date_text y m d
 text_is y m d is =
     let day = days_from_civil (pos y) m d in
     ap (λ year. date_text year (month_of year day) (day_of_month year (month_of year day) day)) (year_is y m d is)
     ∙ ap (λ month. date_text y month (day_of_month y month day)) (month_is y m d is)
     ∙ ap (date_text y m) (day_is y m d is)
 
-has_is : (y m d : ℕ) → IsCivilDate (pos y) m d → has_date (days_from_civil (pos y) m d) ≡ true
+pub has_is : (y m d : ℕ) → IsCivilDate (pos y) m d → has_date (days_from_civil (pos y) m d) ≡ true
 has_is y m d is =
     let day = days_from_civil (pos y) m d in
     let after : int_le (days_from_civil (pos 0) 1 1) day ≡ true = le_is _ _ (counted_le (pos 0) (pos y) 1 1 m d (year_before y m d 0 is (omega arith))) in

@@ -1,0 +1,146 @@
+-- Worked examples of what a summary counts, so that a wrong definition fails before any code does.
+use Rattle.std.proofs.Common.{◌≡◌, ℕ, List, [], ◌∷◌, None, Some, Ok, arith, codes, inl, inr, pos, refl, replicate}
+use Rattle.std.specs.declared.net.ip_addr.IpAddr.TheVariants as ip_addr
+use Rattle.std.specs.declared.net.socket_addr.SocketAddr.{SocketAddr}
+use Rattle.std.specs.declared.net.socket_addr.SocketAddr.TheVariants as socket_addr
+use Rattle.std.specs.Fmt.{digits}
+use Rattle.std.specs.Net.Addr.{ipv4_bits}
+use Rattle.capture_file.specs.declared.packet_time.PacketTime.{PacketTime}
+use Rattle.capture_file.specs.declared.pcapng.time_resolution.TimeResolution.TheVariants.{PowerOfTen}
+use Rattle.capture_packet.proofs.PacketExamples.{packet}
+use Rattle.capture_protocols.specs.declared.protocol.Protocol.TheVariants as protocols
+use Rattle.capture_texts.specs.declared.link_type.LinkType.TheVariants.{Ethernet}
+use Rattle.capture_summary.specs.Choice.{IsChosen}
+use Rattle.capture_summary.specs.CountedPackets.{table_of}
+use Rattle.capture_summary.specs.FlowOf.{IsFlowOf}
+use Rattle.capture_summary.specs.Networks.{IsIpv4In, ReadsNetwork}
+use Rattle.capture_summary.specs.Ranking.{by_packets}
+use Rattle.capture_summary.specs.Rates.{average_len, rates_of}
+use Rattle.capture_summary.specs.SummaryTables.{CountsOne, SummaryTables, empty_tables}
+use Rattle.capture_summary.specs.Tables.{no_packets}
+use Rattle.capture_summary.specs.declared.capture_info.CaptureInfo.{CaptureInfo}
+use Rattle.capture_summary.specs.declared.count.Count.{Count}
+use Rattle.capture_summary.specs.declared.flow.Flow.{Flow}
+use Rattle.capture_summary.specs.declared.flow.FlowProtocol.TheVariants.{Udp}
+use Rattle.capture_summary.specs.declared.network.Network.{Network}
+use Rattle.capture_summary.specs.declared.verdict_kind.VerdictKind.TheVariants.{Right}
+
+-- ---- flows
+
+-- an IPv4 address with a port
+abbrev pub ipv4_socket : ℕ → ℕ → ℕ → ℕ → ℕ → SocketAddr
+ipv4_socket a b c d port = socket_addr.V4 (record { ip = record { octets = a ∷ b ∷ c ∷ d ∷ [] }; port = port })
+
+-- a UDP flow from 192.0.2.1, port 49152, to 192.0.2.2, port 53, and its other direction
+abbrev pub request : Flow
+request = record { protocol = Udp; source = ipv4_socket 192 0 2 1 49152; destination = ipv4_socket 192 0 2 2 53 }
+
+abbrev pub response : Flow
+response = record { protocol = Udp; source = ipv4_socket 192 0 2 2 53; destination = ipv4_socket 192 0 2 1 49152 }
+
+-- this number of packets, and of bytes
+abbrev pub count : ℕ → ℕ → Count
+count packets bytes = record { packets = packets; bytes = bytes }
+
+-- a request of 1,000 bytes, a response of 44 bytes, and a packet without ports: one conversation
+both_directions : table_of ((Some request, 1000) ∷ (Some response, 44) ∷ (None, 200) ∷ [])
+    ≡ record {
+      rows = record { flow = request; forward = count 1 1000; reverse = count 1 44 } ∷ [];
+      without_ports = count 1 200;
+      without_room = no_packets;
+    }
+both_directions = refl
+
+-- the flow of the UDP packet from 192.0.2.1, port 7, to 192.0.2.2, port 9
+flow_of_packet : IsFlowOf packet.content
+    (Some (record { protocol = Udp; source = ipv4_socket 192 0 2 1 7; destination = ipv4_socket 192 0 2 2 9 }))
+flow_of_packet = (refl, refl, (refl, ((refl, refl, refl), (refl, refl, refl))))
+
+-- ---- one packet
+
+-- an Ethernet frame of 1,000 bytes
+abbrev info : CaptureInfo
+info = record { link_type = Some (Ok Ethernet); time = None; len = Some (record { original = 1000; captured = 1000 }) }
+
+-- after the request with a right checksum: the first row of protocols is UDP, the first row of checksums is `right`, and the second row of
+-- link types is Ethernet
+abbrev one_packet : SummaryTables
+one_packet = record {
+  packets = 1;
+  bytes = 1000;
+  span = None;
+  protocols = count 1 1000 ∷ replicate 51 no_packets;
+  verdicts = 1 ∷ replicate 10 0;
+  links = 0 ∷ 1 ∷ replicate 21 0;
+  refusals = replicate 12 0;
+  flows = record {
+    rows = record { flow = request; forward = count 1 1000; reverse = no_packets } ∷ [];
+    without_ports = no_packets;
+    without_room = no_packets;
+  };
+}
+
+counts_one : CountsOne empty_tables protocols.Udp Right None (Some request) info one_packet
+counts_one = record {
+  packets = refl;
+  bytes = refl;
+  span = refl;
+  protocols = refl;
+  verdicts = refl;
+  links = refl;
+  refusals = refl;
+  flows = refl;
+}
+
+-- ---- rankings and rates
+
+-- the two rows with three packets are in the order of the table
+most_packets_first : by_packets ((codes "UDP", count 1 9) ∷ (codes "TCP", count 3 5) ∷ (codes "ICMPv4", count 3 7) ∷ [])
+    ≡ (codes "TCP", count 3 5) ∷ (codes "ICMPv4", count 3 7) ∷ (codes "UDP", count 1 9) ∷ []
+most_packets_first = refl
+
+-- this many microseconds after 1,600,000,000 seconds since 1970
+abbrev time : ℕ → PacketTime
+time microseconds = record { seconds = 1600000000; fraction = microseconds; resolution = PowerOfTen 6; offset = pos 0 }
+
+-- 70 packets of 6,687 bytes in 6,900 microseconds, as in the stored capture of `capture_report`: 6687 / 70 = 95.5, 70 / 0.0069 = 10144.9,
+-- and 8 * 6687 / 0.0069 = 7753043.5
+average : average_len 70 6687 ≡ Some 95
+average = refl
+
+rates : rates_of 70 6687 (record { earliest = time 0; latest = time 6900 }) ≡ Some (record { packets = 10144; bits = 7753043 })
+rates = refl
+
+-- ---- networks
+
+-- RFC 5737: TEST-NET-1, 192.0.2.0/24
+abbrev pub test_net : Network
+test_net = record { address = ip_addr.V4 (record { octets = 192 ∷ 0 ∷ 2 ∷ 0 ∷ [] }); host_bits = 8 }
+
+last_address : IsIpv4In (192 ∷ 0 ∷ 2 ∷ 255 ∷ []) test_net
+unfolding ipv4_bits
+last_address = refl
+
+next_network : IsIpv4In (192 ∷ 0 ∷ 3 ∷ 0 ∷ []) test_net → ⊥
+unfolding ipv4_bits
+next_network is = cc is
+
+-- the text of a network
+reads_network : ReadsNetwork (codes "192.0.2.0/24") (Ok test_net)
+unfolding digits ipv4_bits
+reads_network = record {
+  single = λ none. absurd (omega (arith, none));
+  prefixed = λ within. inr (
+    test_net.address,
+    record { a = 192; b = 0; c = 2; d = 0; fit = (omega arith, omega arith, omega arith, omega arith); value = refl; spelled = refl },
+    record { number = λ is. refl; other = λ no. absurd (no ((omega arith, (omega arith, (omega arith, tt))), omega arith)) },
+  );
+}
+
+-- ---- choices
+
+-- a packet to port 9, from a host in the network
+is_chosen : IsChosen
+    (record { hosts = Some (Some test_net ∷ replicate 15 None); ports = Some (Some 53 ∷ Some 9 ∷ replicate 14 None); protocols = None }) packet
+unfolding ipv4_bits
+is_chosen = record { hosts = inl (inl (inl (inl refl))); ports = inr (inl (inl (inr refl))); protocols = tt }

@@ -1,0 +1,85 @@
+-- Worked examples of lines and of a summary, so that a wrong definition fails before any code does.
+use Rattle.std.proofs.Common.{◌≡◌, ◌++◌, ℕ, false, true, List, [], ◌∷◌, None, Some, codes, refl, replicate}
+use Rattle.std.specs.Char.{encode_utf8}
+use Rattle.std.specs.Fmt.{char_count, digits, padded, padded_integral, take_chars}
+use Rattle.ip_part.specs.declared.proto.Proto.TheVariants.{Tcp}
+use Rattle.transport_part.specs.declared.checksum_verdict.ChecksumVerdict.TheVariants.{Right}
+use Rattle.transport_part.specs.declared.checksum_verdict.Untested.TheVariants.{OtherProtocol}
+use Rattle.transport_part.specs.declared.transport_slice.TransportSlice.TheVariants as slices
+use Rattle.capture_link.specs.declared.network_protocol.NetworkProtocol.TheVariants.{EtherType}
+use Rattle.capture_packet.proofs.PacketExamples.{addresses, packet}
+use Rattle.capture_packet.specs.Packets.{in_no_tunnel}
+use Rattle.capture_packet.specs.Verdicts.{untested}
+use Rattle.capture_packet.specs.declared.content.Content.TheVariants.{Ip, NotIp}
+use Rattle.capture_packet.specs.declared.transport.Transport.TheVariants.{Read}
+use Rattle.capture_packet.specs.declared.verdict.Verdict.TheVariants.{Checksum}
+use Rattle.capture_summary.proofs.SummaryExamples.{count, request}
+use Rattle.capture_summary.specs.SummaryTables.{SummaryTables}
+use Rattle.capture_summary.specs.Tables.{no_packets}
+use Rattle.capture_summary.specs.declared.capture_info.FrameLen.{FrameLen}
+use Rattle.capture_words.proofs.TimeExamples.{time}
+use Rattle.capture_words.proofs.WordsExamples.{header_text, is_header_text, segment}
+use Rattle.capture_words.specs.declared.times.Times.TheVariants.{SinceFirst}
+use Rattle.capture_text.specs.PacketLine.{IsLine}
+use Rattle.capture_text.specs.SummaryText.{summary_text}
+
+-- ---- lines
+
+-- a frame of this length, which was captured as a whole
+whole : ℕ → FrameLen
+whole len = record { original = len; captured = len }
+
+-- the UDP packet from 192.0.2.1, port 7, to 192.0.2.2, port 9, with its time to live
+udp_line : IsLine SinceFirst true 1 None (Some (time 5 7)) (Some (whole 29)) packet
+    (codes "1 00:00:00.000000 length 29: 192.0.2.1:7 > 192.0.2.2:9 UDP length 9, payload 1, time to live 64; checksum right\n")
+unfolding char_count digits encode_utf8 padded_integral whole
+udp_line = (codes "192.0.2.1:7 > 192.0.2.2:9 UDP length 9, payload 1", (codes "192.0.2.1:7 > 192.0.2.2:9 UDP length 9", refl, refl), refl)
+
+-- packet 8 of the stored run of `capture_report`
+tcp_line : IsLine SinceFirst false 8 (Some (time 1600000000 0)) (Some (time 1600000000 700)) (Some (whole 90))
+    (in_no_tunnel (Ip addresses (record { 0 = 6 }) (Some Tcp) (Read (slices.Tcp segment)) 32) (Checksum Right))
+    (codes "8 00:00:00.000700 length 90: 192.0.2.1:49153 > 192.0.2.2:80 TCP " ++ (header_text ++ codes ", payload 32; checksum right\n"))
+unfolding char_count digits encode_utf8 padded_integral whole
+tcp_line =
+    let transport = codes "192.0.2.1:49153 > 192.0.2.2:80 TCP " ++ header_text in
+    (transport ++ codes ", payload 32", (transport, (header_text, is_header_text, refl), refl), refl)
+
+-- packet 65 of the same run
+arp_line : IsLine SinceFirst false 65 (Some (time 1600000000 0)) (Some (time 1600000000 6400)) (Some (whole 42))
+    (in_no_tunnel (NotIp (EtherType 0x0806)) (untested OtherProtocol)) (codes "65 00:00:00.006400 length 42: ARP\n")
+unfolding char_count digits encode_utf8 padded_integral whole
+arp_line = (codes "ARP", refl, refl)
+
+-- ---- a summary
+
+-- Ethernet frames without a time: two packets of a UDP conversation, an ICMPv6 message with a wrong checksum, and two IP packets that are
+-- rejected for their version
+abbrev five_packets : SummaryTables
+five_packets = record {
+  packets = 5;
+  bytes = 1312;
+  span = None;
+  protocols = count 2 1044 ∷ no_packets ∷ no_packets ∷ count 1 200 ∷ (replicate 47 no_packets ++ count 2 68 ∷ []);
+  verdicts = 2 ∷ 1 ∷ (replicate 8 0 ++ 2 ∷ []);
+  links = 0 ∷ 5 ∷ replicate 21 0;
+  refusals = 0 ∷ 0 ∷ 2 ∷ replicate 9 0;
+  flows = record {
+    rows = record { flow = request; forward = count 1 1000; reverse = count 1 44 } ∷ [];
+    without_ports = count 3 268;
+    without_room = no_packets;
+  };
+}
+
+-- the text of a test of `capture_text`, without the lines about times
+summary_of_five : summary_text 10 five_packets
+    ≡ codes "packets 5, bytes 1312, bytes a packet 262\nconversations 1\n"
+    ++ codes "\nlink type                     packets\nEthernet                            5\n"
+    ++ codes "\nprotocol                      packets             bytes\nUDP                                 2              1044\n"
+    ++ codes "unknown                             2                68\nICMPv6                              1               200\n"
+    ++ codes "\nchecksum                      packets\nright                               2\nwrong                               1\n"
+    ++ codes "refused                             2\n\nrefused                       packets\nIP version                          2\n"
+    ++ codes "\nbusiest conversations                 packets         bytes   packets >       bytes >   packets <       bytes <\n"
+    ++ codes "UDP 192.0.2.1:49152 <> 192.0.2.2:53         2          1044           1          1000           1            44\n"
+    ++ codes "packets without ports                       3           268\n"
+unfolding char_count digits encode_utf8 padded padded_integral take_chars
+summary_of_five = refl
