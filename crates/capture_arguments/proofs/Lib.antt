@@ -1,3 +1,4 @@
+mod ArgumentExamples
 mod ChosenLemmas
 mod CommandLemmas
 mod ConflictLemmas

@@ -1,1 +1,2 @@
+mod OutputExamples
 mod OutputLemmas

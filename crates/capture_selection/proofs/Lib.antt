@@ -3,3 +3,4 @@ pub mod CaptureLemmas
 mod FirstBlockLemmas
 pub mod PassingLemmas
 pub mod RecordLemmas
+pub mod SelectionExamples

@@ -1,0 +1,198 @@
+-- A worked example of a command line, from its words to the options that they request, so that a wrong definition fails before any code does.
+use Rattle.std.proofs.Common.{Global, Vec, ◌≡◌, ◌≢◌, ◌∙◌, ◌⊎◌, ◌↔◌, ◌++◌, Bool, IsTrue, true, false, not, List, [], ◌∷◌, None, Some, ap, ap₂, arith, codes, if◌then◌else◌, inl, inr, length, length-take, map, refl, replicate, slice_index, subst, sym, take, unwrap_or}
+use Rattle.std.specs.Borrow.{Bor}
+use Rattle.std.specs.Option.{option_map}
+use Rattle.std.specs.Ptr.{null_ptr}
+use Rattle.std.specs.Char.{encode_utf8}
+use Rattle.std.specs.Str.{chars}
+use Rattle.std.specs.Str.Parse.{digits_value, without_leading_plus}
+use Rattle.clap.specs.Facts.{Entry}
+use Rattle.clap.specs.Faults.{defaults_fault, flags_fault, walk_fault}
+use Rattle.clap.specs.Walk.{Row, bundle_met, walked}
+use Rattle.clap.specs.Words.{App, Text, fault_of as faults_of, first_value, found_of, matched_of, matches_of, one_text, raw_values, rows_of}
+use Rattle.clap.specs.declared.parser.matches.ArgMatches.{ArgMatches}
+use Rattle.clap.specs.declared.parser.matches.ArgMatches.TheViews.{out-roll-ArgMatches, roll-ArgMatches}
+use Rattle.clap.specs.declared.builder.value_parser.Reading.TheVariants.{AsWritten, WithoutMinus}
+use Rattle.clap.specs.declared.parser.matches.Found.{Found}
+use Rattle.clap.specs.declared.parser.matches.ValueSource.TheVariants.{CommandLine, DefaultValue}
+use Rattle.capture_request.specs.Lines.{lines_by}
+use Rattle.capture_request.specs.declared.parts.Format.TheVariants.{Json, Text as AsText}
+use Rattle.capture_request.specs.declared.parts.Lines.TheVariants.{All}
+use Rattle.capture_summary.specs.declared.choice.Protocols.{Protocols}
+use Rattle.capture_words.specs.TimeText.{times_by}
+use Rattle.capture_words.specs.declared.times.Times.TheVariants.{SinceFirst}
+use Rattle.capture_arguments.specs.Arguments.{HasFlag, flag_text, values_of}
+use Rattle.capture_arguments.specs.Chosen.{AreChosen, AreRead, HasProtocols, ReadsPort}
+use Rattle.capture_arguments.specs.CommandLine.{AreMatchesOf, AreRequestedBy, command_line, protocol_names}
+use Rattle.capture_arguments.specs.Conflicts.{conflict_in}
+use Rattle.capture_arguments.specs.Options.{IsOptionsOf}
+use Rattle.capture_arguments.specs.declared.arguments.Options.{Options}
+
+-- ---- words and options
+
+words : List Text
+words =
+    codes "capture_report" ∷ codes "-v" ∷ codes "--json" ∷ codes "--port" ∷ codes "53" ∷ codes "--protocol" ∷ codes "TCP" ∷ codes "-c" ∷ codes "5"
+    ∷ codes "a.pcap" ∷ []
+
+-- a reference to a value
+abbrev reference_to : {X : Type 0} → X → Bor X
+reference_to value = record { ref_ptr = (0, 0); now = value }
+
+-- a vector of at most 64 items
+abbrev vec_of : {X : Type 0} → List X → Vec X Global
+vec_of items = record {
+  ptr = null_ptr;
+  len = length (take 64 items);
+  cap = 64;
+  alloc = record { memory = record { seal = tt } };
+  items = take 64 items;
+  ok = (refl, omega (arith, length-take 64 items));
+  small = omega arith;
+}
+
+abbrev tcp_alone : Protocols
+tcp_alone = record { udp = false; tcp = true; icmpv4 = false; icmpv6 = false }
+
+-- the requested options, and the defaults of the others: all lines and the summary, the times since the first packet, ten conversations
+abbrev options : Options
+options = record {
+  parts = record {
+    choice = record { hosts = None; ports = Some (Some 53 ∷ replicate 15 None); protocols = Some tcp_alone };
+    lines = All;
+    times = SinceFirst;
+    verbose = true;
+    summary = true;
+    format = Json;
+    top = 10;
+    check = false;
+    limit = Some 5;
+  };
+  line_buffered = false;
+  write = None;
+  files = vec_of (reference_to (codes "a.pcap") ∷ []);
+}
+
+-- ---- the matches of the words
+
+abbrev app : App
+app = command_line (reference_to (map reference_to protocol_names))
+
+fits : faults_of app words ≡ []
+unfolding bundle_met chars defaults_fault encode_utf8 flags_fault walk_fault walked words
+fits = refl
+
+-- a value that the words contain, and a flag that they do not contain
+abbrev given : Text → Text → Row
+given id value = record { id = id; values = value ∷ []; count = None; source = Some CommandLine; reading = AsWritten }
+
+abbrev not_given : Text → Row
+not_given id = record { id = id; values = codes "false" ∷ []; count = None; source = Some DefaultValue; reading = AsWritten }
+
+-- what is found in the words: the values in their order, and then the other flags in the order of the options
+abbrev rows : List Row
+rows =
+    given (codes "verbose") (codes "true") ∷ given (codes "json") (codes "true")
+    ∷ record (given (codes "port") (codes "53")) { reading = WithoutMinus } ∷ given (codes "protocol") (codes "TCP")
+    ∷ given (codes "count") (codes "5") ∷ given (codes "file") (codes "a.pcap") ∷ not_given (codes "summary") ∷ not_given (codes "packets")
+    ∷ not_given (codes "wrong") ∷ not_given (codes "absolute") ∷ not_given (codes "check") ∷ not_given (codes "line-buffered")
+    ∷ not_given (codes "numeric") ∷ []
+
+are_rows : rows ≡ matches_of app words
+unfolding bundle_met chars encode_utf8 walked words
+are_rows = refl
+
+-- a row with references to its texts
+abbrev entry_of : Row → Entry
+entry_of row = (
+  reference_to row.id,
+  record {
+    source = row.source;
+    indices = vec_of [];
+    vals = vec_of (map reference_to row.values);
+    starts = vec_of [];
+    count = row.count;
+    ignore_case = false;
+    is_group = false;
+    reading = row.reading;
+  },
+)
+
+abbrev found : Found
+found = record { entries = vec_of (map entry_of rows) }
+
+abbrev matches : ArgMatches
+matches = roll-ArgMatches (record { found = found; subcommand = None })
+
+are_found : found_of matches ≡ found
+are_found = ap (λ fields. fields.found) (out-roll-ArgMatches _)
+
+are_matches : AreMatchesOf words matches
+are_matches = (app, (reference_to (map reference_to protocol_names), refl, refl), fits, ap rows_of are_found ∙ are_rows)
+
+-- ---- the options in these matches
+
+one_flag : (value flag : Bool) → Some (flag_text value) ≡ Some (flag_text flag) → value ≡ flag
+one_flag true true same = refl
+one_flag true false same = absurd (cc same)
+one_flag false true same = absurd (cc same)
+one_flag false false same = refl
+
+-- a flag with this value in what was found
+flag_is : (id : Text) (value flag : Bool) → one_text found id ≡ Some (flag_text value) → HasFlag matches id flag → value ≡ flag
+flag_is id value flag one has = one_flag value flag (sym one ∙ sym (ap (λ found. one_text found id) are_found) ∙ has)
+
+-- the values of an argument
+values : (id : Text) → values_of matches id ≡ unwrap_or (option_map raw_values (matched_of found id)) []
+values id = ap (λ found. unwrap_or (option_map raw_values (matched_of found id)) []) are_found
+
+-- these names differ in their first letters
+other_name : {first second : Text} → slice_index first 0 ≢ slice_index second 0 → (first ≡ second) ⊎ ⊥ → ⊥
+other_name letters (inl same) = letters (ap (λ text. slice_index text 0) same)
+other_name letters (inr none) = none
+
+neither : {A B : Type 0} → (A → ⊥) → (B → ⊥) → A ⊎ B → ⊥
+neither not_first not_second (inl first) = not_first first
+neither not_first not_second (inr second) = not_second second
+
+is_false : {A : Type 0} → (A → ⊥) → IsTrue false ↔ A
+is_false no = (λ is. absurd (cc is), λ is. absurd (no is))
+
+is_tcp : AreChosen (codes "TCP" ∷ []) tcp_alone
+is_tcp = record {
+  udp = is_false (other_name (λ letter. absurd (omega (arith, letter))));
+  tcp = (λ is. inl refl, λ is. refl);
+  icmpv4 = is_false (neither (other_name (λ letter. absurd (omega (arith, letter)))) (other_name (λ letter. absurd (omega (arith, letter)))));
+  icmpv6 = is_false (neither (other_name (λ letter. absurd (omega (arith, letter)))) (other_name (λ letter. absurd (omega (arith, letter)))));
+}
+
+are_options : IsOptionsOf matches options
+are_options = record {
+  compatible = ap (λ found. conflict_in (rows_of found)) are_found;
+  lines = λ summary wrong has_summary has_wrong. ap₂ lines_by (flag_is (codes "summary") false summary refl has_summary) (flag_is (codes "wrong") false wrong refl has_wrong);
+  times = λ absolute has. ap times_by (flag_is (codes "absolute") false absolute refl has);
+  verbose = λ flag has. flag_is (codes "verbose") true flag refl has;
+  summary = λ packets has. ap not (flag_is (codes "packets") false packets refl has);
+  check = λ flag has. flag_is (codes "check") false flag refl has;
+  format = λ flag has. ap (λ flag. if flag then Json else AsText) (flag_is (codes "json") true flag refl has);
+  top = (λ none. refl, λ text given has number. absurd (cc (sym (ap (λ found. one_text found (codes "top")) are_found) ∙ has)));
+  choice = record {
+    hosts = values (codes "host");
+    ports = subst (λ texts. AreRead ReadsPort texts options.parts.choice.ports) (sym (values (codes "port")))
+        (((omega arith, (omega arith, (omega arith, tt))), refl, omega arith), tt);
+    protocols = subst (λ names. HasProtocols names options.parts.choice.protocols) (sym (values (codes "protocol"))) is_tcp;
+  };
+  limit = (
+    λ none. absurd (cc (sym (ap (λ found. one_text found (codes "count")) are_found) ∙ none)),
+    λ text given has number. ap Some (
+        ap (λ one. digits_value 10 (without_leading_plus (unwrap_or one []))) (sym (ap (λ found. one_text found (codes "count")) are_found) ∙ has)
+        ∙ number.1
+        ),
+  );
+  line_buffered = λ flag has. flag_is (codes "line-buffered") false flag refl has;
+  write = sym (ap (λ found. first_value found (codes "write")) are_found);
+  files = sym (ap₂ ◌++◌ (values (codes "read")) (values (codes "file")));
+}
+
+are_requested : AreRequestedBy words options
+are_requested = (matches, are_matches, are_options)

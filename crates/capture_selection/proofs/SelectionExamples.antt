@@ -1,0 +1,91 @@
+-- A worked example of a selection, from the bytes of a capture to the bytes that are written, so that a wrong definition fails before any
+-- code does.
+use Rattle.std.proofs.Common.{◌++◌, ℕ, true, false, List, [], ◌∷◌, None, Some, Ok, inl, refl}
+use Rattle.capture_texts.specs.declared.byte_order.ByteOrder.TheVariants.{LittleEndian}
+use Rattle.capture_texts.specs.declared.link_type.LinkType.TheVariants.{RawIp}
+use Rattle.capture_file.specs.declared.classic.capture_header.CaptureHeader.{CaptureHeader}
+use Rattle.capture_file.specs.declared.classic.record_header.Resolution.TheVariants.{Microseconds}
+use Rattle.capture_packet.proofs.PacketExamples.{frame, is_read, is_rejected, packet, rejected}
+use Rattle.capture_request.specs.declared.parts.Lines.TheVariants.{All}
+use Rattle.capture_request.specs.declared.parts.Parts.{Parts}
+use Rattle.capture_selection.specs.Captures.{SelectsCapture}
+use Rattle.capture_selection.specs.Passing.{Part}
+use Rattle.capture_selection.specs.Records.{IsRecordPart, first_records, records_after}
+use Rattle.capture_selection.specs.declared.counts.Counts.{Counts}
+use Rattle.capture_selection.specs.declared.outcome.Outcome.TheVariants.{Excluded, Written}
+
+-- ---- the capture
+
+-- the header of a little-endian capture of raw IP: version 2.4, 262,144 bytes of snap length, link type 101
+abbrev pub header : List ℕ
+header = 0xD4 ∷ 0xC3 ∷ 0xB2 ∷ 0xA1 ∷ 2 ∷ 0 ∷ 4 ∷ 0 ∷ 0 ∷ 0 ∷ 0 ∷ 0 ∷ 0 ∷ 0 ∷ 0 ∷ 0 ∷ 0 ∷ 0 ∷ 4 ∷ 0 ∷ 101 ∷ 0 ∷ 0 ∷ 0 ∷ []
+
+abbrev capture : CaptureHeader
+capture = record { byte_order = LittleEndian; resolution = Microseconds; snap_len = 262144; link_type = Ok RawIp }
+
+-- a record with all 29 bytes of a UDP packet
+abbrev pub udp_record : List ℕ
+udp_record = 5 ∷ 0 ∷ 0 ∷ 0 ∷ 7 ∷ 0 ∷ 0 ∷ 0 ∷ 29 ∷ 0 ∷ 0 ∷ 0 ∷ 29 ∷ 0 ∷ 0 ∷ 0 ∷ frame
+
+-- a record with one byte, with IP version 5
+abbrev pub other_record : List ℕ
+other_record = 6 ∷ 0 ∷ 0 ∷ 0 ∷ 0 ∷ 0 ∷ 0 ∷ 0 ∷ 1 ∷ 0 ∷ 0 ∷ 0 ∷ 1 ∷ 0 ∷ 0 ∷ 0 ∷ 0x50 ∷ []
+
+-- all packets of UDP are requested, as by `--protocol udp`, with any other options
+abbrev pub options : Parts → Parts
+options others = record others {
+  choice = record { hosts = None; ports = None; protocols = Some (record { udp = true; tcp = false; icmpv4 = false; icmpv6 = false }) };
+  lines = All;
+  limit = None;
+}
+
+-- ---- its records
+
+udp_part : (others : Parts) → IsRecordPart (options others) capture (record { bytes = udp_record; outcome = Some Written })
+udp_part others = record {
+  is_record = refl;
+  has_outcome = record {
+    packet = packet;
+    is_packet = is_read;
+    given = Written;
+    is_outcome = (record { hosts = tt; ports = tt; protocols = refl }, refl);
+    has = refl;
+  };
+}
+
+other_part : (others : Parts) → IsRecordPart (options others) capture (record { bytes = other_record; outcome = Some Excluded })
+other_part others = record {
+  is_record = refl;
+  has_outcome = record { packet = rejected; is_packet = is_rejected; given = Excluded; is_outcome = λ chosen. cc chosen.protocols; has = refl };
+}
+
+-- ---- the selection
+
+-- this many packets were read, chosen and written
+abbrev pub counts : ℕ → ℕ → ℕ → Counts
+counts read chosen written = record { read = read; chosen = chosen; written = written }
+
+-- the header and the record of the UDP packet are written as they were read
+pub selection : (others : Parts) → SelectsCapture (options others) (Ok tt) (Some (header ++ udp_record ++ other_record)) (Some []) (Some []) (Some (header ++ udp_record))
+    (counts 0 0 0) (counts 2 1 1)
+selection others = inl (record {
+  header = capture;
+  bytes = header;
+  says = (refl, refl, record { resolution = refl; snap_len = refl; link_type = refl });
+  middle = Some (udp_record ++ other_record);
+  then_held = Some header;
+  consumed = refl;
+  appended = refl;
+  after = records_after (records_after (first_records capture) 45) 17;
+  passes = record {
+    parts = record { bytes = udp_record; outcome = Some Written } ∷ record { bytes = other_record; outcome = Some Excluded } ∷ [];
+    each = (
+      records_after (first_records capture) 45,
+      (refl, udp_part others),
+      (records_after (records_after (first_records capture) 45) 17, (refl, other_part others), refl),
+    );
+    consumed = refl;
+    appended = refl;
+    counted = refl;
+  };
+})
