@@ -6,7 +6,8 @@ use Rattle.word_sum.proofs.checksum.Sum16BitWords.add_number.Goals as goal
 
 pub returns : goal.returns
 returns c =
+    let word = c.args.self.word in
+    let number = c.args.number in
+    let carried = folded_times_256 _ (word + number) (folded_carry (2 ^ 64) 281479271743489 word number refl (omega arith) (omega arith)) in
     rw c.from.ensures
-    (folded_times_256 _ (c.args.self.word + c.args.number) (folded_carry (2 ^ 64) 281479271743489 c.args.self.word c.args.number refl (omega arith) (omega arith))
-    ∙ ap folded (omega arith)
-    ∙ sym (folded-add (c.args.self.word * 256) (c.args.number * 256)))
+    (ap (λ sum. folded (sum * 256)) (omega arith) ∙ carried ∙ ap folded (omega arith) ∙ sym (folded-add (word * 256) (number * 256)))
