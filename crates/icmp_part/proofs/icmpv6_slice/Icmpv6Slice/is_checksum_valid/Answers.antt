@@ -19,9 +19,9 @@ returns-clause-agrees c =
     let packet : HasPacketLength c.args.self.now = search rules in
     let pseudo = total (pseudo_header c.args.source_ip c.args.destination_ip (length c.args.self.now)) in
     let both = agrees pseudo c.args.self.now (fits c) (omega (arith, packet.shortest)) in
-    (λ passed. both.0 ((tested c).0 passed).1, λ accepts. (tested c).1 (packet.longest, both.1 accepts))
+    (λ passed. both.0 ((tested c).0 (search rules)).1, λ accepts. search (rules, (tested c).1 (packet.longest, both.1 accepts)))
 
 pub returns-clause-detects : goal.returns-clause-detects
 returns-clause-detects c passed =
     detects_over_ipv6 c.args.source_ip c.args.destination_ip 58 c.args.self.now (search rules) (search rules) (omega arith) (fits c)
-    ((tested c).0 passed)
+    ((tested c).0 (search rules))
