@@ -16,6 +16,7 @@ ghost use Rattle.word_sum.specs.SumValue.{sum_value};
 ghost use Rattle.word_sum.specs.UpdatedChecksum.{PartReplaced, updated_checksum_of, updated_udp_checksum_of};
 
 use crate::checksum::Sum16BitWords;
+use std::fmt;
 
 /// A change of the data that a checksum covers: some bytes are replaced by others (RFC 1624).
 ///
@@ -25,6 +26,9 @@ use crate::checksum::Sum16BitWords;
 ///
 /// Each replaced part begins at an even place of the data that the checksum covers. To replace a byte at an odd
 /// place, replace its whole word, for example time to live and protocol of an IPv4 header.
+///
+/// Two changes are equal if the replaced words have the same one's complement sum, and the new words too. They then
+/// update every checksum alike.
 ///
 /// ```
 /// use etherparse_transport::checksum::Sum16BitWords;
@@ -202,11 +206,56 @@ impl ChecksumChange {
     }
 }
 
+impl PartialEq for ChecksumChange {
+    ghost use Rattle.std.specs.Prelude.{◌≡◌, ◌↔◌, IsTrue, nat_eq};
+    ghost use Rattle.std.specs.Cmp.Rules.{comparing};
+    ghost use Rattle.std.specs.Ordering.{eq_of_both, on};
+    ghost use Rattle.std.proofs.Common.{rules};
+    ghost use Rattle.word_sum.specs.ChecksumChange.{added_value, removed_value};
+
+    ghost eq = { eq_of_both (on removed_value nat_eq) (on added_value nat_eq) };
+
+    ghost laws = { Prim.search (comparing, rules) };
+
+    fn eq(&self, other: &ChecksumChange) -> bool
+        ensures computes { result ≡ eq_of_both (on removed_value nat_eq) (on added_value nat_eq) self.now other.now }
+        ensures same { IsTrue result ↔
+            ((removed_value self.now ≡ removed_value other.now) × (added_value self.now ≡ added_value other.now)) }
+    {
+        value_of(self.removed) == value_of(other.removed)
+            && value_of(self.added) == value_of(other.added)
+    }
+}
+
+impl Eq for ChecksumChange {
+    ghost use Rattle.std.specs.Cmp.Rules.{comparing};
+    ghost use Rattle.std.proofs.Common.{rules};
+
+    ghost laws = { Prim.search (comparing, rules) };
+}
+
+impl fmt::Debug for ChecksumChange {
+    // A sum has no debug text, so its value is shown.
+    fn fmt<W: fmt::Write>(&self, f: &mut fmt::Formatter<W>) -> fmt::Result {
+        f.debug_struct("ChecksumChange")
+            .field("removed", &value_of(self.removed))
+            .field("added", &value_of(self.added))
+            .finish()
+    }
+}
+
+/// The value of a sum, 0 to 65535.
+fn value_of(sum: Sum16BitWords) -> u16
+    ensures { result ≡ sum_value sum }
+{
+    !sum.ones_complement()
+}
+
 /// A sum with the words that were added to either of the two sums.
 fn sum_of_both(first: Sum16BitWords, second: Sum16BitWords) -> Sum16BitWords
     ensures { sum_value result ≡ folded (sum_value first + sum_value second) }
 {
-    first.add_2bytes((!second.ones_complement()).to_be_bytes())
+    first.add_2bytes(value_of(second).to_be_bytes())
 }
 
 /// The checksum of a packet in which the bytes at one even place are replaced, as TCP, ICMP and the IPv4 header store it.
