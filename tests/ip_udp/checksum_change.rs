@@ -1,6 +1,6 @@
 mod sweeps;
 
-use crate::expect::{expect_at, expect_equal};
+use crate::expect::{expect_at, expect_debug_text, expect_equal};
 use etherparse_transport::checksum::Sum16BitWords;
 use etherparse_transport::checksum_change::{
     ChecksumChange, updated_checksum, updated_udp_checksum,
@@ -25,6 +25,33 @@ fn the_example_of_rfc_1624_is_updated(rt: HostRuntime) {
     expect_equal(&rt, &updated_checksum(0xDD2F, &old, &new), &0x0000);
     expect_equal(&rt, &updated_udp_checksum(0xDD2F, &old, &new), &0xFFFF);
     expect_equal(&rt, &updated_udp_checksum(0x0000, &old, &new), &0x0000);
+}
+
+/// Changes are equal if both sums are, whatever the words were.
+#[test]
+fn changes_are_compared_by_their_sums(rt: HostRuntime) {
+    let change = ChecksumChange::new().replace_4bytes([0, 1, 0, 2], [0, 3, 0, 4]);
+    let equal = [
+        ChecksumChange::new().replace_slice(&[0, 3], &[0, 7]),
+        ChecksumChange::new()
+            .replace_2bytes([0, 2], [0, 4])
+            .replace_2bytes([0, 1], [0, 3]),
+        change.reversed().reversed(),
+        change.and(ChecksumChange::new()),
+    ];
+    for (place, other) in equal.iter().enumerate() {
+        expect_at(&rt, &place, other, &change);
+    }
+    let different = [
+        ChecksumChange::new(),
+        change.reversed(),
+        change.replace_2bytes([0, 1], [0, 0]),
+        change.replace_2bytes([0, 0], [0, 1]),
+    ];
+    for (place, other) in different.iter().enumerate() {
+        expect_at(&rt, &place, &(*other == change), &false);
+    }
+    expect_debug_text(&rt, &change, "ChecksumChange { removed: 3, added: 7 }");
 }
 
 /// One word, by RFC 1624, section 3, equation 3, in 16 bits.

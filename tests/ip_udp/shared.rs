@@ -86,6 +86,11 @@ fn texts_consist_of_parts(rt: HostRuntime) {
     expect_equal(&rt, &text.parts().len(), &3);
     expect_debug_text(&rt, &text, "ErrorText { parts: [Words(\"port \"), Number(80), Words(\"\")] }");
     expect_text(&rt, &ErrorText::from_words("no port"), "no port");
+    expect_equal(&rt, &text, &ErrorText::from_parts(&parts));
+    // Texts that read the same, and differ in their parts.
+    let equal = (text == ErrorText::from_words("port 80"), text == ErrorText::from_parts(&parts[..2]));
+    expect_equal(&rt, &equal, &(false, false));
+    expect_equal(&rt, &(TextPart::Words("80") == TextPart::Number(80)), &false);
 }
 
 #[rattlefmt::skip]

@@ -7,7 +7,7 @@ use etherparse_transport::err::packet::{
     AnswerEchoError, BuildSliceWriteError, TranslateError, TransportChecksumError,
 };
 use etherparse_transport::err::tcp::{HeaderError, HeaderSliceError};
-use etherparse_transport::err::{Layer, LenError, ValueTooBigError, ValueType};
+use etherparse_transport::err::{Layer, LenError, TextPart, ValueTooBigError, ValueType};
 use etherparse_transport::ip::{IpError, Ipv4Translation, Ipv6Translation, transport_in_ip};
 use etherparse_transport::{
     ChecksumVerdict, IcmpEchoHeader, Icmpv4Header, Icmpv4Slice, Icmpv4Type, Icmpv6Header,
@@ -56,6 +56,8 @@ fn errors_are_cloned(rt: HostRuntime) {
     expect_clone(&rt, &TcpOptionWriteError::NotEnoughSpace(41));
     expect_clone(&rt, &TcpRawOptionError::NoLengthByte { kind: 34 });
     expect_clone(&rt, &IpError::JumboPayloadMissing);
+    expect_clone(&rt, &IpError::Version { version: 5 }.text());
+    expect_clone(&rt, &TextPart::Number(5));
 }
 
 #[test]
@@ -170,5 +172,6 @@ fn packets_and_sums_are_cloned(rt: HostRuntime) {
     let sum = Sum16BitWords::new().add_2bytes([1, 2]);
     let change = ChecksumChange::new().replace_2bytes([1, 2], [3, 4]);
     expect_equal(&rt, &expect_ok(&rt, sum.clone()).ones_complement(), &0xFEFD);
-    expect_equal(&rt, &expect_ok(&rt, change.clone()).apply(0xFEFD), &0xFCFB);
+    expect_clone(&rt, &change);
+    expect_equal(&rt, &change.apply(0xFEFD), &0xFCFB);
 }

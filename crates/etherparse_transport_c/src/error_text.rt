@@ -2,6 +2,7 @@ ghost use Rattle.std.specs.Prelude.{◌≡◌, length, take};
 ghost use Rattle.etherparse_transport_c.specs.ErrorText as specs;
 ghost use Rattle.etherparse_transport_c.specs.ErrorText.{text_of};
 ghost use Rattle.etherparse_transport_c.specs.Text.{max_text_len, with_string};
+ghost use Rattle.net_base.specs.TextParts.{reads_as};
 
 use crate::error::EtherparseError;
 use crate::text::{Char, cut, put_string};
@@ -205,7 +206,7 @@ fn translate_error(error: &EtherparseError) -> Option<TranslateError>
 /// The text of an error that only the library for C has, of a source route, whose status is after the other statuses of
 /// a translation, or of numbers that no call tells.
 fn own_text(error: &EtherparseError) -> ErrorText
-    ensures { result ≡ specs.own_text error.now }
+    ensures { reads_as result ≡ specs.own_text error.now }
 {
     match error.status {
         status::OK => ErrorText::from_words("No error."),
@@ -257,7 +258,7 @@ fn own_text(error: &EtherparseError) -> ErrorText
 
 /// The text of an error of the library if the numbers tell one, and else the text of the numbers.
 fn text(error: &EtherparseError) -> ErrorText
-    ensures { result ≡ text_of error.now }
+    ensures { reads_as result ≡ text_of error.now }
 {
     match error.status {
         status::LENGTH => match len_error(error) {

@@ -1,6 +1,7 @@
 ghost use Rattle.std.specs.Fmt.{decimal};
 ghost use Rattle.std.specs.Prelude.{◌≡◌, ◌<◌, ◌+◌, ℕ, List, [], ◌∷◌, ◌++◌, length, take};
 ghost use Rattle.etherparse_transport_c.specs.Text.{IsCut, with_string};
+ghost use Rattle.net_base.specs.TextParts.{reads_as};
 
 use arrayvec::ArrayVec;
 use etherparse_transport::err::{ErrorText, TextPart};
@@ -64,7 +65,7 @@ fn put_number(text: &mut Text, number: usize)
 
 /// The text of an error. One that does not fit loses its end.
 pub(crate) fn cut(error: &ErrorText) -> Text
-    ensures { IsCut result.items error.now }
+    ensures { IsCut result.items (reads_as error.now) }
 {
     let mut text = Text::new();
     for part in error.parts() {

@@ -3,7 +3,7 @@ use net_base::IpNumber;
 
 /// The contents of the headers of an IP packet, as far as they are read.
 #[derive(Clone, Copy)]
-pub struct Headers<'a> {
+pub(crate) struct Headers<'a> {
     /// The addresses.
     pub addresses: IpAddresses<'a>,
     /// The number of the next header or of the protocol.

@@ -1,11 +1,11 @@
-ghost use Rattle.std.specs.Prelude.{◌≡◌, Some};
+ghost use Rattle.std.specs.Prelude.{◌≡◌};
 ghost use Rattle.ip_part.specs.ErrorTexts.{ip_text};
+ghost use Rattle.net_base.specs.TextParts.{reads_as};
 
 use net_base::IpNumber;
 use net_base::err::ErrorText;
 use net_base::err::TextPart::{Number, Words};
-use std::error::Error;
-use std::fmt;
+use thiserror::Error;
 
 /// Why the transport in an IP packet was not found.
 ///
@@ -18,7 +18,8 @@ use std::fmt;
 /// let error = IpError::PacketCutOff { required_len: 31, len: 20 };
 /// assert_eq!(rt; transport_in_ip(&packet), Err(error));
 /// ```
-#[derive(Clone, Copy, Debug, PartialEq, Eq)]
+#[derive(Clone, Copy, Debug, PartialEq, Eq, Error)]
+#[error("{}", self.text())]
 pub enum IpError {
     /// The slice is empty, or ends within the IP header. Or it ends within the hop-by-hop options that must contain
     /// the packet length (RFC 2675, section 3), so that the number of counted bytes is unknown.
@@ -87,7 +88,7 @@ pub enum IpError {
 impl IpError {
     /// The text that `Display` writes.
     pub fn text(&self) -> ErrorText
-        ensures { result ≡ ip_text self.now }
+        ensures { reads_as result ≡ ip_text self.now }
     {
         match self {
             IpError::HeaderCutOff { required_len, len } => ErrorText::from_parts(&[
@@ -163,13 +164,3 @@ impl IpError {
         }
     }
 }
-
-impl fmt::Display for IpError {
-    ghost output = { λ error. Some (ip_text error) };
-
-    fn fmt<W: fmt::Write>(&self, f: &mut fmt::Formatter<W>) -> fmt::Result {
-        fmt::Display::fmt(&self.text(), f)
-    }
-}
-
-impl Error for IpError {}

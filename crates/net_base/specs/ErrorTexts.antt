@@ -1,8 +1,7 @@
 -- The text of each error.
-use Rattle.std.specs.Prelude.{ℕ, List, [], ◌∷◌, codes, Option, option_and_then}
+use Rattle.std.specs.Prelude.{ℕ, List, [], ◌∷◌, codes}
 use Rattle.std.specs.Fmt.{decimal}
 use Rattle.std.specs.List.{concat}
-use Rattle.std.specs.Option.{option_map}
 use Rattle.net_base.specs.Layer.{word_of}
 use Rattle.net_base.specs.declared.err.len_error.LenError.{LenError}
 use Rattle.net_base.specs.declared.err.len_source.LenSource.{LenSource}
@@ -41,18 +40,11 @@ len_text error = concat (
     ∷ codes ", the length is " ∷ decimal error.len
     ∷ codes " (from " ∷ len_source_word error.len_source ∷ codes ")." ∷ [])
 
--- a value above its limit, by the texts of both numbers
-abbrev pub value_text_of : ValueType → List ℕ → List ℕ → List ℕ
-value_text_of value_type actual max_allowed = concat (
-    codes "Value Error: " ∷ value_type_word value_type ∷ codes " " ∷ actual ∷ codes " is above " ∷ max_allowed ∷ codes "." ∷ [])
-
--- the same of numbers of any type, which may state no text
-abbrev pub value_output : ValueType → Option (List ℕ) → Option (List ℕ) → Option (List ℕ)
-value_output value_type actual max_allowed = option_and_then (λ text. option_map (value_text_of value_type text) max_allowed) actual
-
 -- a value above its limit
 abbrev pub value_text : ValueTooBigError ℕ → List ℕ
-value_text error = value_text_of error.value_type (decimal error.actual) (decimal error.max_allowed)
+value_text error = concat (
+    codes "Value Error: " ∷ value_type_word error.value_type ∷ codes " " ∷ decimal error.actual
+    ∷ codes " is above " ∷ decimal error.max_allowed ∷ codes "." ∷ [])
 
 -- a TCP header that can't be read
 abbrev pub header_text : HeaderError → List ℕ

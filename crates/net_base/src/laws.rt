@@ -4,12 +4,13 @@
 //! # Errors
 //!
 //! None: each clone succeeds.
-ghost use Rattle.std.specs.Prelude.{◌≡◌, ◌↔◌, IsTrue, IsOkAnd, fold};
+ghost use Rattle.std.specs.Prelude.{◌≡◌, ◌↔◌, IsTrue, IsOkAnd, fold, map};
 ghost use Rattle.std.specs.Hash as fed;
 ghost use Rattle.net_base.specs.Hashes.{header_error_input, header_slice_error_input, layer_input, len_error_input, len_source_input, value_too_big_error_input, value_type_input};
+ghost use Rattle.net_base.specs.TextParts.{part_by_value};
 
 use crate::err::tcp::{HeaderError, HeaderSliceError};
-use crate::err::{Layer, LenError, LenSource, ValueTooBigError, ValueType};
+use crate::err::{ErrorText, Layer, LenError, LenSource, TextPart, ValueTooBigError, ValueType};
 use crate::ip_number::{
     AUTHENTICATION_HEADER, ENCAPSULATING_SECURITY_PAYLOAD, HIP, ICMP, IPV6_DESTINATION_OPTIONS,
     IPV6_FRAGMENTATION_HEADER, IPV6_HEADER_HOP_BY_HOP, IPV6_ICMP, IPV6_NO_NEXT_HEADER,
@@ -150,6 +151,34 @@ pub fn cloned_option_write_error(
 /// Two values of `TcpOptionWriteError` are equal exactly if they are the same.
 pub fn equal_option_write_error(a: &TcpOptionWriteError, b: &TcpOptionWriteError) -> bool
     ensures same { IsTrue result ↔ (a.now ≡ b.now) }
+{
+    a == b
+}
+
+/// A clone of a `TextPart` is the same value.
+pub fn cloned_text_part(value: &TextPart) -> Result<TextPart, AllocError>
+    ensures same { IsOkAnd result (λ copy. copy ≡ value.now) }
+{
+    value.clone()
+}
+
+/// Two values of `TextPart` are equal exactly if they are the same words or the same number.
+pub fn equal_text_part(a: &TextPart, b: &TextPart) -> bool
+    ensures same { IsTrue result ↔ (part_by_value a.now ≡ part_by_value b.now) }
+{
+    a == b
+}
+
+/// A clone of an `ErrorText` is the same value.
+pub fn cloned_error_text(value: &ErrorText) -> Result<ErrorText, AllocError>
+    ensures same { IsOkAnd result (λ copy. copy ≡ value.now) }
+{
+    value.clone()
+}
+
+/// Two values of `ErrorText` are equal exactly if they have the same parts.
+pub fn equal_error_text(a: &ErrorText, b: &ErrorText) -> bool
+    ensures same { IsTrue result ↔ (map part_by_value a.now ≡ map part_by_value b.now) }
 {
     a == b
 }

@@ -1,10 +1,10 @@
-ghost use Rattle.std.specs.Prelude.{◌≡◌, Some};
+ghost use Rattle.std.specs.Prelude.{◌≡◌};
 ghost use Rattle.net_base.specs.ErrorTexts.{option_text};
+ghost use Rattle.net_base.specs.TextParts.{reads_as};
 
 use crate::err::ErrorText;
 use crate::err::TextPart::{Number, Words};
-use std::error::Error;
-use std::fmt;
+use thiserror::Error;
 
 /// Why the option at the front of some bytes can't be read.
 ///
@@ -16,7 +16,8 @@ use std::fmt;
 /// let error = TcpOptionReadError::UnexpectedSize { option_id: 2, size: 3 };
 /// assert_eq!(rt; options.next(), Some(Err(error)));
 /// ```
-#[derive(Clone, Debug, PartialEq, Eq, Drop)]
+#[derive(Clone, Debug, PartialEq, Eq, Drop, Error)]
+#[error("{}", self.text())]
 pub enum TcpOptionReadError {
     /// Fewer bytes are left than the option needs (RFC 9293, section 3.1).
     UnexpectedEndOfSlice {
@@ -43,7 +44,7 @@ pub enum TcpOptionReadError {
 impl TcpOptionReadError {
     /// The text that `Display` writes.
     pub fn text(&self) -> ErrorText
-        ensures { result ≡ option_text self.now }
+        ensures { reads_as result ≡ option_text self.now }
     {
         match self {
             TcpOptionReadError::UnexpectedEndOfSlice {
@@ -76,13 +77,3 @@ impl TcpOptionReadError {
         }
     }
 }
-
-impl fmt::Display for TcpOptionReadError {
-    ghost output = { λ error. Some (option_text error) };
-
-    fn fmt<W: fmt::Write>(&self, f: &mut fmt::Formatter<W>) -> fmt::Result {
-        fmt::Display::fmt(&self.text(), f)
-    }
-}
-
-impl Error for TcpOptionReadError {}

@@ -1,10 +1,10 @@
-ghost use Rattle.std.specs.Prelude.{◌≡◌, Some};
+ghost use Rattle.std.specs.Prelude.{◌≡◌};
 ghost use Rattle.net_base.specs.ErrorTexts.{options_text};
+ghost use Rattle.net_base.specs.TextParts.{reads_as};
 
 use crate::err::ErrorText;
 use crate::err::TextPart::{Number, Words};
-use std::error::Error;
-use std::fmt;
+use thiserror::Error;
 
 /// Why options can't be stored in a TCP header.
 ///
@@ -14,7 +14,8 @@ use std::fmt;
 /// let mut header = TcpHeader::new(50_000, 80, 1, 65_535);
 /// assert_eq!(rt; header.set_options_raw(&[1; 41]), Err(TcpOptionWriteError::NotEnoughSpace(41)));
 /// ```
-#[derive(Clone, Debug, PartialEq, Eq, Drop)]
+#[derive(Clone, Debug, PartialEq, Eq, Drop, Error)]
+#[error("{}", self.text())]
 pub enum TcpOptionWriteError {
     /// The length of the options in bytes, or a lower bound if it is `usize::MAX`. A header has room for 40 bytes,
     /// since its data offset is at most 15 (RFC 9293, section 3.1).
@@ -24,7 +25,7 @@ pub enum TcpOptionWriteError {
 impl TcpOptionWriteError {
     /// The text that `Display` writes.
     pub fn text(&self) -> ErrorText
-        ensures { result ≡ options_text self.now }
+        ensures { reads_as result ≡ options_text self.now }
     {
         match self {
             TcpOptionWriteError::NotEnoughSpace(len) => ErrorText::from_parts(&[
@@ -38,13 +39,3 @@ impl TcpOptionWriteError {
         }
     }
 }
-
-impl fmt::Display for TcpOptionWriteError {
-    ghost output = { λ error. Some (options_text error) };
-
-    fn fmt<W: fmt::Write>(&self, f: &mut fmt::Formatter<W>) -> fmt::Result {
-        fmt::Display::fmt(&self.text(), f)
-    }
-}
-
-impl Error for TcpOptionWriteError {}

@@ -1,10 +1,10 @@
-ghost use Rattle.std.specs.Prelude.{◌≡◌, Some};
+ghost use Rattle.std.specs.Prelude.{◌≡◌};
 ghost use Rattle.tcp_part.specs.ErrorTexts.{raw_option_text};
+ghost use Rattle.net_base.specs.TextParts.{reads_as};
 
 use crate::err::ErrorText;
 use crate::err::TextPart::{Number, Words};
-use std::error::Error;
-use std::fmt;
+use thiserror::Error;
 
 /// Why the option at the front of some bytes can't be read, for any kind: its length byte is missing, is
 /// below 2, or counts more bytes than are left (RFC 9293, section 3.1).
@@ -17,7 +17,8 @@ use std::fmt;
 /// let error = TcpRawOptionError::LengthBeyondEnd { kind: 2, len: 4, available: 3 };
 /// assert_eq!(rt; options.next(), Some(Err(error)));
 /// ```
-#[derive(Clone, Debug, PartialEq, Eq, Drop)]
+#[derive(Clone, Debug, PartialEq, Eq, Drop, Error)]
+#[error("{}", self.text())]
 pub enum TcpRawOptionError {
     /// The kind is the last byte, so the option has no length byte (RFC 9293, section 3.1).
     NoLengthByte {
@@ -45,7 +46,7 @@ pub enum TcpRawOptionError {
 impl TcpRawOptionError {
     /// The text that `Display` writes.
     pub fn text(&self) -> ErrorText
-        ensures { result ≡ raw_option_text self.now }
+        ensures { reads_as result ≡ raw_option_text self.now }
     {
         match self {
             TcpRawOptionError::NoLengthByte { kind } => ErrorText::from_parts(&[
@@ -76,13 +77,3 @@ impl TcpRawOptionError {
         }
     }
 }
-
-impl fmt::Display for TcpRawOptionError {
-    ghost output = { λ error. Some (raw_option_text error) };
-
-    fn fmt<W: fmt::Write>(&self, f: &mut fmt::Formatter<W>) -> fmt::Result {
-        fmt::Display::fmt(&self.text(), f)
-    }
-}
-
-impl Error for TcpRawOptionError {}

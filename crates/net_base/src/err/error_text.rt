@@ -14,7 +14,7 @@ const MAX_TEXT_PARTS: usize = 11;
 /// let text = IpError::Version { version: 5 }.text();
 /// assert!(rt; matches!(text.parts()[1], TextPart::Number(5)));
 /// ```
-#[derive(Clone, Copy, Debug)]
+#[derive(Clone, Copy, Debug, PartialEq, Eq)]
 pub enum TextPart {
     /// Words, with the spaces around them.
     Words(&'static str),
@@ -45,6 +45,8 @@ impl fmt::Display for TextPart {
 /// The text of an error as its parts, from the first to the last. `Display` of each error writes these parts. A caller
 /// without a formatter can write them by itself.
 ///
+/// Two texts are equal if they have the same parts. So texts of other parts differ, even if they read the same.
+///
 /// ```
 /// use etherparse_transport::ip::IpError;
 ///
@@ -52,29 +54,29 @@ impl fmt::Display for TextPart {
 /// let written = format!(in rt.alloc(); "{}", error.text())?;
 /// assert_eq!(rt; written.as_str(), "IP Error: the version is 5.");
 /// ```
-#[derive(Debug, Drop)]
+#[derive(Clone, Debug, PartialEq, Eq, Drop)]
 pub struct ErrorText {
     parts: ArrayVec<TextPart, MAX_TEXT_PARTS>,
 }
 
 impl Model for ErrorText {
-    ghost use Rattle.std.specs.Prelude.{ℕ, List};
-    ghost use Rattle.std.specs.List.{flat_map};
-    ghost use Rattle.net_base.specs.TextParts.{part_text};
+    ghost use Rattle.std.specs.Prelude.{List};
+    ghost use Rattle.net_base.specs.declared.err.error_text.TextPart.{TextPart};
 
-    ghost Value = { List ℕ };
+    ghost Value = { List TextPart };
 
-    ghost view = { λ text. flat_map part_text text.parts.items };
+    ghost view = { λ text. text.parts.items };
+
+    ghost inverse = { λ parts. record { parts = record { items = parts } } };
 }
 
 impl ErrorText {
     ghost use Rattle.std.specs.Prelude.{◌≡◌, take};
-    ghost use Rattle.std.specs.List.{flat_map};
-    ghost use Rattle.net_base.specs.TextParts.{max_text_parts, part_text};
+    ghost use Rattle.net_base.specs.TextParts.{max_text_parts, reads_as};
 
     /// The text that consists of these parts. Of more than 11 parts it consists of the first 11.
     pub fn from_parts(parts: &[TextPart]) -> ErrorText
-        ensures { result ≡ flat_map part_text (take max_text_parts parts.now) }
+        ensures { result ≡ take max_text_parts parts.now }
     {
         let len = parts.len().min(MAX_TEXT_PARTS);
         let mut all = ArrayVec::new();
@@ -84,14 +86,14 @@ impl ErrorText {
 
     /// The text that consists of these words.
     pub fn from_words(words: &'static str) -> ErrorText
-        ensures { result ≡ words.now }
+        ensures { reads_as result ≡ words.now }
     {
         ErrorText::from_parts(&[TextPart::Words(words)])
     }
 
     /// The parts of the text.
     pub fn parts(&self) -> &[TextPart]
-        ensures { flat_map part_text result.now ≡ self.now }
+        ensures { result.now ≡ self.now }
     {
         self.parts.as_slice()
     }
@@ -99,8 +101,9 @@ impl ErrorText {
 
 impl fmt::Display for ErrorText {
     ghost use Rattle.std.specs.Prelude.{Some};
+    ghost use Rattle.net_base.specs.TextParts.{reads_as};
 
-    ghost output = { λ text. Some text };
+    ghost output = { λ text. Some (reads_as text) };
 
     fn fmt<W: fmt::Write>(&self, f: &mut fmt::Formatter<W>) -> fmt::Result {
         for part in self.parts.as_slice() {

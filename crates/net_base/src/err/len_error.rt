@@ -1,10 +1,10 @@
-ghost use Rattle.std.specs.Prelude.{◌≡◌, ◌+◌, ◌<◌, ◌^◌, Some};
+ghost use Rattle.std.specs.Prelude.{◌≡◌, ◌+◌, ◌<◌, ◌^◌};
 ghost use Rattle.net_base.specs.ErrorTexts.{len_text};
+ghost use Rattle.net_base.specs.TextParts.{reads_as};
 
 use crate::err::TextPart::{Number, Words};
 use crate::err::{ErrorText, Layer, LenSource};
-use std::error::Error;
-use std::fmt;
+use thiserror::Error;
 
 /// A slice, or a length that a packet states, is too short or too long for a layer.
 ///
@@ -16,7 +16,8 @@ use std::fmt;
 /// let error = LenError { required_len: 8, len: 7, len_source, layer, layer_start_offset: 0 };
 /// assert_eq!(rt; UdpHeader::from_slice(&[0; 7]), Err(error));
 /// ```
-#[derive(Clone, Debug, PartialEq, Eq, Hash, Drop)]
+#[derive(Clone, Debug, PartialEq, Eq, Hash, Drop, Error)]
+#[error("{}", self.text())]
 pub struct LenError {
     /// The length that would have been accepted, in bytes: the smallest, or the largest if there were too many bytes.
     pub required_len: usize,
@@ -45,7 +46,7 @@ impl LenError {
 
     /// The text that `Display` writes.
     pub fn text(&self) -> ErrorText
-        ensures { result ≡ len_text self.now }
+        ensures { reads_as result ≡ len_text self.now }
     {
         ErrorText::from_parts(&[
             Words("Length Error: layer "),
@@ -62,13 +63,3 @@ impl LenError {
         ])
     }
 }
-
-impl fmt::Display for LenError {
-    ghost output = { λ error. Some (len_text error) };
-
-    fn fmt<W: fmt::Write>(&self, f: &mut fmt::Formatter<W>) -> fmt::Result {
-        fmt::Display::fmt(&self.text(), f)
-    }
-}
-
-impl Error for LenError {}

@@ -1,11 +1,11 @@
 ghost use Rattle.std.specs.Prelude.{◌≡◌};
-ghost use Rattle.net_base.specs.ErrorTexts.{value_text, value_output};
+ghost use Rattle.net_base.specs.ErrorTexts.{value_text};
+ghost use Rattle.net_base.specs.TextParts.{reads_as};
 
 use crate::err::TextPart::{Number, Words};
 use crate::err::{ErrorText, ValueType};
-use std::error::Error;
-use std::fmt;
-use std::fmt::{Debug, Display};
+use std::fmt::Display;
+use thiserror::Error;
 
 /// A value is above what can be stored or sent.
 ///
@@ -17,7 +17,9 @@ use std::fmt::{Debug, Display};
 /// let error = ValueTooBigError { actual: 70_000, max_allowed: 65_527, value_type };
 /// assert_eq!(rt; UdpHeader::without_ipv4_checksum(21, 1234, 70_000), Err(error));
 /// ```
-#[derive(Clone, Debug, PartialEq, Eq, Hash, Drop)]
+#[derive(Clone, Debug, PartialEq, Eq, Hash, Drop, Error)]
+#[error("Value Error: {value_type} {actual} is above {max_allowed}.", value_type = .value_type.word())]
+#[error_bound(T: Display)]
 pub struct ValueTooBigError<T> {
     /// The value that was passed.
     pub actual: T,
@@ -30,7 +32,7 @@ pub struct ValueTooBigError<T> {
 impl ValueTooBigError<usize> {
     /// The text that `Display` writes.
     pub fn text(&self) -> ErrorText
-        ensures { result ≡ value_text self.now }
+        ensures { reads_as result ≡ value_text self.now }
     {
         ErrorText::from_parts(&[
             Words("Value Error: "),
@@ -43,18 +45,3 @@ impl ValueTooBigError<usize> {
         ])
     }
 }
-
-impl<T: Display> Display for ValueTooBigError<T> {
-    ghost output = { λ error. value_output error.value_type (T.output error.actual) (T.output error.max_allowed) };
-
-    fn fmt<W: fmt::Write>(&self, f: &mut fmt::Formatter<W>) -> fmt::Result {
-        let name = self.value_type.word();
-        write!(
-            f,
-            "Value Error: {name} {} is above {}.",
-            self.actual, self.max_allowed
-        )
-    }
-}
-
-impl<T: Debug + Display + Drop> Error for ValueTooBigError<T> {}

@@ -1,10 +1,10 @@
-ghost use Rattle.std.specs.Prelude.{◌≡◌, Some};
+ghost use Rattle.std.specs.Prelude.{◌≡◌};
 ghost use Rattle.etherparse_transport.specs.ErrorTexts.{answer_echo_text};
+ghost use Rattle.net_base.specs.TextParts.{reads_as};
 
 use crate::err::{ErrorText, LenError};
 use crate::ip::IpError;
-use std::error::Error;
-use std::fmt;
+use thiserror::Error;
 
 /// Why a packet was not turned into the reply to its echo request.
 ///
@@ -18,7 +18,8 @@ use std::fmt;
 /// ];
 /// assert_eq!(rt; answer_echo(&mut reply, 64), Err(AnswerEchoError::NoEchoRequest));
 /// ```
-#[derive(Clone, Debug, PartialEq, Eq, Drop)]
+#[derive(Clone, Debug, PartialEq, Eq, Drop, Error)]
+#[error("{}", self.text())]
 pub enum AnswerEchoError {
     /// The transport in the packet was not found.
     Ip(IpError),
@@ -47,7 +48,7 @@ pub enum AnswerEchoError {
 impl AnswerEchoError {
     /// The text that `Display` writes.
     pub fn text(&self) -> ErrorText
-        ensures { result ≡ answer_echo_text self.now }
+        ensures { reads_as result ≡ answer_echo_text self.now }
     {
         match self {
             AnswerEchoError::Ip(error) => error.text(),
@@ -76,13 +77,3 @@ impl AnswerEchoError {
         }
     }
 }
-
-impl fmt::Display for AnswerEchoError {
-    ghost output = { λ error. Some (answer_echo_text error) };
-
-    fn fmt<W: fmt::Write>(&self, f: &mut fmt::Formatter<W>) -> fmt::Result {
-        fmt::Display::fmt(&self.text(), f)
-    }
-}
-
-impl Error for AnswerEchoError {}

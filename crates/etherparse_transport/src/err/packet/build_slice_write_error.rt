@@ -1,10 +1,10 @@
-ghost use Rattle.std.specs.Prelude.{◌≡◌, Some};
+ghost use Rattle.std.specs.Prelude.{◌≡◌};
 ghost use Rattle.etherparse_transport.specs.ErrorTexts.{build_text};
+ghost use Rattle.net_base.specs.TextParts.{reads_as};
 
 use crate::err::TextPart::{Number, Words};
 use crate::err::{ErrorText, LenError};
-use std::error::Error;
-use std::fmt;
+use thiserror::Error;
 
 /// Why a packet was not written to a slice.
 ///
@@ -18,7 +18,8 @@ use std::fmt;
 /// let written = write_packet_ipv4(&mut [0; 30], source, destination, 64, &header, b"abc");
 /// assert_eq!(rt; written, Err(BuildSliceWriteError::Space { required_len: 31, len: 30 }));
 /// ```
-#[derive(Clone, Debug, PartialEq, Eq, Drop)]
+#[derive(Clone, Debug, PartialEq, Eq, Drop, Error)]
+#[error("{}", self.text())]
 pub enum BuildSliceWriteError {
     /// The slice is shorter than the packet.
     Space {
@@ -46,7 +47,7 @@ pub enum BuildSliceWriteError {
 impl BuildSliceWriteError {
     /// The text that `Display` writes.
     pub fn text(&self) -> ErrorText
-        ensures { result ≡ build_text self.now }
+        ensures { reads_as result ≡ build_text self.now }
     {
         match self {
             BuildSliceWriteError::Space { required_len, len } => ErrorText::from_parts(&[
@@ -76,13 +77,3 @@ impl BuildSliceWriteError {
         }
     }
 }
-
-impl fmt::Display for BuildSliceWriteError {
-    ghost output = { λ error. Some (build_text error) };
-
-    fn fmt<W: fmt::Write>(&self, f: &mut fmt::Formatter<W>) -> fmt::Result {
-        fmt::Display::fmt(&self.text(), f)
-    }
-}
-
-impl Error for BuildSliceWriteError {}

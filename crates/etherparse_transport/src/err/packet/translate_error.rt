@@ -1,12 +1,12 @@
-ghost use Rattle.std.specs.Prelude.{◌≡◌, Some};
+ghost use Rattle.std.specs.Prelude.{◌≡◌};
 ghost use Rattle.etherparse_transport.specs.ErrorTexts.{translate_text};
+ghost use Rattle.net_base.specs.TextParts.{reads_as};
 
 use crate::IpNumber;
 use crate::err::ErrorText;
 use crate::err::TextPart::{Number, Words};
 use crate::ip::IpError;
-use std::error::Error;
-use std::fmt;
+use thiserror::Error;
 
 /// Why a packet was not translated.
 ///
@@ -20,7 +20,8 @@ use std::fmt;
 /// let error = TranslateError::Protocol(IpNumber(47));
 /// assert_eq!(rt; translate_ipv4(&mut packet, &Ipv4Translation::default()), Err(error));
 /// ```
-#[derive(Clone, Debug, PartialEq, Eq, Drop)]
+#[derive(Clone, Debug, PartialEq, Eq, Drop, Error)]
+#[error("{}", self.text())]
 pub enum TranslateError {
     /// The transport in the packet was not found.
     Ip(IpError),
@@ -47,7 +48,7 @@ pub enum TranslateError {
 impl TranslateError {
     /// The text that `Display` writes.
     pub fn text(&self) -> ErrorText
-        ensures { result ≡ translate_text self.now }
+        ensures { reads_as result ≡ translate_text self.now }
     {
         match self {
             TranslateError::Ip(error) => error.text(),
@@ -78,13 +79,3 @@ impl TranslateError {
         }
     }
 }
-
-impl fmt::Display for TranslateError {
-    ghost output = { λ error. Some (translate_text error) };
-
-    fn fmt<W: fmt::Write>(&self, f: &mut fmt::Formatter<W>) -> fmt::Result {
-        fmt::Display::fmt(&self.text(), f)
-    }
-}
-
-impl Error for TranslateError {}

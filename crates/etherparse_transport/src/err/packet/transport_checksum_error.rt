@@ -1,9 +1,9 @@
-ghost use Rattle.std.specs.Prelude.{◌≡◌, Some};
+ghost use Rattle.std.specs.Prelude.{◌≡◌};
 ghost use Rattle.etherparse_transport.specs.ErrorTexts.{transport_checksum_text};
+ghost use Rattle.net_base.specs.TextParts.{reads_as};
 
 use crate::err::{ErrorText, ValueTooBigError};
-use std::error::Error;
-use std::fmt;
+use thiserror::Error;
 
 /// Why the checksum of a transport header over IPv4 was not calculated.
 ///
@@ -15,7 +15,8 @@ use std::fmt;
 /// let updated = header.update_checksum_ipv4(&Ipv4Header::default(), b"ping");
 /// assert_eq!(rt; updated, Err(TransportChecksumError::Icmpv6InIpv4));
 /// ```
-#[derive(Clone, Debug, PartialEq, Eq, Drop)]
+#[derive(Clone, Debug, PartialEq, Eq, Drop, Error)]
+#[error("{}", self.text())]
 pub enum TransportChecksumError {
     /// The payload is longer than the packet's length can count.
     PayloadLen(ValueTooBigError<usize>),
@@ -26,7 +27,7 @@ pub enum TransportChecksumError {
 impl TransportChecksumError {
     /// The text that `Display` writes.
     pub fn text(&self) -> ErrorText
-        ensures { result ≡ transport_checksum_text self.now }
+        ensures { reads_as result ≡ transport_checksum_text self.now }
     {
         match self {
             TransportChecksumError::PayloadLen(error) => error.text(),
@@ -36,13 +37,3 @@ impl TransportChecksumError {
         }
     }
 }
-
-impl fmt::Display for TransportChecksumError {
-    ghost output = { λ error. Some (transport_checksum_text error) };
-
-    fn fmt<W: fmt::Write>(&self, f: &mut fmt::Formatter<W>) -> fmt::Result {
-        fmt::Display::fmt(&self.text(), f)
-    }
-}
-
-impl Error for TransportChecksumError {}

@@ -1,10 +1,10 @@
-ghost use Rattle.std.specs.Prelude.{◌≡◌, Some};
+ghost use Rattle.std.specs.Prelude.{◌≡◌};
 ghost use Rattle.net_base.specs.ErrorTexts.{header_text};
+ghost use Rattle.net_base.specs.TextParts.{reads_as};
 
 use crate::err::ErrorText;
 use crate::err::TextPart::{Number, Words};
-use std::error::Error;
-use std::fmt;
+use thiserror::Error;
 
 /// The error in the bytes of a TCP header (RFC 9293, section 3.1).
 ///
@@ -18,7 +18,8 @@ use std::fmt;
 /// let error = HeaderError::DataOffsetTooSmall { data_offset: 4 };
 /// assert_eq!(rt; TcpHeader::from_slice(&bytes), Err(HeaderSliceError::Content(error)));
 /// ```
-#[derive(Clone, Debug, PartialEq, Eq, Hash, Drop)]
+#[derive(Clone, Debug, PartialEq, Eq, Hash, Drop, Error)]
+#[error("{}", self.text())]
 pub enum HeaderError {
     /// The data offset is below five words, the length of a header without options.
     DataOffsetTooSmall {
@@ -30,7 +31,7 @@ pub enum HeaderError {
 impl HeaderError {
     /// The text that `Display` writes.
     pub fn text(&self) -> ErrorText
-        ensures { result ≡ header_text self.now }
+        ensures { reads_as result ≡ header_text self.now }
     {
         match self {
             HeaderError::DataOffsetTooSmall { data_offset } => ErrorText::from_parts(&[
@@ -43,13 +44,3 @@ impl HeaderError {
         }
     }
 }
-
-impl fmt::Display for HeaderError {
-    ghost output = { λ error. Some (header_text error) };
-
-    fn fmt<W: fmt::Write>(&self, f: &mut fmt::Formatter<W>) -> fmt::Result {
-        fmt::Display::fmt(&self.text(), f)
-    }
-}
-
-impl Error for HeaderError {}

@@ -1,11 +1,11 @@
-ghost use Rattle.std.specs.Prelude.{◌≡◌, Some};
+ghost use Rattle.std.specs.Prelude.{◌≡◌};
 ghost use Rattle.net_base.specs.ErrorTexts.{header_slice_text};
+ghost use Rattle.net_base.specs.TextParts.{reads_as};
 ghost use Rattle.net_base.specs.TcpErrors.{OffsetFits, with_slice_offset};
 
 use crate::err::tcp::HeaderError;
 use crate::err::{ErrorText, LenError};
-use std::error::Error;
-use std::fmt;
+use thiserror::Error;
 
 /// Why a TCP header could not be read (RFC 9293, section 3.1). `canonical_header` uses it for all four protocols.
 ///
@@ -17,7 +17,8 @@ use std::fmt;
 /// assert!(rt; matches!(TcpSlice::from_slice(&[0; 19]), Err(HeaderSliceError::Len(_))));
 /// assert!(rt; matches!(TcpSlice::from_slice(&[0; 20]), Err(HeaderSliceError::Content(_))));
 /// ```
-#[derive(Clone, Debug, PartialEq, Eq, Hash, Drop)]
+#[derive(Clone, Debug, PartialEq, Eq, Hash, Drop, Error)]
+#[error("{}", self.text())]
 pub enum HeaderSliceError {
     /// The slice is too short for a header, or no packet of its protocol has this length.
     Len(LenError),
@@ -41,7 +42,7 @@ impl HeaderSliceError {
 
     /// The text that `Display` writes.
     pub fn text(&self) -> ErrorText
-        ensures { result ≡ header_slice_text self.now }
+        ensures { reads_as result ≡ header_slice_text self.now }
     {
         match self {
             HeaderSliceError::Len(error) => error.text(),
@@ -49,13 +50,3 @@ impl HeaderSliceError {
         }
     }
 }
-
-impl fmt::Display for HeaderSliceError {
-    ghost output = { λ error. Some (header_slice_text error) };
-
-    fn fmt<W: fmt::Write>(&self, f: &mut fmt::Formatter<W>) -> fmt::Result {
-        fmt::Display::fmt(&self.text(), f)
-    }
-}
-
-impl Error for HeaderSliceError {}
