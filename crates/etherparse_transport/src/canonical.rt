@@ -4,7 +4,7 @@ ghost use Rattle.etherparse_transport.specs.Formats.{IsCanonical, WritesDecoded,
 ghost use Rattle.transport_part.specs.Layouts.{layout_of};
 
 use crate::err::tcp::HeaderSliceError;
-use crate::{Icmpv4Header, Icmpv6Header, Proto, UdpHeader};
+use crate::{Icmpv4Header, Icmpv6Header, Proto, TcpHeader, UdpHeader};
 use arrayvec::ArrayVec;
 
 /// The canonical bytes of a packet's header (RFC 768; RFC 9293, section 3.1; RFC 792; RFC 4443, section 2.1), and the
@@ -47,7 +47,7 @@ fn canonical_udp(slice: &[u8]) -> Result<(ArrayVec<u8, 60>, &[u8]), HeaderSliceE
     ensures canonical { IfOk result (λ found. found.0.items ++ found.1.now ≡ canonical Proto.Udp slice.now) }
 {
     match UdpHeader::from_slice(slice) {
-        Ok((_header, rest)) => Ok((header_bytes(&slice[..UdpHeader::LEN]), rest)),
+        Ok((header, rest)) => Ok((header_bytes(header.to_bytes().as_slice()), rest)),
         Err(error) => Err(HeaderSliceError::Len(error)),
     }
 }
@@ -58,8 +58,8 @@ fn canonical_tcp(slice: &[u8]) -> Result<(ArrayVec<u8, 60>, &[u8]), HeaderSliceE
     ensures decoded { IfOk result (λ found. WritesDecoded Proto.Tcp slice.now found.0.items found.1.now) }
     ensures canonical { IfOk result (λ found. found.0.items ++ found.1.now ≡ canonical Proto.Tcp slice.now) }
 {
-    let (bytes, rest) = tcp_part::canonical_header(slice)?;
-    Ok((bytes, rest))
+    let (header, rest) = TcpHeader::from_slice(slice)?;
+    Ok((header.to_bytes(), rest))
 }
 
 /// `canonical_header` for an ICMPv4 packet.

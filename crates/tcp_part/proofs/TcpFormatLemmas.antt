@@ -1,14 +1,14 @@
 -- Laws of the TCP header: reading, writing and canonical bytes.
-use Rattle.std.proofs.Common.{◌≡◌, ◌≢◌, ℕ, zero, suc, ◌+◌, ◌-◌, ◌*◌, ◌/◌, ◌%◌, ◌^◌, ◌<◌, ◌≤◌, false, List, [], ◌∷◌, ◌++◌, length, drop, take, get_or, slice_index, slice_range, replicate, bit_and, None, refl, sym, ap, ◌∙◌, length-drop, length-take, ◌⊎◌, inl, inr, lit≤, arith}
+use Rattle.std.proofs.Common.{◌≡◌, ◌≢◌, ℕ, zero, suc, ◌+◌, ◌-◌, ◌*◌, ◌/◌, ◌%◌, ◌^◌, ◌<◌, ◌≤◌, false, List, ◌∷◌, ◌++◌, length, drop, take, get_or, slice_index, slice_range, replicate, bit_and, None, refl, sym, ap, ◌∙◌, length-drop, length-take, ◌⊎◌, inl, inr, lit≤, arith}
 use Rattle.std.proofs.lemmas.Bool.Decides.{nat_tests}
-use Rattle.std.proofs.lemmas.List.{append-nil, length-replicate, drop-drop, drop_all, drop-take, take_rest, take-take, take-append-drop, get_or-take}
+use Rattle.std.proofs.lemmas.List.{length-replicate, drop-drop, drop-take, take_rest, take-take, take-append-drop, get_or-take}
 use Rattle.std.proofs.lemmas.Nat.{and_block, and_mask}
 use Rattle.std.proofs.lemmas.Nat.Bits.{and_pow}
 use Rattle.std.specs.Prelude.{◌↔◌, not, ◌==◌}
 use Rattle.std.specs.Int.{from_bool}
-use Rattle.net_base.specs.Bytes.{IsBytes, be_number, flag, masked}
+use Rattle.net_base.specs.Bytes.{IsBytes, be_number, flag}
 use Rattle.net_base.proofs.BytesLemmas.{be_number-same, one_byte, to_be_bytes-be_number_2, to_be_bytes-be_number_4}
-use Rattle.net_base.proofs.MaskedLemmas.{IsBytes-masked, ReadsKeptBits, drop-masked, bit_and-all, flag-masked, length-masked, masked-all, read_alike, rest_kept, slice_index-masked, slice_index-masked_kept}
+use Rattle.net_base.proofs.MaskedLemmas.{IsBytes-masked, ReadsKeptBits, drop-masked, flag-masked, length-masked, read_alike, rest_kept, slice_index-masked, slice_index-masked_kept}
 use Rattle.tcp_part.specs.TcpFormat.{DecodesAs, canonical, data_offset, flags_byte, header_of, layout_of, offset_byte, options_of, refusal, wire}
 use Rattle.tcp_part.specs.declared.tcp_header.TcpHeader.{TcpHeader}
 
@@ -226,39 +226,6 @@ written_back bytes header rest fits read =
     read.after_header ∙ sym (rest_kept layout_of bytes (reads_kept_bits bytes fits long.0)) in
     ap (λ h. wire h ++ rest) (read.fields ∙ sym (header_of-canonical bytes fits))
     ∙ wire-header_of (canonical bytes) rest (IsBytes-masked ((layout_of bytes).masks) bytes fits) five whole clean after
-
--- one byte is masked, and all others are kept
-masked_at : (place count mask : ℕ) (bytes : List ℕ) → IsBytes bytes → place < length bytes
-    → masked (replicate place 255 ++ (mask ∷ replicate count 255)) bytes
-    ≡ take place bytes ++ (bit_and (slice_index bytes place) mask ∷ drop (suc place) bytes)
-masked_at place count mask [] fits there = absurd (omega arith)
-masked_at zero count mask (byte ∷ bytes) fits there = ap (λ later. bit_and byte mask ∷ later) (masked-all count bytes (λ place. fits (suc place)))
-masked_at (suc place) count mask (byte ∷ bytes) fits there =
-    let first = bit_and-all byte (fits 0) in
-    let others = masked_at place count mask bytes (λ p. fits (suc p)) (omega arith) in
-    cc
-
--- canonical bytes are the bytes before byte 12, this byte without its meaningless bits, and the bytes after it
-pub canonical-parts : (bytes : List ℕ) → IsBytes bytes → 12 < length bytes
-    → canonical bytes ≡ take 12 bytes ++ (bit_and (slice_index bytes 12) 0xf1 ∷ drop 13 bytes)
-canonical-parts bytes fits enough = masked_at 12 (data_offset bytes * 4 - 13) 0xf1 bytes fits enough
-
--- the header in accepted bytes, written again, is the front of the canonical bytes
-pub wire-kept : (bytes kept : List ℕ) → IsBytes kept → refusal bytes ≡ None → kept ≡ take (data_offset bytes * 4) bytes
-    → wire (header_of bytes) ≡ canonical kept
-wire-kept bytes kept fits accepted front =
-    let long = length-accepted bytes accepted in
-    let len : length kept ≡ data_offset bytes * 4 = rw front (grind (arith, length-take)) in
-    let same : header_of kept ≡ header_of bytes = ap header_of front ∙ header_of-take bytes long.0 in
-    let offset : data_offset kept ≡ data_offset bytes =
-    ap (λ b. slice_index b 12 / 16) front ∙ ap (λ byte. byte / 16) (get_or-take (data_offset bytes * 4) bytes 12 0 (omega (arith, long.0))) in
-    let nothing : [] ≡ drop (data_offset kept * 4) kept = sym (drop_all (data_offset kept * 4) kept (omega (arith, len, offset))) in
-    let read : DecodesAs kept (header_of kept) [] = record {
-      accepted = accepted_whole kept (omega (arith, len, long.0)) (omega (arith, offset, long.0)) (omega (arith, len, offset));
-      fields = refl;
-      after_header = nothing;
-    } in
-    ap wire (sym same) ∙ sym (append-nil (wire (header_of kept))) ∙ written_back kept (header_of kept) [] fits read
 
 -- two accepted inputs decode alike exactly if their canonical bytes are the same
 pub decode_alike : (bytes other : List ℕ) (header : TcpHeader) (rest : List ℕ) → IsBytes bytes → IsBytes other → refusal other ≡ None

@@ -17,7 +17,6 @@
 //! ```
 #![tactic(auto)]
 
-mod canonical;
 mod flag_bits;
 mod header_checksum;
 pub mod laws;
@@ -35,7 +34,6 @@ mod tcp_slice;
 mod translation;
 mod words;
 
-pub use canonical::canonical_header;
 pub use net_base::{LenSource, TcpOptionReadError, TcpOptionWriteError, err};
 pub use tcp_header::{
     TCP_MAXIMUM_DATA_OFFSET, TCP_MINIMUM_DATA_OFFSET, TCP_MINIMUM_HEADER_SIZE, TcpHeader,

@@ -30,25 +30,6 @@ pub(crate) fn append_words<const CAP: usize>(bytes: &mut ArrayVec<u8, CAP>, word
     }
 }
 
-/// The same after a length that is 4 more than a multiple of 8.
-///
-/// The first word ends the eight bytes that it shares with what is before it, so that no part lies in two numbers of
-/// eight bytes.
-#[inline(always)]
-pub(crate) fn append_words_after_half<const CAP: usize>(bytes: &mut ArrayVec<u8, CAP>, words: &[u8])
-    requires room { length bytes.old.items + length words.now ≤ CAP }
-    requires bound { length words.now ≤ max_options_len }
-    requires whole_words { length words.now % 4 ≡ 0 }
-    ensures { bytes.new.items ≡ bytes.old.items ++ words.now }
-{
-    if words.is_empty() {
-        return;
-    }
-    let (first, others) = words.split_at(4);
-    append_array::<CAP, 4>(bytes, first);
-    append_words(bytes, others);
-}
-
 /// Appends bytes in three parts, of `A`, `B` and `C` bytes.
 #[inline(always)]
 fn append_parts<const CAP: usize, const A: usize, const B: usize, const C: usize>(
