@@ -1,5 +1,5 @@
 -- Networks: the addresses that begin with the same bits.
-use Rattle.std.specs.Prelude.{◌≡◌, ◌⊎◌, ◌<◌, ◌-◌, ◌/◌, ◌%◌, ◌^◌, ◌==◌, ℕ, Bool, true, if◌then◌else◌, List, length, nat_lt, Result, Ok, Err}
+use Rattle.std.specs.Prelude.{◌≡◌, ◌⊎◌, ◌<◌, ◌-◌, ◌/◌, ◌%◌, ◌^◌, ◌==◌, ℕ, Bool, true, codes, if◌then◌else◌, List, length, nat_lt, Result, Ok, Err}
 use Rattle.std.specs.Int.{from_be_bytes, w32, w128}
 use Rattle.std.specs.List.{after_first, before_first, position_or_len}
 use Rattle.std.specs.Net.Addr.{IsV4And, IsV6And, ipv4_bits, ipv6_bits}
@@ -56,6 +56,12 @@ network_of address prefix_len =
 -- the text is not an address
 abbrev pub IsNoAddress : List ℕ → Type 0
 IsNoAddress text = (address : IpAddr) → ¬ (IsIpText text address)
+
+-- the text of an error
+abbrev pub network_error_text : NetworkError → List ℕ
+network_error_text errors.Address = codes "it is no IPv4 or IPv6 address"
+network_error_text errors.PrefixLength = codes "the prefix length is no number from 0 to 32 for IPv4, or to 128 for IPv6"
+network_error_text errors.HostBits = codes "the address has bits other than 0 after its prefix"
 
 -- the text is a number of 32 bits
 abbrev pub IsNumberText : List ℕ → Type 0

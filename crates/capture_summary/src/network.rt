@@ -1,9 +1,10 @@
-ghost use Rattle.std.specs.Prelude.{◌≡◌, ◌↔◌, ◌%◌, ◌/◌, ◌^◌, IsTrue};
-ghost use Rattle.capture_summary.specs.Networks.{IsIpv4In, IsIpv6In, ReadsNetwork, ReadsPrefixed, have_same_start, network_of, single_address};
+ghost use Rattle.std.specs.Prelude.{◌≡◌, ◌↔◌, ◌%◌, ◌/◌, ◌^◌, IsTrue, Some};
+ghost use Rattle.capture_summary.specs.Networks.{IsIpv4In, IsIpv6In, ReadsNetwork, ReadsPrefixed, have_same_start, network_error_text, network_of, single_address};
 
+use std::error::Error;
+use std::fmt;
 use std::net::IpAddr;
 use std::str::FromStr;
-use thiserror::Error;
 
 /// The addresses of one IP version that have the same bits as an address, except for some bits at the end.
 #[derive(Clone, Copy, Debug, PartialEq, Eq)]
@@ -102,18 +103,40 @@ fn has_zeros_at_end(number: u128, host_bits: u32) -> bool
 }
 
 /// Why a text is no network.
-#[derive(Clone, Copy, Debug, PartialEq, Eq, Error)]
+#[derive(Clone, Copy, Debug, PartialEq, Eq)]
 pub enum NetworkError {
     /// The text, or its part before `/`, is not an address.
-    #[error("it is no IPv4 or IPv6 address")]
     Address,
     /// The part after `/` is not a number, or is above the number of bits of the address.
-    #[error("the prefix length is no number from 0 to 32 for IPv4, or to 128 for IPv6")]
     PrefixLength,
     /// The address has bits after its prefix.
-    #[error("the address has bits other than 0 after its prefix")]
     HostBits,
 }
+
+impl NetworkError {
+    /// The text of the error.
+    fn text(self) -> &'static str
+        ensures { result.now ≡ network_error_text self }
+    {
+        match self {
+            NetworkError::Address => "it is no IPv4 or IPv6 address",
+            NetworkError::PrefixLength => {
+                "the prefix length is no number from 0 to 32 for IPv4, or to 128 for IPv6"
+            }
+            NetworkError::HostBits => "the address has bits other than 0 after its prefix",
+        }
+    }
+}
+
+impl fmt::Display for NetworkError {
+    ghost output = { λ error. Some (network_error_text error) };
+
+    fn fmt<W: fmt::Write>(&self, f: &mut fmt::Formatter<W>) -> fmt::Result {
+        f.write_str(self.text())
+    }
+}
+
+impl Error for NetworkError {}
 
 impl FromStr for Network {
     type Err = NetworkError;
