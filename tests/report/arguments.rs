@@ -3,6 +3,7 @@
 use crate::expect::{expect_at, expect_equal, expect_ok, expect_some};
 use capture_arguments::{Arguments, no_capture, output_is_capture, requested_options, words_of};
 use std::env::FillError;
+use std::io::ErrorKind;
 use std::process::Abort;
 
 /// The arguments of a test, the name of the program first.
@@ -16,6 +17,8 @@ impl Arguments for Given {
 
     ghost ends = { λ arguments place. Unit {0} };
 
+    ghost exceeds = { λ arguments place len. Unit {0} };
+
     fn argument(&self, place: usize, buffer: &mut [u8]) -> Result<usize, FillError> {
         let Some(word) = self.words.get(place) else {
             return Err(FillError::NotPresent);
@@ -28,8 +31,14 @@ impl Arguments for Given {
     }
 }
 
+/// The greatest length of an argument that Linux accepts, in bytes.
+const LONGEST: usize = 131072;
+
+/// An argument that is one byte longer.
+static TOO_LONG: [u8; LONGEST + 1] = [b'a'; LONGEST + 1];
+
 /// Arguments that are accepted: the number of captures, the file for the packets, and whether lines are written out at once.
-static ACCEPTED: [(&[&[u8]], usize, Option<&str>, bool); 5] = [
+static ACCEPTED: [(&[&[u8]], usize, Option<&str>, bool); 7] = [
     (&[b"capture_report"], 0, None, false),
     (&[b"capture_report", b"a.pcap", b"-l"], 1, None, true),
     (
@@ -45,6 +54,13 @@ static ACCEPTED: [(&[&[u8]], usize, Option<&str>, bool); 5] = [
         false,
     ),
     (&[b"capture_report", b"\xFF.pcap"], 1, None, false),
+    (&[b"capture_report"; 150], 149, None, false),
+    (
+        &[b"capture_report", b"-w", b"-", &[b'a'; LONGEST]],
+        1,
+        Some("-"),
+        false,
+    ),
 ];
 
 /// Arguments that are rejected, or request a text, with the exit status.
@@ -59,7 +75,7 @@ static REJECTED: [(&[&[u8]], i32); 6] = [
 
 /// The words of these arguments.
 fn words(rt: &(impl Abort + AllocGlobal), words: &'static [&'static [u8]]) -> Vec<String> {
-    expect_ok(rt, words_of(rt.alloc(), &Given { words }))
+    expect_ok(rt, words_of(&rt.alloc(), &Given { words }))
 }
 
 /// Stops the test unless the arguments of a row have the options of the row.
@@ -68,7 +84,7 @@ fn expect_options(
     row: &(&'static [&'static [u8]], usize, Option<&str>, bool),
 ) {
     let words = words(rt, row.0);
-    let options = expect_some(rt, requested_options(rt.alloc(), words.as_slice()).ok());
+    let options = expect_some(rt, requested_options(&rt.alloc(), words.as_slice()).ok());
     expect_at(rt, row, &options.files.len(), &row.1);
     expect_at(rt, row, &options.write, &row.2);
     expect_at(rt, row, &options.line_buffered, &row.3);
@@ -77,8 +93,15 @@ fn expect_options(
 /// Stops the test unless the arguments of a row have the exit status of the row.
 fn expect_rejected(rt: &(impl Abort + AllocGlobal), row: &(&'static [&'static [u8]], i32)) {
     let words = words(rt, row.0);
-    let error = expect_some(rt, requested_options(rt.alloc(), words.as_slice()).err());
+    let error = expect_some(rt, requested_options(&rt.alloc(), words.as_slice()).err());
     expect_at(rt, row, &error.exit_code(), &row.1);
+}
+
+/// Stops the test unless an argument that is too long is refused for its length.
+fn expect_too_long(rt: &(impl Abort + AllocGlobal)) {
+    static WORDS: [&[u8]; 2] = [b"capture_report", &TOO_LONG];
+    let error = expect_some(rt, words_of(&rt.alloc(), &Given { words: &WORDS }).err());
+    expect_equal(rt, &error.kind(), &ErrorKind::ArgumentListTooLong);
 }
 
 #[test]
@@ -93,10 +116,11 @@ fn arguments_are_rejected(rt: HostRuntime) {
     for row in &REJECTED {
         expect_rejected(&rt, row);
     }
+    expect_too_long(&rt);
 }
 
 #[test]
 fn errors_about_the_captures_have_status_2(rt: HostRuntime) {
-    expect_equal(&rt, &no_capture(rt.alloc()).exit_code(), &2);
-    expect_equal(&rt, &output_is_capture(rt.alloc()).exit_code(), &2);
+    expect_equal(&rt, &no_capture(&rt.alloc()).exit_code(), &2);
+    expect_equal(&rt, &output_is_capture(&rt.alloc()).exit_code(), &2);
 }

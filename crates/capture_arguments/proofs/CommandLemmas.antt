@@ -9,7 +9,7 @@ use Rattle.clap.specs.declared.error.kind.ErrorKind.TheVariants.{ArgumentConflic
 use Rattle.clap.specs.declared.parser.matches.ArgMatches.{ArgMatches}
 use Rattle.capture_arguments.specs.CommandLine.{AreMatchesOf, IsCommandLine, bare_command, choice_rules, end_rules, file_rules, form_rules, line_rules, output_rules, protocol_names, with_rules}
 use Rattle.capture_arguments.specs.Conflicts.{conflict_in}
-use Rattle.capture_arguments.specs.Rejections.{AreRejectedBy, HaveConflict, HaveNoChoice, HaveNoOutput}
+use Rattle.capture_arguments.specs.Rejections.{AreRejectedBy, HasKindUnless, HaveConflict, HaveNoChoice, HaveNoOutput}
 
 -- clap says what the matches of the command line are, and why it rejects words
 pub is_simple_command_line : (app : App) → IsCommandLine app → is_simple app ≡ true
@@ -62,34 +62,37 @@ decided : (test : Bool) → (test ≡ true) ⊎ (test ≡ false)
 decided true = inl refl
 decided false = inr refl
 
--- clap rejects the words, unless no memory is left
-not_taken : (app : App) (words : List Text) (error : Error) → IsCommandLine app → (takes app words ≡ true → kind_of error ≡ OutOfMemory)
-    → HasKind (faults_of app words) error → AreRejectedBy words error
-not_taken app words error is_line passes kinds = ⊎_elim (λ taken. inl (passes taken)) (λ rejected.
-    ⊎_elim inl (λ among. inr (inl (app, is_line, rejected, among))) kinds) (decided (takes app words))
+-- clap rejects the words, unless an allocation failed
+not_taken : (RanOut : Type 0) (app : App) (words : List Text) (error : Error) → IsCommandLine app
+    → (takes app words ≡ true → kind_of error ≡ OutOfMemory) → (kind_of error ≡ OutOfMemory → RanOut)
+    → HasKind (faults_of app words) error → AreRejectedBy RanOut words error
+not_taken RanOut app words error is_line passes ran_out kinds =
+    let about_memory : kind_of error ≡ OutOfMemory → AreRejectedBy RanOut words error = λ is. inl (is, ran_out is) in
+    ⊎_elim (λ taken. about_memory (passes taken)) (λ rejected.
+    ⊎_elim about_memory (λ among. inr (inl (app, is_line, rejected, among))) kinds) (decided (takes app words))
 
 -- the same of a result
-pub no_match : {A : Type 0} → (app : App) (words : List Text) (error : Error) (result : Result A Error) → IsCommandLine app
-    → (takes app words ≡ true → kind_of error ≡ OutOfMemory) → (is_simple_and_free app ≡ true → HasKind (faults_of app words) error)
-    → result ≡ Err error → IfErr result (AreRejectedBy words)
-no_match app words error result is_line passes kinds fails =
-    subst (λ given. IfErr given (AreRejectedBy words)) (sym fails)
-    (not_taken app words error is_line passes (kinds (is_free_command_line app is_line)))
+pub no_match : {A : Type 0} → (RanOut : Type 0) (app : App) (words : List Text) (error : Error) (result : Result A Error) → IsCommandLine app
+    → (takes app words ≡ true → kind_of error ≡ OutOfMemory) → (kind_of error ≡ OutOfMemory → RanOut)
+    → (is_simple_and_free app ≡ true → HasKind (faults_of app words) error) → result ≡ Err error → IfErr result (AreRejectedBy RanOut words)
+no_match RanOut app words error result is_line passes ran_out kinds fails =
+    subst (λ given. IfErr given (AreRejectedBy RanOut words)) (sym fails)
+    (not_taken RanOut app words error is_line passes ran_out (kinds (is_free_command_line app is_line)))
 
--- two options are not used together, or no memory is left
-pub rejected_by_conflict : (words : List Text) (error : Error) → (kind_of error ≡ ArgumentConflict) ⊎ (kind_of error ≡ OutOfMemory)
-    → HaveConflict words → AreRejectedBy words error
-rejected_by_conflict words error kinds have = ⊎_elim (λ kind. inr (inr (inl (kind, have)))) inl kinds
+-- two options are not used together, or an allocation failed
+pub rejected_by_conflict : (RanOut : Type 0) (words : List Text) (error : Error) → HasKindUnless RanOut ArgumentConflict error
+    → HaveConflict words → AreRejectedBy RanOut words error
+rejected_by_conflict RanOut words error kinds have = ⊎_elim (λ kind. inr (inr (inl (kind, have)))) inl kinds
 
--- there is no choice of packets, or no memory is left
-pub rejected_by_choice : (words : List Text) (error : Error) → (kind_of error ≡ ValueValidation) ⊎ (kind_of error ≡ OutOfMemory)
-    → HaveNoChoice words → AreRejectedBy words error
-rejected_by_choice words error kinds have = ⊎_elim (λ kind. inr (inr (inr (inl (kind, have))))) inl kinds
+-- there is no choice of packets, or an allocation failed
+pub rejected_by_choice : (RanOut : Type 0) (words : List Text) (error : Error) → HasKindUnless RanOut ValueValidation error
+    → HaveNoChoice words → AreRejectedBy RanOut words error
+rejected_by_choice RanOut words error kinds have = ⊎_elim (λ kind. inr (inr (inr (inl (kind, have))))) inl kinds
 
--- the packets can't be written, or no memory is left
-pub rejected_by_output : (words : List Text) (error : Error) → (kind_of error ≡ ArgumentConflict) ⊎ (kind_of error ≡ OutOfMemory)
-    → HaveNoOutput words → AreRejectedBy words error
-rejected_by_output words error kinds have = ⊎_elim (λ kind. inr (inr (inr (inr (kind, have))))) inl kinds
+-- the packets can't be written, or an allocation failed
+pub rejected_by_output : (RanOut : Type 0) (words : List Text) (error : Error) → HasKindUnless RanOut ArgumentConflict error
+    → HaveNoOutput words → AreRejectedBy RanOut words error
+rejected_by_output RanOut words error kinds have = ⊎_elim (λ kind. inr (inr (inr (inr (kind, have))))) inl kinds
 
 -- the packets can't be written for this reason
 pub has_fault : (fault : List ℕ) (found : Option (List ℕ)) → Some fault ≡ found → found ≢ None

@@ -1,8 +1,8 @@
 -- The packets that the matches of a command line choose.
-use Rattle.std.specs.Prelude.{◌≡◌, ◌⊎◌, ◌<◌, ◌↔◌, ℕ, Contains, IsTrue, List, [], ◌∷◌, codes, length, map, None, Ok, Option, Err, Some}
+use Rattle.std.specs.Prelude.{◌≡◌, ◌⊎◌, ◌<◌, ◌↔◌, ℕ, Contains, IsTrue, List, [], ◌∷◌, ◌++◌, codes, decimal, length, map, None, Ok, Option, Err, Some}
 use Rattle.std.specs.Char.{to_ascii_lowercase}
 use Rattle.clap.specs.declared.parser.matches.ArgMatches.{ArgMatches}
-use Rattle.capture_summary.specs.Networks.{ReadsNetwork}
+use Rattle.capture_summary.specs.Networks.{ReadsNetwork, network_error_text}
 use Rattle.capture_summary.specs.declared.choice.Choice.{Choice}
 use Rattle.capture_summary.specs.declared.choice.Protocols.{Protocols}
 use Rattle.capture_summary.specs.declared.network.Network.{Network}
@@ -70,3 +70,13 @@ abbrev pub IsRefusal : ArgMatches → ChoiceError → Type 0
 IsRefusal matches (Host text error) = Contains (values_of matches (codes "host")) text.now × ReadsNetwork text.now (Err error)
 IsRefusal matches (Port text) = Contains (values_of matches (codes "port")) text.now × ((port : ℕ) → ReadsPort text.now port → ⊥)
 IsRefusal matches (TooMany name) = 16 < length (values_of matches name.now)
+
+-- ---- the message
+
+-- the message about a choice that is not valid
+abbrev pub choice_text : ChoiceError → List ℕ
+choice_text (Host text error) =
+    codes "invalid value '" ++ (text.now ++ (codes "' for '--host <ADDRESS>': " ++ network_error_text error))
+choice_text (Port text) =
+    codes "invalid value '" ++ (text.now ++ codes "' for '--port <N>': it is no number from 0 to 65535")
+choice_text (TooMany name) = codes "'--" ++ (name.now ++ (codes "' is given more than " ++ (decimal 16 ++ codes " times")))

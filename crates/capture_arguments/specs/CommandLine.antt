@@ -1,8 +1,10 @@
 -- The command line of the program, as clap reads it.
-use Rattle.std.specs.Prelude.{◌≡◌, ◌-◌, ◌^◌, true, List, [], ◌∷◌, ◌++◌, codes, fold, map, pos, Some}
+use Rattle.std.specs.Prelude.{◌≡◌, ◌-◌, ◌^◌, true, List, [], ◌∷◌, ◌++◌, Option, Some, codes, fold, map, option_map, pos}
 use Rattle.std.specs.Borrow.{Bor}
 use Rattle.clap.specs.Words.{App, Rule, Text, fault_of as faults_of, found_of, matches_of, new_app, new_rule, rows_of, with_rule}
 use Rattle.clap.specs.declared.builder.action.ArgAction.TheVariants.{Append, Set, SetTrue}
+use Rattle.clap.specs.declared.builder.command.Command.{Command}
+use Rattle.clap.specs.declared.builder.command.Command.TheViews.{out-Command}
 use Rattle.clap.specs.declared.builder.value_parser.ValueParser.{ValueParser}
 use Rattle.clap.specs.declared.builder.value_parser.ValueParser.TheVariants as parsers
 use Rattle.clap.specs.declared.parser.matches.ArgMatches.{ArgMatches}
@@ -98,6 +100,24 @@ with_rules app rules = fold with_rule app rules
 -- the command without options, but with a version
 abbrev pub bare_command : App
 bare_command = let app = new_app (codes "capture_report") in record app { top = record app.top { has_version = true } }
+
+-- the version of the program
+abbrev pub version_text : Text
+version_text = codes "0.4.0"
+
+-- what help says before the usage
+abbrev pub about_text : Text
+about_text = codes "Reads captures, and says of every packet what it is and whether its checksum is right"
+
+-- a text that may be absent is this text
+abbrev pub IsText : Option (Bor Text) → Text → Type 0
+IsText given text = option_map (λ one. one.now) given ≡ Some text
+
+-- the texts of the command for help and for the version
+pub record IsDescribed (command : Command) : Type 0 where
+  pub name : (out-Command command).name.now ≡ codes "capture_report"
+  pub version : IsText (out-Command command).version version_text
+  pub about : IsText (out-Command command).about about_text
 
 -- the command line with these names of protocols
 abbrev pub command_line : Bor (List (Bor Text)) → App

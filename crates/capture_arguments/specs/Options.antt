@@ -14,11 +14,15 @@ use Rattle.capture_arguments.specs.declared.arguments.Options.{Options}
 use Rattle.capture_arguments.specs.declared.arguments.OptionsError.{OptionsError}
 use Rattle.capture_arguments.specs.declared.arguments.OptionsError.TheVariants.{Choice, Conflict, NoMemory}
 
--- some matches contain no options for this reason
-abbrev pub IsRefusedBy : ArgMatches → OptionsError → Type 0
-IsRefusedBy matches (Conflict first second) = conflict_in (rows_of (found_of matches)) ≡ Some (first.now, second.now)
-IsRefusedBy matches (Choice error) = IsRefusal matches error
-IsRefusedBy matches (NoMemory error) = Unit {0}
+-- no two of the options in the matches exclude each other
+abbrev pub IsCompatible : ArgMatches → Type 0
+IsCompatible matches = conflict_in (rows_of (found_of matches)) ≡ None
+
+-- some matches contain no options for this reason: options that are not used together, then the choice of packets, then an allocation that failed
+abbrev pub IsRefusedBy : Type 0 → ArgMatches → OptionsError → Type 0
+IsRefusedBy RanOut matches (Conflict first second) = conflict_in (rows_of (found_of matches)) ≡ Some (first.now, second.now)
+IsRefusedBy RanOut matches (Choice error) = IsCompatible matches × IsRefusal matches error
+IsRefusedBy RanOut matches (NoMemory error) = RanOut
 
 -- the names of the captures: first the values of the option `read`, and then the names without an option
 abbrev pub names_of : ArgMatches → List (List ℕ)
@@ -26,7 +30,7 @@ names_of matches = values_of matches (codes "read") ++ values_of matches (codes 
 
 -- the options that some matches contain
 pub record IsOptionsOf (matches : ArgMatches) (options : Options) : Type 0 where
-  pub compatible : conflict_in (rows_of (found_of matches)) ≡ None
+  pub compatible : IsCompatible matches
   pub lines : (summary wrong : Bool) → HasFlag matches (codes "summary") summary → HasFlag matches (codes "wrong") wrong
       → options.parts.lines ≡ lines_by summary wrong
   pub times : (absolute : Bool) → HasFlag matches (codes "absolute") absolute → options.parts.times ≡ times_by absolute

@@ -7,6 +7,7 @@ use Rattle.clap.specs.declared.error.kind.ErrorKind.TheVariants.{ArgumentConflic
 use Rattle.clap.specs.declared.parser.matches.ArgMatches.{ArgMatches}
 use Rattle.capture_arguments.specs.Chosen.{IsRefusal}
 use Rattle.capture_arguments.specs.Conflicts.{conflict_in}
+use Rattle.capture_arguments.specs.Options.{IsCompatible}
 use Rattle.capture_arguments.specs.CommandLine.{AreMatchesOf, AreRequestedBy, IsCommandLine}
 use Rattle.capture_arguments.specs.OutputFaults.{fault_of}
 use Rattle.capture_arguments.specs.declared.arguments.Options.{Options}
@@ -20,18 +21,23 @@ AreNoMatch words kind = (app : App) × IsCommandLine app × (takes app words ≡
 abbrev pub HaveConflict : List Text → Type 0
 HaveConflict words = (app : App) × IsCommandLine app × (faults_of app words ≡ []) × (conflict_in (matches_of app words) ≢ None)
 
--- the words contain no choice of packets
+-- the words contain no two options that are not used together, but no choice of packets
 abbrev pub HaveNoChoice : List Text → Type 0
-HaveNoChoice words = (matches : ArgMatches) × (error : ChoiceError) × AreMatchesOf words matches × IsRefusal matches error
+HaveNoChoice words =
+    (matches : ArgMatches) × (error : ChoiceError) × AreMatchesOf words matches × IsCompatible matches × IsRefusal matches error
 
 -- the packets can't be written to the file that the words name
 abbrev pub HaveNoOutput : List Text → Type 0
 HaveNoOutput words = (options : Options) × AreRequestedBy words options × (fault_of options ≢ None)
 
--- these words are rejected by an error for one of these reasons, or no memory is left
-abbrev pub AreRejectedBy : List Text → Error → Type 0
-AreRejectedBy words error =
-    (kind_of error ≡ OutOfMemory)
+-- the error has this kind, or it is about the memory, since an allocation failed
+abbrev pub HasKindUnless : Type 0 → ErrorKind → Error → Type 0
+HasKindUnless RanOut kind error = (kind_of error ≡ kind) ⊎ ((kind_of error ≡ OutOfMemory) × RanOut)
+
+-- these words are rejected by an error for one of these reasons, or an allocation failed
+abbrev pub AreRejectedBy : Type 0 → List Text → Error → Type 0
+AreRejectedBy RanOut words error =
+    ((kind_of error ≡ OutOfMemory) × RanOut)
     ⊎ (AreNoMatch words (kind_of error)
     ⊎ (((kind_of error ≡ ArgumentConflict) × HaveConflict words)
     ⊎ (((kind_of error ≡ ValueValidation) × HaveNoChoice words)

@@ -1,6 +1,6 @@
 //! The arguments of the program.
 
-ghost use Rattle.std.specs.Prelude.{◌≡◌, ◌⊎◌, ◌++◌, ◌-◌, ◌^◌, Bool, IfErr, IfOk, None, Some, codes, false, if◌then◌else◌, map, option_map, pos, string_bytes};
+ghost use Rattle.std.specs.Prelude.{◌≡◌, ◌++◌, ◌-◌, ◌^◌, Bool, IfErr, IfOk, None, OnErr, Some, codes, false, if◌then◌else◌, map, option_map, pos, string_bytes};
 ghost use Rattle.clap.specs.Words.{IsPlainArg, app_of, kind_of, rule_of};
 ghost use Rattle.clap.specs.declared.builder.value_parser.ValueParser.TheVariants as parsers;
 ghost use Rattle.clap.specs.declared.error.kind.ErrorKind.TheVariants as ErrorKind;
@@ -8,16 +8,17 @@ ghost use Rattle.capture_arguments.specs.Arguments.{HasFlag, HasNumberOr};
 ghost use Rattle.capture_arguments.specs.Options.{IsOptionsOf, IsRefusedBy, names_of};
 ghost use Rattle.capture_arguments.specs.Conflicts.{conflict_in};
 ghost use Rattle.capture_arguments.specs.OutputFaults.{fault_of};
-ghost use Rattle.capture_arguments.specs.Rejections.{AreRejectedBy};
-ghost use Rattle.capture_arguments.specs.CommandLine.{AreRequestedBy, IsCommandLine, bare_command, choice_rules, count_rule, end_rules, file_rule, file_rules, flag_rule, form_rules, line_buffered_rule, line_rules, numeric_rule, output_rules, parsed_rule, protocol_names, protocol_rule, read_rule, repeated, top_rule, value_rule, verbose_rule, with_rules, write_rule};
+ghost use Rattle.capture_arguments.specs.Rejections.{AreRejectedBy, HasKindUnless};
+ghost use Rattle.capture_arguments.specs.CommandLine.{AreRequestedBy, IsCommandLine, IsDescribed, bare_command, choice_rules, count_rule, end_rules, file_rule, file_rules, flag_rule, form_rules, line_buffered_rule, line_rules, numeric_rule, output_rules, parsed_rule, protocol_names, protocol_rule, read_rule, repeated, top_rule, value_rule, verbose_rule, with_rules, write_rule};
 ghost use Rattle.capture_summary.specs.Ranking.{default_top};
 ghost use Rattle.capture_words.specs.TimeText.{times_by};
 ghost use Rattle.capture_request.specs.declared.parts.Format.TheVariants as Format;
 
-use crate::chosen::{ChoiceError, choice_of};
+use crate::chosen::{ChoiceError, choice_of, choice_text};
 use crate::conflicts::{conflict_in, conflict_text};
+use crate::memory::Memory;
 use capture_request::{Format, Parts, STANDARD_INPUT, Times};
-use capture_summary::{BUSIEST, MAX_CHOSEN};
+use capture_summary::BUSIEST;
 use clap::error::ErrorKind;
 use clap::{Arg, ArgAction, ArgMatches, Command, Error, value_parser};
 use std::alloc::{AllocError, Global};
@@ -63,28 +64,32 @@ pub struct Options<'a> {
 /// An unknown argument is named in the text of the error, whose exit status is 2. So are two options that are not used together. A request
 /// for help or for the version is also an error. Its text goes to standard output, and its exit status is 0. If no memory is left, the exit
 /// status is 3.
-pub fn requested_options<'a>(alloc: Global, words: &'a [String]) -> Result<Options<'a>, Error>
+pub fn requested_options<'a, M: Memory>(
+    memory: &M,
+    words: &'a [String],
+) -> Result<Options<'a>, Error>
     ensures options { IfOk result (AreRequestedBy (map (λ word. string_bytes word) words.now)) }
     ensures writable { IfOk result (λ options. fault_of options ≡ None) }
-    ensures rejected { IfErr result (AreRejectedBy (map (λ word. string_bytes word) words.now)) }
+    ensures rejected { IfErr result (AreRejectedBy (M.ran_out memory.now) (map (λ word. string_bytes word) words.now)) }
 {
-    let options = given_options(alloc, words)?;
+    let options = given_options(memory, words)?;
     match output_fault(&options) {
-        Some(fault) => Err(invalid_output(alloc, fault)),
+        Some(fault) => Err(invalid_output(memory, fault)),
         None => Ok(options),
     }
 }
 
 /// The options in the arguments, whether the requested file can be written or not.
-fn given_options<'a>(alloc: Global, words: &'a [String]) -> Result<Options<'a>, Error>
+fn given_options<'a, M: Memory>(memory: &M, words: &'a [String]) -> Result<Options<'a>, Error>
     ensures options { IfOk result (AreRequestedBy (map (λ word. string_bytes word) words.now)) }
-    ensures rejected { IfErr result (AreRejectedBy (map (λ word. string_bytes word) words.now)) }
+    ensures rejected { IfErr result (AreRejectedBy (M.ran_out memory.now) (map (λ word. string_bytes word) words.now)) }
 {
-    let matches = command(alloc)?.try_get_matches_from(words)?;
-    match options_of(alloc, &matches) {
+    let command = command(memory)?;
+    let matches = memory.matches(command, words)?;
+    match options_of(memory, &matches) {
         Ok(options) => Ok(options),
-        Err(OptionsError::Conflict(first, second)) => Err(invalid_pair(alloc, first, second)),
-        Err(OptionsError::Choice(error)) => Err(invalid_choice(alloc, error)),
+        Err(OptionsError::Conflict(first, second)) => Err(invalid_pair(memory, first, second)),
+        Err(OptionsError::Choice(error)) => Err(invalid_choice(memory, error)),
         Err(OptionsError::NoMemory(error)) => Err(error.into()),
     }
 }
@@ -100,9 +105,12 @@ pub enum OptionsError<'a> {
 }
 
 /// The options in these matches.
-fn options_of<'a>(alloc: Global, matches: &ArgMatches<'a>) -> Result<Options<'a>, OptionsError<'a>>
+fn options_of<'a, M: Memory>(
+    memory: &M,
+    matches: &ArgMatches<'a>,
+) -> Result<Options<'a>, OptionsError<'a>>
     ensures options { IfOk result (IsOptionsOf matches.now) }
-    ensures refusal { IfErr result (IsRefusedBy matches.now) }
+    ensures refusal { IfErr result (IsRefusedBy (M.ran_out memory.now) matches.now) }
 {
     if let Some((first, second)) = conflict_in(matches) {
         return Err(OptionsError::Conflict(first, second));
@@ -111,7 +119,7 @@ fn options_of<'a>(alloc: Global, matches: &ArgMatches<'a>) -> Result<Options<'a>
         Ok(choice) => choice,
         Err(error) => return Err(OptionsError::Choice(error)),
     };
-    let files = match files_of(alloc, matches) {
+    let files = match files_of(memory, matches) {
         Ok(files) => files,
         Err(error) => return Err(OptionsError::NoMemory(error)),
     };
@@ -138,15 +146,16 @@ fn options_of<'a>(alloc: Global, matches: &ArgMatches<'a>) -> Result<Options<'a>
 }
 
 /// The names of the captures, in their order.
-fn files_of<'a>(alloc: Global, matches: &ArgMatches<'a>) -> Result<Vec<&'a str>, AllocError>
-    ensures { IfOk result (λ files. map (λ name. name.now) files.items ≡ names_of matches.now) }
+fn files_of<'a, M: Memory>(memory: &M, matches: &ArgMatches<'a>) -> Result<Vec<&'a str>, AllocError>
+    ensures names { IfOk result (λ files. map (λ name. name.now) files.items ≡ names_of matches.now) }
+    ensures ran_out { OnErr result (M.ran_out memory.now) }
 {
-    let mut files = Vec::new(alloc);
+    let mut files = Vec::new(memory.alloc());
     if let Some(names) = matches.get_strs("read") {
-        files.extend_from_slice(names)?;
+        memory.extend(&mut files, names)?;
     }
     if let Some(names) = matches.get_strs("file") {
-        files.extend_from_slice(names)?;
+        memory.extend(&mut files, names)?;
     }
     Ok(files)
 }
@@ -195,37 +204,22 @@ fn count_of(matches: &ArgMatches<'_>) -> Option<u64>
 }
 
 /// The error for two options that are not used together, with the usage. If no memory is left for its text, the error is about the memory.
-fn invalid_pair(alloc: Global, first: &str, second: &str) -> Error
-    ensures { (kind_of result ≡ ErrorKind.ArgumentConflict) ⊎ (kind_of result ≡ ErrorKind.OutOfMemory) }
+fn invalid_pair<M: Memory>(memory: &M, first: &str, second: &str) -> Error
+    ensures { HasKindUnless (M.ran_out memory.now) ErrorKind.ArgumentConflict result }
 {
-    match conflict_text(alloc, first, second) {
-        Ok(message) => error_with_usage(alloc, ErrorKind::ArgumentConflict, message.as_str()),
+    match conflict_text(memory, first, second) {
+        Ok(message) => error_with_usage(memory, ErrorKind::ArgumentConflict, message.as_str()),
         Err(error) => error.into(),
     }
 }
 
 /// The error for a choice of packets that is not valid, with the usage. If no memory is left for its text, the error is about the memory.
-fn invalid_choice(alloc: Global, error: ChoiceError<'_>) -> Error
-    ensures { (kind_of result ≡ ErrorKind.ValueValidation) ⊎ (kind_of result ≡ ErrorKind.OutOfMemory) }
+fn invalid_choice<M: Memory>(memory: &M, error: ChoiceError<'_>) -> Error
+    ensures { HasKindUnless (M.ran_out memory.now) ErrorKind.ValueValidation result }
 {
-    match choice_text(alloc, error) {
-        Ok(message) => error_with_usage(alloc, ErrorKind::ValueValidation, message.as_str()),
+    match choice_text(memory, error) {
+        Ok(message) => error_with_usage(memory, ErrorKind::ValueValidation, message.as_str()),
         Err(error) => error.into(),
-    }
-}
-
-/// The message about a choice of packets that is not valid.
-fn choice_text(alloc: Global, error: ChoiceError<'_>) -> Result<String, AllocError> {
-    match error {
-        ChoiceError::Host(text, error) => {
-            format!(in alloc; "invalid value '{text}' for '--host <ADDRESS>': {error}")
-        }
-        ChoiceError::Port(text) => format!(in alloc;
-            "invalid value '{text}' for '--port <N>': it is no number from 0 to 65535"
-        ),
-        ChoiceError::TooMany(name) => {
-            format!(in alloc; "'--{name}' is given more than {MAX_CHOSEN} times")
-        }
     }
 }
 
@@ -244,63 +238,70 @@ fn output_fault(options: &Options<'_>) -> Option<&'static str>
 }
 
 /// The error for a file that can't be written, with the usage. If no memory is left for its text, the error is about the memory.
-fn invalid_output(alloc: Global, fault: &str) -> Error
-    ensures { (kind_of result ≡ ErrorKind.ArgumentConflict) ⊎ (kind_of result ≡ ErrorKind.OutOfMemory) }
+fn invalid_output<M: Memory>(memory: &M, fault: &str) -> Error
+    ensures { HasKindUnless (M.ran_out memory.now) ErrorKind.ArgumentConflict result }
 {
-    error_with_usage(alloc, ErrorKind::ArgumentConflict, fault)
+    error_with_usage(memory, ErrorKind::ArgumentConflict, fault)
 }
 
 /// The error if the file to write is the capture, with the usage. If no memory is left for its text, the error is about the memory.
-pub fn output_is_capture(alloc: Global) -> Error
-    ensures { (kind_of result ≡ ErrorKind.ArgumentConflict) ⊎ (kind_of result ≡ ErrorKind.OutOfMemory) }
+pub fn output_is_capture<M: Memory>(memory: &M) -> Error
+    ensures { HasKindUnless (M.ran_out memory.now) ErrorKind.ArgumentConflict result }
 {
-    invalid_output(alloc, OUTPUT_IS_CAPTURE)
+    invalid_output(memory, OUTPUT_IS_CAPTURE)
 }
 
 /// The error if there is no capture to read, with the usage. If no memory is left for its text, the error is about the memory.
-pub fn no_capture(alloc: Global) -> Error
-    ensures { (kind_of result ≡ ErrorKind.MissingRequiredArgument) ⊎ (kind_of result ≡ ErrorKind.OutOfMemory) }
+pub fn no_capture<M: Memory>(memory: &M) -> Error
+    ensures { HasKindUnless (M.ran_out memory.now) ErrorKind.MissingRequiredArgument result }
 {
     error_with_usage(
-        alloc,
+        memory,
         ErrorKind::MissingRequiredArgument,
         "no FILE is named, and standard input is a terminal",
     )
 }
 
 /// An error of this kind with this message and the usage. If no memory is left for its text, the error is about the memory.
-fn error_with_usage(alloc: Global, kind: ErrorKind, message: &str) -> Error
-    ensures { (kind_of result ≡ kind) ⊎ (kind_of result ≡ ErrorKind.OutOfMemory) }
+fn error_with_usage<M: Memory>(memory: &M, kind: ErrorKind, message: &str) -> Error
+    ensures { HasKindUnless (M.ran_out memory.now) kind result }
 {
-    match command(alloc) {
-        Ok(mut command) => error_of(&mut command, kind, message),
+    match command(memory) {
+        Ok(mut command) => error_of(memory, &mut command, kind, message),
         Err(error) => error.into(),
     }
 }
 
 /// An error of this kind with this message and the usage of this command, or an error about the memory.
-fn error_of(command: &mut Command<'_>, kind: ErrorKind, message: &str) -> Error
-    ensures { (kind_of result ≡ kind) ⊎ (kind_of result ≡ ErrorKind.OutOfMemory) }
+fn error_of<M: Memory>(
+    memory: &M,
+    command: &mut Command<'_>,
+    kind: ErrorKind,
+    message: &str,
+) -> Error
+    ensures { HasKindUnless (M.ran_out memory.now) kind result }
 {
-    match command.error(kind, message) {
+    match memory.usage_error(command, kind, message) {
         Ok(error) => error,
         Err(error) => error.into(),
     }
 }
 
 /// The command line.
-fn command<'a>(alloc: Global) -> Result<Command<'a>, AllocError>
-    ensures { IfOk result (λ command. IsCommandLine (app_of command)) }
+fn command<'a, M: Memory>(memory: &M) -> Result<Command<'a>, AllocError>
+    ensures line { IfOk result (λ command. IsCommandLine (app_of command)) }
+    ensures ran_out { OnErr result (M.ran_out memory.now) }
 {
-    let command = with_lines(alloc, bare(alloc))?;
-    let command = with_form(alloc, command)?;
-    let command = with_choice(alloc, command)?;
-    with_files(alloc, command)
+    let command = with_lines(memory, bare(memory.alloc()))?;
+    let command = with_form(memory, command)?;
+    let command = with_choice(memory, command)?;
+    with_files(memory, command)
 }
 
 /// The command line without options.
 fn bare<'a>(alloc: Global) -> Command<'a>
-    ensures { app_of result ≡ bare_command }
+    ensures app { app_of result ≡ bare_command }
+    ensures described { IsDescribed result }
 {
     Command::new(alloc, "capture_report")
         .version(VERSION)
@@ -311,14 +312,15 @@ fn bare<'a>(alloc: Global) -> Command<'a>
 }
 
 /// The command line with the options for the parts and the lines of the report.
-fn with_lines<'a>(alloc: Global, command: Command<'a>) -> Result<Command<'a>, AllocError>
-    ensures { IfOk result (λ more. app_of more ≡ with_rules (app_of command.entry) line_rules) }
+fn with_lines<'a, M: Memory>(memory: &M, command: Command<'a>) -> Result<Command<'a>, AllocError>
+    ensures rules { IfOk result (λ more. app_of more ≡ with_rules (app_of command.entry) line_rules) }
+    ensures ran_out { OnErr result (M.ran_out memory.now) }
 {
-    command
-        .arg(summary(alloc))?
-        .arg(packets(alloc))?
-        .arg(wrong(alloc))?
-        .arg(verbose(alloc))
+    let alloc = memory.alloc();
+    let command = memory.with_arg(command, summary(alloc))?;
+    let command = memory.with_arg(command, packets(alloc))?;
+    let command = memory.with_arg(command, wrong(alloc))?;
+    memory.with_arg(command, verbose(alloc))
 }
 
 /// The option for the summary without lines.
@@ -363,14 +365,15 @@ fn verbose<'a>(alloc: Global) -> Arg<'a>
 }
 
 /// The command line with the options for the form of the report and for its exit status.
-fn with_form<'a>(alloc: Global, command: Command<'a>) -> Result<Command<'a>, AllocError>
-    ensures { IfOk result (λ more. app_of more ≡ with_rules (app_of command.entry) form_rules) }
+fn with_form<'a, M: Memory>(memory: &M, command: Command<'a>) -> Result<Command<'a>, AllocError>
+    ensures rules { IfOk result (λ more. app_of more ≡ with_rules (app_of command.entry) form_rules) }
+    ensures ran_out { OnErr result (M.ran_out memory.now) }
 {
-    command
-        .arg(absolute(alloc))?
-        .arg(check(alloc))?
-        .arg(json(alloc))?
-        .arg(top(alloc))
+    let alloc = memory.alloc();
+    let command = memory.with_arg(command, absolute(alloc))?;
+    let command = memory.with_arg(command, check(alloc))?;
+    let command = memory.with_arg(command, json(alloc))?;
+    memory.with_arg(command, top(alloc))
 }
 
 /// The option for the date and time of packets.
@@ -424,15 +427,16 @@ fn top<'a>(alloc: Global) -> Arg<'a>
 }
 
 /// The command line with the options that choose packets, and with the option for the end of the report.
-fn with_choice<'a>(alloc: Global, command: Command<'a>) -> Result<Command<'a>, AllocError>
-    ensures { IfOk result (λ more. (names : _) × (map (λ name. name.now) names.now ≡ protocol_names)
+fn with_choice<'a, M: Memory>(memory: &M, command: Command<'a>) -> Result<Command<'a>, AllocError>
+    ensures rules { IfOk result (λ more. (names : _) × (map (λ name. name.now) names.now ≡ protocol_names)
         × (app_of more ≡ with_rules (app_of command.entry) (choice_rules names ++ end_rules))) }
+    ensures ran_out { OnErr result (M.ran_out memory.now) }
 {
-    command
-        .arg(host(alloc))?
-        .arg(port(alloc))?
-        .arg(protocol(alloc))?
-        .arg(count(alloc))
+    let alloc = memory.alloc();
+    let command = memory.with_arg(command, host(alloc))?;
+    let command = memory.with_arg(command, port(alloc))?;
+    let command = memory.with_arg(command, protocol(alloc))?;
+    memory.with_arg(command, count(alloc))
 }
 
 /// The hosts that choose packets.
@@ -493,15 +497,16 @@ fn count<'a>(alloc: Global) -> Arg<'a>
 }
 
 /// The command line with the captures, and with the options for writing packets or lines.
-fn with_files<'a>(alloc: Global, command: Command<'a>) -> Result<Command<'a>, AllocError>
-    ensures { IfOk result (λ more. app_of more ≡ with_rules (app_of command.entry) (output_rules ++ file_rules)) }
+fn with_files<'a, M: Memory>(memory: &M, command: Command<'a>) -> Result<Command<'a>, AllocError>
+    ensures rules { IfOk result (λ more. app_of more ≡ with_rules (app_of command.entry) (output_rules ++ file_rules)) }
+    ensures ran_out { OnErr result (M.ran_out memory.now) }
 {
-    command
-        .arg(write(alloc))?
-        .arg(line_buffered(alloc))?
-        .arg(numeric(alloc))?
-        .arg(read(alloc))?
-        .arg(file(alloc))
+    let alloc = memory.alloc();
+    let command = memory.with_arg(command, write(alloc))?;
+    let command = memory.with_arg(command, line_buffered(alloc))?;
+    let command = memory.with_arg(command, numeric(alloc))?;
+    let command = memory.with_arg(command, read(alloc))?;
+    memory.with_arg(command, file(alloc))
 }
 
 /// The file for the packets. An option for the form of a report has no effect on them.

@@ -1,13 +1,15 @@
 //! The packets that the arguments choose.
 
-ghost use Rattle.std.specs.Prelude.{◌≤◌, ◌↔◌, ℕ, Contains, Err, IfErr, IfOk, IsTrue, codes, length, map};
-ghost use Rattle.capture_arguments.specs.Chosen.{AreChosen, AreRead, HasProtocols, IsChoiceOf, IsNamed, IsRefusal, ReadsHost, ReadsPlaces, ReadsPort};
+ghost use Rattle.std.specs.Prelude.{◌≡◌, ◌≤◌, ◌↔◌, ℕ, Contains, Err, IfErr, IfOk, IsTrue, OnErr, codes, length, map, string_bytes};
+ghost use Rattle.capture_arguments.specs.Chosen.{AreChosen, AreRead, HasProtocols, IsChoiceOf, IsNamed, IsRefusal, ReadsHost, ReadsPlaces, ReadsPort, choice_text};
 ghost use Rattle.capture_arguments.specs.Arguments.{values_of};
 ghost use Rattle.capture_summary.specs.Networks.{ReadsNetwork};
 
+use crate::memory::Memory;
 use capture_request::Choice;
 use capture_summary::{MAX_CHOSEN, Network, NetworkError, Protocols};
 use clap::ArgMatches;
+use std::alloc::AllocError;
 
 /// Why some matches contain no choice.
 #[derive(Clone, Copy)]
@@ -142,4 +144,22 @@ fn is_named(names: &[&str], name: &str) -> bool
         left = others;
     }
     false
+}
+
+/// The message about a choice of packets that is not valid.
+pub fn choice_text<M: Memory>(memory: &M, error: ChoiceError<'_>) -> Result<String, AllocError>
+    ensures text { IfOk result (λ text. string_bytes text ≡ choice_text error.entry) }
+    ensures ran_out { OnErr result (M.ran_out memory.now) }
+{
+    match error {
+        ChoiceError::Host(text, error) => memory.text(format_args!(
+            "invalid value '{text}' for '--host <ADDRESS>': {error}"
+        )),
+        ChoiceError::Port(text) => memory.text(format_args!(
+            "invalid value '{text}' for '--port <N>': it is no number from 0 to 65535"
+        )),
+        ChoiceError::TooMany(name) => memory.text(format_args!(
+            "'--{name}' is given more than {MAX_CHOSEN} times"
+        )),
+    }
 }

@@ -1,12 +1,13 @@
 //! The options that are not used together.
 
-ghost use Rattle.std.specs.Prelude.{◌≡◌, IfOk, option_map, string_bytes};
+ghost use Rattle.std.specs.Prelude.{◌≡◌, IfOk, OnErr, option_map, string_bytes};
 ghost use Rattle.clap.specs.Words.{found_of, rows_of};
 ghost use Rattle.capture_arguments.specs.Conflicts.{conflict_in, conflict_text, is_from_words, is_given, shown_value};
 
+use crate::memory::Memory;
 use clap::ArgMatches;
 use clap::parser::ValueSource;
-use std::alloc::{AllocError, Global};
+use std::alloc::AllocError;
 
 /// The pairs of options that are not used together, by their names, in the order in which they are tested.
 static EXCLUSIVE: [(&str, &str); 10] = [
@@ -51,11 +52,14 @@ fn is_from_words(source: Option<ValueSource>) -> bool
 }
 
 /// The message about two options that are not used together.
-pub fn conflict_text(alloc: Global, first: &str, second: &str) -> Result<String, AllocError>
-    ensures { IfOk result (λ text. string_bytes text ≡ conflict_text first.now second.now) }
+pub fn conflict_text<M: Memory>(memory: &M, first: &str, second: &str) -> Result<String, AllocError>
+    ensures text { IfOk result (λ text. string_bytes text ≡ conflict_text first.now second.now) }
+    ensures ran_out { OnErr result (M.ran_out memory.now) }
 {
     let (value, other) = (shown_value(first), shown_value(second));
-    format!(in alloc; "the argument '--{first}{value}' cannot be used with '--{second}{other}'")
+    memory.text(format_args!(
+        "the argument '--{first}{value}' cannot be used with '--{second}{other}'"
+    ))
 }
 
 /// The value of an option in a message. An option without a value has an empty text.

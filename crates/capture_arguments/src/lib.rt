@@ -4,8 +4,8 @@
 //! error, whose kind decides the exit status.
 //!
 //! ```
-//! let words = words_of(rt.alloc(), &OwnArguments { rt })?;
-//! match requested_options(rt.alloc(), words.as_slice()) {
+//! let words = words_of(&rt.alloc(), &OwnArguments { rt })?;
+//! match requested_options(&rt.alloc(), words.as_slice()) {
 //!     Ok(options) => report(&options.parts, options.files.as_slice()),
 //!     Err(error) => error.print(rt),
 //! }
@@ -15,7 +15,9 @@
 mod arguments;
 mod chosen;
 mod conflicts;
+mod memory;
 mod words;
 
 pub use arguments::{Options, no_capture, output_is_capture, requested_options};
+pub use memory::Memory;
 pub use words::{Arguments, OwnArguments, words_of};

@@ -1,15 +1,15 @@
 //! The words of the command line.
 
-ghost use Rattle.std.specs.Prelude.{◌≡◌, IfOk, map, string_bytes};
-ghost use Rattle.capture_arguments.specs.Words.{AreWordsOf, word_of};
+ghost use Rattle.std.specs.Prelude.{◌≡◌, IfErr, IfOk, OnErr, map, string_bytes};
+ghost use Rattle.capture_arguments.specs.Words.{AreNoWords, AreWordsOf, word_of};
 
+use crate::memory::Memory;
 use capture_facts::EscapedBytes;
 use capture_request::ESCAPED;
-use std::alloc::{AllocError, Global};
+use std::alloc::AllocError;
 use std::env::{Env, FillError};
 use std::io;
 use std::io::ErrorKind;
-use streams::new_buffer;
 
 /// The greatest length of an argument in bytes: Linux accepts no longer one (`MAX_ARG_STRLEN`).
 const MAX_ARGUMENT_LEN: usize = 1 << 17;
@@ -17,12 +17,15 @@ const MAX_ARGUMENT_LEN: usize = 1 << 17;
 /// The arguments of a program.
 pub trait Arguments {
     ghost use Rattle.std.specs.Prelude.{◌≡◌, ◌≤◌, ℕ, Err, List, IfOk, length, take};
-    ghost use Rattle.std.specs.declared.env.FillError.TheVariants.{NotPresent};
+    ghost use Rattle.std.specs.declared.env.FillError.TheVariants.{NotPresent, TooLong};
 
     /// The statement that is true of a place and of the bytes of its argument.
     ghost holds: { Self → ℕ → List ℕ → Type 0 };
     /// The statement that is true of a place after the last argument.
     ghost ends: { Self → ℕ → Type 0 };
+
+    /// The statement that is true of a place and of a length if the argument is longer.
+    ghost exceeds: { Self → ℕ → ℕ → Type 0 };
 
     /// Writes the argument at this place to the front of `buffer`, and returns its length.
     ///
@@ -32,7 +35,8 @@ pub trait Arguments {
     fn argument(&self, place: usize, buffer: &mut [u8]) -> Result<usize, FillError>
         ensures len { IfOk result (λ len. len ≤ length buffer.new) }
         ensures given { IfOk result (λ len. holds self.now place (take len buffer.new)) }
-        ensures missing { result ≡ Err NotPresent → ends self.now place };
+        ensures missing { result ≡ Err NotPresent → ends self.now place }
+        ensures long { result ≡ Err TooLong → exceeds self.now place (length buffer.old) };
 }
 
 /// The arguments of this program.
@@ -47,6 +51,8 @@ impl<'a> Arguments for OwnArguments<'a> {
 
     ghost ends = { λ arguments place. Unit {0} };
 
+    ghost exceeds = { λ arguments place len. Unit {0} };
+
     fn argument(&self, place: usize, buffer: &mut [u8]) -> Result<usize, FillError> {
         self.rt.arg(place, buffer)
     }
@@ -57,29 +63,31 @@ impl<'a> Arguments for OwnArguments<'a> {
 ///
 /// # Errors
 ///
-/// `ArgumentListTooLong` if an argument is longer than Linux accepts, and `OutOfMemory` if no memory is left.
-pub fn words_of<A: Arguments>(alloc: Global, arguments: &A) -> io::Result<Vec<String>>
-    ensures { IfOk result (λ words. AreWordsOf (A.holds arguments.now) (A.ends arguments.now) (map (λ word. string_bytes word) words.items)) }
+/// `ArgumentListTooLong` if an argument is longer than Linux accepts, or if there are 2^64 - 1 arguments. `OutOfMemory` if no memory is left.
+pub fn words_of<M: Memory, A: Arguments>(memory: &M, arguments: &A) -> io::Result<Vec<String>>
+    ensures words { IfOk result (λ words. AreWordsOf (A.holds arguments.now) (A.ends arguments.now) (map (λ word. string_bytes word) words.items)) }
+    ensures refusal { IfErr result (AreNoWords (A.holds arguments.now) (A.exceeds arguments.now) (M.ran_out memory.now)) }
 {
-    let mut buffer = new_buffer(alloc, MAX_ARGUMENT_LEN)?;
+    let mut buffer = memory.buffer(MAX_ARGUMENT_LEN)?;
     let room = buffer.as_mut_slice();
-    let mut words = Vec::new(alloc);
+    let mut words = Vec::new(memory.alloc());
     for place in 0..usize::MAX {
         match arguments.argument(place, room) {
-            Ok(len) => words.push(word_of(alloc, &room[..len])?)?,
+            Ok(len) => memory.push(&mut words, word_of(memory, &room[..len])?)?,
             Err(FillError::NotPresent) => return Ok(words),
-            Err(FillError::TooLong) => break,
+            Err(FillError::TooLong) => return Err(io::Error::from(ErrorKind::ArgumentListTooLong)),
         }
     }
     Err(io::Error::from(ErrorKind::ArgumentListTooLong))
 }
 
 /// An argument as a word. If its bytes are not UTF-8, they are escaped, after the mark.
-fn word_of(alloc: Global, bytes: &[u8]) -> Result<String, AllocError>
-    ensures { IfOk result (λ word. string_bytes word ≡ word_of bytes.now) }
+fn word_of<M: Memory>(memory: &M, bytes: &[u8]) -> Result<String, AllocError>
+    ensures word { IfOk result (λ word. string_bytes word ≡ word_of bytes.now) }
+    ensures ran_out { OnErr result (M.ran_out memory.now) }
 {
     match str::from_utf8(bytes) {
-        Ok(text) => String::from_str(alloc, text),
-        Err(_) => format!(in alloc; "{ESCAPED}{}", EscapedBytes(bytes)),
+        Ok(text) => memory.text(text),
+        Err(_) => memory.text(format_args!("{ESCAPED}{}", EscapedBytes(bytes))),
     }
 }

@@ -71,13 +71,13 @@ fn failure(rt: &HostRuntime, error: &io::Error) -> u8
 
 /// Reads the arguments, runs the request in them, and returns the exit status.
 fn status(rt: &HostRuntime) -> io::Result<u8> {
-    let words = words_of(rt.alloc(), &OwnArguments { rt })?;
-    let options = match requested_options(rt.alloc(), words.as_slice()) {
+    let words = words_of(&rt.alloc(), &OwnArguments { rt })?;
+    let options = match requested_options(&rt.alloc(), words.as_slice()) {
         Ok(options) => options,
         Err(error) => return answer(rt, error),
     };
     if options.files.is_empty() && rt.stdin().is_terminal() {
-        return answer(rt, no_capture(rt.alloc()));
+        return answer(rt, no_capture(&rt.alloc()));
     }
     if let Some(name) = options.write {
         return write_to(rt, &options, name);
@@ -141,7 +141,7 @@ fn write_to(rt: &HostRuntime, options: &Options<'_>, name: &str) -> io::Result<u
         return write_packets(rt, &options.parts, capture, input, rt.stdout());
     }
     if input.is_named(rt, name) {
-        return answer(rt, output_is_capture(rt.alloc()));
+        return answer(rt, output_is_capture(&rt.alloc()));
     }
     let mut output = NewFile::new(rt, name);
     let input = with_progress(rt, input, false);

@@ -4,11 +4,11 @@ use Rattle.capture_arguments.proofs.CommandLemmas.{adds_rule, chosen_by}
 use Rattle.capture_arguments.proofs.arguments.with_choice.Goals as goal
 
 -- one option after the other
-pub returns : goal.returns
-returns c =
+pub returns-clause-rules : goal.returns-clause-rules
+returns-clause-rules g c =
     let names = c.protocol.ensures.rule in
-    let first = adds_rule _ _ _ _ _ c.in_ok-arg.ensures c.host.ensures.local c.host.ensures.rule refl in
-    let second = adds_rule _ _ _ _ _ c.in_ok-arg-2.ensures c.port.ensures.local c.port.ensures.rule first in
-    let third = adds_rule _ _ _ _ _ c.in_ok-arg-3.ensures c.protocol.ensures.local names.2 second in
+    let first = adds_rule _ _ _ _ _ c.in_ok-command.ensures.adds c.host.ensures.local c.host.ensures.rule refl in
+    let second = adds_rule _ _ _ _ _ c.in_ok-command-2.ensures.adds c.port.ensures.local c.port.ensures.rule first in
+    let third = adds_rule _ _ _ _ _ c.in_ok-command-3.ensures.adds c.protocol.ensures.local names.2 second in
     IfOk-weaker _ _ _
-    (λ more adds. chosen_by names.0 _ _ names.1 (adds_rule _ _ _ _ _ adds c.count.ensures.local c.count.ensures.rule third)) c.arg-4.ensures
+    (λ more adds. chosen_by names.0 _ _ names.1 (adds_rule _ _ _ _ _ adds c.count.ensures.local c.count.ensures.rule third)) c.with_arg-4.ensures.adds

@@ -1,5 +1,5 @@
 use Rattle.std.proofs.Common.{◌≡◌, ℕ, List, length, map, string_bytes}
-use Rattle.capture_arguments.specs.Words.{AreArguments, word_of}
+use Rattle.capture_arguments.specs.Words.{AreArguments, max_argument_len, word_of}
 use Rattle.capture_arguments.proofs.words.words_of.Given as goal
 
 -- the arguments so far
@@ -8,4 +8,5 @@ invariant-loop-place g l =
     (arguments : List (List ℕ))
     × AreArguments (g.A.Arguments.holds l.arguments) 0 arguments
     × (l.place ≡ length arguments)
+    × (length l.room ≡ max_argument_len)
     × (map (λ word. string_bytes word) l.words.items ≡ map word_of arguments)
