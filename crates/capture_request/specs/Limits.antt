@@ -1,8 +1,6 @@
 -- A requested number of packets, after which a report ends.
 use Rattle.std.specs.Prelude.{◌≡◌, ◌⊎◌, ◌≤◌, ℕ, Bool, true, false, nat_lt, not, List, [], ◌∷◌, ◌++◌, Option, Some, None, Result, Ok, Err}
-use Rattle.capture_file.specs.CapturePackets.{BeginsInput, FilePacket, ReadsPackets}
-use Rattle.capture_file.specs.declared.reader.capture_reader.CaptureReader.{CaptureReader}
-use Rattle.capture_packet.specs.Frames.{max_packet_len}
+use Rattle.capture_file.specs.CapturePackets.{FilePacket}
 use Rattle.capture_request.specs.Report.{CountsEach}
 use Rattle.capture_summary.specs.SummaryTables.{SummaryTables}
 use Rattle.capture_summary.specs.declared.choice.Choice.{Choice}
@@ -42,19 +40,3 @@ EndsWithRequested limit choice before packets =
     (packets ≡ [])
     ⊎ ((earlier : List FilePacket) × (last : FilePacket) × (between : SummaryTables) × (packets ≡ earlier ++ last ∷ [])
     × CountsEach choice before earlier between × (is_full limit between.packets ≡ false))
-
--- These packets were read, and the chosen packets were counted, up to the last packet that is requested. The input was not read further:
--- its next byte is the byte after the record or block of that packet.
-pub record StopsAtLimit (limit : Option ℕ) (choice : Choice) (reader : CaptureReader) (left still_left : Option (List ℕ)) (before after : SummaryTables) : Type 0 where
-  pub packets : List FilePacket
-  pub still_reader : CaptureReader
-  pub reads : ReadsPackets max_packet_len reader left still_left still_reader packets
-  pub counted : CountsEach choice before packets after
-  pub last : EndsWithRequested limit choice before packets
-
--- the same of a capture, after its beginning
-pub record StopsCapture (limit : Option ℕ) (choice : Choice) (left still_left : Option (List ℕ)) (before after : SummaryTables) : Type 0 where
-  pub reader : CaptureReader
-  pub after_beginning : Option (List ℕ)
-  pub begins : BeginsInput max_packet_len reader left after_beginning
-  pub stops : StopsAtLimit limit choice reader after_beginning still_left before after

@@ -1,7 +1,7 @@
--- What a report counts of a capture: each packet that is chosen once, in their order.
-use Rattle.std.specs.Prelude.{◌≡◌, ◌≤◌, ◌⊎◌, ℕ, ◌+◌, List, length, [], ◌∷◌, nat_lt, Option, Some, None, Result, Ok, Err}
+-- What a report reads of a capture, and what it counts: each packet that is chosen once, in their order.
+use Rattle.std.specs.Prelude.{◌≡◌, ◌≤◌, ◌⊎◌, ℕ, ◌+◌, List, length, [], ◌∷◌, nat_lt, Option, Some, None, IfSome, Result, Ok, Err}
 use Rattle.std.specs.Option.{option_map}
-use Rattle.capture_file.specs.CapturePackets.{Begins, BeginsInput, EndsWith, FailsToRead, HasPackets, FilePacket, ReadsOne, ReadsPackets, kept, too_long, offset_of}
+use Rattle.capture_file.specs.CapturePackets.{BeginsWithPackets, EndsWith, FailsToRead, HasPackets, FilePacket, ReadsOne, ReadsPackets, kept, too_long, offset_of}
 use Rattle.capture_summary.specs.Choice.{IsChosen}
 use Rattle.capture_request.specs.Endings.{max_packets}
 use Rattle.capture_summary.specs.FlowOf.{IsFlowOf}
@@ -25,7 +25,7 @@ use Rattle.capture_file.specs.declared.reader.next_packet.TooLongPacket.{TooLong
 use Rattle.capture_file.specs.declared.packet_time.PacketTime.{PacketTime}
 use Rattle.capture_summary.specs.declared.choice.Choice.{Choice}
 use Rattle.capture_request.specs.declared.capture_error.CaptureError.{CaptureError}
-use Rattle.capture_request.specs.declared.capture_error.CaptureError.TheVariants.{Enough, Header, Read, ReadHeader, RecordCutOff, Refused, TooManyPackets}
+use Rattle.capture_request.specs.declared.capture_error.CaptureError.TheVariants.{Enough, Read, RecordCutOff, Refused, TooManyPackets}
 use Rattle.capture_summary.specs.declared.capture_info.CaptureInfo.{CaptureInfo}
 use Rattle.capture_summary.specs.declared.flow.Flow.{Flow}
 
@@ -104,6 +104,19 @@ CountsEach choice before [] after = after ≡ before
 CountsEach choice before (packet ∷ packets) after =
     (between : SummaryTables) × CountsCaptured choice packet before between × CountsEach choice between packets after
 
+-- one packet was read, and counted if it is chosen
+pub record ReportsOne (choice : Choice) (reader : CaptureReader) (left still_left : Option (List ℕ)) (still_reader : CaptureReader) (before after : SummaryTables) : Type 0 where
+  pub packet : FilePacket
+  pub reads : ReadsOne max_packet_len reader left still_left still_reader packet
+  pub counted : CountsCaptured choice packet before after
+
+-- packets were read, and nothing after them
+abbrev pub ReadsWholePackets : CaptureReader → Option (List ℕ) → Option (List ℕ) → CaptureReader → Type 0
+ReadsWholePackets reader left still_left still_reader =
+    (packets : List FilePacket) × ReadsPackets max_packet_len reader left still_left still_reader packets
+
+-- ---- the end of the packets
+
 -- the packets were read to the end of the input, or to a record or block that is cut off or can't be read
 abbrev pub IsReadToEnd : Result (Unit {0}) CaptureError → Type 0
 IsReadToEnd (Ok done) = Unit {0}
@@ -119,84 +132,50 @@ IsAnsweredBy next number (Err (RecordCutOff its_number offset required len)) = (
 IsAnsweredBy next number (Err (Refused error)) = next ≡ packets.Refused error
 IsAnsweredBy next number other = ⊥
 
--- no packet was left
-pub record EndsAt (before : CaptureReader) (left : Option (List ℕ)) (number : ℕ) (ended : Result (Unit {0}) CaptureError) : Type 0 where
-  pub next : NextPacket
-  pub ends : EndsWith max_packet_len before left next
-  pub answered : IsAnsweredBy next number ended
+-- the next item was read, and it is this item, which is not a packet; this is the reader after it
+abbrev pub ReadsEnd : CaptureReader → Option (List ℕ) → NextPacket → Option (List ℕ) → CaptureReader → Type 0
+ReadsEnd before left next still_left after =
+    (ends : EndsWith max_packet_len before left next) × (still_left ≡ ends.still_left) × (after ≡ ends.after)
 
--- one packet was read, and counted if it is chosen
-pub record ReportsOne (choice : Choice) (reader : CaptureReader) (left still_left : Option (List ℕ)) (still_reader : CaptureReader) (before after : SummaryTables) : Type 0 where
-  pub packet : FilePacket
-  pub reads : ReadsOne max_packet_len reader left still_left still_reader packet
-  pub counted : CountsCaptured choice packet before after
+-- The next item was read, or reading it failed, and this result reports it. The item is not a packet: the input is at its end, or within a
+-- record or block, or the next block can't be read. An error within a record or block contains this number, and the place where the record
+-- or block begins. This is the reader that is left.
+abbrev pub EndsAtItem : ℕ → CaptureReader → Option (List ℕ) → Option (List ℕ) → CaptureReader → Result (Unit {0}) CaptureError → Type 0
+EndsAtItem number before left still_left after (Ok done) = ReadsEnd before left packets.End still_left after
+EndsAtItem number before left still_left after (Err (RecordCutOff its_number offset required len)) =
+    ReadsEnd before left (packets.CutOff required len) still_left after × (its_number ≡ number) × (offset ≡ offset_of after)
+EndsAtItem number before left still_left after (Err (Refused error)) = ReadsEnd before left (packets.Refused error) still_left after
+EndsAtItem number before left still_left after (Err (Read its_number offset error)) =
+    FailsToRead max_packet_len before left still_left after × (its_number ≡ number) × (offset ≡ offset_of after)
+EndsAtItem number before left still_left after other = ⊥
 
--- the next packet, which has this number, or that there is none
+-- The report of a capture ended with this result, after so many packets of this capture and of the captures before it. No item was read if
+-- as many packets were counted as are requested, or if no further packet can be counted. Otherwise the item after the last packet, which
+-- would be the packet with this number, ended the report. This is the reader that is left.
+abbrev pub HasEnded : ℕ → ℕ → CaptureReader → Option (List ℕ) → Option (List ℕ) → CaptureReader → Result (Unit {0}) CaptureError → Type 0
+HasEnded count number before left still_left after (Err Enough) = (still_left ≡ left) × (after ≡ before)
+HasEnded count number before left still_left after (Err TooManyPackets) = (max_packets ≤ count) × (still_left ≡ left) × (after ≡ before)
+HasEnded count number before left still_left after ended = EndsAtItem number before left still_left after ended
+
+-- the next packet, which has this number, was read and counted if it is chosen, or there is none and nothing was counted
 abbrev pub ReportsNext : Choice → ℕ → CaptureReader → Option (List ℕ) → Option (List ℕ) → CaptureReader → SummaryTables → SummaryTables → Option (Result (Unit {0}) CaptureError) → Type 0
 ReportsNext choice number reader left still_left still_reader before after None = ReportsOne choice reader left still_left still_reader before after
 ReportsNext choice number reader left still_left still_reader before after (Some ended) =
-    (after ≡ before) × (IsReadToEnd ended → EndsAt reader left number ended)
+    (after ≡ before) × EndsAtItem number reader left still_left still_reader ended
 
--- packets were read, and nothing after them
-abbrev pub ReadsWholePackets : CaptureReader → Option (List ℕ) → Option (List ℕ) → CaptureReader → Type 0
-ReadsWholePackets reader left still_left still_reader =
-    (packets : List FilePacket) × ReadsPackets max_packet_len reader left still_left still_reader packets
+-- the bytes after the beginning of a capture are these packets, and this result reports what follows them
+abbrev pub EndsAfter : CaptureReader → List FilePacket → Result (Unit {0}) CaptureError → List ℕ → Type 0
+EndsAfter reader packets ended bytes =
+    (next : NextPacket) × HasPackets max_packet_len reader bytes packets next × IsAnsweredBy next (length packets + 1) ended
 
--- of a capture with these bytes after its beginning all packets that are chosen were counted, and nothing else; the answer says what came
--- after the packets
-abbrev pub CountsCapture : Choice → CaptureReader → List ℕ → Result (Unit {0}) CaptureError → SummaryTables → SummaryTables → Type 0
-CountsCapture choice reader bytes ended before after =
-    (packets : List FilePacket) × (next : NextPacket) × HasPackets max_packet_len reader bytes packets next × CountsEach choice before packets after
-    × IsAnsweredBy next (length packets + 1) ended
-
--- the bytes begin a capture, all whose packets that are chosen were counted after what was counted before, and nothing else
-pub record CountsFile (choice : Choice) (bytes : List ℕ) (ended : Result (Unit {0}) CaptureError) (before after : SummaryTables) : Type 0 where
-  pub reader : CaptureReader
-  pub rest : List ℕ
-  pub begins : Begins max_packet_len reader bytes rest
-  pub counts : CountsCapture choice reader rest ended before after
-
--- where there are so many packets, an error of a record or block names it by this number, and the place where it begins; there are too many
--- packets only after 2^64 - 2
-abbrev pub PlacesError : ℕ → ℕ → ℕ → Result (Unit {0}) CaptureError → Type 0
-PlacesError packets number offset (Ok done) = Unit {0}
-PlacesError packets number offset (Err (RecordCutOff its_number its_offset required len)) = (its_number ≡ number) × (its_offset ≡ offset)
-PlacesError packets number offset (Err (Read its_number its_offset error)) = (its_number ≡ number) × (its_offset ≡ offset)
-PlacesError packets number offset (Err (Refused error)) = Unit {0}
-PlacesError packets number offset (Err TooManyPackets) = max_packets ≤ packets
-PlacesError packets number offset (Err Enough) = Unit {0}
-PlacesError packets number offset (Err (Header error)) = ⊥
-PlacesError packets number offset (Err (ReadHeader error)) = ⊥
-
--- no packet is left: this next item was read, and this is the reader after it
-abbrev pub ReadsEnd : CaptureReader → Option (List ℕ) → NextPacket → CaptureReader → Type 0
-ReadsEnd before left next after = (ends : EndsWith max_packet_len before left next) × (after ≡ ends.after)
-
--- The reader that an error within a record or block leaves. The record or block is cut off, or reading failed within it. The reader does not
--- skip it, so it is at its start.
-abbrev pub IsLeftAt : Result (Unit {0}) CaptureError → CaptureReader → Option (List ℕ) → Option (List ℕ) → CaptureReader → Type 0
-IsLeftAt (Err (RecordCutOff number offset required len)) before left still_left after = ReadsEnd before left (packets.CutOff required len) after
-IsLeftAt (Err (Read number offset error)) before left still_left after = FailsToRead max_packet_len before left still_left after
-IsLeftAt other before left still_left after = Unit {0}
-
--- After these packets, and the packets that were counted of other captures, an error within a record or block contains the next number,
--- and the place where the record or block begins. The reader that is left is there.
-pub record PlacesAfter (reader : CaptureReader) (left still_left : Option (List ℕ)) (packets : List FilePacket) (counted : ℕ) (after : CaptureReader)
+-- The packets of a capture were read, from the first one on, and then the report of the capture ended with this result. `first` is the
+-- reader after the beginning of the capture, and `last` is the reader that is left. `counted` packets of other captures were counted before.
+-- The bytes of the capture begin with these packets. If they were read to their end, they contain no other packet.
+pub record ReadsUntil (first : CaptureReader) (left still_left : Option (List ℕ)) (packets : List FilePacket) (counted : ℕ) (last : CaptureReader)
     (ended : Result (Unit {0}) CaptureError) : Type 0 where
   pub middle : Option (List ℕ)
   pub before : CaptureReader
-  pub reads : ReadsPackets max_packet_len reader left middle before packets
-  pub places : PlacesError (counted + length packets) (length packets + 1) (offset_of after) ended
-  pub left_at : IsLeftAt ended before middle still_left after
-
--- the same after the packets that were read
-abbrev pub PlacesEnd : CaptureReader → Option (List ℕ) → Option (List ℕ) → ℕ → CaptureReader → Result (Unit {0}) CaptureError → Type 0
-PlacesEnd reader left still_left counted after ended = (packets : List FilePacket) × PlacesAfter reader left still_left packets counted after ended
-
--- the same after the beginning of a capture
-pub record PlacesInCapture (left still_left : Option (List ℕ)) (counted : ℕ) (ended : Result (Unit {0}) CaptureError) : Type 0 where
-  pub reader : CaptureReader
-  pub after_beginning : Option (List ℕ)
-  pub begins : BeginsInput max_packet_len reader left after_beginning
-  pub after : CaptureReader
-  pub places : PlacesEnd reader after_beginning still_left counted after ended
+  pub reads : ReadsPackets max_packet_len first left middle before packets
+  pub has_ended : HasEnded (counted + length packets) (length packets + 1) before middle still_left last ended
+  pub are_first : IfSome left (BeginsWithPackets max_packet_len first packets)
+  pub are_all : IsReadToEnd ended → IfSome left (EndsAfter first packets ended)

@@ -1,4 +1,3 @@
-mod EndingLemmas
 mod LimitLemmas
 mod PacketsTextLemmas
 mod ReadLemmas

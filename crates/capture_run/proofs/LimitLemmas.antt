@@ -1,9 +1,9 @@
 -- For a requested number of packets.
-use Rattle.std.proofs.Common.{◌≡◌, ◌≤◌, ◌+◌, ℕ, [], ◌∷◌, false, Err, None, Ok, Option, Result, Some, arith, refl}
+use Rattle.std.proofs.Common.{◌≡◌, ◌≤◌, ◌+◌, ℕ, List, [], ◌∷◌, false, Err, None, Ok, Option, Result, Some, arith, refl}
 use Rattle.capture_run.proofs.ReportLemmas.{counts_at_most}
 use Rattle.capture_request.specs.Limits.{EndsByLimit, EndsWithoutLimit, IsWithin, is_full}
 use Rattle.capture_request.specs.Report.{CountsCaptured}
-use Rattle.capture_run.specs.Runs.{EndsAtHeader}
+use Rattle.capture_run.specs.Runs.{RejectsBeginning}
 use Rattle.capture_file.specs.CapturePackets.{FilePacket}
 use Rattle.capture_summary.specs.SummaryTables.{SummaryTables}
 use Rattle.capture_summary.specs.declared.choice.Choice.{Choice}
@@ -34,11 +34,12 @@ not_by_limit limit counted (Err (Header error)) more without = tt
 not_by_limit limit counted (Err (ReadHeader error)) more without = tt
 
 -- at the beginning of a capture nothing is stated
-pub limit_at_header : (limit : Option ℕ) (counted : ℕ) (error : CaptureError) → EndsAtHeader (Err error) → EndsByLimit limit counted (Err error)
-limit_at_header limit counted (Header error) at = tt
-limit_at_header limit counted (ReadHeader error) at = tt
-limit_at_header limit counted (RecordCutOff number offset required len) at = absurd at
-limit_at_header limit counted (Refused error) at = absurd at
-limit_at_header limit counted (Read number offset error) at = absurd at
-limit_at_header limit counted TooManyPackets at = absurd at
-limit_at_header limit counted Enough at = absurd at
+pub limit_at_header : (limit : Option ℕ) (counted : ℕ) (left : Option (List ℕ)) (error : CaptureError) → RejectsBeginning left (Err error)
+    → EndsByLimit limit counted (Err error)
+limit_at_header limit counted left (Header error) rejects = tt
+limit_at_header limit counted left (ReadHeader error) rejects = tt
+limit_at_header limit counted left (RecordCutOff number offset required len) rejects = absurd rejects
+limit_at_header limit counted left (Refused error) rejects = absurd rejects
+limit_at_header limit counted left (Read number offset error) rejects = absurd rejects
+limit_at_header limit counted left TooManyPackets rejects = absurd rejects
+limit_at_header limit counted left Enough rejects = absurd rejects

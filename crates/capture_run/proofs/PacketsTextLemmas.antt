@@ -1,18 +1,14 @@
 -- For the text of the packets of a capture: the text of one more packet follows the text of the others.
-use Rattle.std.proofs.Common.{◌≡◌, ◌+◌, ℕ, List, [], ◌∷◌, ◌++◌, ◌∙◌, Some, None, Option, Result, IfSome, ap, append-nil, append_assoc, arith, length, refl, subst, sym}
+use Rattle.std.proofs.Common.{◌≡◌, ◌+◌, ℕ, List, [], ◌∷◌, ◌++◌, ◌∙◌, Option, ap, append-nil, append_assoc, arith, length, refl, subst, sym}
 use Rattle.std.proofs.KnownBytes.{Appends-trans}
 use Rattle.std.specs.Io.KnownBytes.{Appends}
 use Rattle.std.specs.Option.{option_or}
-use Rattle.capture_file.specs.CapturePackets.{HasPackets, FilePacket}
-use Rattle.capture_file.specs.declared.reader.capture_reader.CaptureReader.{CaptureReader}
-use Rattle.capture_file.specs.declared.reader.next_packet.NextPacket.{NextPacket}
+use Rattle.capture_file.specs.CapturePackets.{FilePacket}
 use Rattle.capture_file.specs.declared.packet_time.PacketTime.{PacketTime}
-use Rattle.capture_packet.specs.Frames.{max_packet_len}
-use Rattle.capture_run.specs.PacketsText.{EndsAfter, IsPacketText, IsPacketsText, first_time}
-use Rattle.capture_request.specs.Report.{IsAnsweredBy, packet_time}
+use Rattle.capture_run.specs.PacketsText.{IsPacketText, IsPacketsText, first_time}
+use Rattle.capture_request.specs.Report.{packet_time}
 use Rattle.capture_words.specs.Written.{AppendsOne}
 use Rattle.capture_request.specs.declared.parts.Parts.{Parts}
-use Rattle.capture_request.specs.declared.capture_error.CaptureError.{CaptureError}
 
 -- a packet after others
 pub text-push : (parts : Parts) (number now : ℕ) (first : Option PacketTime) (packets : List FilePacket) (packet : FilePacket) (text line : List ℕ)
@@ -38,13 +34,6 @@ pub first-push : (first : Option PacketTime) (packets : List FilePacket) (packet
     → first_time first (packets ++ packet ∷ []) ≡ option_or (first_time first packets) (packet_time packet)
 first-push first [] packet = refl
 first-push first (p ∷ ps) packet = first-push (option_or first (packet_time p)) ps packet
-
--- at the end of the bytes these are all packets
-pub ends_after : (reader : CaptureReader) (left : Option (List ℕ)) (packets : List FilePacket) (next : NextPacket) (ended : Result (Unit {0}) CaptureError)
-    → IfSome left (λ bytes. HasPackets max_packet_len reader bytes packets next) → IsAnsweredBy next (length packets + 1) ended
-    → IfSome left (EndsAfter reader packets ended)
-ends_after reader None packets next ended has answered = tt
-ends_after reader (Some bytes) packets next ended has answered = (next, has, answered)
 
 -- the text of one more packet was written after the text of the others
 pub written-push : (parts : Parts) (now : ℕ) (first : Option PacketTime) (packets : List FilePacket) (packet : FilePacket) (line : List ℕ) (a b c : Option (List ℕ))

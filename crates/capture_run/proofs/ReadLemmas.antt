@@ -1,30 +1,20 @@
--- For the reader that is left of a capture.
-use Rattle.std.proofs.Common.{◌≡◌, List, None, Option, refl, subst, ℕ}
-use Rattle.std.specs.Prelude.{length}
-use Rattle.capture_file.specs.CapturePackets.{FailsToRead, Seeks, packet_in}
+-- For the end of the packets of a capture, and the reader that is left.
+use Rattle.std.proofs.Common.{◌≡◌, ◌+◌, List, Err, None, Ok, Option, Result, Some, IfSome, length, refl, subst, ℕ}
+use Rattle.capture_file.proofs.CapturePacketsLemmas.{has_packets}
+use Rattle.capture_file.specs.CapturePackets.{EndsWith, FilePacket, HasPackets, ReadsPackets, packet_in}
 use Rattle.capture_file.specs.PcapngSteps.{ReadsPacket}
 use Rattle.capture_file.specs.declared.reader.capture_reader.CaptureReader.{CaptureReader}
-use Rattle.capture_file.specs.declared.reader.capture_reader.CaptureReader.TheVariants.{Classic, Pcapng}
 use Rattle.capture_file.specs.declared.reader.next_packet.NextPacket.{NextPacket}
+use Rattle.capture_file.specs.declared.reader.next_packet.NextPacket.TheVariants as packets
 use Rattle.capture_packet.specs.Frames.{max_packet_len}
-use Rattle.capture_request.specs.Report.{ReadsEnd}
-
--- a reader is where the next packet begins, or before the blocks that are skipped
-pub seeks_itself : (reader : CaptureReader) (left : Option (List ℕ)) → Seeks max_packet_len reader left reader
-seeks_itself (Classic reader) left = refl
-seeks_itself (Pcapng reader) left = (reader, refl, (0, left, (refl, refl)))
-
--- if reading failed within a record or block, the reader is at its start
-pub fails_seeks : (before after : CaptureReader) (left still_left : Option (List ℕ)) → FailsToRead max_packet_len before left still_left after
-    → Seeks max_packet_len before left after
-fails_seeks (Classic reader) after left still_left fails = fails.0
-fails_seeks (Pcapng reader) after left still_left fails =
-    (fails.0, fails.1, (fails.2.count, fails.2.middle, fails.2.passed))
+use Rattle.capture_request.specs.Report.{EndsAfter, EndsAtItem, HasEnded, IsAnsweredBy, IsReadToEnd, ReadsEnd}
+use Rattle.capture_request.specs.declared.capture_error.CaptureError.{CaptureError}
+use Rattle.capture_request.specs.declared.capture_error.CaptureError.TheVariants.{Enough, Header, Read, ReadHeader, RecordCutOff, Refused, TooManyPackets}
 
 -- an item that is not a packet was read
 pub reads_end : (before after : CaptureReader) (left still_left : Option (List ℕ)) (buffer : List ℕ) (read next : NextPacket)
     → length buffer ≡ max_packet_len → read ≡ next → ReadsPacket before left still_left after buffer read → packet_in buffer next ≡ None
-    → ReadsEnd before left next after
+    → ReadsEnd before left next still_left after
 reads_end before after left still_left buffer read next room is reads none = (
   record {
     still_left = still_left;
@@ -35,4 +25,46 @@ reads_end before after left still_left buffer read next room is reads none = (
     no_packet = none;
   },
   refl,
+  refl,
 )
+
+-- the report ended at the next item
+pub ended_at_item : (count number : ℕ) (before after : CaptureReader) (left still_left : Option (List ℕ)) (ended : Result (Unit {0}) CaptureError)
+    → EndsAtItem number before left still_left after ended → HasEnded count number before left still_left after ended
+ended_at_item count number before after left still_left (Ok done) ends = ends
+ended_at_item count number before after left still_left (Err (RecordCutOff its_number offset required len)) ends = ends
+ended_at_item count number before after left still_left (Err (Refused error)) ends = ends
+ended_at_item count number before after left still_left (Err (Read its_number offset error)) ends = ends
+ended_at_item count number before after left still_left (Err Enough) ends = absurd ends
+ended_at_item count number before after left still_left (Err TooManyPackets) ends = absurd ends
+ended_at_item count number before after left still_left (Err (Header error)) ends = absurd ends
+ended_at_item count number before after left still_left (Err (ReadHeader error)) ends = absurd ends
+
+-- the item at which the packets of the input end, as the result reports it
+item_of : (number : ℕ) (before after : CaptureReader) (left still_left : Option (List ℕ)) (ended : Result (Unit {0}) CaptureError)
+    → EndsAtItem number before left still_left after ended → IsReadToEnd ended
+    → (next : NextPacket) × EndsWith max_packet_len before left next × IsAnsweredBy next number ended
+item_of number before after left still_left (Ok done) ends is_end = (packets.End, ends.0, refl)
+item_of number before after left still_left (Err (RecordCutOff its_number offset required len)) ends is_end =
+    (packets.CutOff required len, ends.0.0, (refl, ends.1))
+item_of number before after left still_left (Err (Refused error)) ends is_end = (packets.Refused error, ends.0, refl)
+item_of number before after left still_left (Err Enough) ends is_end = absurd is_end
+item_of number before after left still_left (Err TooManyPackets) ends is_end = absurd is_end
+item_of number before after left still_left (Err (Read its_number offset error)) ends is_end = absurd is_end
+item_of number before after left still_left (Err (Header error)) ends is_end = absurd is_end
+item_of number before after left still_left (Err (ReadHeader error)) ends is_end = absurd is_end
+
+-- at the end of the bytes these are all packets
+ends_after : (reader : CaptureReader) (left : Option (List ℕ)) (packets : List FilePacket) (next : NextPacket) (ended : Result (Unit {0}) CaptureError)
+    → IfSome left (λ bytes. HasPackets max_packet_len reader bytes packets next) → IsAnsweredBy next (length packets + 1) ended
+    → IfSome left (EndsAfter reader packets ended)
+ends_after reader None packets next ended has answered = tt
+ends_after reader (Some bytes) packets next ended has answered = (next, has, answered)
+
+-- the packets that were read before the item at which the packets of the input end are all packets of the input
+pub all_packets : (reader before after : CaptureReader) (left middle still_left : Option (List ℕ)) (packets : List FilePacket)
+    (ended : Result (Unit {0}) CaptureError) → ReadsPackets max_packet_len reader left middle before packets
+    → EndsAtItem (length packets + 1) before middle still_left after ended → IsReadToEnd ended → IfSome left (EndsAfter reader packets ended)
+all_packets reader before after left middle still_left packets ended read ends is_end =
+    let (next, is_item, answered) = item_of (length packets + 1) before after middle still_left ended ends is_end in
+    ends_after reader left packets next ended (has_packets max_packet_len reader before left middle packets next read is_item) answered

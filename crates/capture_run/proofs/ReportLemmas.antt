@@ -1,11 +1,11 @@
--- For the loop over the packets of a capture: one more packet is counted, and at the end the whole capture is counted.
-use Rattle.std.proofs.Common.{◌≡◌, ◌+◌, ◌≤◌, ℕ, List, [], ◌∷◌, ◌++◌, Some, None, Option, Result, IfSome, ap, arith, length, refl, subst, take}
+-- For the loop over the packets of a capture: one more packet is counted.
+use Rattle.std.proofs.Common.{◌≡◌, ◌+◌, ◌≤◌, ℕ, List, [], ◌∷◌, ◌++◌, Some, Option, Result, IfSome, ap, arith, length, refl, subst, take}
 use Rattle.capture_file.proofs.CapturePacketsLaws.{packets_before_cut}
 use Rattle.capture_file.specs.CapturePackets.{ArePacketsBeforeCut, HasPackets, FilePacket}
 use Rattle.capture_file.specs.declared.reader.capture_reader.CaptureReader.{CaptureReader}
 use Rattle.capture_file.specs.declared.reader.next_packet.NextPacket.{NextPacket}
 use Rattle.capture_packet.specs.Frames.{max_packet_len}
-use Rattle.capture_request.specs.Report.{CountsCapture, CountsCaptured, CountsEach, IsAnsweredBy}
+use Rattle.capture_request.specs.Report.{CountsCaptured, CountsEach, EndsAfter}
 use Rattle.capture_summary.specs.SummaryTables.{SummaryTables}
 use Rattle.capture_summary.specs.declared.choice.Choice.{Choice}
 use Rattle.capture_request.specs.declared.capture_error.CaptureError.{CaptureError}
@@ -26,22 +26,13 @@ counts_at_most choice before [] after counted = omega (arith, ap (λ tables. tab
 counts_at_most choice before (packet ∷ packets) after counted =
     grind (arith, counted.1.counts, counts_at_most choice counted.0 packets after counted.2)
 
--- the packets of the capture were counted
-pub counts_capture : (choice : Choice) (reader : CaptureReader) (left : Option (List ℕ)) (packets : List FilePacket) (next : NextPacket)
-    (ended : Result (Unit {0}) CaptureError) (before after : SummaryTables)
-    → IfSome left (λ bytes. HasPackets max_packet_len reader bytes packets next) → IsAnsweredBy next (length packets + 1) ended
-    → CountsEach choice before packets after → IfSome left (λ bytes. CountsCapture choice reader bytes ended before after)
-counts_capture choice reader None packets next ended before after has answered counted = tt
-counts_capture choice reader (Some bytes) packets next ended before after has answered counted = (packets, next, has, counted, answered)
-
 -- in a truncated capture the packets before the cut are counted
-pub counts-cut : (choice : Choice) (reader : CaptureReader) (left : Option (List ℕ)) (ended : Result (Unit {0}) CaptureError)
-    (before after : SummaryTables)
-    → IfSome left (λ bytes. CountsCapture choice reader bytes ended before after)
+pub counts-cut : (choice : Choice) (reader : CaptureReader) (left : Option (List ℕ)) (packets : List FilePacket) (ended : Result (Unit {0}) CaptureError)
+    (before after : SummaryTables) → IfSome left (EndsAfter reader packets ended) → CountsEach choice before packets after
     → (whole : List ℕ) (all : List FilePacket) (next : NextPacket) (cut : ℕ) → left ≡ Some (take cut whole)
     → HasPackets max_packet_len reader whole all next
     → (before_cut : List FilePacket) × ArePacketsBeforeCut max_packet_len reader whole cut all before_cut
     × CountsEach choice before before_cut after
-counts-cut choice reader left ended before after counts whole all next cut is_cut has =
-    let (packets, cut_next, cut_has, counted, answered) = rw is_cut at counts in
+counts-cut choice reader left packets ended before after are_all counted whole all next cut is_cut has =
+    let (cut_next, cut_has, answered) = rw is_cut at are_all in
     (packets, packets_before_cut max_packet_len reader whole all next cut packets cut_next has cut_has, counted)

@@ -1,5 +1,5 @@
 -- The report of a run: captures, one after the other, and then the summary of all captures.
-use Rattle.std.specs.Prelude.{◌≡◌, ◌↔◌, ℕ, ◌+◌, ◌==◌, ◌&&◌, nat_lt, Bool, true, false, IsTrue, if◌then◌else◌, List, [], ◌∷◌, ◌++◌, codes, length, MatchBool, Option, Some, None, Result, IfSome}
+use Rattle.std.specs.Prelude.{◌≡◌, ◌↔◌, ℕ, ◌+◌, ◌==◌, ◌&&◌, nat_lt, Bool, true, false, IsTrue, if◌then◌else◌, List, [], ◌∷◌, ◌++◌, codes, length, MatchBool, Option, Some, None, Result}
 use Rattle.std.specs.Io.KnownBytes.{Appends}
 use Rattle.std.specs.List.{concat}
 use Rattle.capture_file.specs.declared.reader.capture_reader.CaptureReader.{CaptureReader}
@@ -10,9 +10,8 @@ use Rattle.capture_request.specs.ErrorLines.{AreEndLines, IsOneLine, IsOpenError
 use Rattle.capture_request.specs.ExitStatuses.{final_status, greater}
 use Rattle.capture_request.specs.Limits.{EndsByLimit, IsWithin, is_full}
 use Rattle.capture_request.specs.Names.{shown_name, without_mark}
-use Rattle.capture_run.specs.PacketsText.{IsCaptureText, end_text}
-use Rattle.capture_run.specs.ReadCaptures.{IsCaptureAfter}
-use Rattle.capture_run.specs.Runs.{EndsAtHeader, ReportsCapture}
+use Rattle.capture_run.specs.PacketsText.{IsCaptureReport, end_text}
+use Rattle.capture_run.specs.Runs.{EndsAtHeader}
 use Rattle.capture_run.specs.declared.capture_reports.CaptureReports.{CaptureReports}
 use Rattle.capture_request.specs.declared.exit_status.ExitStatus.{ExitStatus}
 use Rattle.capture_request.specs.declared.exit_status.ExitStatus.TheVariants.{Failed, Success}
@@ -50,16 +49,24 @@ unopened before = record {
   capture = before.capture;
 }
 
+-- the reader of the only capture whose beginning was accepted, after one more capture with this reader; `is_empty` states that there was none
+-- before
+abbrev pub only_capture : Bool → Option CaptureReader → Option CaptureReader → Option CaptureReader
+only_capture is_empty before None = before
+only_capture true before (Some reader) = Some reader
+only_capture false before (Some reader) = None
+
 -- A capture was reported. This is the text of its packets, and these are the lines of its error, after this name. These are its bytes, if
--- they are known.
+-- they are known. The reader that is left of it says what the capture is, if no other capture has an accepted beginning.
 pub record ReportsOpened (parts : Parts) (shown : Option (List ℕ)) (left : Option (List ℕ)) (before after : Progress) (text : List ℕ) (lines : List (List ℕ)) : Type 0 where
   pub ended : Result (Unit {0}) CaptureError
-  pub reports : IfSome left (λ all. ReportsCapture parts.choice all ended before.summary after.summary)
-  pub is_text : IsCaptureText parts left ended before.summary after.summary text
+  pub still_left : Option (List ℕ)
+  pub reader : Option CaptureReader
+  pub is_report : IsCaptureReport parts left still_left ended before.summary after.summary reader text
+  pub capture : after.capture ≡ only_capture before.is_empty before.capture reader
   pub are_lines : AreEndLines shown ended lines
   pub status : after.status ≡ greater before.status (status_of ended)
   pub empty : IsTrue after.is_empty ↔ (IsTrue before.is_empty × EndsAtHeader ended)
-  pub capture : IsCaptureAfter before.is_empty before.capture left ended after.capture
   pub limit : EndsByLimit parts.limit after.summary.packets ended
   pub within : IsWithin parts.limit before.summary.packets → IsWithin parts.limit after.summary.packets
 

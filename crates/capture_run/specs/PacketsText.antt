@@ -1,17 +1,17 @@
 -- The text of a report. It contains the line of each packet that has one, in the order of the packets, then an empty line, and then the
 -- summary.
-use Rattle.std.specs.Prelude.{◌≡◌, ◌⊎◌, ℕ, ◌+◌, if◌then◌else◌, List, [], ◌∷◌, ◌++◌, codes, length, Option, None, Result, IfSome}
+use Rattle.std.specs.Prelude.{◌≡◌, ℕ, ◌+◌, if◌then◌else◌, List, [], ◌∷◌, ◌++◌, codes, Option, Some, None, Result, Err}
 use Rattle.std.specs.Option.{option_or}
-use Rattle.capture_file.specs.CapturePackets.{BeginsInput, BeginsWithPackets, HasPackets, FilePacket}
+use Rattle.capture_file.specs.CapturePackets.{BeginsInput, FilePacket}
 use Rattle.capture_file.specs.declared.reader.capture_reader.CaptureReader.{CaptureReader}
-use Rattle.capture_file.specs.declared.reader.next_packet.NextPacket.{NextPacket}
 use Rattle.capture_file.specs.declared.packet_time.PacketTime.{PacketTime}
 use Rattle.capture_facts.specs.FactsText.{facts_text}
 use Rattle.capture_packet.specs.Frames.{max_packet_len}
 use Rattle.capture_json.specs.JsonSummary.{json_summary}
-use Rattle.capture_request.specs.Report.{CountsEach, IsAnsweredBy, IsPacketOf, IsReadToEnd, PlacesAfter, ReportsOne, info_of, packet_time}
+use Rattle.capture_request.specs.Limits.{EndsWithRequested}
+use Rattle.capture_request.specs.Report.{CountsEach, IsPacketOf, ReadsUntil, ReportsOne, info_of, packet_time}
 use Rattle.capture_run.specs.ReportText.{IsTextOfOne}
-use Rattle.capture_run.specs.Runs.{EndsAtHeader}
+use Rattle.capture_run.specs.Runs.{RejectsBeginning}
 use Rattle.capture_summary.specs.SummaryTables.{SummaryTables}
 use Rattle.capture_text.specs.SummaryText.{summary_text}
 use Rattle.capture_request.specs.declared.parts.Format.{Format}
@@ -20,6 +20,7 @@ use Rattle.capture_request.specs.declared.parts.Lines.{Lines}
 use Rattle.capture_request.specs.declared.parts.Lines.TheVariants as lines
 use Rattle.capture_request.specs.declared.parts.Parts.{Parts}
 use Rattle.capture_request.specs.declared.capture_error.CaptureError.{CaptureError}
+use Rattle.capture_request.specs.declared.capture_error.CaptureError.TheVariants.{Enough}
 
 -- the text of a packet of a capture: its line with this number, its time and its length, if it is chosen and has a line
 abbrev pub IsPacketText : Parts → ℕ → Option PacketTime → FilePacket → List ℕ → Type 0
@@ -43,34 +44,29 @@ pub record WritesPacket (parts : Parts) (number : ℕ) (first now_first : Option
   pub is_first : now_first ≡ option_or first (packet_time reports.packet)
   pub is_text : IsPacketText parts number first reports.packet text
 
--- the bytes after the beginning of a capture are these packets, and this result reports what follows them
-abbrev pub EndsAfter : CaptureReader → List FilePacket → Result (Unit {0}) CaptureError → List ℕ → Type 0
-EndsAfter reader packets ended bytes =
-    (next : NextPacket) × HasPackets max_packet_len reader bytes packets next × IsAnsweredBy next (length packets + 1) ended
-
--- These packets are at the start of the bytes. The chosen packets were counted, one after the other, and this is the text of the packets.
--- The first packet has number 1, whether it is chosen or not. If the bytes were read to their end, these are all packets. An error within
--- a record or block after them contains the next number, and the place where the record or block begins.
-pub record WritesPackets (reader : CaptureReader) (parts : Parts) (first : Option PacketTime) (left : Option (List ℕ)) (ended : Result (Unit {0}) CaptureError) (before after : SummaryTables) (text : List ℕ) : Type 0 where
+-- The report of the packets of a capture, after its beginning. One list contains the packets that were read, one after the other, until the
+-- report ended; the chosen packets of this list were counted, and this is its text. The first packet has number 1, whether it is chosen or
+-- not. If the report ended by the number of packets that is requested, it ended with the last of these. `reader` is the reader after the
+-- beginning of the capture, and `last` is the reader that is left.
+pub record WritesPackets (reader last : CaptureReader) (parts : Parts) (first : Option PacketTime) (left still_left : Option (List ℕ)) (ended : Result (Unit {0}) CaptureError) (before after : SummaryTables) (text : List ℕ) : Type 0 where
   pub packets : List FilePacket
-  pub are_first : IfSome left (BeginsWithPackets max_packet_len reader packets)
-  pub are_all : IsReadToEnd ended → IfSome left (EndsAfter reader packets ended)
-  pub places : (last : CaptureReader) × (still_left : Option (List ℕ)) × PlacesAfter reader left still_left packets before.packets last ended
+  pub read : ReadsUntil reader left still_left packets before.packets last ended
+  pub requested : ended ≡ Err Enough → EndsWithRequested parts.limit parts.choice before packets
   pub counted : CountsEach parts.choice before packets after
   pub is_text : IsPacketsText parts 1 first packets text
 
--- the text of a capture with an accepted beginning: the text of its packets, without an earlier first time
-pub record WritesCapture (parts : Parts) (left : Option (List ℕ)) (ended : Result (Unit {0}) CaptureError) (before after : SummaryTables) (text : List ℕ) : Type 0 where
+-- the report of a capture with an accepted beginning: the report of its packets, without an earlier first time
+pub record WritesCapture (parts : Parts) (left still_left : Option (List ℕ)) (ended : Result (Unit {0}) CaptureError) (before after : SummaryTables) (last : CaptureReader) (text : List ℕ) : Type 0 where
   pub reader : CaptureReader
-  pub still_left : Option (List ℕ)
-  pub begins : BeginsInput max_packet_len reader left still_left
-  pub goes_on : EndsAtHeader ended → ⊥
-  pub writes : WritesPackets reader parts None still_left ended before after text
+  pub after_beginning : Option (List ℕ)
+  pub begins : BeginsInput max_packet_len reader left after_beginning
+  pub writes : WritesPackets reader last parts None after_beginning still_left ended before after text
 
--- the text of a capture: empty if its beginning is not accepted, otherwise the text of its packets
-abbrev pub IsCaptureText : Parts → Option (List ℕ) → Result (Unit {0}) CaptureError → SummaryTables → SummaryTables → List ℕ → Type 0
-IsCaptureText parts left ended before after text =
-    (EndsAtHeader ended × (after ≡ before) × (text ≡ [])) ⊎ WritesCapture parts left ended before after text
+-- The report of a capture: the counts after it, the reader that is left, and the text. If the beginning of the capture is rejected, nothing
+-- is counted, no reader is left, and the text is empty.
+abbrev pub IsCaptureReport : Parts → Option (List ℕ) → Option (List ℕ) → Result (Unit {0}) CaptureError → SummaryTables → SummaryTables → Option CaptureReader → List ℕ → Type 0
+IsCaptureReport parts left still_left ended before after None text = RejectsBeginning left ended × (after ≡ before) × (text ≡ [])
+IsCaptureReport parts left still_left ended before after (Some last) text = WritesCapture parts left still_left ended before after last text
 
 -- the empty line between the lines of packets and the summary
 abbrev pub empty_line : Lines → List ℕ

@@ -1,14 +1,13 @@
-ghost use Rattle.std.specs.Prelude.{◌≡◌, ◌↔◌, ◌++◌, Err, IfOk, IfSome, IsNone, IsOk, IsTrue, None, OnOk, [], if◌then◌else◌, true};
+ghost use Rattle.std.specs.Prelude.{◌≡◌, ◌↔◌, ◌++◌, IfOk, IsNone, IsOk, IsTrue, None, OnOk, Option, [], if◌then◌else◌, true};
 ghost use Rattle.std.specs.Io.KnownBytes.{Appends};
-ghost use Rattle.capture_run.specs.Captures.{progress_of};
+ghost use Rattle.capture_file.specs.declared.reader.capture_reader.CaptureReader.{CaptureReader};
+ghost use Rattle.capture_run.specs.Captures.{only_capture, progress_of};
 ghost use Rattle.capture_request.specs.Endings.{status_of};
-ghost use Rattle.capture_run.specs.PacketsText.{IsCaptureText, empty_line, end_text, summary_in};
+ghost use Rattle.capture_run.specs.PacketsText.{IsCaptureReport, empty_line, end_text, summary_in};
 ghost use Rattle.capture_summary.specs.Ranking.{busiest_of};
 ghost use Rattle.capture_request.specs.ExitStatuses.{final_status, greater};
-ghost use Rattle.capture_request.specs.Limits.{EndsByLimit, IsWithin, is_full, StopsCapture};
-ghost use Rattle.capture_run.specs.ReadCaptures.{IsCaptureAfter, only_capture};
-ghost use Rattle.capture_run.specs.Runs.{EndsAtHeader, EndsInPlace, ReportsCapture};
-ghost use Rattle.capture_request.specs.declared.capture_error.CaptureError.TheVariants as CaptureError;
+ghost use Rattle.capture_request.specs.Limits.{EndsByLimit, IsWithin, is_full};
+ghost use Rattle.capture_run.specs.Runs.{EndsAtHeader};
 ghost use Rattle.capture_request.specs.declared.exit_status.ExitStatus.TheVariants as ExitStatus;
 ghost use Rattle.capture_summary.specs.SummaryTables.{empty_tables};
 ghost use Rattle.capture_facts.specs.FactsText.{facts_text};
@@ -79,20 +78,16 @@ impl CaptureReports {
         input: &mut R,
         output: &mut W,
     ) -> Result<(CaptureReports, Result<(), CaptureError>), WriteError>
-        ensures reports { IfOk result (λ given. IfSome (R.remaining input.old) (λ all.
-            ReportsCapture self.parts.choice all given.1 self.summary given.0.summary)) }
-        ensures places { IfOk result (λ given. EndsInPlace (R.remaining input.old) (R.remaining input.new) self.summary.packets given.1) }
+        ensures report { IfOk result (λ given. (reader : Option CaptureReader)
+            × (given.0.capture ≡ only_capture self.is_empty self.capture reader)
+            × AppendsOne (W.contents output.old) (W.contents output.new)
+            (IsCaptureReport self.parts (R.remaining input.old) (R.remaining input.new) given.1 self.summary given.0.summary reader)) }
         ensures status { IfOk result (λ given. given.0.status ≡ greater self.status (status_of given.1)) }
         ensures parts { IfOk result (λ given. given.0.parts ≡ self.parts) }
         ensures unwritten { IfOk result (λ given. given.0.unwritten ≡ self.unwritten) }
-        ensures text { IfOk result (λ given. AppendsOne (W.contents output.old) (W.contents output.new)
-            (IsCaptureText self.parts (R.remaining input.old) given.1 self.summary given.0.summary)) }
         ensures empty { IfOk result (λ given. IsTrue given.0.is_empty ↔ (IsTrue self.is_empty × EndsAtHeader given.1)) }
-        ensures capture { IfOk result (λ given. IsCaptureAfter self.is_empty self.capture (R.remaining input.old) given.1 given.0.capture) }
         ensures limit { IfOk result (λ given. EndsByLimit self.parts.limit given.0.summary.packets given.1) }
         ensures within { IsWithin self.parts.limit self.summary.packets → IfOk result (λ given. IsWithin self.parts.limit given.0.summary.packets) }
-        ensures stops { IfOk result (λ given. given.1 ≡ Err CaptureError.Enough → StopsCapture self.parts.limit self.parts.choice
-            (R.remaining input.old) (R.remaining input.new) self.summary given.0.summary) }
         ensures silent { self.parts.lines ≡ Lines.None → output.new ≡ output.old }
     {
         let CaptureReports {

@@ -19,8 +19,8 @@ refused None still_left buffer error room begins = tt
 refused (Some bytes) still_left buffer error room begins = (still_left, buffer, room, begins)
 
 -- the beginning is refused
-pub returns-in-Ok-Err-clause-fails : goal.returns-in-Ok-Err-clause-fails
-returns-in-Ok-Err-clause-fails g c =
+pub returns-in-Ok-Err-clause-rejects : goal.returns-in-Ok-Err-clause-rejects
+returns-in-Ok-Err-clause-rejects g c =
     let buffer = c.read_header.new.buffer in
     refused (g.R.Read.remaining c.args.input.now) (g.R.Read.remaining c.read_header.new.input) buffer c.in-Ok-Err.error (omega arith)
     (subst (ReadsBeginning (g.R.Read.remaining c.args.input.now) (g.R.Read.remaining c.read_header.new.input) buffer) c.in-Ok-Err.field-0-is c.in-Ok-Err.ensures)

@@ -1,50 +1,110 @@
 use Rattle.std.proofs.Common.{[], ◌∷◌, ◌++◌, ◌+◌, arith, ap, inl, is_some, length, length-append, refl, sym, ◌∙◌, inr}
 use Rattle.std.proofs.KnownBytes.{Appends-nil}
-use Rattle.capture_file.proofs.CapturePacketsLemmas.{begins_with_packets, has_packets, packets-push}
-use Rattle.capture_run.proofs.EndingLemmas.{too_many_packets}
+use Rattle.capture_file.proofs.CapturePacketsLemmas.{begins_with_packets, packets-push}
 use Rattle.capture_run.proofs.LimitLemmas.{not_by_limit, within_step}
-use Rattle.capture_run.proofs.PacketsTextLemmas.{ends_after, first-push, written-push}
-use Rattle.capture_run.proofs.ReadLemmas.{seeks_itself}
+use Rattle.capture_run.proofs.PacketsTextLemmas.{first-push, written-push}
+use Rattle.capture_run.proofs.ReadLemmas.{all_packets, ended_at_item}
 use Rattle.capture_file.proofs.ReaderLemmas.{at_error}
-use Rattle.capture_run.proofs.ReportLemmas.{counts-cut, counts-push, counts_at_most, counts_capture}
+use Rattle.capture_run.proofs.ReportLemmas.{counts-cut, counts-push, counts_at_most}
 use Rattle.capture_packet.specs.Frames.{max_packet_len}
 use Rattle.capture_run.proofs.packets.report_each.Goals as goal
 
--- at the end all packets are read, and these are counted
-pub returns-in-Some-clause-counted : goal.returns-in-Some-clause-counted
-returns-in-Some-clause-counted g c =
+-- the packets that were read before the next item ended the report are counted, and this is their text
+pub returns-in-Some-clause-report : goal.returns-in-Some-clause-report
+returns-in-Some-clause-report g c =
     let (packets, read, counted, number, most, len, parts, silent, within, time, last, wrote) = c.loop-number.invariant in
     let reader = c.args.reader.now in
     let first = g.R.Read.remaining c.args.input.now in
+    let left = g.R.Read.remaining c.loop-number.input in
+    let still_left = g.R.Read.remaining c.report_next.new.input in
     let next = rw c.in-Some.is at c.in_ok-ended.ensures.next in
-    λ is_end.
-    let ends = next.1 is_end in
-    counts_capture c.args.packets.now.parts.choice reader first packets ends.next _ c.args.packets.now.summary
-    c.report_next.new.packets.summary
-    (has_packets max_packet_len reader c.loop-number.reader first (g.R.Read.remaining c.loop-number.input) packets ends.next read ends.ends)
-    (rw number at ends.answered) (rw next.0 counted)
+    let ends = rw number at next.1 in
+    let same = rw c.in-Some.is at c.in_ok-ended.ensures.nothing in (
+      wrote.0,
+      record {
+        packets = packets;
+        read = record {
+          middle = left;
+          before = c.loop-number.reader;
+          reads = read;
+          has_ended = ended_at_item (c.args.packets.now.summary.packets + length packets) (length packets + 1) c.loop-number.reader c.report_next.new.reader left still_left _ ends;
+          are_first = begins_with_packets max_packet_len reader c.loop-number.reader first left packets read;
+          are_all = all_packets reader c.loop-number.reader c.report_next.new.reader first left still_left packets _ read ends;
+        };
+        requested = λ is. absurd (rw is at ends);
+        counted = rw next.0 counted;
+        is_text = wrote.1;
+      },
+      rw same wrote.2,
+    )
+
+-- after the last number the limit of counted packets is reached
+pub returns-clause-report : goal.returns-clause-report
+returns-clause-report g c =
+    let (packets, read, counted, number, most, len, parts, silent, within, time, last, wrote) = c.loop-number.invariant in
+    let reader = c.args.reader.now in
+    let first = g.R.Read.remaining c.args.input.now in
+    let left = g.R.Read.remaining c.loop-number.input in (
+      wrote.0,
+      record {
+        packets = packets;
+        read = record {
+          middle = left;
+          before = c.loop-number.reader;
+          reads = read;
+          has_ended = (
+            omega (arith, number, c.packets-room.ensures.packets, ap (λ tables. tables.packets) c.summary.ensures, c.loop-number-test.false),
+            refl,
+            refl,
+          );
+          are_first = begins_with_packets max_packet_len reader c.loop-number.reader first left packets read;
+          are_all = λ is_end. absurd is_end;
+        };
+        requested = λ is. absurd (cc is);
+        counted = counted;
+        is_text = wrote.1;
+      },
+      wrote.2,
+    )
+
+-- when the limit is reached, nothing after the packets read is read, counted or written
+pub returns-then-is_full-clause-report : goal.returns-then-is_full-clause-report
+returns-then-is_full-clause-report g c =
+    let (packets, read, counted, number, most, len, parts, silent, within, time, last, wrote) = c.loop-number.invariant in
+    let reader = c.args.reader.now in
+    let first = g.R.Read.remaining c.args.input.now in
+    let left = g.R.Read.remaining c.loop-number.input in (
+      wrote.0,
+      record {
+        packets = packets;
+        read = record {
+          middle = left;
+          before = c.loop-number.reader;
+          reads = read;
+          has_ended = (refl, refl);
+          are_first = begins_with_packets max_packet_len reader c.loop-number.reader first left packets read;
+          are_all = λ is_end. absurd is_end;
+        };
+        requested = λ _. last;
+        counted = counted;
+        is_text = wrote.1;
+      },
+      wrote.2,
+    )
 
 -- in a truncated capture the records before the cut are counted
 pub returns-in-Some-clause-cut : goal.returns-in-Some-clause-cut
 returns-in-Some-clause-cut g c =
-    λ is_end. counts-cut c.args.packets.now.parts.choice c.args.reader.now (g.R.Read.remaining c.args.input.now) _ c.args.packets.now.summary c.report_next.new.packets.summary
-    (returns-in-Some-clause-counted g c is_end)
-
--- a next packet that can't be read does not exceed the limit
-pub returns-in-Some-clause-too_many : goal.returns-in-Some-clause-too_many
-returns-in-Some-clause-too_many g c =
-    λ is. absurd (omega (arith, rw is at (rw c.in-Some.is at c.in_ok-ended.ensures.places) 0))
-
--- after the last number the limit of counted packets is reached
-pub returns-clause-too_many : goal.returns-clause-too_many
-returns-clause-too_many g c =
     let (packets, read, counted, number, most, len, parts, silent, within, time, last, wrote) = c.loop-number.invariant in
     let reader = c.args.reader.now in
-    let before = c.args.packets.now.summary in
-    let left = g.R.Read.remaining c.args.input.now in
-    λ is. too_many_packets before.packets reader left packets
-    (begins_with_packets max_packet_len reader c.loop-number.reader left (g.R.Read.remaining c.loop-number.input) packets read)
-    (omega (arith, number, c.packets-room.ensures.packets, ap (λ tables. tables.packets) c.summary.ensures, c.loop-number-test.false))
+    let first = g.R.Read.remaining c.args.input.now in
+    let left = g.R.Read.remaining c.loop-number.input in
+    let still_left = g.R.Read.remaining c.report_next.new.input in
+    let next = rw c.in-Some.is at c.in_ok-ended.ensures.next in
+    let ends = rw number at next.1 in
+    λ is_end.
+    counts-cut c.args.packets.now.parts.choice reader first packets _ c.args.packets.now.summary c.report_next.new.packets.summary
+    (all_packets reader c.loop-number.reader c.report_next.new.reader first left still_left packets _ read ends is_end) (rw next.0 counted)
 
 -- before the first packet nothing is read, counted or written
 pub loop-number-init : goal.loop-number-init
@@ -80,117 +140,11 @@ loop-number-preserved g c =
       written-push initial.parts now initial.first packets next.packet line _ contents new_contents wrote (omega (arith, number)) one.is_text appended,
     )
 
--- an error names the packet after the packets read
-pub returns-in-Some-clause-places : goal.returns-in-Some-clause-places
-returns-in-Some-clause-places g c =
-    let (packets, read, counted, number, most, len, parts, silent, within, time, last, wrote) = c.loop-number.invariant in (
-      packets,
-      record {
-        middle = g.R.Read.remaining c.loop-number.input;
-        before = c.loop-number.reader;
-        reads = read;
-        places = rw number at (rw c.in-Some.is at c.in_ok-ended.ensures.places) (c.args.packets.now.summary.packets + length packets);
-        left_at = rw c.in-Some.is at c.in_ok-ended.ensures.left_at;
-      },
-    )
-
-pub returns-clause-places : goal.returns-clause-places
-returns-clause-places g c =
-    let (packets, read, counted, number, most, len, parts, silent, within, time, last, wrote) = c.loop-number.invariant in (
-      packets,
-      record {
-        middle = g.R.Read.remaining c.loop-number.input;
-        before = c.loop-number.reader;
-        reads = read;
-        places = omega (arith, number, c.packets-room.ensures.packets, ap (λ tables. tables.packets) c.summary.ensures, c.loop-number-test.false);
-        left_at = tt;
-      },
-    )
-
-pub returns-then-is_full-clause-places : goal.returns-then-is_full-clause-places
-returns-then-is_full-clause-places g c =
-    let (packets, read, counted, number, most, len, parts, silent, within, time, last, wrote) = c.loop-number.invariant in (
-      packets,
-      record {
-        middle = g.R.Read.remaining c.loop-number.input;
-        before = c.loop-number.reader;
-        reads = read;
-        places = tt;
-        left_at = tt;
-      },
-    )
-
--- the written text is the text of the counted packets
-pub returns-in-Some-clause-text : goal.returns-in-Some-clause-text
-unfolding returns-in-Some-clause-places
-returns-in-Some-clause-text g c =
-    let (packets, read, counted, number, most, len, parts, silent, within, time, last, wrote) = c.loop-number.invariant in
-    let reader = c.args.reader.now in
-    let first = g.R.Read.remaining c.args.input.now in
-    let left = g.R.Read.remaining c.loop-number.input in
-    let next = rw c.in-Some.is at c.in_ok-ended.ensures.next in
-    let same = rw c.in-Some.is at c.in_ok-ended.ensures.nothing in (
-      wrote.0,
-      record {
-        packets = packets;
-        are_first = begins_with_packets max_packet_len reader c.loop-number.reader first left packets read;
-        are_all = λ is_end.
-            let ends = next.1 is_end in
-            ends_after reader first packets ends.next _
-            (has_packets max_packet_len reader c.loop-number.reader first left packets ends.next read ends.ends)
-            (rw number at ends.answered);
-        places = (_, _, (returns-in-Some-clause-places g c).1);
-        counted = rw next.0 counted;
-        is_text = wrote.1;
-      },
-      rw same wrote.2,
-    )
-
-pub returns-clause-text : goal.returns-clause-text
-unfolding returns-clause-places
-returns-clause-text g c =
-    let (packets, read, counted, number, most, len, parts, silent, within, time, last, wrote) = c.loop-number.invariant in
-    let reader = c.args.reader.now in (
-      wrote.0,
-      record {
-        packets = packets;
-        are_first = begins_with_packets max_packet_len reader c.loop-number.reader (g.R.Read.remaining c.args.input.now) (g.R.Read.remaining c.loop-number.input) packets read;
-        are_all = λ is_end. absurd is_end;
-        places = (_, _, (returns-clause-places g c).1);
-        counted = counted;
-        is_text = wrote.1;
-      },
-      wrote.2,
-    )
-
--- when the limit is reached, nothing after the packets read is counted or written
-pub returns-then-is_full-clause-text : goal.returns-then-is_full-clause-text
-unfolding returns-then-is_full-clause-places
-returns-then-is_full-clause-text g c =
-    let (packets, read, counted, number, most, len, parts, silent, within, time, last, wrote) = c.loop-number.invariant in
-    let reader = c.args.reader.now in (
-      wrote.0,
-      record {
-        packets = packets;
-        are_first = begins_with_packets max_packet_len reader c.loop-number.reader (g.R.Read.remaining c.args.input.now) (g.R.Read.remaining c.loop-number.input) packets read;
-        are_all = λ is_end. absurd is_end;
-        places = (_, _, (returns-then-is_full-clause-places g c).1);
-        counted = counted;
-        is_text = wrote.1;
-      },
-      wrote.2,
-    )
-
+-- the limit is reached
 pub returns-then-is_full-clause-limit : goal.returns-then-is_full-clause-limit
 returns-then-is_full-clause-limit g c =
     let (packets, read, counted, number, most, len, parts, silent, within, time, last, wrote) = c.loop-number.invariant in
     rw parts at (sym c.is_full.ensures ∙ c.if-is_full.true)
-
--- nothing was read after the packets
-pub returns-then-is_full-clause-stops : goal.returns-then-is_full-clause-stops
-returns-then-is_full-clause-stops g c =
-    let (packets, read, counted, number, most, len, parts, silent, within, time, last, wrote) = c.loop-number.invariant in
-    λ enough. record { packets = packets; still_reader = c.loop-number.reader; reads = read; counted = counted; last = last }
 
 -- a next packet that can't be read does not reach the limit
 pub returns-in-Some-clause-limit : goal.returns-in-Some-clause-limit
@@ -216,37 +170,3 @@ returns-in_err-ended-clause-after_packets g c =
       packets-push max_packet_len c.args.reader.now c.loop-number.reader c.report_next.new.reader _ (g.R.Read.remaining c.loop-number.input)
           (g.R.Read.remaining c.report_next.new.input) packets packet read one,
     )
-
--- the reader that is left after the packets read
-pub returns-in-Some-clause-leaves : goal.returns-in-Some-clause-leaves
-returns-in-Some-clause-leaves g c =
-    let (packets, read, counted, number, most, len, parts, silent, within, time, last, wrote) = c.loop-number.invariant in
-    record {
-      packets = packets;
-      reader = c.loop-number.reader;
-      still_left = g.R.Read.remaining c.loop-number.input;
-      reads = read;
-      is_left = rw c.in-Some.is at c.in_ok-ended.ensures.leaves;
-    }
-
-pub returns-clause-leaves : goal.returns-clause-leaves
-returns-clause-leaves g c =
-    let (packets, read, counted, number, most, len, parts, silent, within, time, last, wrote) = c.loop-number.invariant in
-    record {
-      packets = packets;
-      reader = c.loop-number.reader;
-      still_left = g.R.Read.remaining c.loop-number.input;
-      reads = read;
-      is_left = inl (seeks_itself c.loop-number.reader (g.R.Read.remaining c.loop-number.input));
-    }
-
-pub returns-then-is_full-clause-leaves : goal.returns-then-is_full-clause-leaves
-returns-then-is_full-clause-leaves g c =
-    let (packets, read, counted, number, most, len, parts, silent, within, time, last, wrote) = c.loop-number.invariant in
-    record {
-      packets = packets;
-      reader = c.loop-number.reader;
-      still_left = g.R.Read.remaining c.loop-number.input;
-      reads = read;
-      is_left = inl (seeks_itself c.loop-number.reader (g.R.Read.remaining c.loop-number.input));
-    }

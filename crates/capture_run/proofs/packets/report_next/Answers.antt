@@ -1,12 +1,12 @@
-use Rattle.std.proofs.Common.{arith, inl, inr, refl, rules, subst}
+use Rattle.std.proofs.Common.{arith, refl, rules, subst}
 use Rattle.std.specs.Prelude.{◌≡◌, ◌+◌, ℕ, List, Option, Some, length, slice_range}
 use Rattle.capture_file.specs.CapturePackets.{FilePacket, ReadsOne, kept, packet_in, too_long}
 use Rattle.capture_file.specs.PcapngSteps.{ReadsPacket}
 use Rattle.capture_file.specs.declared.reader.capture_reader.CaptureReader.{CaptureReader}
 use Rattle.capture_file.specs.declared.reader.captured_packet.CapturedPacket.{CapturedPacket}
 use Rattle.capture_file.specs.declared.reader.next_packet.NextPacket.{NextPacket}
-use Rattle.capture_file.specs.declared.reader.next_packet.NextPacket.TheVariants.{CutOff, Refused, TooLong, Whole}
-use Rattle.capture_run.proofs.ReadLemmas.{fails_seeks, reads_end}
+use Rattle.capture_file.specs.declared.reader.next_packet.NextPacket.TheVariants.{CutOff, End, Refused, TooLong, Whole}
+use Rattle.capture_run.proofs.ReadLemmas.{reads_end}
 use Rattle.capture_file.proofs.ReaderLemmas.{at_error}
 use Rattle.capture_packet.specs.Frames.{max_packet_len}
 use Rattle.capture_run.proofs.packets.report_next.Goals as goal
@@ -86,22 +86,31 @@ returns-in_err-add_too_long-in-Ok-TooLong-clause-after_packet g c =
       reads_one _ _ _ _ c.next_packet.new.buffer _ (TooLong packet) _ (omega arith) c.in-Ok-TooLong.field-0-is c.in-Ok-TooLong.ensures.reads refl,
     )
 
--- ---- a record or block that is cut off, or a block that can't be read
+-- ---- no packet: the end, a record or block that is cut off, a block that can't be read, or a failed read
 
-pub returns-in-Ok-CutOff-clause-left_at : goal.returns-in-Ok-CutOff-clause-left_at
-returns-in-Ok-CutOff-clause-left_at g c =
+pub returns-in-Ok-End-clause-next : goal.returns-in-Ok-End-clause-next
+returns-in-Ok-End-clause-next g c = (
+  refl,
+  reads_end _ _ _ _ c.next_packet.new.buffer _ End (omega arith) c.in-Ok-End.field-0-is c.in-Ok-End.ensures.reads refl,
+)
+
+pub returns-in-Ok-CutOff-clause-next : goal.returns-in-Ok-CutOff-clause-next
+returns-in-Ok-CutOff-clause-next g c = (
+  refl,
+  (
     reads_end _ _ _ _ c.next_packet.new.buffer _ (CutOff c.in-Ok-CutOff.required_len c.in-Ok-CutOff.len) (omega arith)
-    c.in-Ok-CutOff.field-0-is c.in-Ok-CutOff.ensures.reads refl
+        c.in-Ok-CutOff.field-0-is c.in-Ok-CutOff.ensures.reads refl,
+    refl,
+    c.offset.ensures,
+  ),
+)
 
-pub returns-in-Err-clause-leaves : goal.returns-in-Err-clause-leaves
-returns-in-Err-clause-leaves g c =
-    inl (fails_seeks c.args.reader.now c.next_packet.new.self (g.R.Read.remaining c.args.input.now)
-    (g.R.Read.remaining c.next_packet.new.input) (search rules))
+pub returns-in-Ok-Refused-clause-next : goal.returns-in-Ok-Refused-clause-next
+returns-in-Ok-Refused-clause-next g c = (
+  refl,
+  reads_end _ _ _ _ c.next_packet.new.buffer _ (Refused c.in-Ok-Refused.error) (omega arith) c.in-Ok-Refused.field-0-is
+      c.in-Ok-Refused.ensures.reads refl,
+)
 
-pub returns-in-Ok-Refused-clause-leaves : goal.returns-in-Ok-Refused-clause-leaves
-returns-in-Ok-Refused-clause-leaves g c =
-    inr (
-      Refused c.in-Ok-Refused.error,
-      reads_end _ _ _ _ c.next_packet.new.buffer _ (Refused c.in-Ok-Refused.error) (omega arith) c.in-Ok-Refused.field-0-is
-          c.in-Ok-Refused.ensures.reads refl,
-    )
+pub returns-in-Err-clause-next : goal.returns-in-Err-clause-next
+returns-in-Err-clause-next g c = (refl, (search rules, refl, c.offset-in-Err.ensures))

@@ -20,7 +20,7 @@ returns-in-Err-clause-report g c =
 pub returns-clause-report : goal.returns-clause-report
 returns-clause-report g c =
     let added = c.in_ok-reports in
-    let (text, is_text, wrote) = added.ensures.text in
+    let (reader, capture, (text, is_report, wrote)) = added.ensures.report in
     let (lines, are_lines, tells) = c.write_end-written.ensures in
     record {
       text = text;
@@ -30,12 +30,13 @@ returns-clause-report g c =
         (c.in-Ok.input, c.in-Ok.ensures.opened, refl),
         rw c.after_line-2.ensures.progress (record {
           ended = added.ended;
-          reports = added.ensures.reports;
-          is_text = is_text;
+          still_left = g.O.Input.Read.remaining c.add.new.input;
+          reader = reader;
+          is_report = is_report;
+          capture = capture;
           are_lines = are_lines;
           status = added.ensures.status;
           empty = added.ensures.empty;
-          capture = added.ensures.capture;
           limit = added.ensures.limit;
           within = added.ensures.within;
         }),
