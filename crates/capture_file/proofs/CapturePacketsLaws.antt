@@ -24,7 +24,7 @@ use Rattle.capture_file.specs.declared.reader.pcapng_reader.PcapngReader.{Pcapng
 -- ---- up to the next block with an item
 
 -- this number of blocks without an item were read, and then a block with this item
-abbrev ReadsUpTo : ℕ → ℕ → PcapngReader → List ℕ → Option (List ℕ) → PcapngReader → List ℕ → NextPacket → Type 0
+abbrev pub ReadsUpTo : ℕ → ℕ → PcapngReader → List ℕ → Option (List ℕ) → PcapngReader → List ℕ → NextPacket → Type 0
 ReadsUpTo room zero before all still_left after buffer next = ReadsStep before (Some all) still_left after buffer (Some next)
 ReadsUpTo room (suc count) before all still_left after buffer next =
     (reader : PcapngReader) × (rest : List ℕ) × (passed : List ℕ) × (length passed ≡ room)
@@ -52,7 +52,7 @@ in_order room (suc count) further before reader after all middle still_left buff
     (reader, middle, passed, has_room, grind (arith, is), reads)
 
 -- the blocks up to the next packet, from the first one on
-up_to : (before after : PcapngReader) (all : List ℕ) (still_left : Option (List ℕ)) (buffer : List ℕ) (next : NextPacket)
+pub up_to : (before after : PcapngReader) (all : List ℕ) (still_left : Option (List ℕ)) (buffer : List ℕ) (next : NextPacket)
     → ReadsBlockPacket before (Some all) still_left after buffer next
     → (count : ℕ) × ReadsUpTo (length buffer) count before all still_left after buffer next
 up_to before after all still_left buffer next reads =
@@ -73,7 +73,7 @@ left_up_to room (suc count) before after all left buffer next reads =
     grind (arith, left_up_to room count reader after rest left buffer next others, left_of all (Some rest) step.reads.bytes step.reads.consumed)
 
 -- a next item is something
-says_something : (packet : Option FilePacket) (next : NextPacket) → said_by packet next ≡ nothing → ⊥
+pub says_something : (packet : Option FilePacket) (next : NextPacket) → said_by packet next ≡ nothing → ⊥
 says_something None next is = cc is
 says_something (Some packet) next is = cc is
 
@@ -116,22 +116,22 @@ module _ (room : ℕ) (more : List ℕ) (left first_left : Option (List ℕ)) (a
 -- ---- packet by packet
 
 -- the item that was read, up to the next block with an item
-record ReadsSaid (room : ℕ) (before : PcapngReader) (left still_left : Option (List ℕ)) (after : PcapngReader) (said : Said) : Type 0 where
-  buffer : List ℕ
-  has_room : length buffer ≡ room
-  next : NextPacket
-  reads : ReadsBlockPacket before left still_left after buffer next
-  says : said_of buffer (Some next) ≡ said
+pub record ReadsSaid (room : ℕ) (before : PcapngReader) (left still_left : Option (List ℕ)) (after : PcapngReader) (said : Said) : Type 0 where
+  pub buffer : List ℕ
+  pub has_room : length buffer ≡ room
+  pub next : NextPacket
+  pub reads : ReadsBlockPacket before left still_left after buffer next
+  pub says : said_of buffer (Some next) ≡ said
 
 -- a packet was read
-said_one : (room : ℕ) (before : PcapngReader) (left still_left : Option (List ℕ)) (after : CaptureReader) (packet : FilePacket)
+pub said_one : (room : ℕ) (before : PcapngReader) (left still_left : Option (List ℕ)) (after : CaptureReader) (packet : FilePacket)
     → ReadsOne room (Pcapng before) left still_left after packet
     → (reader : PcapngReader) × (after ≡ Pcapng reader) × ReadsSaid room before left still_left reader (given packet)
 said_one room before left still_left after packet one =
     (one.reads.0, one.reads.1, record { buffer = one.buffer; has_room = one.has_room; next = one.next; reads = one.reads.2; says = grind arith })
 
 -- the items in the whole file and in its beginning
-compared_said : (room : ℕ) (before : PcapngReader) (first more : List ℕ) (left first_left : Option (List ℕ))
+pub compared_said : (room : ℕ) (before : PcapngReader) (first more : List ℕ) (left first_left : Option (List ℕ))
     (after first_after : PcapngReader) (said first_said : Said) → ReadsSaid room before (Some (first ++ more)) left after said
     → ReadsSaid room before (Some first) first_left first_after first_said → Compared more after first_after left first_left said first_said
 compared_said room before first more left first_left after first_after said first_said reads first_reads =

@@ -12,6 +12,7 @@ pub mod PcapngLemmas
 pub mod PcapngReadingLemmas
 pub mod PieceLaws
 pub mod PlacesLaws
+pub mod ReaderLaws
 pub mod ReaderLemmas
 pub mod ReadingLaws
 pub mod ReadingLemmas

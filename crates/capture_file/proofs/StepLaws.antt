@@ -353,3 +353,45 @@ module _ (before : PcapngReader) (first more : List ℕ) (left first_left : Opti
   compared_steps room step first_step =
       compared_blocks step.block first_step.block room step.reads first_step.reads step.is_step first_step.is_step step.texts
       first_step.texts
+
+  -- a block that is read from bytes that end or are rejected here
+  no_block : (block : List ℕ) → IsBlock before.section.byte_order block → more ≡ [] → Consumes (Some (first ++ more)) left block
+      → (block_refusal before.section.byte_order first ≡ None → ⊥) → ⊥
+  no_block block is no_more consumed refused =
+      let none = read_accepted before.section.byte_order (first ++ more) left block is consumed in
+      refused (ap (block_refusal before.section.byte_order) (sym (append-nil first) ∙ ap (λ l. first ++ l) (sym no_more)) ∙ none)
+
+  -- no block can be read from no bytes
+  none_refused : first ≡ [] → block_refusal before.section.byte_order first ≡ None → ⊥
+  none_refused none is_none = cc (ap (block_refusal before.section.byte_order) none, is_none)
+
+  -- the same bytes leave the same reader
+  one_after : (block first_block : NextBlock) → more ≡ [] → length buffer ≡ length first_buffer → ReadsWhole block → ReadsFirst first_block
+      → IsStep before buffer block after next → IsStep before first_buffer first_block first_after first_next → Texts block
+      → FirstTexts first_block → after ≡ first_after
+  one_after block (Whole header) no_more room reads first_reads step first_step texts first_texts =
+      (same_step block header room reads first_reads step first_step texts first_texts).readers
+  one_after block (TooLong header) no_more room reads first_reads step first_step texts first_texts =
+      (same_step_too_long block header room reads first_reads step first_step texts first_texts).readers
+  one_after (Whole header) End no_more room reads first_reads step first_step texts first_texts =
+      absurd (no_block reads.bytes reads.is_next.0 no_more reads.consumed
+      (none_refused (no_byte before.section.byte_order first first_left first_buffer first_reads)))
+  one_after (TooLong header) End no_more room reads first_reads step first_step texts first_texts =
+      absurd (no_block reads.bytes reads.is_next.0 no_more reads.consumed
+      (none_refused (no_byte before.section.byte_order first first_left first_buffer first_reads)))
+  one_after End End no_more room reads first_reads step first_step texts first_texts = step.0 ∙ sym first_step.0
+  one_after (Refused error) End no_more room reads first_reads step first_step texts first_texts = step.0 ∙ sym first_step.0
+  one_after (Whole header) (Refused error) no_more room reads first_reads step first_step texts first_texts =
+      absurd (no_block reads.bytes reads.is_next.0 no_more reads.consumed
+      (λ is_none. cc (refusal_of_all before.section.byte_order first first_left first_buffer error first_reads, is_none)))
+  one_after (TooLong header) (Refused error) no_more room reads first_reads step first_step texts first_texts =
+      absurd (no_block reads.bytes reads.is_next.0 no_more reads.consumed
+      (λ is_none. cc (refusal_of_all before.section.byte_order first first_left first_buffer error first_reads, is_none)))
+  one_after End (Refused error) no_more room reads first_reads step first_step texts first_texts = step.0 ∙ sym first_step.0
+  one_after (Refused other) (Refused error) no_more room reads first_reads step first_step texts first_texts = step.0 ∙ sym first_step.0
+
+  -- one step in the same bytes
+  pub one_step : more ≡ [] → length buffer ≡ length first_buffer → ReadsStep before (Some (first ++ more)) left after buffer next
+      → ReadsStep before (Some first) first_left first_after first_buffer first_next → after ≡ first_after
+  one_step no_more room step first_step =
+      one_after step.block first_step.block no_more room step.reads first_step.reads step.is_step first_step.is_step step.texts first_step.texts

@@ -14,5 +14,6 @@ pub mod PcapngPackets
 pub mod PcapngReading
 pub mod PcapngSteps
 pub mod Places
+pub mod Readers
 pub mod Reading
 pub mod Sections

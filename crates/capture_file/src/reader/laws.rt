@@ -4,6 +4,7 @@ ghost use Rattle.capture_file.specs.CapturePackets.{AreFirstPackets, ArePacketsB
 ghost use Rattle.capture_file.specs.Laws.{AreUnique, Exist, RemainAtCut};
 ghost use Rattle.capture_file.specs.PacketsOfBlocks.{FilesHavePacketsOfBlocks, ReadPacketsOfBlocks};
 ghost use Rattle.capture_file.specs.Places.{OffsetsArePlaces};
+ghost use Rattle.capture_file.specs.Readers.{LeavesOneReader};
 ghost use Rattle.capture_file.specs.declared.reader.capture_reader.CaptureReader.{CaptureReader};
 
 /// Any bytes after the beginning of a capture are packets and an end, in only one way. Packets that they begin with are the first of these.
@@ -27,4 +28,10 @@ pub fn packets_of_blocks()
 /// In a file of fewer than 2^64 bytes, the offset of a reader is the number of bytes before the next record or block.
 pub fn places()
     ensures { (room : ℕ) (file : List ℕ) → length file < 2 ^ 64 → OffsetsArePlaces room file }
+{}
+
+/// The reader after some packets of a capture is determined by its bytes, and so is the reader after the item that ends the packets. This
+/// reader contains the interfaces, the texts and the number of packets with a comment that were read up to there.
+pub fn one_reader()
+    ensures { (room : ℕ) (reader : CaptureReader) (bytes : List ℕ) → LeavesOneReader room reader bytes }
 {}
