@@ -156,7 +156,7 @@ neither not_first not_second (inl first) = not_first first
 neither not_first not_second (inr second) = not_second second
 
 is_false : {A : Type 0} → (A → ⊥) → IsTrue false ↔ A
-is_false no = (λ is. absurd (cc is), λ is. absurd (no is))
+is_false absent = (λ is. absurd (cc is), λ is. absurd (absent is))
 
 is_tcp : AreChosen (codes "TCP" ∷ []) tcp_alone
 is_tcp = record {
