@@ -2,4 +2,5 @@ mod LimitLemmas
 mod PacketsTextLemmas
 mod ReadLemmas
 mod ReportLemmas
+mod RunExamples
 mod RunLemmas
