@@ -174,7 +174,7 @@ fn made_header(fields: &EtherparseTcpHeader, options: &[u8]) -> Result<TcpHeader
 ///
 /// The status is `OK`, or the first of these that applies:
 /// - `OPTIONS_TOO_LONG` if there are more than 40 option bytes.
-/// - `FLAGS_UNKNOWN` if `flags` is above 0x1FF.
+/// - `FLAGS_UNKNOWN` if `header.flags` is above 0x1FF.
 /// - `BUFFER_TOO_SMALL` if the buffer is shorter than the header.
 #[unsafe(no_mangle)]
 pub extern "C" fn etherparse_tcp_header_write(
@@ -219,7 +219,7 @@ fn changed_header(fields: &EtherparseTcpHeader, bytes: &[u8]) -> Result<TcpHeade
 ///
 /// The status is `OK`, or the first of these that applies:
 /// - `LENGTH` or `DATA_OFFSET` as `etherparse_tcp_packet_read` returns it.
-/// - `FLAGS_UNKNOWN` if `flags` is above 0x1FF.
+/// - `FLAGS_UNKNOWN` if `header.flags` is above 0x1FF.
 #[unsafe(no_mangle)]
 pub extern "C" fn etherparse_tcp_header_store(
     fields: &EtherparseTcpHeader,
