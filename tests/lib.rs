@@ -2,17 +2,43 @@
 #![tactic(auto)]
 
 #[cfg(test)]
-mod capture;
+mod capture_arguments;
+#[cfg(test)]
+mod capture_facts;
+#[cfg(test)]
+mod capture_file;
+#[cfg(test)]
+mod capture_json;
+#[cfg(test)]
+mod capture_link;
+#[cfg(test)]
+mod capture_packet;
+#[cfg(test)]
+mod capture_protocols;
+#[cfg(test)]
+mod capture_run;
+#[cfg(test)]
+mod capture_selection;
+#[cfg(test)]
+mod capture_summary;
+#[cfg(test)]
+mod capture_text;
+#[cfg(test)]
+mod capture_words;
+#[cfg(test)]
+mod etherparse_transport;
 mod expect;
 #[cfg(test)]
-mod icmp;
+mod icmp_part;
 #[cfg(test)]
-mod ip_udp;
+mod ip_part;
 #[cfg(test)]
-mod report;
+mod net_base;
 #[cfg(test)]
-mod summary;
+mod tcp_part;
 #[cfg(test)]
-mod tcp;
+mod transport_part;
 #[cfg(test)]
-mod transport;
+mod udp_part;
+#[cfg(test)]
+mod word_sum;

@@ -1,4 +1,4 @@
-use super::OVER_IPV6;
+use crate::capture_text::OVER_IPV6;
 use crate::expect::expect_at;
 use capture_packet::NetworkProtocol;
 use capture_summary::{ip_protocol_name, network_protocol_name};

@@ -1,6 +1,6 @@
 use crate::expect::{expect_all_written, expect_ok, expect_some, expect_written, joined};
-use crate::summary::summary::{judge, new_summary, refuse};
-use crate::summary::text::flow_of_ipv4;
+use crate::capture_summary::summary::{judge, new_summary, refuse};
+use crate::capture_text::flow_of_ipv4;
 use capture_file::pcapng::TimeResolution;
 use capture_file::{LinkType, PacketTime};
 use capture_json::{write_packet, write_summary};

@@ -1,4 +1,4 @@
-use crate::capture::packet::{CUT_OFF, IPV4_UDP, OTHER_PROTOCOL, RIGHT, UDP_OVER_IPV4, udp_packet};
+use crate::capture_packet::packet::{CUT_OFF, IPV4_UDP, OTHER_PROTOCOL, RIGHT, UDP_OVER_IPV4, udp_packet};
 use crate::expect::{expect_at, expect_equal, joined};
 use capture_file::{ByteOrder, LinkType};
 use capture_link::LinkHeaderCutOff;

@@ -1,4 +1,4 @@
-use crate::capture::packet::{
+use crate::capture_packet::packet::{
     IPV4_UDP, IPV6_DESTINATION, IPV6_SOURCE, OTHER_PROTOCOL, RIGHT, UDP_OVER_IPV4, UDP_OVER_IPV6,
     over_ipv4, over_ipv6, read_raw,
 };

@@ -1,6 +1,5 @@
 mod jumbograms;
 mod sweeps;
-mod transport;
 
 use crate::expect::{
     bytes_between, bytes_from, bytes_to, expect_at, expect_bytes, expect_clone, expect_debug_text,

@@ -1,5 +1,5 @@
 use crate::expect::{bytes_from, bytes_to, expect_bytes, expect_clone, expect_equal, expect_ok};
-use crate::tcp::tcp_header::flag_at;
+use crate::tcp_part::tcp_header::flag_at;
 use etherparse_transport::err::tcp::HeaderSliceError;
 use etherparse_transport::err::{Layer, LenError, LenSource};
 use etherparse_transport::{TcpHeader, TcpOptionElement, TcpOptionsIterator, TcpSlice};

@@ -1,5 +1,4 @@
 mod named;
-mod selection;
 
 use crate::expect::{
     append, expect_all_written, expect_at, expect_equal, expect_ok, expect_some, expect_written,
@@ -15,7 +14,7 @@ use std::process::Abort;
 use std::random::RandomSource;
 
 /// The whole report.
-const ALL: Parts = Parts {
+pub(crate) const ALL: Parts = Parts {
     choice: Choice::ALL,
     lines: Lines::All,
     times: Times::SinceFirst,
@@ -34,7 +33,7 @@ const ONLY_LINES: Parts = Parts {
 };
 
 /// A UDP packet over IPv4, from 192.0.2.1, port 7, to 192.0.2.2, port 9, with a payload of 1 byte. Its checksum is right.
-const UDP: [u8; 29] = [
+pub(crate) const UDP: [u8; 29] = [
     0x45, 0, 0, 29, 0, 1, 0x40, 0, 64, 17, 0, 0, 192, 0, 2, 1, 192, 0, 2, 2, // IPv4
     0, 7, 0, 9, 0, 9, 0x19, 0xC8, 0x62, // UDP
 ];
@@ -108,7 +107,7 @@ fn changed_capture(alloc: Global, place: usize, byte: u8) -> Result<Vec<u8>, All
 }
 
 /// A capture of the UDP packet, and of another one to this port.
-fn two_packets(rt: &(impl Abort + AllocGlobal), port: u8) -> Vec<u8> {
+pub(crate) fn two_packets(rt: &(impl Abort + AllocGlobal), port: u8) -> Vec<u8> {
     let first = expect_ok(rt, raw_capture(rt.alloc()));
     let second = expect_ok(rt, changed_capture(rt.alloc(), 63, port));
     let packet = expect_some(rt, second.as_slice().get(24..));
@@ -204,7 +203,7 @@ fn expect_run(
 }
 
 /// The first bytes of a capture, or all of it if it has fewer.
-fn first_bytes(bytes: &[u8], len: usize) -> &[u8] {
+pub(crate) fn first_bytes(bytes: &[u8], len: usize) -> &[u8] {
     &bytes[..len.min(bytes.len())]
 }
 
@@ -287,32 +286,32 @@ fn faults_of_a_capture_are_named(rt: HostRuntime) {
 }
 
 /// The section header block of a pcapng file, little-endian.
-const SECTION: &[u8] =
+pub(crate) const SECTION: &[u8] =
     b"\x0A\x0D\x0D\x0A\x1C\0\0\0\x4D\x3C\x2B\x1A\x01\0\0\0\xFF\xFF\xFF\xFF\xFF\xFF\xFF\xFF\x1C\0\0\0";
 
 /// The description of an interface of raw IP.
-const RAW_IP: &[u8] = b"\x01\0\0\0\x14\0\0\0\x65\0\0\0\0\0\0\0\x14\0\0\0";
+pub(crate) const RAW_IP: &[u8] = b"\x01\0\0\0\x14\0\0\0\x65\0\0\0\0\0\0\0\x14\0\0\0";
 
 /// The description of an interface whose link type, 147, is not read, with nanoseconds.
-const OTHER_LINK: &[u8] = b"\x01\0\0\0\x1C\0\0\0\x93\0\0\0\0\0\0\0\x09\0\x01\0\x09\0\0\0\x1C\0\0\0";
+pub(crate) const OTHER_LINK: &[u8] = b"\x01\0\0\0\x1C\0\0\0\x93\0\0\0\0\0\0\0\x09\0\x01\0\x09\0\0\0\x1C\0\0\0";
 
 /// A block of another type, which is passed over.
-const OTHER_BLOCK: &[u8] = b"\x05\0\0\0\x0C\0\0\0\x0C\0\0\0";
+pub(crate) const OTHER_BLOCK: &[u8] = b"\x05\0\0\0\x0C\0\0\0\x0C\0\0\0";
 
 /// What comes before the UDP packet in an enhanced packet block of the first interface, 5 units after the beginning of 1970.
-const ENHANCED: &[u8] = b"\x06\0\0\0\x40\0\0\0\0\0\0\0\0\0\0\0\x05\0\0\0\x1D\0\0\0\x1D\0\0\0";
+pub(crate) const ENHANCED: &[u8] = b"\x06\0\0\0\x40\0\0\0\0\0\0\0\0\0\0\0\x05\0\0\0\x1D\0\0\0\x1D\0\0\0";
 
 /// The same of the second interface, a unit later.
-const ENHANCED_OF_SECOND: &[u8] =
+pub(crate) const ENHANCED_OF_SECOND: &[u8] =
     b"\x06\0\0\0\x40\0\0\0\x01\0\0\0\0\0\0\0\x06\0\0\0\x1D\0\0\0\x1D\0\0\0";
 
 /// What comes after it: the padding, and the length again.
-const ENHANCED_END: &[u8] = b"\0\0\0\x40\0\0\0";
+pub(crate) const ENHANCED_END: &[u8] = b"\0\0\0\x40\0\0\0";
 
 /// The same in a simple packet block.
-const SIMPLE: &[u8] = b"\x03\0\0\0\x30\0\0\0\x1D\0\0\0";
+pub(crate) const SIMPLE: &[u8] = b"\x03\0\0\0\x30\0\0\0\x1D\0\0\0";
 
-const SIMPLE_END: &[u8] = b"\0\0\0\x30\0\0\0";
+pub(crate) const SIMPLE_END: &[u8] = b"\0\0\0\x30\0\0\0";
 
 /// The parts of a file, and the status, the output and the errors of its report.
 type FileRow = (&'static [&'static [u8]], u8, &'static str, &'static str);
@@ -442,9 +441,9 @@ fn the_status_says_what_is_wrong(rt: HostRuntime) {
 
 /// Gives a byte a read, and fails once, at the read after `reads`.
 #[derive(Drop)]
-struct FaultyReader<'a> {
-    rest: &'a [u8],
-    reads: usize,
+pub(crate) struct FaultyReader<'a> {
+    pub(crate) rest: &'a [u8],
+    pub(crate) reads: usize,
 }
 
 impl<'a> Read for FaultyReader<'a> {
@@ -519,10 +518,10 @@ fn read_faults_leave_the_report_before_them(rt: HostRuntime) {
 
 /// Takes a byte a write, and fails, or takes nothing, once, at the call after `calls`, a flush being a call.
 #[derive(Drop)]
-struct FaultyWriter {
-    written: Vec<u8>,
-    calls: usize,
-    takes_nothing: bool,
+pub(crate) struct FaultyWriter {
+    pub(crate) written: Vec<u8>,
+    pub(crate) calls: usize,
+    pub(crate) takes_nothing: bool,
 }
 
 impl FaultyWriter {
@@ -710,7 +709,7 @@ fn packets_that_are_not_chosen_do_not_count(rt: HostRuntime) {
 static LONG_HEADERS: [u32; 10] = [0xA1B2_C3D4, 0x2_0004, 0, 0, 0, 101, 5, 7, 528_384, 528_384];
 
 /// A capture of this packet.
-fn long_capture(rt: &(impl Abort + AllocGlobal)) -> Vec<u8> {
+pub(crate) fn long_capture(rt: &(impl Abort + AllocGlobal)) -> Vec<u8> {
     let mut bytes = Vec::new(rt.alloc());
     for number in &LONG_HEADERS {
         append(rt, &mut bytes, &number.to_be_bytes());

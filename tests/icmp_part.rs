@@ -1,4 +1,4 @@
-//! Tests of ICMPv4 and ICMPv6, over public names alone.
+//! Tests of the crate `icmp_part`.
 
 mod icmp_translation;
 mod icmpv4;

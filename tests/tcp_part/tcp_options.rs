@@ -1,7 +1,5 @@
 mod raw_options;
 mod sweeps;
-mod translation;
-mod validity;
 
 use crate::expect::{
     bytes_from, bytes_to, expect_at, expect_bytes, expect_clone, expect_debug_text, expect_equal,

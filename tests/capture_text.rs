@@ -1,11 +1,8 @@
 mod conversations;
-mod facts;
 mod icmp;
 mod packet_lines;
-mod protocol_names;
 mod summary;
 mod tcp;
-mod times;
 
 use crate::expect::{expect_all_written, expect_ok};
 use capture_file::PacketTime;
@@ -26,7 +23,7 @@ const OVER_IPV4: IpAddresses = IpAddresses::Ipv4 {
 };
 
 /// 2001:db8::1 and 2001:db8::2.
-const OVER_IPV6: IpAddresses = IpAddresses::Ipv6 {
+pub(crate) const OVER_IPV6: IpAddresses = IpAddresses::Ipv6 {
     source: &[0x20, 1, 0x0D, 0xB8, 0, 0, 0, 0, 0, 0, 0, 0, 0, 0, 0, 1],
     destination: Some(&[0x20, 1, 0x0D, 0xB8, 0, 0, 0, 0, 0, 0, 0, 0, 0, 0, 0, 2]),
 };

@@ -1,0 +1,5 @@
+//! Tests of the crate `capture_file`.
+
+mod classic;
+mod pcapng;
+mod reader;

@@ -1,0 +1,5 @@
+//! Tests of the crate `capture_packet`.
+
+pub(crate) mod packet;
+mod quoted_packet;
+mod tunnels;
