@@ -1,4 +1,4 @@
-//! The command line of the program `capture_report`.
+//! Tests of the crate `capture_arguments`: the command line of the program `capture_report`.
 
 use crate::expect::{expect_at, expect_equal, expect_ok, expect_some};
 use capture_arguments::{Arguments, no_capture, output_is_capture, requested_options, words_of};

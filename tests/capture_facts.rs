@@ -1,3 +1,5 @@
+//! Tests of the crate `capture_facts`.
+
 use crate::expect::{expect_ok, expect_some, expect_written};
 use capture_facts::write_facts;
 use capture_file::ByteOrder;

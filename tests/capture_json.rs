@@ -1,6 +1,8 @@
+//! Tests of the crate `capture_json`.
+
 use crate::expect::{expect_all_written, expect_ok, expect_some, expect_written, joined};
-use crate::capture_summary::summary::{judge, new_summary, refuse};
-use crate::capture_text::flow_of_ipv4;
+use crate::packets::OVER_IPV4;
+use crate::summaries::{flow_of_ipv4, judge, new_summary, refuse};
 use capture_file::pcapng::TimeResolution;
 use capture_file::{LinkType, PacketTime};
 use capture_json::{write_packet, write_summary};
@@ -15,12 +17,6 @@ use etherparse_transport::{
     Untested, ip_number,
 };
 use std::process::Abort;
-
-/// 192.0.2.1 and 192.0.2.2.
-const OVER_IPV4: IpAddresses = IpAddresses::Ipv4 {
-    source: &[192, 0, 2, 1],
-    destination: &[192, 0, 2, 2],
-};
 
 /// 2001:db8::1, and a final destination that is not known.
 const OVER_IPV6: IpAddresses = IpAddresses::Ipv6 {

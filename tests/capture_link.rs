@@ -1,9 +1,9 @@
-use crate::capture_packet::packet::{CUT_OFF, IPV4_UDP, OTHER_PROTOCOL, RIGHT, UDP_OVER_IPV4, udp_packet};
-use crate::expect::{expect_at, expect_equal, joined};
-use capture_file::{ByteOrder, LinkType};
-use capture_link::LinkHeaderCutOff;
-use capture_packet::{Content, NetworkProtocol, Packet, Refusal, Verdict, read_packet};
-use etherparse_transport::ip::IpError;
+//! Tests of the crate `capture_link`.
+
+use crate::expect::{bytes_to, expect_at, joined};
+use crate::packets::{IPV4_UDP, UDP_OVER_IPV4};
+use capture_link::{Frame, LinkHeaderCutOff, NetworkProtocol, network_packet};
+use capture_texts::{ByteOrder, LinkType};
 use std::process::Abort;
 
 /// LLC and SNAP headers with the ether type of IPv4 (RFC 1042).
@@ -14,12 +14,22 @@ const ADDRESSES: [u8; 22] = [
     0x2C, 0, 2, 0, 0, 0, 0, 2, 2, 0, 0, 0, 0, 1, 2, 0, 0, 0, 0, 3, 0x10, 0,
 ];
 
-/// Stops the test unless the packet in a frame of these parts is the UDP packet, and its checksum is right.
-fn expect_udp(rt: &(impl Abort + AllocGlobal), link_type: LinkType, parts: &[&[u8]]) {
-    let frame = joined(rt, parts);
-    let packet = read_packet(link_type, ByteOrder::BigEndian, &frame, false);
-    let expected = udp_packet(rt);
-    expect_at(rt, &frame, &packet, &expected);
+/// The length of the link header of this frame, and as many bytes after it as the UDP packet has.
+fn udp_in<'a>(rt: &impl Abort, link_type: LinkType, frame: &'a [u8]) -> (usize, &'a [u8]) {
+    let len = IPV4_UDP.len() + UDP_OVER_IPV4.len();
+    match network_packet(link_type, ByteOrder::BigEndian, frame) {
+        Ok(Frame::Ip(found)) => (found.start, bytes_to(rt, found.bytes, len)),
+        _ => (0, &[]),
+    }
+}
+
+/// Stops the test unless the UDP packet is found after these parts of a link header, and before four bytes.
+fn expect_udp(rt: &(impl Abort + AllocGlobal), link_type: LinkType, header: &[&[u8]]) {
+    let header = joined(rt, header);
+    let packet = joined(rt, &[&IPV4_UDP, &UDP_OVER_IPV4]);
+    let frame = joined(rt, &[&header, &packet, &[1, 2, 3, 4]]);
+    let found = udp_in(rt, link_type, &frame);
+    expect_at(rt, &frame, &found, &(header.len(), packet.as_slice()));
 }
 
 /// Stops the test unless in this frame another protocol comes next, or the frame ends within a link header of this length.
@@ -31,14 +41,11 @@ fn expect_other(
 ) {
     let len = frame.len();
     let expected = match expected {
-        Ok(protocol) => Packet::in_no_tunnel(Content::NotIp(protocol), OTHER_PROTOCOL),
-        Err(required_len) => Packet::in_no_tunnel(
-            Content::Unread,
-            Verdict::Refused(Refusal::Link(LinkHeaderCutOff { required_len, len })),
-        ),
+        Ok(protocol) => Ok(Frame::Other(protocol)),
+        Err(required_len) => Err(LinkHeaderCutOff { required_len, len }),
     };
-    let packet = read_packet(link_type, ByteOrder::LittleEndian, frame, false);
-    expect_at(rt, &frame, &packet, &expected);
+    let found = network_packet(link_type, ByteOrder::LittleEndian, frame);
+    expect_at(rt, &frame, &found, &expected);
 }
 
 /// The Frame Control field, and what comes after the sequence number: address 4, QoS Control and HT Control.
@@ -72,17 +79,11 @@ static BEFORE_WIRELESS: [(LinkType, &[u8]); 9] = [
 /// Stops the test unless the packet in a data frame with these headers is read, after each of the headers before it.
 fn expect_wireless(rt: &(impl Abort + AllocGlobal), frame_control: &[u8], rest: &[u8]) {
     for (link_type, radiotap) in &BEFORE_WIRELESS {
-        let parts: [&[u8]; 8] = [
-            radiotap,
-            frame_control,
-            &ADDRESSES,
-            rest,
-            &SNAP,
-            &IPV4_UDP,
-            &UDP_OVER_IPV4,
-            &[1, 2, 3, 4],
-        ];
-        expect_udp(rt, *link_type, &parts);
+        expect_udp(
+            rt,
+            *link_type,
+            &[radiotap, frame_control, &ADDRESSES, rest, &SNAP],
+        );
     }
 }
 
@@ -185,7 +186,7 @@ static SERIAL: [(LinkType, &[u8]); 20] = [
 #[test]
 fn headers_of_serial_lines_are_passed_over(rt: HostRuntime) {
     for (link_type, header) in &SERIAL {
-        expect_udp(&rt, *link_type, &[header, &IPV4_UDP, &UDP_OVER_IPV4]);
+        expect_udp(&rt, *link_type, &[header]);
     }
 }
 
@@ -243,8 +244,7 @@ static ETHER_TYPES: [&[u8]; 8] = [
 
 /// Stops the test unless the packet in an Ethernet frame with these bytes after its addresses is read.
 fn expect_in_ethernet(rt: &(impl Abort + AllocGlobal), after: &[u8]) {
-    let parts: [&[u8]; 4] = [&ADDRESSES[2..14], after, &IPV4_UDP, &UDP_OVER_IPV4];
-    expect_udp(rt, LinkType::Ethernet, &parts);
+    expect_udp(rt, LinkType::Ethernet, &[&ADDRESSES[2..14], after]);
 }
 
 #[test]
@@ -304,95 +304,4 @@ fn other_headers_after_an_ether_type(rt: HostRuntime) {
     for row in &OTHER_ETHER_TYPES {
         expect_other_ether_type(&rt, row);
     }
-}
-
-/// The link types of frames of PPPoE, and what comes before the PPPoE header.
-static BEFORE_SESSION: [(LinkType, &[u8]); 2] = [
-    (
-        LinkType::Ethernet,
-        &[2, 0, 0, 0, 0, 2, 2, 0, 0, 0, 0, 1, 0x88, 0x64],
-    ),
-    (LinkType::PppOverEthernet, &[]),
-];
-
-/// The length in a PPPoE header, and the verdict on the frame. After the PPP protocol number it has a UDP packet of 31 bytes, and four bytes
-/// of padding.
-#[rattlefmt::skip]
-static PAYLOAD_LENS: [(u8, Verdict); 8] = [
-    (0, OTHER_PROTOCOL),
-    (1, OTHER_PROTOCOL),
-    (2, Verdict::Refused(Refusal::Ip(IpError::HeaderCutOff { required_len: 1, len: 0 }))),
-    (21, Verdict::Refused(Refusal::Ip(IpError::HeaderCutOff { required_len: 20, len: 19 }))),
-    (32, CUT_OFF),
-    (33, RIGHT),
-    (37, RIGHT),
-    (38, RIGHT),
-];
-
-/// Stops the test unless this is the verdict on a frame with this length in its PPPoE header, after these bytes.
-fn expect_verdict(
-    rt: &(impl Abort + AllocGlobal),
-    link_type: LinkType,
-    before: &[u8],
-    len: u8,
-    is_cut: bool,
-    expected: &Verdict,
-) {
-    let header = [0x11, 0, 0, 1, 0, len, 0, 0x21];
-    let parts: [&[u8]; 5] = [before, &header, &IPV4_UDP, &UDP_OVER_IPV4, &[0xEE; 4]];
-    let frame = joined(rt, &parts);
-    let packet = read_packet(link_type, ByteOrder::BigEndian, &frame, is_cut);
-    expect_at(rt, &len, &packet.verdict, expected);
-}
-
-/// Stops the test unless this is the verdict on the frames of each link type with this length, whether the capture cut them or not.
-fn expect_verdicts(rt: &(impl Abort + AllocGlobal), len: u8, expected: &Verdict) {
-    for (link_type, before) in &BEFORE_SESSION {
-        expect_verdict(rt, *link_type, before, len, false, expected);
-        expect_verdict(rt, *link_type, before, len, true, expected);
-    }
-}
-
-#[test]
-fn payloads_of_pppoe_end_at_their_length(rt: HostRuntime) {
-    for (len, expected) in &PAYLOAD_LENS {
-        expect_verdicts(&rt, *len, expected);
-    }
-}
-
-/// Stops the test unless the payload of the packet in a frame of PPPoE has three bytes, and is of another protocol.
-fn expect_three_bytes(rt: &impl Abort, frame: &[u8], is_cut: bool) {
-    let link_type = LinkType::PppOverEthernet;
-    let packet = read_packet(link_type, ByteOrder::BigEndian, frame, is_cut);
-    let is_counted = matches!(packet.content, Content::Ip { payload_len: 3, .. });
-    expect_equal(rt, &is_counted, &true);
-    expect_equal(rt, &packet.verdict, &OTHER_PROTOCOL);
-}
-
-#[test]
-fn packets_without_a_length_end_with_their_pppoe_payload(rt: HostRuntime) {
-    let frame = [
-        0x11, 0, 0, 1, 0, 25, 0, 0x21, 0x45, 0, 0, 0, 0, 1, 0x40, 0, 64, 200, 0, 0, 10, 0, 0, 1,
-        10, 0, 0, 2, 1, 2, 3, 0xEE, 0xEE,
-    ];
-    expect_three_bytes(&rt, &frame, false);
-    expect_three_bytes(&rt, &frame, true);
-}
-
-/// Stops the test unless this is the verdict on a frame of PPPoE that ends before its payload.
-fn expect_early_end(rt: &impl Abort, is_cut: bool, expected: Verdict) {
-    let link_type = LinkType::PppOverEthernet;
-    let frame = [0x11, 0, 0, 1, 0, 33, 0, 0x21, 0x45, 0, 0];
-    let packet = read_packet(link_type, ByteOrder::BigEndian, &frame, is_cut);
-    expect_equal(rt, &packet.verdict, &expected);
-}
-
-#[test]
-fn frames_end_before_their_pppoe_payload(rt: HostRuntime) {
-    expect_early_end(&rt, true, CUT_OFF);
-    let refusal = IpError::HeaderCutOff {
-        required_len: 20,
-        len: 3,
-    };
-    expect_early_end(&rt, false, Verdict::Refused(Refusal::Ip(refusal)));
 }

@@ -1,5 +1,6 @@
 //! Tests of the crate `capture_packet`.
 
-pub(crate) mod packet;
+mod packet;
+mod pppoe;
 mod quoted_packet;
 mod tunnels;

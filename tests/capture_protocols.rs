@@ -1,9 +1,11 @@
-use crate::capture_text::OVER_IPV6;
+//! Tests of the crate `capture_protocols`.
+
 use crate::expect::expect_at;
-use capture_packet::NetworkProtocol;
-use capture_summary::{ip_protocol_name, network_protocol_name};
-use etherparse_transport::IpNumber;
+use crate::packets::{OVER_IPV4, OVER_IPV6};
+use capture_packet::{Content, NetworkProtocol, Transport};
+use capture_protocols::{Protocol, ip_protocol_name, network_protocol_name};
 use etherparse_transport::ip::proto_over;
+use etherparse_transport::{IpNumber, Proto, ip_number};
 use std::process::Abort;
 
 /// The number of a protocol over IPv6, and its name.
@@ -63,5 +65,49 @@ static OVER_PPP: [(u16, Option<&str>); 9] = [
 fn names_over_ppp(rt: HostRuntime) {
     for row in &OVER_PPP {
         expect_name(&rt, NetworkProtocol::PppProtocol(row.0), &row.1);
+    }
+}
+
+/// What a packet is, and the row of its protocol.
+type ProtocolRow = (Content<'static>, Protocol);
+
+#[rattlefmt::skip]
+const PROTOCOLS: [ProtocolRow; 13] = [
+    (Content::Unread, Protocol::Unknown),
+    (Content::IpHeader(OVER_IPV4), Protocol::Unknown),
+    (Content::NotIp(NetworkProtocol::EtherType(0x0806)), Protocol::Arp),
+    (Content::NotIp(NetworkProtocol::EtherType(0x8848)), Protocol::Mpls),
+    (Content::NotIp(NetworkProtocol::EtherType(0x0842)), Protocol::OtherWithoutIp),
+    (Content::NotIp(NetworkProtocol::LinkType(147)), Protocol::OtherWithoutIp),
+    (Content::NotIp(NetworkProtocol::Llc { dsap: 0x42, ssap: 0x42 }), Protocol::Stp),
+    (
+        Content::Ip { addresses: OVER_IPV4, protocol: ip_number::UDP, proto: Some(Proto::Udp), transport: Transport::Unread(&[]), payload_len: 0 },
+        Protocol::Udp,
+    ),
+    (
+        Content::Ip { addresses: OVER_IPV4, protocol: ip_number::TCP, proto: Some(Proto::Tcp), transport: Transport::Unread(&[]), payload_len: 0 },
+        Protocol::Tcp,
+    ),
+    (
+        Content::Ip { addresses: OVER_IPV4, protocol: ip_number::ICMP, proto: Some(Proto::Icmpv4), transport: Transport::Unread(&[]), payload_len: 0 },
+        Protocol::Icmpv4,
+    ),
+    (
+        Content::Ip { addresses: OVER_IPV4, protocol: ip_number::IPV6_ICMP, proto: Some(Proto::Icmpv6), transport: Transport::Unread(&[]), payload_len: 0 },
+        Protocol::Icmpv6,
+    ),
+    (Content::Ip { addresses: OVER_IPV4, protocol: IpNumber(50), proto: None, transport: Transport::Unread(&[]), payload_len: 0 }, Protocol::Esp),
+    (Content::Ip { addresses: OVER_IPV4, protocol: IpNumber(48), proto: None, transport: Transport::Unread(&[]), payload_len: 0 }, Protocol::OtherOverIp),
+];
+
+/// Stops the test unless the packet of a row is counted in the row of its protocol.
+fn expect_protocol(rt: &impl Abort, row: &ProtocolRow) {
+    expect_at(rt, row, &Protocol::of(&row.0), &row.1);
+}
+
+#[test]
+fn protocols_of_packets(rt: HostRuntime) {
+    for row in &PROTOCOLS {
+        expect_protocol(&rt, row);
     }
 }

@@ -1,42 +1,28 @@
+//! Tests of the crate `capture_run`.
+
 mod named;
 
-use crate::expect::{
-    append, expect_all_written, expect_at, expect_equal, expect_ok, expect_some, expect_written,
-    joined, joined_in, joined_texts,
+use crate::captures::{
+    ALL, ENHANCED, ENHANCED_END, ENHANCED_OF_SECOND, FaultyReader, FaultyWriter, OTHER_BLOCK,
+    OTHER_LINK, RAW_IP, SECTION, SIMPLE, SIMPLE_END, UDP, capture, changed_capture, first_bytes,
+    long_capture, raw_capture, two_packets,
 };
-use capture_run::{Choice, ExitStatus, Format, Lines, Open, Parts, STANDARD_INPUT, Times, run};
-use capture_summary::{BUSIEST, MAX_CHOSEN};
-use std::alloc::{AllocError, Global};
+use crate::expect::{
+    expect_all_written, expect_at, expect_equal, expect_ok, expect_written, joined, joined_texts,
+};
+use capture_run::{Choice, ExitStatus, Format, Lines, Open, Parts, STANDARD_INPUT, run};
+use capture_summary::MAX_CHOSEN;
 use std::hash::RandomState;
 use std::io;
-use std::io::{ErrorKind, Read, Write};
+use std::io::{ErrorKind, Write};
 use std::process::Abort;
 use std::random::RandomSource;
-
-/// The whole report.
-pub(crate) const ALL: Parts = Parts {
-    choice: Choice::ALL,
-    lines: Lines::All,
-    times: Times::SinceFirst,
-    verbose: false,
-    summary: true,
-    format: Format::Text,
-    top: BUSIEST,
-    check: false,
-    limit: None,
-};
 
 /// Only the lines of packets.
 const ONLY_LINES: Parts = Parts {
     summary: false,
     ..ALL
 };
-
-/// A UDP packet over IPv4, from 192.0.2.1, port 7, to 192.0.2.2, port 9, with a payload of 1 byte. Its checksum is right.
-pub(crate) const UDP: [u8; 29] = [
-    0x45, 0, 0, 29, 0, 1, 0x40, 0, 64, 17, 0, 0, 192, 0, 2, 1, 192, 0, 2, 2, // IPv4
-    0, 7, 0, 9, 0, 9, 0x19, 0xC8, 0x62, // UDP
-];
 
 /// The line of this packet alone.
 const LINE: &str =
@@ -56,63 +42,6 @@ static LINKS: [LinkRow; 5] = [
     (113, &[0, 0, 0, 1, 0, 6, 2, 0, 0, 0, 0, 1, 0, 0, 0x08, 0x00], "45"),
     (276, &[0x08, 0x00, 0, 0, 0, 0, 0, 1, 0, 1, 0, 6, 2, 0, 0, 0, 0, 1, 0, 0], "49"),
 ];
-
-/// The bytes of a number, in little-endian or in big-endian order.
-fn number_bytes(is_little_endian: bool, number: u32) -> [u8; 4] {
-    if is_little_endian {
-        number.to_le_bytes()
-    } else {
-        number.to_be_bytes()
-    }
-}
-
-/// A capture of this link type with one packet, after these bytes of its link.
-fn capture(
-    alloc: Global,
-    is_little_endian: bool,
-    link_type: u32,
-    link: &[u8],
-) -> Result<Vec<u8>, AllocError> {
-    let len = u32::try_from(UDP.len() + link.len()).unwrap_or(u32::MAX);
-    // Version 2.4, in two numbers of two bytes.
-    let version = if is_little_endian { 0x4_0002 } else { 0x2_0004 };
-    let number = [
-        number_bytes(is_little_endian, 0xA1B2_C3D4),
-        number_bytes(is_little_endian, version),
-        number_bytes(is_little_endian, link_type),
-        number_bytes(is_little_endian, 5),
-        number_bytes(is_little_endian, 7),
-        number_bytes(is_little_endian, len),
-    ];
-    // The magic number, the version, what is not looked at, the link type, the time and both lengths.
-    let [magic, version, link_type, seconds, fraction, len] = &number;
-    let parts: [&[u8]; 10] = [
-        magic, version, &[0; 12], link_type, seconds, fraction, len, len, link, &UDP,
-    ];
-    joined_in(alloc, &parts)
-}
-
-/// A big-endian capture of raw IP of the UDP packet.
-fn raw_capture(alloc: Global) -> Result<Vec<u8>, AllocError> {
-    capture(alloc, false, 101, &[])
-}
-
-/// The same capture, in which the byte at this place is this one.
-fn changed_capture(alloc: Global, place: usize, byte: u8) -> Result<Vec<u8>, AllocError> {
-    let mut bytes = raw_capture(alloc)?;
-    if let Some(changed) = bytes.as_mut_slice().get_mut(place) {
-        *changed = byte;
-    }
-    Ok(bytes)
-}
-
-/// A capture of the UDP packet, and of another one to this port.
-pub(crate) fn two_packets(rt: &(impl Abort + AllocGlobal), port: u8) -> Vec<u8> {
-    let first = expect_ok(rt, raw_capture(rt.alloc()));
-    let second = expect_ok(rt, changed_capture(rt.alloc(), 63, port));
-    let packet = expect_some(rt, second.as_slice().get(24..));
-    joined(rt, &[first.as_slice(), packet])
-}
 
 /// Captures by their names.
 #[derive(Drop)]
@@ -202,11 +131,6 @@ fn expect_run(
     expect_ran(rt, &ran, status, output, errors);
 }
 
-/// The first bytes of a capture, or all of it if it has fewer.
-pub(crate) fn first_bytes(bytes: &[u8], len: usize) -> &[u8] {
-    &bytes[..len.min(bytes.len())]
-}
-
 /// Stops the test unless a run has this status, and an output that begins with these texts.
 fn expect_first_text(rt: &(impl Abort + AllocGlobal), ran: &Ran, status: u8, wanted: [&str; 3]) {
     expect_equal(rt, &ran.status, &status);
@@ -284,34 +208,6 @@ fn faults_of_a_capture_are_named(rt: HostRuntime) {
         expect_run(&rt, first_bytes(&whole, *len), *status, "", error);
     }
 }
-
-/// The section header block of a pcapng file, little-endian.
-pub(crate) const SECTION: &[u8] =
-    b"\x0A\x0D\x0D\x0A\x1C\0\0\0\x4D\x3C\x2B\x1A\x01\0\0\0\xFF\xFF\xFF\xFF\xFF\xFF\xFF\xFF\x1C\0\0\0";
-
-/// The description of an interface of raw IP.
-pub(crate) const RAW_IP: &[u8] = b"\x01\0\0\0\x14\0\0\0\x65\0\0\0\0\0\0\0\x14\0\0\0";
-
-/// The description of an interface whose link type, 147, is not read, with nanoseconds.
-pub(crate) const OTHER_LINK: &[u8] = b"\x01\0\0\0\x1C\0\0\0\x93\0\0\0\0\0\0\0\x09\0\x01\0\x09\0\0\0\x1C\0\0\0";
-
-/// A block of another type, which is passed over.
-pub(crate) const OTHER_BLOCK: &[u8] = b"\x05\0\0\0\x0C\0\0\0\x0C\0\0\0";
-
-/// What comes before the UDP packet in an enhanced packet block of the first interface, 5 units after the beginning of 1970.
-pub(crate) const ENHANCED: &[u8] = b"\x06\0\0\0\x40\0\0\0\0\0\0\0\0\0\0\0\x05\0\0\0\x1D\0\0\0\x1D\0\0\0";
-
-/// The same of the second interface, a unit later.
-pub(crate) const ENHANCED_OF_SECOND: &[u8] =
-    b"\x06\0\0\0\x40\0\0\0\x01\0\0\0\0\0\0\0\x06\0\0\0\x1D\0\0\0\x1D\0\0\0";
-
-/// What comes after it: the padding, and the length again.
-pub(crate) const ENHANCED_END: &[u8] = b"\0\0\0\x40\0\0\0";
-
-/// The same in a simple packet block.
-pub(crate) const SIMPLE: &[u8] = b"\x03\0\0\0\x30\0\0\0\x1D\0\0\0";
-
-pub(crate) const SIMPLE_END: &[u8] = b"\0\0\0\x30\0\0\0";
 
 /// The parts of a file, and the status, the output and the errors of its report.
 type FileRow = (&'static [&'static [u8]], u8, &'static str, &'static str);
@@ -439,31 +335,6 @@ fn the_status_says_what_is_wrong(rt: HostRuntime) {
     }
 }
 
-/// Gives a byte a read, and fails once, at the read after `reads`.
-#[derive(Drop)]
-pub(crate) struct FaultyReader<'a> {
-    pub(crate) rest: &'a [u8],
-    pub(crate) reads: usize,
-}
-
-impl<'a> Read for FaultyReader<'a> {
-    fn read(&mut self, buf: &mut [u8]) -> io::Result<usize> {
-        if self.reads == 0 {
-            self.reads = usize::MAX;
-            return Err(io::Error::from(ErrorKind::ConnectionReset));
-        }
-        self.reads -= 1;
-        match (self.rest.split_first(), buf.first_mut()) {
-            (Some((byte, rest)), Some(place)) => {
-                *place = *byte;
-                self.rest = rest;
-                Ok(1)
-            }
-            _ => Ok(0),
-        }
-    }
-}
-
 /// A capture whose reader is faulty.
 #[derive(Drop)]
 struct FaultyCapture<'a> {
@@ -513,46 +384,6 @@ fn read_faults_leave_the_report_before_them(rt: HostRuntime) {
     // Each byte takes a read, and the end of the capture one more.
     for reads in 0..bytes.len() + 1 {
         expect_lines_before(&rt, &bytes, one, reads);
-    }
-}
-
-/// Takes a byte a write, and fails, or takes nothing, once, at the call after `calls`, a flush being a call.
-#[derive(Drop)]
-pub(crate) struct FaultyWriter {
-    pub(crate) written: Vec<u8>,
-    pub(crate) calls: usize,
-    pub(crate) takes_nothing: bool,
-}
-
-impl FaultyWriter {
-    fn call(&mut self) -> io::Result<()> {
-        if self.calls == 0 {
-            self.calls = usize::MAX;
-            return Err(io::Error::from(ErrorKind::BrokenPipe));
-        }
-        self.calls -= 1;
-        Ok(())
-    }
-}
-
-impl Write for FaultyWriter {
-    fn write(&mut self, buf: &[u8]) -> io::Result<usize> {
-        if self.takes_nothing && self.calls == 0 {
-            self.calls = usize::MAX;
-            return Ok(0);
-        }
-        self.call()?;
-        match buf.first() {
-            Some(byte) => {
-                self.written.push(*byte)?;
-                Ok(1)
-            }
-            None => Ok(0),
-        }
-    }
-
-    fn flush(&mut self) -> io::Result<()> {
-        self.call()
     }
 }
 
@@ -703,26 +534,6 @@ fn packets_that_are_not_chosen_do_not_count(rt: HostRuntime) {
     let totals =
         "\nfile type classic, byte order big-endian, snap length 0, time resolution 10^-6 s\npackets 1, bytes 29, bytes a packet 29\n";
     expect_first_text(&rt, &ran, 0, [TO_TEN, "", totals]);
-}
-
-/// The header of a capture and of a record of a packet that has more bytes than are read.
-static LONG_HEADERS: [u32; 10] = [0xA1B2_C3D4, 0x2_0004, 0, 0, 0, 101, 5, 7, 528_384, 528_384];
-
-/// A capture of this packet.
-pub(crate) fn long_capture(rt: &(impl Abort + AllocGlobal)) -> Vec<u8> {
-    let mut bytes = Vec::new(rt.alloc());
-    for number in &LONG_HEADERS {
-        append(rt, &mut bytes, &number.to_be_bytes());
-    }
-    append_zeros(rt, &mut bytes);
-    bytes
-}
-
-/// Appends the bytes of this packet.
-fn append_zeros(rt: &impl Abort, bytes: &mut Vec<u8>) {
-    for _ in 0..129 {
-        append(rt, bytes, &[0; 4096]);
-    }
 }
 
 /// The forms of a report, and the line of this packet in each.

@@ -1,6 +1,6 @@
-//! The packets of a capture as a capture.
+//! Tests of the crate `capture_selection`: the packets of a capture as a capture.
 
-use crate::capture_run::{
+use crate::captures::{
     ALL, ENHANCED, ENHANCED_END, ENHANCED_OF_SECOND, FaultyReader, FaultyWriter, OTHER_BLOCK,
     OTHER_LINK, RAW_IP, SECTION, SIMPLE, SIMPLE_END, UDP, first_bytes, long_capture, two_packets,
 };

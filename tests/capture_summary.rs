@@ -2,4 +2,4 @@
 
 mod choice;
 mod kinds;
-pub(crate) mod summary;
+mod summary;

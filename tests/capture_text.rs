@@ -1,3 +1,5 @@
+//! Tests of the crate `capture_text`.
+
 mod conversations;
 mod icmp;
 mod packet_lines;
@@ -8,25 +10,12 @@ use crate::expect::{expect_all_written, expect_ok};
 use capture_file::PacketTime;
 use capture_file::pcapng::TimeResolution;
 use capture_packet::{Content, Packet, Transport, Verdict};
-use capture_summary::{Flow, FlowProtocol, FrameLen};
+use capture_summary::FrameLen;
 use capture_text::write_packet_line;
 use capture_words::Times;
 use etherparse_transport::ip::{IpAddresses, proto_over};
 use etherparse_transport::{ChecksumVerdict, IpNumber};
-use std::net::{IpAddr, SocketAddr};
 use std::process::Abort;
-
-/// 192.0.2.1 and 192.0.2.2.
-const OVER_IPV4: IpAddresses = IpAddresses::Ipv4 {
-    source: &[192, 0, 2, 1],
-    destination: &[192, 0, 2, 2],
-};
-
-/// 2001:db8::1 and 2001:db8::2.
-pub(crate) const OVER_IPV6: IpAddresses = IpAddresses::Ipv6 {
-    source: &[0x20, 1, 0x0D, 0xB8, 0, 0, 0, 0, 0, 0, 0, 0, 0, 0, 0, 1],
-    destination: Some(&[0x20, 1, 0x0D, 0xB8, 0, 0, 0, 0, 0, 0, 0, 0, 0, 0, 0, 2]),
-};
 
 /// The time of the first packet of a capture.
 const FIRST: PacketTime = PacketTime {
@@ -97,13 +86,4 @@ fn expect_transport(
 /// Stops the test unless the three texts together are what is written of this verdict on a packet that is not read.
 fn expect_verdict(rt: &(impl Abort + AllocGlobal), verdict: Verdict, wanted: [&str; 3]) {
     expect_line(rt, Content::Unread, verdict, wanted);
-}
-
-/// The flow of UDP from 192.0.2.1, port 49152, to 192.0.2.2, port 53.
-pub(crate) fn flow_of_ipv4() -> Flow {
-    Flow {
-        protocol: FlowProtocol::Udp,
-        source: SocketAddr::new(IpAddr::from([192, 0, 2, 1]), 49152),
-        destination: SocketAddr::new(IpAddr::from([192, 0, 2, 2]), 53),
-    }
 }

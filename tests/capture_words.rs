@@ -1,3 +1,5 @@
+//! Tests of the crate `capture_words`.
+
 use crate::expect::{expect_ok, expect_written};
 use capture_file::PacketTime;
 use capture_file::classic::{Resolution, Time};

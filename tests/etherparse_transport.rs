@@ -1,4 +1,4 @@
-//! Tests of all public names, and of the four protocols as one.
+//! Tests of the crate `etherparse_transport`: all public names, and the four protocols as one.
 
 mod borrows;
 mod built_packets;

@@ -1,9 +1,11 @@
+//! Tests of the crate `ip_part`.
+
 mod jumbograms;
 mod sweeps;
 
 use crate::expect::{
-    bytes_between, bytes_from, bytes_to, expect_at, expect_bytes, expect_clone, expect_debug_text,
-    expect_equal, expect_ok, expect_some, expect_text,
+    bytes_between, bytes_from, bytes_to, expect_at, expect_clone, expect_debug_text, expect_equal,
+    expect_ok, expect_some, expect_text,
 };
 use etherparse_transport::ip::{
     IpAddresses, IpError, TransportInIp, transport_in_ip, transport_in_ip_lax,

@@ -1,4 +1,5 @@
-//! Tests of the libraries, over public names alone. They are run and not proved, by `.ci/tests`.
+//! Tests of the libraries, over public names alone. They are run and not proved, by `.ci/tests`. A module of tests has the name of the crate
+//! that it tests. The modules `captures`, `expect`, `packets` and `summaries` contain what several of these use.
 #![tactic(auto)]
 
 #[cfg(test)]
@@ -25,6 +26,7 @@ mod capture_summary;
 mod capture_text;
 #[cfg(test)]
 mod capture_words;
+mod captures;
 #[cfg(test)]
 mod etherparse_transport;
 mod expect;
@@ -34,6 +36,8 @@ mod icmp_part;
 mod ip_part;
 #[cfg(test)]
 mod net_base;
+mod packets;
+mod summaries;
 #[cfg(test)]
 mod tcp_part;
 #[cfg(test)]

@@ -1,4 +1,5 @@
 //! Tests of the crate `net_base`.
 
-mod shared;
+mod ip_headers;
 mod tcp_errors;
+mod values;

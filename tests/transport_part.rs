@@ -1,6 +1,8 @@
-//! The transport of IP packets, and whether its checksum is right. The checksums were computed apart from this crate, by RFC 1071.
+//! Tests of the crate `transport_part`: the transport of IP packets, and whether its checksum is right. The checksums were computed apart
+//! from this crate, by RFC 1071.
 
 use crate::expect::{bytes_to, expect_at, expect_equal, expect_ok};
+use crate::packets::{JUMBOGRAM_LEN, write_jumbogram_headers};
 use arrayvec::ArrayVec;
 use etherparse_transport::err::tcp::{HeaderError, HeaderSliceError};
 use etherparse_transport::err::{Layer, LenError, LenSource};
@@ -200,5 +202,35 @@ fn expect_slice(rt: &impl Abort, row: &SliceRow) {
 fn transports_are_slices_of_their_protocol(rt: HostRuntime) {
     for row in &SLICES {
         expect_slice(&rt, row);
+    }
+}
+
+/// The jumbo payload length, the length field and the checksum of UDP, the length of the payload, and the verdict.
+type JudgedRow = (u32, u16, u16, usize, ChecksumVerdict);
+
+#[rattlefmt::skip]
+static JUDGED: [JudgedRow; 5] = [
+    (65_552, 0, 0x1E64, 65_544, ChecksumVerdict::Right),
+    (65_552, 0, 0x1E65, 65_544, ChecksumVerdict::Wrong { expected: 0x1E64 }),
+    (65_552, 0, 0x1832, 65_544, ChecksumVerdict::Partial { expected: 0x1E64 }),
+    (65_536, 0xFFF8, 0x1E7B, 65_528, ChecksumVerdict::Right),
+    (65_536, 0, 0x1E7B, 65_528, ChecksumVerdict::Untested(Untested::ZeroLength)),
+];
+
+/// The jumbogram of a row has the payload and the verdict of the row.
+fn expect_judged(rt: &impl Abort, packet: &mut [u8; JUMBOGRAM_LEN], row: &JudgedRow) {
+    let (jumbo_payload_len, length, checksum, len, expected) = *row;
+    write_jumbogram_headers(packet, jumbo_payload_len, length, checksum);
+    let found = expect_ok(rt, transport_in_ip(packet));
+    let verdict = expect_ok(rt, checksum_verdict(&found));
+    expect_at(rt, row, &found.payload.len(), &len);
+    expect_at(rt, row, &verdict, &expected);
+}
+
+#[test]
+fn jumbograms_are_judged(rt: HostRuntime) {
+    let mut packet = [0; JUMBOGRAM_LEN];
+    for row in &JUDGED {
+        expect_judged(&rt, &mut packet, row);
     }
 }

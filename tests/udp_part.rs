@@ -1,3 +1,5 @@
+//! Tests of the crate `udp_part`.
+
 mod sweeps;
 mod translation;
 mod validity;

@@ -1,4 +1,5 @@
 use crate::expect::{append, expect_at, expect_equal, expect_ok, joined};
+use crate::packets::{IPV4_UDP, UDP_OVER_IPV4};
 use capture_file::{ByteOrder, LinkType};
 use capture_link::LinkHeaderCutOff;
 use capture_packet::{
@@ -35,11 +36,6 @@ pub(crate) const OTHER_PROTOCOL: Verdict = Verdict::Checksum(ChecksumVerdict::Un
 /// Two Ethernet addresses.
 const ADDRESSES: [u8; 12] = [2, 0, 0, 0, 0, 2, 2, 0, 0, 0, 0, 1];
 
-/// Over IPv4, from 10.0.0.1 to 10.0.0.2: UDP of 11 bytes.
-pub(crate) const IPV4_UDP: [u8; 20] = [
-    0x45, 0, 0, 31, 0, 1, 0x40, 0, 64, 17, 0, 0, 10, 0, 0, 1, 10, 0, 0, 2,
-];
-
 /// The addresses over IPv6, 2001:db8::1 and 2001:db8::2.
 pub(crate) const IPV6_SOURCE: [u8; 16] = [0x20, 1, 0x0d, 0xb8, 0, 0, 0, 0, 0, 0, 0, 0, 0, 0, 0, 1];
 
@@ -47,9 +43,7 @@ pub(crate) const IPV6_DESTINATION: [u8; 16] = [
     0x20, 1, 0x0d, 0xb8, 0, 0, 0, 0, 0, 0, 0, 0, 0, 0, 0, 2,
 ];
 
-/// UDP with the checksum that is right over IPv4, with that over IPv6, with another, and with none.
-pub(crate) const UDP_OVER_IPV4: [u8; 11] = [0, 53, 4, 210, 0, 11, 0x22, 0x6C, 97, 98, 99];
-
+/// UDP with the checksum that is right over IPv6, with another, and with none.
 pub(crate) const UDP_OVER_IPV6: [u8; 11] = [0, 53, 4, 210, 0, 11, 0xDA, 0xF9, 97, 98, 99];
 
 const UDP_WRONG: [u8; 11] = [0, 53, 4, 210, 0, 11, 0x12, 0x34, 97, 98, 99];
@@ -222,7 +216,7 @@ pub(crate) fn over_ipv6(protocol: IpNumber, transport: TransportSlice<'_>) -> Co
 }
 
 /// The packet of `IPV4_UDP` and `UDP_OVER_IPV4`.
-pub(crate) fn udp_packet(rt: &impl Abort) -> Packet<'static> {
+fn udp_packet(rt: &impl Abort) -> Packet<'static> {
     let udp = expect_ok(rt, UdpSlice::from_slice(&UDP_OVER_IPV4));
     let content = over_ipv4(ip_number::UDP, TransportSlice::Udp(udp));
     let mut packet = Packet::in_no_tunnel(content, RIGHT);

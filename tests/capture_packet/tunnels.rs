@@ -1,8 +1,9 @@
-use crate::capture_packet::packet::{
-    IPV4_UDP, IPV6_DESTINATION, IPV6_SOURCE, OTHER_PROTOCOL, RIGHT, UDP_OVER_IPV4, UDP_OVER_IPV6,
-    over_ipv4, over_ipv6, read_raw,
+use super::packet::{
+    IPV6_DESTINATION, IPV6_SOURCE, OTHER_PROTOCOL, RIGHT, UDP_OVER_IPV6, over_ipv4, over_ipv6,
+    read_raw,
 };
 use crate::expect::{append, expect_at, expect_equal, expect_ok, expect_some, joined};
+use crate::packets::{IPV4_UDP, UDP_OVER_IPV4};
 use capture_packet::{Content, HopLimit, Packet, Refusal, Tunnel, Verdict};
 use etherparse_transport::ip::{IpAddresses, IpError};
 use etherparse_transport::{IpNumber, TransportSlice, UdpSlice, Untested, ip_number};

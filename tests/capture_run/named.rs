@@ -1,9 +1,9 @@
 //! Runs over captures with names.
 
 use super::{
-    ALL, Captures, FaultyWriter, LINE, ONLY_LINES, Ran, changed_capture, expect_beginning,
-    expect_first_text, expect_ran, run_over,
+    Captures, LINE, ONLY_LINES, Ran, expect_beginning, expect_first_text, expect_ran, run_over,
 };
+use crate::captures::{ALL, FaultyWriter, changed_capture};
 use crate::expect::{expect_equal, expect_ok, expect_written};
 use capture_run::{ExitStatus, Format, Lines, Open, Parts, WriteError, run};
 use std::alloc::Global;

@@ -3,12 +3,12 @@
 use crate::expect::expect_at;
 use capture_file::LinkType;
 use capture_link::LinkHeaderCutOff;
-use capture_packet::{Content, NetworkProtocol, Refusal, Transport, Verdict};
-use capture_summary::{LinkKind, Protocol, RefusalKind, VerdictKind};
+use capture_packet::{Refusal, Verdict};
+use capture_summary::{LinkKind, RefusalKind, VerdictKind};
 use etherparse_transport::err::tcp::{HeaderError, HeaderSliceError};
 use etherparse_transport::err::{Layer, LenError, LenSource};
-use etherparse_transport::ip::{IpAddresses, IpError};
-use etherparse_transport::{ChecksumVerdict, IpNumber, Proto, Untested, ip_number};
+use etherparse_transport::ip::IpError;
+use etherparse_transport::{ChecksumVerdict, IpNumber, Proto, Untested};
 use std::process::Abort;
 
 /// A verdict, its kind, and the kind of the refusal, of a packet that is refused.
@@ -130,56 +130,6 @@ fn kinds_of_verdicts(rt: HostRuntime) {
 fn kinds_of_refusals(rt: HostRuntime) {
     for row in &REFUSALS {
         expect_kinds(&rt, row);
-    }
-}
-
-/// 192.0.2.1 and 192.0.2.2.
-const OVER_IPV4: IpAddresses = IpAddresses::Ipv4 {
-    source: &[192, 0, 2, 1],
-    destination: &[192, 0, 2, 2],
-};
-
-/// What a packet is, and the row of its protocol.
-type ProtocolRow = (Content<'static>, Protocol);
-
-#[rattlefmt::skip]
-const PROTOCOLS: [ProtocolRow; 13] = [
-    (Content::Unread, Protocol::Unknown),
-    (Content::IpHeader(OVER_IPV4), Protocol::Unknown),
-    (Content::NotIp(NetworkProtocol::EtherType(0x0806)), Protocol::Arp),
-    (Content::NotIp(NetworkProtocol::EtherType(0x8848)), Protocol::Mpls),
-    (Content::NotIp(NetworkProtocol::EtherType(0x0842)), Protocol::OtherWithoutIp),
-    (Content::NotIp(NetworkProtocol::LinkType(147)), Protocol::OtherWithoutIp),
-    (Content::NotIp(NetworkProtocol::Llc { dsap: 0x42, ssap: 0x42 }), Protocol::Stp),
-    (
-        Content::Ip { addresses: OVER_IPV4, protocol: ip_number::UDP, proto: Some(Proto::Udp), transport: Transport::Unread(&[]), payload_len: 0 },
-        Protocol::Udp,
-    ),
-    (
-        Content::Ip { addresses: OVER_IPV4, protocol: ip_number::TCP, proto: Some(Proto::Tcp), transport: Transport::Unread(&[]), payload_len: 0 },
-        Protocol::Tcp,
-    ),
-    (
-        Content::Ip { addresses: OVER_IPV4, protocol: ip_number::ICMP, proto: Some(Proto::Icmpv4), transport: Transport::Unread(&[]), payload_len: 0 },
-        Protocol::Icmpv4,
-    ),
-    (
-        Content::Ip { addresses: OVER_IPV4, protocol: ip_number::IPV6_ICMP, proto: Some(Proto::Icmpv6), transport: Transport::Unread(&[]), payload_len: 0 },
-        Protocol::Icmpv6,
-    ),
-    (Content::Ip { addresses: OVER_IPV4, protocol: IpNumber(50), proto: None, transport: Transport::Unread(&[]), payload_len: 0 }, Protocol::Esp),
-    (Content::Ip { addresses: OVER_IPV4, protocol: IpNumber(48), proto: None, transport: Transport::Unread(&[]), payload_len: 0 }, Protocol::OtherOverIp),
-];
-
-/// Stops the test unless the packet of a row is counted in the row of its protocol.
-fn expect_protocol(rt: &impl Abort, row: &ProtocolRow) {
-    expect_at(rt, row, &Protocol::of(&row.0), &row.1);
-}
-
-#[test]
-fn protocols_of_packets(rt: HostRuntime) {
-    for row in &PROTOCOLS {
-        expect_protocol(&rt, row);
     }
 }
 

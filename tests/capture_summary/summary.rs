@@ -1,13 +1,12 @@
 use crate::expect::{expect_at, expect_equal, expect_ok, expect_some};
+use crate::summaries::{judge, new_summary, refuse};
 use capture_file::LinkType;
 use capture_summary::{
     CaptureInfo, ConversationCount, Count, Flow, FlowProtocol, FrameLen, MAX_CONVERSATIONS,
     Protocol, RefusalKind, Summary, VerdictKind,
 };
-use std::hash::RandomState;
 use std::net::{IpAddr, Ipv4Addr, SocketAddr};
 use std::process::Abort;
-use std::random::RandomSource;
 
 const UDP: Protocol = Protocol::Udp;
 
@@ -51,61 +50,6 @@ fn info_of(len: u64) -> CaptureInfo {
             captured: len,
         }),
     }
-}
-
-/// Counts a packet that is refused. Stops the test if there is no room for it.
-pub(crate) fn refuse(
-    rt: &impl Abort,
-    summary: &mut Summary,
-    protocol: Protocol,
-    refusal: RefusalKind,
-    info: CaptureInfo,
-) {
-    expect_ok(rt, try_refuse(summary, protocol, refusal, info));
-}
-
-/// Counts a packet that is refused.
-fn try_refuse(
-    summary: &mut Summary,
-    protocol: Protocol,
-    refusal: RefusalKind,
-    info: CaptureInfo,
-) -> Result<(), &'static str> {
-    if summary.packets() == u64::MAX {
-        return Err("too many packets");
-    }
-    let added = summary.add(protocol, VerdictKind::Refused, Some(refusal), None, &info);
-    added.ok().ok_or("no memory is left")
-}
-
-/// Counts a packet that is not refused. Stops the test if there is no room for it.
-pub(crate) fn judge(
-    rt: &impl Abort,
-    summary: &mut Summary,
-    protocol: Protocol,
-    verdict: VerdictKind,
-    flow: Option<Flow>,
-    info: CaptureInfo,
-) {
-    expect_ok(rt, try_judge(summary, protocol, verdict, flow, info));
-}
-
-/// Counts a packet that is not refused.
-fn try_judge(
-    summary: &mut Summary,
-    protocol: Protocol,
-    verdict: VerdictKind,
-    flow: Option<Flow>,
-    info: CaptureInfo,
-) -> Result<(), &'static str> {
-    if summary.packets() == u64::MAX {
-        return Err("too many packets");
-    }
-    if let VerdictKind::Refused = verdict {
-        return Err("a refused packet");
-    }
-    let added = summary.add(protocol, verdict, None, flow, &info);
-    added.ok().ok_or("no memory is left")
 }
 
 /// Counts a packet of a flow whose checksum is right.
@@ -421,11 +365,6 @@ fn expect_flows(
     expect_equal(rt, &flows.counts().len(), &conversations);
     expect_equal(rt, &flows.without_ports(), &without_ports);
     expect_equal(rt, &flows.without_room(), &without_room);
-}
-
-/// A summary of no packet.
-pub(crate) fn new_summary(rt: &(impl Abort + AllocGlobal + RandomSource)) -> Summary {
-    Summary::new(rt.alloc(), expect_ok(rt, RandomState::new(rt)))
 }
 
 #[test]

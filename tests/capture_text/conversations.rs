@@ -1,5 +1,5 @@
-use super::flow_of_ipv4;
 use crate::expect::{expect_ok, expect_some, expect_written};
+use crate::summaries::flow_of_ipv4;
 use capture_summary::{ConversationCount, Count, Flow, FlowProtocol};
 use capture_text::write_conversations;
 use std::net::{IpAddr, SocketAddr};

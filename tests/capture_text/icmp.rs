@@ -1,5 +1,6 @@
-use super::{OVER_IPV4, OVER_IPV6, expect_transport};
+use super::expect_transport;
 use crate::expect::expect_ok;
+use crate::packets::{OVER_IPV4, OVER_IPV6};
 use capture_packet::Transport;
 use etherparse_transport::{Icmpv4Slice, Icmpv6Slice, TransportSlice, ip_number};
 use std::process::Abort;

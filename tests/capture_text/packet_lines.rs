@@ -1,7 +1,6 @@
-use super::{
-    OVER_IPV4, OVER_IPV6, expect_line, expect_line_of, expect_transport, expect_verdict, line_of,
-};
+use super::{expect_line, expect_line_of, expect_transport, expect_verdict, line_of};
 use crate::expect::{expect_all_written, expect_ok, expect_some, expect_written};
+use crate::packets::{OVER_IPV4, OVER_IPV6};
 use capture_link::LinkHeaderCutOff;
 use capture_packet::{
     Content, HopLimit, NetworkProtocol, Packet, Refusal, Transport, Tunnel, Verdict,

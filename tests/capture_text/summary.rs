@@ -1,6 +1,5 @@
-use super::flow_of_ipv4;
 use crate::expect::{expect_ok, expect_written};
-use crate::capture_summary::summary::{judge, new_summary, refuse};
+use crate::summaries::{flow_of_ipv4, judge, new_summary, refuse};
 use capture_file::pcapng::TimeResolution;
 use capture_file::{LinkType, PacketTime};
 use capture_summary::{CaptureInfo, FrameLen, Protocol, RefusalKind, Summary, VerdictKind};

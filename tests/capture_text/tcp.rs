@@ -1,5 +1,6 @@
-use super::{OVER_IPV4, expect_transport};
+use super::expect_transport;
 use crate::expect::{expect_ok, joined};
+use crate::packets::OVER_IPV4;
 use capture_packet::Transport;
 use etherparse_transport::{TcpSlice, TransportSlice, ip_number};
 use std::process::Abort;

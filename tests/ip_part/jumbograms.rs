@@ -1,79 +1,12 @@
-//! Packets whose length is not in the length field of their header: jumbograms (RFC 2675), and packets that state no length. The checksums
-//! were computed apart from this crate, by RFC 1071.
+//! Packets whose length is not in the length field of their header: jumbograms (RFC 2675), and packets that state no length.
 
 use super::{
     expect_error, expect_refusal, found_by_both, header_cut_off, ipv4_packet, ipv6_packet,
 };
 use crate::expect::{bytes_from, bytes_to, expect_at, expect_bytes, expect_equal, expect_ok};
-use etherparse_transport::ip::{
-    IpError, TransportInIp, checksum_verdict, transport_in_ip, transport_in_ip_lax,
-};
-use etherparse_transport::{ChecksumVerdict, Untested};
+use crate::packets::{JUMBOGRAM_LEN, write_jumbogram_headers};
+use etherparse_transport::ip::{IpError, TransportInIp, transport_in_ip, transport_in_ip_lax};
 use std::process::Abort;
-
-/// The length of an IPv6 header, hop-by-hop options of 8 bytes and a UDP packet of 65,544 bytes.
-const LEN: usize = 65_592;
-
-/// Writes the headers of a jumbogram: hop-by-hop options with this length, and UDP with this length field and checksum.
-fn write_headers(packet: &mut [u8; LEN], jumbo_payload_len: u32, length: u16, checksum: u16) {
-    packet[0] = 0x60;
-    packet[7] = 64;
-    packet[8..24].copy_from_slice(&[1; 16]);
-    packet[24..40].copy_from_slice(&[2; 16]);
-    packet[40..44].copy_from_slice(&[17, 0, 0xC2, 4]);
-    packet[44..48].copy_from_slice(&jumbo_payload_len.to_be_bytes());
-    packet[48..52].copy_from_slice(&[0, 53, 4, 210]);
-    packet[52..54].copy_from_slice(&length.to_be_bytes());
-    packet[54..56].copy_from_slice(&checksum.to_be_bytes());
-    packet[56..59].copy_from_slice(&[97, 98, 99]);
-}
-
-/// The jumbo payload length, the length field and the checksum of UDP, the length of the payload, and the verdict.
-type JudgedRow = (u32, u16, u16, usize, ChecksumVerdict);
-
-#[rattlefmt::skip]
-static JUDGED: [JudgedRow; 5] = [
-    (65_552, 0, 0x1E64, 65_544, ChecksumVerdict::Right),
-    (65_552, 0, 0x1E65, 65_544, ChecksumVerdict::Wrong { expected: 0x1E64 }),
-    (65_552, 0, 0x1832, 65_544, ChecksumVerdict::Partial { expected: 0x1E64 }),
-    (65_536, 0xFFF8, 0x1E7B, 65_528, ChecksumVerdict::Right),
-    (65_536, 0, 0x1E7B, 65_528, ChecksumVerdict::Untested(Untested::ZeroLength)),
-];
-
-/// The jumbogram of a row has the payload and the verdict of the row.
-fn expect_judged(rt: &impl Abort, packet: &mut [u8; LEN], row: &JudgedRow) {
-    let (jumbo_payload_len, length, checksum, len, expected) = *row;
-    write_headers(packet, jumbo_payload_len, length, checksum);
-    let found = expect_ok(rt, transport_in_ip(packet));
-    let verdict = expect_ok(rt, checksum_verdict(&found));
-    expect_at(rt, row, &found.payload.len(), &len);
-    expect_at(rt, row, &verdict, &expected);
-}
-
-#[test]
-fn jumbograms_are_judged(rt: HostRuntime) {
-    let mut packet = [0; LEN];
-    for row in &JUDGED {
-        expect_judged(&rt, &mut packet, row);
-    }
-    write_headers(&mut packet, 65_553, 0, 0);
-    let beyond = IpError::PacketCutOff {
-        required_len: 65_593,
-        len: LEN,
-    };
-    expect_error(&rt, transport_in_ip(&packet), &beyond);
-    let found = expect_ok(&rt, transport_in_ip_lax(&packet));
-    expect_equal(
-        &rt,
-        &(found.is_cut_off, found.is_length_missing),
-        &(true, false),
-    );
-    write_headers(&mut packet, 65_535, 0, 0);
-    let too_short = IpError::JumboPayloadLength {
-        jumbo_payload_len: 65_535,
-    };
-    expect_refusal(&rt, &packet, too_short);
-}
 
 /// A payload length, the first next header, options of 8 bytes, and the errors of the strict and of the lax call.
 type RefusedRow = (u8, u8, [u8; 8], Option<IpError>, Option<IpError>);
@@ -113,6 +46,24 @@ fn expect_errors(rt: &impl Abort, row: &RefusedRow) {
 
 #[test]
 fn jumbograms_are_refused(rt: HostRuntime) {
+    let mut packet = [0; JUMBOGRAM_LEN];
+    write_jumbogram_headers(&mut packet, 65_553, 0, 0);
+    let beyond = IpError::PacketCutOff {
+        required_len: 65_593,
+        len: JUMBOGRAM_LEN,
+    };
+    expect_error(&rt, transport_in_ip(&packet), &beyond);
+    let found = expect_ok(&rt, transport_in_ip_lax(&packet));
+    expect_equal(
+        &rt,
+        &(found.is_cut_off, found.is_length_missing),
+        &(true, false),
+    );
+    write_jumbogram_headers(&mut packet, 65_535, 0, 0);
+    let too_short = IpError::JumboPayloadLength {
+        jumbo_payload_len: 65_535,
+    };
+    expect_refusal(&rt, &packet, too_short);
     for row in &REFUSED {
         expect_errors(&rt, row);
     }
