@@ -1,0 +1,69 @@
+"""Tests of arguments: values that are refused, pairs of options, and long words."""
+import itertools
+import pathlib
+import tempfile
+
+from ..build import IPV4, RAW, capture, ipv4, udp
+from .report import lines_of, run
+
+
+def check_values(tally):
+    """Values that are refused, and what the message names."""
+    for arguments, words in [
+        (("--port", "70000"), "70000"), (("--port", "-1"), "-1"), (("--port", "http"), "http"), (("--host", "x"), "'x'"),
+        (("--host", "192.0.2.256"), "192.0.2.256"), (("--host", "192.0.2.1:53"), "192.0.2.1:53"), (("--host", ""), "--host"),
+        (("--host", "192.0.2.0/33"), "prefix length"), (("--host", "2001:db8::/129"), "prefix length"), (("--host", "192.0.2.1/24"), "bits"),
+        (("--host", "192.0.2.0/24", "--host", "x"), "'x'"), (("--port", "1") * 17, "--port"), (("--host", "::1") * 17, "--host"),
+        (("--protocol", "sctp"), "sctp"), (("--top", "-1"), "-1"), (("--top", "ten"), "ten"),
+        (("--top", "18446744073709551616"), "18446744073709551616"), (("--top", "3", "--packets"), "--packets"), (("--host",), "--host"),
+        (("--absolute", "--summary"), "--summary"),
+        (("--top", "1", "--top", "2"), "--top"), (("-c", "0"), "'0'"), (("-c", "-1"), "-1"), (("--count", "x"), "'x'"),
+        (("-c", "18446744073709551616"), "18446744073709551616"), (("-c", "1", "-c", "2"), "--count"),
+    ]:
+        done = run(b"", *arguments)
+        tally.expect(f"{arguments}", (done.returncode, done.stdout, words in done.stderr.decode()), (2, b"", True))
+
+
+# The pairs of options that are not used together, as a message writes them.
+EXCLUSIVE = [("--summary", "--packets"), ("--wrong", "--summary"), ("--absolute", "--summary"), ("--top <N>", "--packets"),
+             *(("--write <FILE>", option) for option in ("--summary", "--packets", "--absolute", "--check", "--json", "--top <N>"))]
+
+# The options that are used with any other option.
+FREE_OPTIONS = ["--verbose", "--host <ADDRESS>", "--port <N>", "--protocol <NAME>", "--count <N>", "--line-buffered", "--numeric", "--read <FILE>"]
+
+
+def check_pairs(tally):
+    """Each two options in either order: a pair of the list is refused by its names, and every other pair is accepted."""
+    data = capture(RAW, [ipv4(17, udp(IPV4, b"abc"))])
+    values = {"<N>": "3", "<FILE>": "-", "<ADDRESS>": "::1", "<NAME>": "udp"}
+    for options in itertools.permutations(sorted({option for pair in EXCLUSIVE for option in pair}) + FREE_OPTIONS, 2):
+        arguments = [values.get(word, word) for option in options for word in option.split()]
+        done = run(data, *arguments)
+        named = [pair for pair in EXCLUSIVE if set(pair) == set(options)]
+        message = "".join(f"error: the argument '{first}' cannot be used with '{second}'\n\nUsage: capture_report [OPTIONS] [FILE]...\n\n"
+                          "For more information, try '--help'.\n" for first, second in named)
+        found = (done.returncode, done.stderr.decode() if named else "", bool(done.stdout) and bool(named))
+        tally.expect(f"{arguments}", found, (2 if named else 0, message, False))
+    done = run(data, "--json", "--packets", "--summary", "-w", "-")
+    tally.expect("three pairs", (done.returncode, done.stderr.decode().splitlines()[0]),
+                 (2, "error: the argument '--summary' cannot be used with '--packets'"))
+
+
+def check_long_words(tally):
+    """An argument of as many bytes as Linux accepts, and more than 64 arguments."""
+    packet = capture(RAW, [ipv4(17, udp(IPV4, b"abc"))])
+    for length in (100_000, 131_071):
+        name = "x" * length
+        done = run(packet, "--host", name)
+        tally.expect(f"a host of {length} bytes", (done.returncode, done.stdout, f"error: invalid value '{name}' for '--host <ADDRESS>': " in done.stderr.decode()),
+                     (2, b"", True))
+        done = run(packet, "--summary", name, "-")
+        tally.expect(f"a file name of {length} bytes", (done.returncode, done.stdout, done.stderr.decode()),
+                     (3, run(packet, "--summary").stdout, f"capture_report: {name}: File name too long (os error 36)\n"))
+    with tempfile.TemporaryDirectory() as room:
+        names = [f"{number}.pcap" for number in range(70)]
+        for name in names:
+            (pathlib.Path(room) / name).write_bytes(packet)
+        lines = lines_of(run(b"", *names, cwd=room).stdout)
+        tally.expect("70 files", [line for line in lines if line.startswith("==> ")], [f"==> {name} <==" for name in names])
+        tally.expect("the packets of 70 files", [line.split(",")[0] for line in lines if line.startswith("packets 70,")], ["packets 70"])

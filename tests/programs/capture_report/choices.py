@@ -1,0 +1,58 @@
+"""Tests of the options that choose packets."""
+import ipaddress
+import re
+
+from ..build import ETHERNET, capture, pcapng
+from ..kinds import every_kind
+from .report import LENGTH, ends_of, lines_of, quoted_ends_of, run, verdict_of
+
+
+def in_network(address, hosts):
+    """Whether an address of a line is in one of these networks."""
+    return address != "unknown" and any(ipaddress.ip_address(address) in ipaddress.ip_network(host) for host in hosts)
+
+
+def protocols_of(names):
+    """The protocols with these names, where `icmp` is both versions."""
+    return [protocol for name in names for protocol in (("icmpv4", "icmpv6") if name.lower() == "icmp" else (name.lower(),))]
+
+
+def is_chosen(line, host=(), port=(), protocol=()):
+    """Whether the packet of a line is one of these, by what its line says of it."""
+    named = re.match(rf"\d+ \S+ {LENGTH}\S+ > \S+ (\w+)", line)
+    ends = ends_of(line) + quoted_ends_of(line)
+    return ((not host or any(in_network(address, host) for address, _ in ends))
+            and (not port or any(number in port for _, number in ends))
+            and (not protocol or named is not None and named.group(1).lower() in protocols_of(protocol)))
+
+
+def check_choices(tally):
+    """Packets that are chosen: their lines are those among the lines of all, and they alone are counted and checked."""
+    frames, _ = every_kind(ETHERNET)
+    for name, data in (("classic", capture(ETHERNET, frames)), ("pcapng", pcapng(ETHERNET, frames))):
+        lines = lines_of(run(data, "--packets").stdout)
+        for choice in [
+            {"host": ["192.0.2.1"]}, {"host": ["192.0.2.2"]}, {"host": ["2001:db8::1"]}, {"host": ["2001:db8::2"]}, {"host": ["192.0.2.3"]},
+            {"port": [53]}, {"port": [49152]}, {"port": [80]}, {"port": [0]},
+            {"host": ["198.51.100.7"]}, {"host": ["2001:db8::7"]}, {"port": [33434]}, {"host": ["198.51.100.7"], "port": [33434]},
+            {"host": ["198.51.100.7"], "port": [53]}, {"host": ["198.51.100.7"], "protocol": ["udp"]},
+            {"protocol": ["udp"]}, {"protocol": ["tcp"]}, {"protocol": ["icmpv4"]}, {"protocol": ["icmpv6"]},
+            {"protocol": ["icmp"]}, {"protocol": ["TCP", "Udp"]}, {"protocol": ["ICMPv6"]}, {"protocol": ["icmp", "tcp"]},
+            {"host": ["192.0.2.1"], "port": [53]}, {"host": ["2001:db8::1"], "port": [80]}, {"host": ["2001:db8::2"], "protocol": ["udp"]},
+            {"port": [53], "protocol": ["tcp"]}, {"host": ["2001:db8::2"], "port": [80], "protocol": ["tcp"]},
+            {"host": ["192.0.2.1", "2001:db8::2"]}, {"host": ["192.0.2.3", "198.51.100.7"]}, {"port": [53, 80]}, {"port": [1, 2, 33434]},
+            {"host": ["192.0.2.1", "2001:db8::1"], "port": [80, 33434]}, {"host": [f"192.0.2.{number}" for number in range(1, 17)]},
+            {"host": ["192.0.2.0/24"]}, {"host": ["192.0.2.0/31"]}, {"host": ["198.51.100.0/29"]}, {"host": ["192.0.2.1/32"]},
+            {"host": ["0.0.0.0/0"]}, {"host": ["::/0"]}, {"host": ["2001:db8::/32"]}, {"host": ["2001:db8::2/127"]}, {"host": ["2001:db9::/32"]},
+            {"host": ["198.51.100.0/24", "2001:db8::4/126"]},
+        ]:
+            arguments = [word for key, values in choice.items() for value in values for word in (f"--{key}", str(value))]
+            wanted = [line for line in lines if is_chosen(line, **choice)]
+            tally.expect(f"{name}, {arguments}: lines", lines_of(run(data, "--packets", *arguments).stdout), wanted)
+            faults = [line for line in wanted if verdict_of(line) in ("wrong", "refused")]
+            done = run(data, "--wrong", "--packets", "--check", *arguments)
+            tally.expect(f"{name}, {arguments}: faults", (done.returncode, lines_of(done.stdout)), (4 if faults else 0, faults))
+            summary = run(data, "--summary", *arguments).stdout.decode()
+            tally.expect(f"{name}, {arguments}: packets", re.search(r"^packets (\d+)", summary, re.M).group(1), str(len(wanted)))
+    written = run(capture(ETHERNET, frames), "--packets", "--host", "2001:0DB8:0:0::1").stdout
+    tally.expect("another text of an address", written, run(capture(ETHERNET, frames), "--packets", "--host", "2001:db8::1").stdout)

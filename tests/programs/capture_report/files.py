@@ -1,0 +1,120 @@
+"""Tests of captures that are named as arguments."""
+import bz2
+import gzip
+import json
+import lzma
+import os
+import pathlib
+import pty
+import subprocess
+import tempfile
+
+from ..build import COOKED2, ETHERNET, IPV4, capture, frame, ipv4, udp
+from ..kinds import every_kind
+from ..program import version
+from .choices import is_chosen
+from .report import PROGRAM, lines_of, run, without_facts
+
+
+def check_files(tally):
+    """Captures that are named as arguments: their headings, one summary of all, and the status of all."""
+    with tempfile.TemporaryDirectory() as room:
+        def kept(name, data):
+            (pathlib.Path(room) / name).write_bytes(data)
+            return name
+
+        def run_in(*arguments, data=b""):
+            return run(data, *arguments, cwd=room)
+
+        frames, _ = every_kind(ETHERNET)
+        everything = capture(ETHERNET, frames)
+        right = capture(COOKED2, [frame(COOKED2, ipv4(17, udp(IPV4, bytes(4))))] * 2, ">", True)
+        kept("all.pcap", everything)
+        kept("right.pcap", right)
+        kept("cut.pcap", right[:-1])
+        kept("all_cut.pcap", everything[:-1])
+        kept("text", b"This is no capture, but a text of some lines.\n")
+        kept("all.pcap.gz", gzip.compress(everything))
+        kept("all.pcap.zst", bytes.fromhex("28B52FFD") + bytes(40))
+        kept("all.pcap.xz", lzma.compress(everything))
+        kept("all.pcap.bz2", bz2.compress(everything))
+        kept("all.pcap.lz4", bytes.fromhex("04224D18") + bytes(40))
+        kept("all.pcap.Z", bytes.fromhex("1F9D90") + bytes(40))
+        for name in ("all.pcap", "right.pcap"):
+            tally.expect(f"{name} alone", run_in(name).stdout, run((pathlib.Path(room) / name).read_bytes()).stdout)
+        tally.expect("- alone", run_in("-", data=right).stdout, run(right).stdout)
+        # As in tcpdump and tshark, -r names a capture. -n has no effect.
+        for arguments in (("-r", "right.pcap"), ("-n", "right.pcap"), ("-nr", "right.pcap"), ("--read", "right.pcap", "--numeric")):
+            tally.expect(" ".join(arguments), run_in(*arguments).stdout, run_in("right.pcap").stdout)
+        tally.expect("-r is first", run_in("all.pcap", "-r", "right.pcap").stdout, run_in("right.pcap", "all.pcap").stdout)
+        done = run_in("all.pcap", "-", "right.pcap", data=right)
+        its_lines = [run(data, "--packets").stdout.decode() for data in (everything, right, right)]
+        wanted = "\n".join(f"==> {name} <==\n{lines}" for name, lines in zip(("all.pcap", "-", "right.pcap"), its_lines))
+        tally.expect("lines of three captures", done.stdout.decode().startswith(wanted + f"\npackets {len(frames) + 4}, bytes "), True)
+        summary = run_in("--summary", "all.pcap", "-", "right.pcap", data=right).stdout
+        tally.expect("summary of three captures", (done.stdout[len(wanted) + 1:], done.returncode, done.stderr), (summary, 0, b""))
+        for name, command in (("all.pcap.gz", "gzip -dc"), ("all.pcap.zst", "zstd -dc"), ("all.pcap.xz", "xz -dc"),
+                              ("all.pcap.bz2", "bzip2 -dc"), ("all.pcap.lz4", "lz4 -dc"), ("all.pcap.Z", "gzip -dc")):
+            done = run_in(name)
+            tally.expect(name, (done.returncode, done.stderr.decode()),
+                         (2, f"capture_report: {name}: The capture is compressed, and is read by {command} FILE | capture_report.\n"))
+        for arguments, status in [
+            (("right.pcap",), 0), (("--check", "right.pcap"), 0), (("all.pcap",), 0), (("--check", "all.pcap"), 4),
+            (("--check", "--summary", "right.pcap", "all.pcap"), 4), (("--check", "--wrong", "all.pcap", "right.pcap"), 4),
+            (("--check", "all.pcap", "cut.pcap"), 4), (("--check", "all_cut.pcap"), 4), (("--check", "all.pcap", "text", "none.pcap"), 4),
+            (("all_cut.pcap",), 1), (("--check", "cut.pcap"), 1), (("cut.pcap", "right.pcap"), 1), (("cut.pcap", "text", "cut.pcap"), 2),
+            (("text", "none.pcap", "cut.pcap"), 3), (("none.pcap",), 3), ((".",), 3),
+        ]:
+            done = run_in(*arguments)
+            named = [name for name in arguments if name in ("cut.pcap", "all_cut.pcap", "text", "none.pcap", ".")]
+            tally.expect(f"status of {arguments}", (done.returncode, [line.split(": ")[1] for line in lines_of(done.stderr)]), (status, named))
+        # Names are shown without control characters. A name that is not UTF-8 is an error, and the next captures are read.
+        kept("a\n\x1b[2J\u009b\u00fc\\.pcap", right)
+        for name, shown, error in [
+            ("a\n\x1b[2J\u009b\u00fc\\.pcap", "a\\x0A\\x1B[2J\\x9B\u00fc\\.pcap", ""),
+            (b"a\n\xfc\\.pcap", "a\\x0A\\xFC\\x5C.pcap", "The name is not UTF-8, and no file is opened by such a name."),
+            (b"--summary\xff", "--summary\\xFF", "The name is not UTF-8, and no file is opened by such a name."),
+        ]:
+            done = run_in("right.pcap", name, "right.pcap", "--packets")
+            lines = its_lines[1]
+            wanted = "\n".join(f"==> {file} <==\n{text}" for file, text in (("right.pcap", lines), (shown, "" if error else lines), ("right.pcap", lines)))
+            line = f"capture_report: {shown}: {error}\n" if error else ""
+            tally.expect(f"{name}", (done.returncode, done.stdout.decode(), done.stderr.decode()), (3 if error else 0, wanted, line))
+            files = [json.loads(line).get("file") for line in lines_of(run_in("right.pcap", name, "--packets", "--json").stdout)]
+            tally.expect(f"{name} in JSON", [file for file in files if file], ["right.pcap", shown if error else name])
+        done = run_in("tcp", "port", "80", "--packets")
+        hint = "; filters are --host, --port and --protocol"
+        wanted = [f"capture_report: {name}: No such file or directory (os error 2){end}" for name, end in (("tcp", hint), ("port", hint), ("80", ""))]
+        tally.expect("a filter of tcpdump", (done.returncode, lines_of(done.stderr)), (3, wanted))
+        done = run_in("tcp port 80", "--packets")
+        tally.expect("a filter of tcpdump in quotes", (done.returncode, done.stderr.decode()),
+                     (3, f"capture_report: tcp port 80: No such file or directory (os error 2){hint}\n"))
+        check_count(tally, run_in, its_lines[0].splitlines(), its_lines[1].splitlines())
+    terminal, its_end = pty.openpty()
+    done = subprocess.run([PROGRAM.path], stdin=its_end, capture_output=True, timeout=60)
+    tally.expect("a terminal as standard input", (done.returncode, done.stdout, "[FILE]..." in done.stderr.decode()), (2, b"", True))
+    os.close(its_end)
+    os.close(terminal)
+    done = run(b"", "--version")
+    tally.expect("--version", (done.returncode, done.stdout.decode()), (0, f"capture_report {version()}\n"))
+
+
+def check_count(tally, run_in, every, right):
+    """The report ends after a number of packets that are chosen, and reads no further capture. These are the lines of two captures."""
+    for count in (1, 3, len(every) - 1, len(every)):
+        done = run_in("-c", str(count), "--packets", "all.pcap")
+        tally.expect(f"-c {count}", (done.returncode, lines_of(done.stdout)), (0, every[:count]))
+        done = run_in("--count", str(count), "all.pcap", "right.pcap", "none.pcap")
+        wanted = ["==> all.pcap <==", *every[:count], "", f"packets {count}, bytes "]
+        tally.expect(f"--count {count} of three", (done.returncode, lines_of(done.stdout)[:len(wanted) - 1], done.stderr), (0, wanted[:-1], b""))
+        tally.expect(f"packets of --count {count}", without_facts(done).split("\n\n", 1)[1].startswith(wanted[-1]), True)
+    wanted = ["==> all.pcap <==", *every, "", "==> right.pcap <==", right[0]]
+    done = run_in("-c", str(len(every) + 1), "--packets", "all.pcap", "right.pcap", "none.pcap")
+    tally.expect("-c in the second capture", (done.returncode, lines_of(done.stdout), done.stderr), (0, wanted, b""))
+    done = run_in("-c", str(len(every) + 3), "--packets", "all.pcap", "right.pcap", "none.pcap")
+    tally.expect("-c above all packets", (done.returncode, lines_of(done.stdout)), (3, [*wanted, *right[1:], "", "==> none.pcap <=="]))
+    done = run_in("-c", "2", "--packets", "--protocol", "tcp", "all.pcap")
+    tally.expect("-c of some", lines_of(done.stdout), [line for line in every if is_chosen(line, protocol=["tcp"])][:2])
+    for count, status in ((1, 0), (2, 1)):
+        done = run_in("-c", str(count), "--packets", "cut.pcap")
+        tally.expect(f"-c {count} of a capture that is cut", (done.returncode, lines_of(done.stdout)), (status, right[:1]))

@@ -1,0 +1,158 @@
+"""Tests of the lines of packets: of each kind, behind each link header, and in tunnels."""
+import ipaddress
+import json
+import struct
+
+from ..build import ETHERNET, IPV4, IPV6, LINKS, NFLOG, OPENBSD, OTHER_LINK, RAW, capture, frame, gre, icmpv6, ipv4, ipv6, pcapng, tcp, udp
+from ..kinds import TCP_OPTIONS, every_kind, further_headers, packets_in_tunnels
+from .members import tunnel_of
+from .names import ETHER_TYPES, NUMBERS
+from .report import HOP_LIMIT, ends_of, length_text, lines_of, parts_of, run, verdict_of, with_underscores, without_facts
+
+
+def check_every_kind(tally):
+    """A capture of every kind of packet, behind every link, in both orders and resolutions: the packets have their verdicts, and in a
+    pcapng file the same report."""
+    for link in LINKS:
+        for order in "<>":
+            for nanoseconds in (False, True):
+                name = f"link type {link}, order {order}, nanoseconds {nanoseconds}"
+                frames, verdicts = every_kind(link, order)
+                done = run(capture(link, frames, order, nanoseconds), "--packets")
+                tally.expect(f"{name}: status", (done.returncode, done.stderr), (0, b""))
+                tally.expect(f"{name}: verdicts", [verdict_of(line) for line in lines_of(done.stdout)], verdicts)
+                lengths = [parts_of(line)[2] for line in lines_of(done.stdout)]
+                tally.expect(f"{name}: lengths", lengths, [length_text(entry) for entry in frames])
+                ours, theirs = (run(form(link, frames, order, nanoseconds)) for form in (pcapng, capture))
+                tally.expect(f"{name}: pcapng", (ours.returncode, ours.stderr, without_facts(ours)), (0, b"", without_facts(theirs)))
+
+
+def check_further_headers(tally):
+    """Other headers before a packet."""
+    for link in LINKS:
+        for order in "<>":
+            frames, verdicts = further_headers(link, order)
+            found = [verdict_of(line) for line in lines_of(run(capture(link, frames, order), "--packets").stdout)]
+            tally.expect(f"further headers, link type {link}, order {order}", found, verdicts)
+    # These are not read by tshark.
+    packet = ipv4(17, udp(IPV4, bytes(100)))
+    found = run(capture(NFLOG, [frame(NFLOG, packet, order=">")]), "--packets").stdout.decode()
+    tally.expect("NFLOG in the other order", verdict_of(found), "right")
+    found = run(capture(OPENBSD, [struct.pack("<I", 2) + packet]), "--packets").stdout.decode()
+    tally.expect("OpenBSD loopback in the other order", verdict_of(found), "right")
+    for tags in ((0x9200,), (0x9200, 0x8100), (0x88A8, 0x8100)):
+        found = run(capture(ETHERNET, [frame(ETHERNET, packet, tags=tags)]), "--packets").stdout.decode()
+        tally.expect(f"VLAN tags {tags}", verdict_of(found), "right")
+    frames = further_headers(ETHERNET)[0]
+    found = [parts_of(line)[3].split(";")[0] for line in lines_of(run(capture(ETHERNET, frames), "--packets").stdout)]
+    tally.expect("what other frames of Ethernet are", found[1:], ["STP", "IS-IS", "MPLS"])
+
+
+def check_tunnels(tally):
+    """Packets in tunnels: the line shows the outer packets and then the inner packet, which alone is counted. Packets that contain no packet
+    that is read are packets of another protocol."""
+    rows = list(packets_in_tunnels())
+    lines = [parts_of(line)[3] for line in lines_of(run(capture(RAW, [packet for _, packet, _ in rows]), "--packets").stdout)]
+    inner = [parts_of(line)[3] for line in lines_of(run(capture(RAW, [packet for _, _, packet in rows]), "--packets").stdout)]
+    tally.expect("lines of packets in tunnels", lines, [before + line for (before, _, _), line in zip(rows, inner)])
+    ours, theirs = (run(capture(RAW, [row[place] for row in rows]), "--summary").stdout.decode().split("\n\n")[1:] for place in (1, 2))
+    tally.expect("tables of packets in tunnels", [[line.split()[:2] for line in block.splitlines()] for block in ours[2:]],
+                 [[line.split()[:2] for line in block.splitlines()] for block in theirs[2:]])
+    data = capture(RAW, [packet for _, packet, _ in rows])
+    for (before, _, _), line in zip(rows, lines_of(run(data, "--packets", "--json").stdout)):
+        wanted = [tunnel_of(outer) for outer in before.split(" | ")[:-1]]
+        tally.expect(f"tunnels in JSON, {before}", json.loads(line)["tunnels"], wanted)
+    for host in ("203.0.113.2", "2001:db8::a", "192.0.2.1", "2001:db8::1", "203.0.113.0/24", "198.51.100.7"):
+        found = [parts_of(line)[3] for line in lines_of(run(data, "--packets", "--host", host).stdout)]
+        network = ipaddress.ip_network(host)
+        wanted = [line for line in lines if any(ipaddress.ip_address(address) in network for part in line.split(" | ")
+                                                for address, _ in ends_of("1 - length unknown: " + part))]
+        tally.expect(f"packets in tunnels, --host {host}", found, wanted)
+    packet = ipv4(17, udp(IPV4, b"abc"))
+    for name, protocol, payload, others in [
+        ("version 6 after protocol 4", 4, ipv6(59, b""), {}), ("version 4 after protocol 41", 41, packet, {}), ("no packet", 4, b"", {}),
+        ("19 bytes", 4, packet[:19], {}), ("a fragment", 4, packet, {"flags": 0x2000}), ("a later fragment", 4, packet, {"flags": 3}),
+        ("GRE of version 1", 47, gre(packet, 1), {}), ("GRE with a route", 47, gre(packet, 0x4000), {}),
+        ("GRE with Ethernet", 47, gre(packet, protocol_type=0x6558), {}), ("a cut GRE header", 47, gre(b"", 0x2000, b"ab", 0x0800), {}),
+    ]:
+        found = parts_of(*lines_of(run(capture(RAW, [ipv4(protocol, payload, **others)]), "--packets").stdout))[3]
+        word = {4: "IPv4", 41: "IPv6", 47: "GRE"}[protocol]
+        tally.expect(name, found, f"192.0.2.1 > 192.0.2.2 {word}, payload {len(payload)}")
+    whole = ipv4(4, packet)
+    found = [parts_of(line)[3] for line in lines_of(run(capture(RAW, [(whole[:len(whole) - cut], len(whole)) for cut in range(52)]),
+                                                            "--packets").stdout)]
+    tally.expect("packets in a cut tunnel", [line.count(" | ") for line in found], [1] * 12 + [0] * 40)
+    tally.expect("verdicts of packets in a cut tunnel", [verdict_of(line) for line in found[:51]],
+                 ["right"] + ["cut"] * 11 + ["other"] * 20 + ["cut"] * 19)
+    for name, others, payload in [("of which more follow", {"flags": 0x2000}, "3"), ("in a later fragment", {"flags": 5}, "3"),
+                                  ("that is cut off", {"total": 100}, "80, 3 captured"), ("without a length", {"total": 0}, "3")]:
+        data = capture(RAW, [ipv4(89, b"abc", **others)])
+        line = parts_of(*lines_of(run(data, "--packets").stdout))[3]
+        tally.expect(f"OSPF {name}", line, f"192.0.2.1 > 192.0.2.2 OSPF, payload {payload}")
+        reason = json.loads(run(data, "--packets", "--json").stdout)["reason"]
+        tally.expect(f"OSPF {name}, in JSON", reason, "another_protocol")
+
+
+def check_other_links(tally):
+    """A capture of a link type that is not read: the packets are shown with its number."""
+    frames = every_kind(OTHER_LINK)[0]
+    ours, theirs = (run(form(OTHER_LINK, frames)) for form in (pcapng, capture))
+    tally.expect("another link type", (theirs.returncode, theirs.stderr, without_facts(theirs)), (0, b"", without_facts(ours)))
+    lines = lines_of(run(capture(OTHER_LINK, frames), "--packets").stdout)
+    tally.expect("another link type: lines", [parts_of(line)[3] for line in lines], ["link type 147"] * len(frames))
+
+
+def check_hop_limits(tally):
+    """With -v a line has the time to live or the hop limit of the packet with the last addresses, and is otherwise the same. In JSON it is
+    always a member."""
+    for link in LINKS + (OTHER_LINK,):
+        data = capture(link, every_kind(link)[0])
+        plain, verbose, long = (lines_of(run(data, "--packets", *arguments).stdout) for arguments in ((), ("-v",), ("--verbose",)))
+        tally.expect(f"-v, link type {link}", ([HOP_LIMIT.sub("", line) for line in verbose], long), (plain, verbose))
+        tally.expect(f"-v, link type {link}: which lines", [bool(HOP_LIMIT.search(line)) for line in verbose], [" > " in line for line in plain])
+    over_ipv4, over_ipv6 = ipv4(17, udp(IPV4, b"abc")), ipv6(17, udp(IPV6, b"abc"))
+    over_ipv4, over_ipv6 = over_ipv4[:8] + b"\x07" + over_ipv4[9:], over_ipv6[:7] + b"\xff" + over_ipv6[8:]
+    in_4, in_6 = {"time_to_live": 7}, {"hop_limit": 255}
+    for name, packet, wanted in [
+        ("IPv4", over_ipv4, in_4), ("IPv6", over_ipv6, in_6), ("IPv4 in IPv4", ipv4(4, over_ipv4), in_4), ("IPv6 in IPv4", ipv4(41, over_ipv6), in_6),
+        ("GRE", ipv6(47, gre(over_ipv4)), in_4), ("20 bytes", over_ipv4[:20], in_4), ("19 bytes", over_ipv4[:19], {}),
+        ("40 bytes", over_ipv6[:40], in_6), ("39 bytes", over_ipv6[:39], {}), ("a refused header", b"\x44" + over_ipv4[1:], in_4),
+    ]:
+        data = capture(RAW, [packet])
+        line, found = lines_of(run(data, "--packets", "-v").stdout)[0], json.loads(run(data, "--packets", "--json").stdout)
+        found = {name: found[name] for name in ("time_to_live", "hop_limit") if name in found}
+        shown = {with_underscores(name): int(value) for name, value in HOP_LIMIT.findall(line)}
+        tally.expect(f"hop limit, {name}", (shown, found), (wanted, wanted))
+
+
+def check_payloads(tally):
+    """Of a frame that is cut after any number of bytes the length of the payload is that of the whole packet, once its header is there. The
+    bytes that were captured are those after the header."""
+    data = bytes(range(64))
+    for name, packet, header in [
+        ("UDP", ipv4(17, udp(IPV4, data)), 28), ("TCP", ipv6(6, tcp(IPV6, data, options=TCP_OPTIONS)), 80),
+        ("ICMPv6", ipv6(58, icmpv6(128, 0, bytes(4), data)), 48), ("another protocol", ipv4(47, data), 20),
+        ("a fragment", ipv6(44, bytes.fromhex("1100000100000001") + data), 48),
+    ]:
+        frames = [(packet[:length], len(packet)) for length in range(header, len(packet) + 1)]
+        packets = [json.loads(line) for line in lines_of(run(capture(RAW, frames), "--packets", "--json").stdout)]
+        found = [(packet["payload_length"], packet.get("payload_captured_length", len(data))) for packet in packets]
+        tally.expect(f"payload of {name}", found, [(len(data), length) for length in range(len(data) + 1)])
+
+
+def check_names(tally):
+    """Protocols that are not read: a line has the name, and an object has it next to the number."""
+    for name, number in NUMBERS.items():
+        # An authentication header is read, and what it protects has the name.
+        if number not in (1, 6, 17, 51, 58):
+            data = capture(RAW, [ipv4(number, bytes(4))])
+            line, found = run(data, "--packets").stdout.decode(), json.loads(run(data, "--packets", "--json").stdout)
+            tally.expect(f"protocol {number}", (f" {name}, payload 4" in line, found["protocol"], found["protocol_name"]), (True, number, name))
+    for name, number in ETHER_TYPES.items():
+        data = capture(ETHERNET, [frame(ETHERNET, bytes.fromhex("0000110000000000"), number=number)])
+        line, found = run(data, "--packets").stdout.decode(), json.loads(run(data, "--packets", "--json").stdout)
+        found = (parts_of(line.rstrip())[3], found["ether_type"], found["protocol_name"])
+        tally.expect(f"ether type {number:04X}", found, (name, number, name))
+    for number in (1, 3, 138, 255):
+        found = json.loads(run(capture(RAW, [ipv6(number, bytes(4))]), "--packets", "--json").stdout)
+        tally.expect(f"protocol {number} without a name", (found["protocol"], "protocol_name" in found), (number, False))

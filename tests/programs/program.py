@@ -1,0 +1,75 @@
+"""A program that is tested, and what its tests count."""
+import pathlib
+import re
+import subprocess
+
+TOP = pathlib.Path(__file__).resolve().parent.parent.parent
+
+
+class Program:
+    """A program of a crate, as `rt ci` left it, or as it is built here."""
+
+    def __init__(self, name):
+        self.crate = TOP / "crates" / name
+        self.path = self.crate / "out" / name
+
+    def is_stale(self):
+        """Whether the program is missing, or a source of it is newer than it."""
+        if not self.path.exists():
+            return True
+        made = self.path.stat().st_mtime
+        sources = (path for path in (TOP / "crates").rglob("*") if path.is_file() and "out" not in path.relative_to(TOP).parts)
+        return any(path.stat().st_mtime > made for path in sources)
+
+    def make(self):
+        """Builds the program if it is stale. Returns what a failed build printed, or None if there is a program."""
+        if not self.is_stale():
+            return None
+        arguments = (self.crate / "args").read_text().split()
+        with open(self.crate / "stdin", "rb") as stored:
+            done = subprocess.run(["rt", "run", "--", *arguments], cwd=self.crate, stdin=stored, capture_output=True)
+        return None if self.path.exists() else (done.stdout[-2000:] + done.stderr[-2000:]).decode(errors="replace")
+
+    def run(self, data, *arguments, **others):
+        """A run on this standard input."""
+        return subprocess.run([self.path, *arguments], input=data, capture_output=True, timeout=120, **others)
+
+    def with_errors_to(self, errors, data, *arguments, **others):
+        """A run whose standard error is this file, or is closed if there is no file."""
+        if errors is None:
+            command = ["sh", "-c", 'exec "$0" "$@" 2>&-', self.path, *arguments]
+            return subprocess.run(command, input=data, stdout=subprocess.PIPE, timeout=60, **others)
+        return subprocess.run([self.path, *arguments], input=data, stdout=subprocess.PIPE, stderr=errors, timeout=60, **others)
+
+
+class Tally:
+    """How many checks passed and failed."""
+
+    def __init__(self):
+        self.passed = self.failed = 0
+
+    def expect(self, name, found, stated):
+        if found == stated:
+            self.passed += 1
+        else:
+            self.failed += 1
+            print(f"{name}: stated and found:\n{stated!r}\n{found!r}", flush=True)
+
+
+def run_checks(program, checks):
+    """Runs the checks of a program, prints what they count, and returns the exit status."""
+    fault = program.make()
+    if fault is not None:
+        print(fault, "0 passed, 1 failed", sep="\n")
+        return 1
+    tally = Tally()
+    for check in checks:
+        check(tally)
+    print(f"{tally.passed} passed, {tally.failed} failed")
+    return 1 if tally.failed or not tally.passed else 0
+
+
+def version():
+    """The version of the library, which is that of the programs too."""
+    header = (TOP / "c_library" / "include" / "etherparse_transport.h").read_text()
+    return re.search(r'ETHERPARSE_VERSION_STRING "(.*)"', header).group(1)

@@ -1,0 +1,26 @@
+"""How the program is run, and what its output is compared with."""
+import collections
+
+from ..program import Program
+
+PROGRAM = Program("translator")
+run = PROGRAM.run
+
+
+def counts_of(text):
+    """The counts that the program writes to standard error."""
+    counts = collections.Counter()
+    for line in text.splitlines():
+        words = line.removeprefix("translator: ").split()
+        if words[1:3] == ["packets", "translated,"]:
+            counts["translated"], counts["without"] = int(words[0]), int(words[3])
+        elif words[1:3] == ["not", "translated:"]:
+            counts[" ".join(words[3:])] = int(words[0])
+    return +counts
+
+
+def first_difference(some, others):
+    """Where bytes differ, or None."""
+    if some == others:
+        return None
+    return next((place for place, (one, other) in enumerate(zip(some, others)) if one != other), min(len(some), len(others)))

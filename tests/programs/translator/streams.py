@@ -1,0 +1,105 @@
+"""Tests of arguments, and of input and output that fail."""
+import os
+import pathlib
+import pty
+import subprocess
+import tempfile
+
+from .. import build, kinds
+from ..program import version
+from .captures import TABLES, model
+from .run import PROGRAM, first_difference, run
+
+
+def check_arguments(tally):
+    """Arguments that are refused, by name, and what help and version write."""
+    data = build.capture(build.ETHERNET, [])
+    refused = {
+        "10.0.0.0/8": "not of the form OLD=NEW", "10.0.0.0/8=": "no IPv4 or IPv6 address", "10.0.0/8=10.0.0.0/8": "no IPv4 or IPv6 address",
+        "10.0.0.0/33=10.0.0.0/33": "no number from 0 to 32", "::/129=::/129": "no number from 0 to 32", "10.0.0.0/x=10.0.0.0/8": "no number from 0",
+        "10.0.0.1/8=10.0.0.0/8": "bits other than 0 after its prefix", "10.0.0.0/8=10.0.0.1/24": "bits other than 0 after its prefix",
+        "10.0.0.0/8=::/8": "different IP versions", "10.0.0.0/16=10.0.0.0/8": "shorter than the old prefix", "::1=::/127": "shorter than the old prefix",
+    }
+    for text, reason in refused.items():
+        for option in ("source", "destination"):
+            done = run(data, f"--{option}", text)
+            tally.expect(text, (done.returncode, done.stdout, f"'{text}' for '--{option} " in done.stderr.decode(), reason in done.stderr.decode()),
+                         (2, b"", True, True))
+    for text, reason in {"80": "OLD=NEW", "80=65536": "no number from 0 to 65535", "x=80": "no number", "=1": "no number"}.items():
+        for option in ("source-port", "destination-port"):
+            done = run(data, f"--{option}", text)
+            tally.expect(text, (done.returncode, done.stdout, reason in done.stderr.decode()), (2, b"", True))
+    tally.expect("no replacement", run(data).returncode, 2)
+    tally.expect("an unknown option", run(data, "--sources", "::=::").returncode, 2)
+    done = run(b"", "--help")
+    tally.expect("help", (done.returncode, all(word in done.stdout.decode() for word in ("Example:", "Exit status:", "\n  141  ", "--destination-port <OLD=NEW>"))), (0, True))
+    tally.expect("version", (run(b"", "--version").returncode, run(b"", "--version").stdout.decode()), (0, f"translator {version()}\n"))
+
+
+def check_streams(tally):
+    """A named file, standard input by name, and streams that fail."""
+    table = TABLES["both sides"]
+    data = build.capture(build.ETHERNET, kinds.every_kind(build.ETHERNET)[0])
+    wanted = model(data, table)[0]
+    with tempfile.TemporaryDirectory() as room:
+        path = pathlib.Path(room) / "capture.pcap"
+        path.write_bytes(data)
+        tally.expect("a file", run(b"", *table.arguments, path).stdout, wanted)
+        tally.expect("standard input", run(data, *table.arguments, "-").stdout, wanted)
+        done = run(b"", *table.arguments, path.with_name("missing"))
+        tally.expect("no file", (done.returncode, done.stdout, "missing: " in done.stderr.decode()), (3, b"", True))
+        tally.expect("a folder", run(b"", *table.arguments, room).returncode, 3)
+    check_terminal(tally, table)
+    check_failed_output(tally, table, data)
+    check_failed_errors(tally, table, data)
+
+
+def check_terminal(tally, table):
+    """A terminal is read if its name is given. Without a name it is refused."""
+    for arguments, refusal in (((), True), (("-",), False)):
+        terminal, its_end = pty.openpty()
+        # The character ends the input of a terminal for one read.
+        os.write(terminal, b"\4" * 8)
+        done = subprocess.run([PROGRAM.path, *table.arguments, *arguments], stdin=its_end, capture_output=True, timeout=60)
+        os.close(its_end)
+        os.close(terminal)
+        said = done.stderr.decode()
+        tally.expect(f"{arguments}, a terminal", (done.returncode, done.stdout, "no FILE is named" in said, "the input contains 0." in said),
+                     (2, b"", refusal, not refusal))
+
+
+def check_failed_output(tally, table, data):
+    """If writing fails, the status is 3 also after a capture that is cut off. The error is written, and the counts are left out."""
+    if not pathlib.Path("/dev/full").exists():
+        return
+    failed = "translator: Writing failed: No space left on device (os error 28)."
+    # A long capture fails before its end, and the others at the flush.
+    header, *records = build.capture_parts(build.ETHERNET, [data[:1000]])
+    for name, read, errors in (("a capture", data, 1), ("a capture that is cut off", data[:200], 2), ("a long capture", header + records[0] * 1000, 1)):
+        with open("/dev/full", "wb") as full:
+            done = subprocess.run([PROGRAM.path, *table.arguments], input=read, stdout=full, stderr=subprocess.PIPE, timeout=120)
+        said = done.stderr.decode().splitlines()
+        tally.expect(f"{name}, full output", (done.returncode, said[-1], len(said)), (3, failed, errors))
+    for arguments in (table.arguments, ("--help",)):
+        reader, writer = os.pipe()
+        os.close(reader)
+        done = subprocess.run([PROGRAM.path, *arguments], input=data, stdout=writer, stderr=subprocess.PIPE, timeout=60)
+        os.close(writer)
+        tally.expect(f"{arguments}: the reader of standard output ended", (done.returncode, done.stderr), (141, b""))
+
+
+def check_failed_errors(tally, table, data):
+    """If standard error can't be written, the capture has been written, and the status is that of a failure."""
+    if not pathlib.Path("/dev/full").exists():
+        return
+    reader, ended = os.pipe()
+    os.close(reader)
+    with open("/dev/full", "wb") as full:
+        for name, errors, status in (("full", full, 3), ("without a reader", ended, 141), ("closed", None, 3)):
+            for form, read in (("a capture", data), ("a capture that is cut off", data[:-1])):
+                done = PROGRAM.with_errors_to(errors, read, *table.arguments)
+                tally.expect(f"{form}, standard error {name}", (done.returncode, first_difference(done.stdout, model(read, table)[0])), (status, None))
+            for arguments in ((*table.arguments, "missing.pcap"), ("--bogus",), ()):
+                done = PROGRAM.with_errors_to(errors, data, *arguments)
+                tally.expect(f"{arguments}, standard error {name}", (done.returncode, done.stdout), (status, b""))
+    os.close(ended)

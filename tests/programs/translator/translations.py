@@ -1,0 +1,152 @@
+"""Tests of translated captures: of each kind, cut off, malformed and long."""
+import pathlib
+import struct
+import subprocess
+import sys
+import tempfile
+
+from .. import build, kinds
+from .captures import TABLES, captures, model, verdicts
+from .run import PROGRAM, counts_of, first_difference, run
+
+
+def check_captures(tally):
+    """Each capture, with each table: the bytes of the model, its counts, and right checksums where they were right."""
+    for name, data in captures():
+        for title, table in TABLES.items():
+            done = run(data, *table.arguments)
+            wanted, counts = model(data, table)
+            tally.expect(f"{name}, {title}: status", done.returncode, 0)
+            tally.expect(f"{name}, {title}: where the bytes differ", first_difference(done.stdout, wanted), None)
+            tally.expect(f"{name}, {title}: counts", counts_of(done.stderr.decode()), counts)
+            tally.expect(f"{name}, {title}: checksums", verdicts(done.stdout), verdicts(data))
+
+
+def check_cuts(tally):
+    """A capture of each form that ends at each byte: its whole packets are translated, and what is left is written as it is. Nothing is
+    written if its header or its first block is cut off."""
+    table = TABLES["both sides"]
+    frames = kinds.every_kind(build.ETHERNET)[0][:5]
+    for parts in (build.capture_parts, build.pcapng_parts):
+        data, starts, at = b"".join(parts(build.ETHERNET, frames)), set(), 0
+        for part in parts(build.ETHERNET, frames):
+            starts.add(at)
+            at += len(part)
+        for length in range(len(data)):
+            done = run(data[:length], *table.arguments)
+            start = max(place for place in starts if place <= length)
+            status = 0 if length in starts and length else 2 if length < sorted(starts)[1] else 1
+            written = model(data[:length], table)[0] if status < 2 else b""
+            said = done.stderr.decode().splitlines()
+            if status == 1:
+                wanted = f"translator: At byte {start} of the file: {cut_text(parts, data[start:], length - start)}"
+                tally.expect(f"{parts.__name__}, {length} bytes: the error", said[0], wanted)
+            # The line of the error is the first one, and the counts follow.
+            counts_at = [place for place, line in enumerate(said) if line.endswith(" without a replacement")]
+            tally.expect(f"{parts.__name__}, {length} bytes", (done.returncode, done.stdout, counts_at), (status, written, [min(status, 1)]))
+
+
+def cut_text(parts, rest, left):
+    """The text for a record or block that is cut off: the length of it as far as it is known, and the bytes that are left."""
+    if parts == build.pcapng_parts:
+        required = struct.unpack("<I", rest[4:8])[0] if left >= 12 else 12
+        return f"The block has at least {required} bytes, and {left} are left."
+    required = 16 + struct.unpack("<I", rest[8:12])[0] if left >= 16 else 16
+    return f"The record has at least {required} bytes, and {left} are left."
+
+
+def check_faults(tally):
+    """Blocks and headers that can't be read: what was read of them is written, and their place is said."""
+    table, begin = TABLES["both sides"], build.section_header() + build.interface_description(build.ETHERNET)
+    frame = kinds.every_kind(build.ETHERNET)[0][0]
+    packet = build.block(6, struct.pack("<IIIII", 0, 1, 2, len(frame), len(frame)) + frame)
+    good = model(begin + packet, table)[0]
+    faults = {
+        "a total length of 13": (struct.pack("<III", 6, 13, 0), "total length of the block, in its bytes 4 to 7, is 13"),
+        "another last length": (packet[:-4] + struct.pack("<I", 12), "and 12 in its last four bytes"),
+        "an interface that is not there": (build.block(6, struct.pack("<IIIII", 1, 1, 2, 4, 4) + bytes(4)), "interface"),
+        "captured bytes beyond the block": (build.block(6, struct.pack("<IIIII", 0, 1, 2, 99, 99) + bytes(4)), ""),
+        "a section of version 2": (build.section_header(major=2), "2"),
+    }
+    for name, (block, text) in faults.items():
+        done = run(begin + packet + block + packet, *table.arguments)
+        said = done.stderr.decode()
+        tally.expect(name, (done.returncode, first_difference(done.stdout, good + block), f"At byte {len(begin + packet)} " in said, text in said),
+                     (1, None, True, True))
+    for name, data, status in (("no capture", b"no capture at all, but a text", 2), ("nothing", b"", 2), ("gzip", bytes.fromhex("1F8B0800") + bytes(40), 2),
+                               ("version 2.3", build.capture(build.ETHERNET, [frame]).replace(b"\2\0\4\0", b"\2\0\3\0", 1), 1),
+                               ("a first section of version 2", build.section_header(major=2) + packet, 1),
+                               ("a first section without a magic", build.section_header()[:8] + bytes(20) + packet, 2),
+                               ("a first section with another last length", build.section_header()[:-4] + struct.pack("<I", 12) + packet, 2)):
+        done = run(data, *table.arguments)
+        tally.expect(name, (done.returncode, done.stdout), (status, b""))
+    data = build.capture(build.OTHER_LINK, [frame])
+    done = run(data, *table.arguments)
+    tally.expect("a link type", (done.returncode, done.stdout), (0, data))
+
+
+def check_long(tally):
+    """Records and blocks without room in the buffer, before a packet: they are copied."""
+    table, frame = TABLES["both sides"], kinds.every_kind(build.ETHERNET)[0][0]
+    for length in (524_288, 524_289, 1_200_000):
+        long = frame + bytes(length - len(frame))
+        data = build.capture(build.ETHERNET, [long, frame])
+        done = run(data, *table.arguments)
+        new = model(build.capture(build.ETHERNET, [frame, frame]), table)[0][40:40 + len(frame)]
+        wanted = data.replace(frame, new) if length == 524_288 else data[:-len(frame)] + new
+        tally.expect(f"a record of {length} bytes", (done.returncode, first_difference(done.stdout, wanted)), (0, None))
+        cut = data[:40 + min(length - 1, 600_000)]
+        done = run(cut, *table.arguments)
+        tally.expect("a record that is cut off", (done.returncode, first_difference(done.stdout, cut), "too long" in done.stderr.decode()), (1, None, False))
+        wanted = f"translator: At byte 24 of the file: {cut_text(build.capture_parts, cut[24:], len(cut) - 24)}"
+        tally.expect("a record that is cut off: the error", done.stderr.decode().splitlines()[0], wanted)
+        begin = build.section_header() + build.interface_description(build.ETHERNET)
+        packets = [build.block(6, struct.pack("<IIIII", 0, 1, 2, len(data), len(data)) + data) for data in (long, frame)]
+        other = build.block(0x0BAD, long)
+        data = begin + other + b"".join(packets)
+        done = run(data, *table.arguments)
+        wanted = begin + other + packets[0] + packets[1].replace(frame, new)
+        tally.expect(f"blocks of {length} bytes", (done.returncode, first_difference(done.stdout, wanted), "too long" in done.stderr.decode()),
+                     (0, None, True))
+        done = run(data[:len(begin) + 600_000], *table.arguments)
+        tally.expect("a block that is cut off", (done.returncode, first_difference(done.stdout, data[:len(begin) + 600_000])),
+                     (1, None) if length > 524_289 else (done.returncode, None))
+        if length > 524_289:
+            wanted = f"translator: At byte {len(begin)} of the file: {cut_text(build.pcapng_parts, other, 600_000)}"
+            tally.expect("a block that is cut off: the error", done.stderr.decode().splitlines()[0], wanted)
+        check_last_length(tally, table, begin, other, packets[1])
+
+
+def check_last_length(tally, table, begin, long, packet):
+    """The last total length of a block without room in the buffer: it is cut off, or it is another number."""
+    for left in (1, 2, 3, 4, 5):
+        cut = begin + long[:-left]
+        done = run(cut, *table.arguments)
+        wanted = f"translator: At byte {len(begin)} of the file: {cut_text(build.pcapng_parts, long, len(long) - left)}"
+        tally.expect(f"a long block without its last bytes, {left}", (done.returncode, first_difference(done.stdout, cut), done.stderr.decode().splitlines()[0]),
+                     (1, None, wanted))
+    wrong = begin + long[:-4] + struct.pack("<I", 12)
+    done = run(wrong + packet, *table.arguments)
+    tally.expect("a long block with another last length", (done.returncode, first_difference(done.stdout, wrong), "and 12 in its last four bytes" in done.stderr.decode()),
+                 (1, None, True))
+
+
+def check_memory(tally):
+    """A long capture needs no more memory than a short one, and each of its packets is translated."""
+    frame, table = kinds.every_kind(build.ETHERNET)[0][0], TABLES["both sides"]
+    code = "import resource,subprocess,sys; done = subprocess.run(sys.argv[2:], stdin=sys.stdin, stdout=open(sys.argv[1], 'wb')); " \
+           "print(done.returncode, resource.getrusage(resource.RUSAGE_CHILDREN).ru_maxrss)"
+    for parts, most in ((build.capture_parts, 400_000), (build.pcapng_parts, 70_000)):
+        *begin, packet = parts(build.ETHERNET, [frame])
+        begin, used = b"".join(begin), []
+        new = model(begin + packet, table)[0][len(begin):]
+        for count in (1, most):
+            with tempfile.TemporaryDirectory() as room:
+                path = pathlib.Path(room) / "translated"
+                done = subprocess.run([sys.executable, "-c", code, path, PROGRAM.path, *table.arguments], input=begin + packet * count,
+                                      capture_output=True, timeout=120)
+                status, size = map(int, done.stdout.split())
+                found = (status, path.read_bytes() == begin + new * count, counts_of(done.stderr.decode()))
+            tally.expect(f"{parts.__name__}, {count} packets", found, (0, True, {"translated": count}))
+            used.append(size)
+        tally.expect(f"{parts.__name__}: memory in KB grows by less than 1,000", used[1] < used[0] + 1000, True)
