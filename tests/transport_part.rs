@@ -10,7 +10,7 @@ use etherparse_transport::ip::{
     TransportInIp, checksum_verdict, proto_in_ip, proto_over, transport_in_ip, transport_in_ip_lax,
     transport_slice,
 };
-use etherparse_transport::{ChecksumVerdict, Proto, Untested};
+use etherparse_transport::{ChecksumVerdict, Proto, Untested, icmpv4, ip_number};
 use std::process::Abort;
 
 /// An IP packet of this version and protocol, with these bytes after its header: over IPv4 from 10.0.0.1 to 10.0.0.2 and with this byte 6,
@@ -233,4 +233,22 @@ fn jumbograms_are_judged(rt: HostRuntime) {
     for row in &JUDGED {
         expect_judged(&rt, &mut packet, row);
     }
+}
+
+#[test]
+fn an_icmpv4_message_is_tested_at_any_length(rt: HostRuntime) {
+    // IPv4 with total length 0, and then 65,536 bytes: an echo request with the right checksum.
+    let mut packet = [0; 65_556];
+    packet[0] = 0x45;
+    packet[9] = ip_number::ICMP.0;
+    packet[20] = icmpv4::TYPE_ECHO_REQUEST;
+    packet[22] = 0xF7;
+    packet[23] = 0xFF;
+    let found = expect_ok(&rt, transport_in_ip_lax(&packet));
+    let verdict = expect_ok(&rt, checksum_verdict(&found));
+    expect_equal(&rt, &verdict, &ChecksumVerdict::Right);
+    packet[9] = ip_number::UDP.0;
+    let found = expect_ok(&rt, transport_in_ip_lax(&packet));
+    let verdict = expect_ok(&rt, checksum_verdict(&found));
+    expect_equal(&rt, &verdict, &ChecksumVerdict::Untested(Untested::TooLong));
 }

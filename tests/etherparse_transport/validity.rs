@@ -2,10 +2,9 @@
 
 use crate::expect::{bytes_to, expect_at, expect_equal, expect_ok};
 use arrayvec::ArrayVec;
-use etherparse_transport::ip::{checksum_verdict, transport_in_ip_lax};
 use etherparse_transport::{
-    ChecksumVerdict, IcmpEchoHeader, Icmpv4Header, Icmpv4Slice, Icmpv4Type, Ipv4Header, Ipv6Header,
-    TcpHeader, TcpHeaderSlice, TcpOptionElement, UdpHeader, UdpSlice, Untested, icmpv4, ip_number,
+    IcmpEchoHeader, Icmpv4Header, Icmpv4Slice, Icmpv4Type, Ipv4Header, Ipv6Header, TcpHeader,
+    TcpHeaderSlice, TcpOptionElement, UdpHeader, UdpSlice,
 };
 use std::process::Abort;
 
@@ -216,22 +215,4 @@ fn every_changed_bit_of_icmpv4_is_found(rt: HostRuntime) {
         missed: 0,
     };
     expect_equal(&rt, &counts, &expected);
-}
-
-#[test]
-fn an_icmpv4_message_is_tested_at_any_length(rt: HostRuntime) {
-    // IPv4 with total length 0, and then 65,536 bytes: an echo request with the right checksum.
-    let mut packet = [0; 65_556];
-    packet[0] = 0x45;
-    packet[9] = ip_number::ICMP.0;
-    packet[20] = icmpv4::TYPE_ECHO_REQUEST;
-    packet[22] = 0xF7;
-    packet[23] = 0xFF;
-    let found = expect_ok(&rt, transport_in_ip_lax(&packet));
-    let verdict = expect_ok(&rt, checksum_verdict(&found));
-    expect_equal(&rt, &verdict, &ChecksumVerdict::Right);
-    packet[9] = ip_number::UDP.0;
-    let found = expect_ok(&rt, transport_in_ip_lax(&packet));
-    let verdict = expect_ok(&rt, checksum_verdict(&found));
-    expect_equal(&rt, &verdict, &ChecksumVerdict::Untested(Untested::TooLong));
 }
