@@ -1,5 +1,7 @@
 ghost use Rattle.std.specs.Prelude.{◌≡◌, ◌≢◌, ◌+◌, ◌↔◌, List, ℕ, IfNone, IfSome};
-ghost use Rattle.word_sum.specs.Checksum.{IsAllOnes, checksum_of};
+ghost use Rattle.std.specs.Int.{to_be_bytes, w16};
+ghost use Rattle.word_sum.specs.Checksum.{IsAllOnes, checksum_of, folded, total};
+ghost use Rattle.word_sum.specs.UpdatedChecksum.{updated_checksum_of};
 
 use crate::{Icmpv4Header, Icmpv4Type};
 use std::mem;
@@ -30,6 +32,9 @@ impl Icmpv4Header {
         // If a receiver accepts a packet, it accepts the changed packet, unless that packet and its checksum are all zeros.
         ensures verifies { IfSome result (λ _. (payload : List ℕ) → IsAllOnes (checksummed self.old payload + self.old.checksum) →
             (IsAllOnes (checksummed self.new payload + self.new.checksum)) ↔ (checksummed self.new payload + self.new.checksum ≢ 0)) }
+        // The new checksum is the number of RFC 1624, section 3, equation 3, which decides between the two zeros.
+        ensures equation { IfSome result (λ was. self.new.checksum
+            ≡ updated_checksum_of self.old.checksum (folded (total (to_be_bytes w16 was))) (folded (total (to_be_bytes w16 id)))) }
     {
         let old = self.icmp_type.replace_echo_id(id)?;
         let change = ChecksumChange::new().replace_2bytes(old.to_be_bytes(), id.to_be_bytes());

@@ -1,5 +1,7 @@
-ghost use Rattle.std.specs.Prelude.{◌≡◌, ◌+◌, ◌↔◌, List, ℕ, length, IfNone};
-ghost use Rattle.word_sum.specs.Checksum.{IsAllOnes, checksum_of};
+ghost use Rattle.std.specs.Prelude.{◌≡◌, ◌+◌, ◌↔◌, List, ℕ, length, IfNone, IfSome};
+ghost use Rattle.std.specs.Int.{to_be_bytes, w16};
+ghost use Rattle.word_sum.specs.Checksum.{IsAllOnes, checksum_of, folded, total};
+ghost use Rattle.word_sum.specs.UpdatedChecksum.{updated_checksum_of};
 
 use crate::{Icmpv6Header, Icmpv6Type};
 use std::mem;
@@ -26,6 +28,9 @@ impl Icmpv6Header {
         ensures verifies { (source destination payload : List ℕ) → length source ≡ 16 → length destination ≡ 16 →
             (IsAllOnes (checksummed source destination self.new payload + self.new.checksum))
             ↔ (IsAllOnes (checksummed source destination self.old payload + self.old.checksum)) }
+        // The new checksum is the number of RFC 1624, section 3, equation 3, which decides between the two zeros.
+        ensures equation { IfSome result (λ was. self.new.checksum
+            ≡ updated_checksum_of self.old.checksum (folded (total (to_be_bytes w16 was))) (folded (total (to_be_bytes w16 id)))) }
     {
         let old = self.icmp_type.replace_echo_id(id)?;
         let change = ChecksumChange::new().replace_2bytes(old.to_be_bytes(), id.to_be_bytes());
@@ -56,6 +61,8 @@ impl Icmpv6Header {
         ensures destination_verifies { (source payload : List ℕ) → length source ≡ 16 →
             (IsAllOnes (checksummed source new self.new payload + self.new.checksum))
             ↔ (IsAllOnes (checksummed source old self.old payload + self.old.checksum)) }
+        // The new checksum is the number of RFC 1624, section 3, equation 3, which decides between the two zeros.
+        ensures equation { self.new.checksum ≡ updated_checksum_of self.old.checksum (folded (total old)) (folded (total new)) }
     {
         self.checksum = ChecksumChange::new()
             .replace_16bytes(old, new)
