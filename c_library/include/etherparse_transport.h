@@ -45,11 +45,16 @@
 #include <stdint.h>
 
 /*
- * The library is built for x86-64 processors of level x86-64-v2, and the structs have the layout of x86-64 Linux. Compilers for Windows
- * and macOS define __x86_64__ too, but use another calling convention or another object format.
+ * The library is built for Linux on x86-64 processors of level x86-64-v2, and on 64-bit ARM processors (AArch64) in little-endian mode.
+ * The structs have the same layout on both. Compilers for Windows and macOS define __x86_64__ or __aarch64__ too, but use another calling
+ * convention or another object format.
  */
-#if !defined(__x86_64__) || defined(__ILP32__)
-#error "etherparse_transport is built for x86-64, with pointers of 64 bits"
+#if !defined(__x86_64__) && !defined(__aarch64__)
+#error "etherparse_transport is built for x86-64 and for 64-bit ARM"
+#elif defined(__ILP32__)
+#error "etherparse_transport is built for pointers of 64 bits"
+#elif defined(__AARCH64EB__)
+#error "etherparse_transport is built for little-endian processors, not for big-endian ARM"
 #endif
 #if defined(_WIN32) || defined(__CYGWIN__) || defined(__APPLE__)
 #error "etherparse_transport is built for Linux, not for Windows or macOS"
@@ -94,18 +99,24 @@ uint32_t etherparse_version(void);
 
 #if defined(__GNUC__) || defined(__clang__)
 /*
- * Returns 1 if the processor has the level x86-64-v2, otherwise 0. On a processor below this level, a call of the library can end the
- * program by SIGILL. glibc from 2.33 refuses to load the shared library there, and to start a program that GNU ld or gold linked with the
- * installed static library. A program that is linked with -static or by another linker has to check the level before its first call.
+ * Returns 1 if the library supports the processor, otherwise 0. On ARM it returns 1.
+ *
+ * On x86-64 the processor needs the level x86-64-v2. Below this level, a call of the library can end the program by SIGILL. glibc from 2.33
+ * refuses to load the shared library there, and to start a program that GNU ld or gold linked with the installed static library. A program
+ * that is linked with -static or by another linker has to check the level before its first call.
  *
  * The compiler puts this function into the program. It is not in the library, and compilers other than gcc and clang do not have it.
  */
 ETHERPARSE_CHECK_RESULT __attribute__((unused))
 static inline int etherparse_processor_is_supported(void)
 {
+#if defined(__x86_64__)
     /* The level is SSE4.2, POPCNT and older instructions that every processor with these two has. */
     __builtin_cpu_init();
     return __builtin_cpu_supports("sse4.2") && __builtin_cpu_supports("popcnt");
+#else
+    return 1;
+#endif
 }
 #endif
 
