@@ -85,7 +85,6 @@ package() {
         [ -z "${HOMEPAGE-}" ] || printf 'Homepage: %s\n' "$HOMEPAGE"
         printf 'Installed-Size: %s\n' "$size"
         cat
-        [ "$2" != amd64 ] || printf ' .\n It needs a processor of the level x86-64-v2, which has SSE4.2 and POPCNT.\n'
     } > "$control/control"
     dpkg-deb -Zxz --root-owner-group --build "$3" "$made/$1_${revision}_$2.deb" > "$room/said" || { cat "$room/said" >&2; exit 1; }
 }
