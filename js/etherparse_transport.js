@@ -37,6 +37,9 @@ const INTERFACE = "@interface";
 /** A module with a 64-bit memory, and nothing else. */
 const ONLY_MEMORY64 = new Uint8Array([0, 0x61, 0x73, 0x6d, 1, 0, 0, 0, 5, 3, 1, 4, 0]);
 
+/** The module of Node.js that reads files. A bundler for pages must not look for it, so it is not named where it is imported. */
+const NODE_FILES = "node:fs/promises";
+
 const PAGE_LEN = 65536;
 // Places in the memory, in bytes from the first byte that the module itself does not use.
 const ERROR_PLACE = 0;
@@ -77,7 +80,7 @@ export class UnsupportedRuntimeError extends Error {
  * @throws {UnsupportedRuntimeError} if the runtime has no 64-bit memories
  * @throws {Error} if the file cannot be read or compiled, or if it has another interface than this module
  */
-export function load(source = new URL("etherparse_transport.wasm", import.meta.url)) {
+export function load(source = new URL("./etherparse_transport.wasm", import.meta.url)) {
     loading ??= start(source).catch((reason) => {
         loading = undefined;
         throw reason;
@@ -110,7 +113,7 @@ async function bytesOf(source) {
     if (typeof source === "string" || source instanceof URL) {
         const url = new URL(source, import.meta.url);
         if (url.protocol === "file:" && typeof process === "object") {
-            const { readFile } = await import("node:fs/promises");
+            const { readFile } = await import(/* webpackIgnore: true */ /* @vite-ignore */ NODE_FILES);
             return readFile(url);
         }
         return bytesOf(await fetch(url));
@@ -826,11 +829,15 @@ export function checkTcp(message, source, destination) {
     return tested(callOverAddresses(names, message, source, destination));
 }
 
+/** A copy of the options, which stays while they are read. */
+function copyOfOptions(options) {
+    return new Uint8Array(requireBytes(options, "options"));
+}
+
 /** Reads the options one after another by a call that moves a place. `take` makes an option of what the call wrote. */
 function* eachOption(options, name, take) {
-    const copy = new Uint8Array(requireBytes(options, "options"));
     for (let place = 0; ; ) {
-        const length = setInput(copy, "options");
+        const length = setInput(options, "options");
         view.setBigUint64(base + SECOND_PLACE, BigInt(place), true);
         const status = calls[name](input, length, second, result, error);
         if (status === Status.OPTIONS_END) return;
@@ -848,7 +855,7 @@ function* eachOption(options, name, take) {
  * @throws {EtherparseError} at an option that is cut off, or whose length byte is below 2. Nothing follows it.
  */
 export function tcpOptions(options) {
-    return eachOption(options, "etherparse_tcp_raw_option_next", () => {
+    return eachOption(copyOfOptions(options), "etherparse_tcp_raw_option_next", () => {
         const { kind, valueOffset, valueLen } = getTcpRawOption(base + RESULT_PLACE);
         return { kind, value: inputPart(valueOffset, valueLen) };
     });
@@ -862,7 +869,7 @@ export function tcpOptions(options) {
  * @throws {EtherparseError} at an option of an unknown kind, with a wrong length byte, or that is cut off. Nothing follows it.
  */
 export function tcpOptionValues(options) {
-    return eachOption(options, "etherparse_tcp_option_next", () => {
+    return eachOption(copyOfOptions(options), "etherparse_tcp_option_next", () => {
         const { kind, valueCount, values } = getTcpOption(base + RESULT_PLACE);
         return { kind, values: values.slice(0, valueCount) };
     });

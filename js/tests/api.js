@@ -119,7 +119,7 @@ export const TESTS = {
         for (const other of [undefined, null, 7, "text", [69, 0], buffer, new Uint16Array(buffer), new DataView(buffer)]) {
             thrown(() => library.verdict(other), TypeError);
             thrown(() => library.storeIcmpv4Checksum(other), TypeError);
-            thrown(() => [...library.tcpOptions(other)], TypeError);
+            thrown(() => library.tcpOptions(other), TypeError);
             thrown(() => library.isReplyTo(PACKET, other), TypeError);
             thrown(() => library.translate(other, { sourcePort: 1 }), TypeError);
             thrown(() => new Sum().add(other), TypeError);
@@ -173,8 +173,8 @@ export const TESTS = {
     optionsAreReadOneAfterAnother() {
         const options = Uint8Array.of(1, 28, 4, 0x80, 0x0a, 3, 3, 7, 0, 9, 9);
         const [raw, other] = [library.tcpOptions(options), library.tcpOptions(Uint8Array.of(2, 4, 5, 180))];
-        const found = [raw.next().value, other.next().value];
         options.fill(0);
+        const found = [raw.next().value, other.next().value];
         library.verdict(PACKET);
         found.push(...raw, ...other);
         expect(found.map(({ kind }) => kind), [1, 2, 28, 3]);
