@@ -18,6 +18,26 @@ pub struct Ipv4Header {
     pub destination: [u8; 4],
 }
 
+impl Ipv4Header {
+    /// The length of a header without options, in bytes (RFC 791, section 3.1).
+    pub const MIN_LEN: usize = 20;
+
+    /// The place of the time to live, in bytes from the start of the header.
+    pub const TIME_TO_LIVE_AT: usize = 8;
+
+    /// The place of the protocol number, in bytes from the start of the header.
+    pub const PROTOCOL_AT: usize = 9;
+
+    /// The place of the header checksum, in bytes from the start of the header.
+    pub const CHECKSUM_AT: usize = 10;
+
+    /// The place of the sender's address, in bytes from the start of the header.
+    pub const SOURCE_AT: usize = 12;
+
+    /// The place of the receiver's address, in bytes from the start of the header.
+    pub const DESTINATION_AT: usize = 16;
+}
+
 impl Default for Ipv4Header {
     ghost use Rattle.std.specs.Prelude.{◌≡◌, replicate};
 

@@ -49,11 +49,11 @@ impl<'a> Ipv4HeaderSlice<'a> {
         ensures found { IsSome result ↔ BeginsWithIpv4Header slice.now }
         ensures kept { IfSome result (λ header. header ≡ take (ipv4_header_len slice.now) slice.now) }
     {
-        if slice.len() < 20 || slice[0] >> 4 != 4 {
+        if slice.len() < Ipv4Header::MIN_LEN || slice[0] >> 4 != 4 {
             return None;
         }
         let header_len = usize::from(slice[0] & 0xf) * 4;
-        if header_len < 20 || slice.len() < header_len {
+        if header_len < Ipv4Header::MIN_LEN || slice.len() < header_len {
             return None;
         }
         Some(Ipv4HeaderSlice {
@@ -145,14 +145,14 @@ impl<'a> Ipv4HeaderSlice<'a> {
     pub fn ttl(&self) -> u8
         ensures { result ≡ slice_index self.now 8 }
     {
-        self.slice[8]
+        self.slice[Ipv4Header::TIME_TO_LIVE_AT]
     }
 
     /// The protocol of the payload (byte 9).
     pub fn protocol(&self) -> IpNumber
         ensures { result.0 ≡ slice_index self.now 9 }
     {
-        IpNumber(self.slice[9])
+        IpNumber(self.slice[Ipv4Header::PROTOCOL_AT])
     }
 
     /// The checksum of the header (bytes 10 and 11).
@@ -180,7 +180,7 @@ impl<'a> Ipv4HeaderSlice<'a> {
         ensures { result ≡ slice_range self.now 12 16 }
     {
         let mut source = [0; 4];
-        source.copy_from_slice(&self.slice[12..16]);
+        source.copy_from_slice(&self.slice[Ipv4Header::SOURCE_AT..Ipv4Header::DESTINATION_AT]);
         source
     }
 
@@ -190,7 +190,7 @@ impl<'a> Ipv4HeaderSlice<'a> {
         ensures { result ≡ slice_range self.now 16 20 }
     {
         let mut destination = [0; 4];
-        destination.copy_from_slice(&self.slice[16..20]);
+        destination.copy_from_slice(&self.slice[Ipv4Header::DESTINATION_AT..Ipv4Header::MIN_LEN]);
         destination
     }
 
@@ -198,7 +198,7 @@ impl<'a> Ipv4HeaderSlice<'a> {
     pub fn options(&self) -> &'a [u8]
         ensures { result.now ≡ drop 20 self.now }
     {
-        &self.slice[20..]
+        &self.slice[Ipv4Header::MIN_LEN..]
     }
 
     /// The two addresses.

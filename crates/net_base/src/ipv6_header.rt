@@ -19,6 +19,17 @@ pub struct Ipv6Header {
     pub destination: [u8; 16],
 }
 
+impl Ipv6Header {
+    /// The length of the header, in bytes (RFC 8200, section 3).
+    pub const LEN: usize = 40;
+
+    /// The place of the sender's address, in bytes from the start of the header.
+    pub const SOURCE_AT: usize = 8;
+
+    /// The place of the receiver's address, in bytes from the start of the header.
+    pub const DESTINATION_AT: usize = 24;
+}
+
 impl Default for Ipv6Header {
     ghost use Rattle.std.specs.Prelude.{◌≡◌, replicate};
 

@@ -40,11 +40,11 @@ impl<'a> Ipv6HeaderSlice<'a> {
         ensures found { IsSome result ↔ BeginsWithIpv6Header slice.now }
         ensures kept { IfSome result (λ header. header ≡ take 40 slice.now) }
     {
-        if slice.len() < 40 || slice[0] >> 4 != 6 {
+        if slice.len() < Ipv6Header::LEN || slice[0] >> 4 != 6 {
             return None;
         }
         Some(Ipv6HeaderSlice {
-            slice: &slice[..40],
+            slice: &slice[..Ipv6Header::LEN],
         })
     }
 
@@ -104,7 +104,7 @@ impl<'a> Ipv6HeaderSlice<'a> {
         ensures { result ≡ slice_range self.now 8 24 }
     {
         let mut source = [0; 16];
-        source.copy_from_slice(&self.slice[8..24]);
+        source.copy_from_slice(&self.slice[Ipv6Header::SOURCE_AT..Ipv6Header::DESTINATION_AT]);
         source
     }
 
@@ -114,7 +114,7 @@ impl<'a> Ipv6HeaderSlice<'a> {
         ensures { result ≡ slice_range self.now 24 40 }
     {
         let mut destination = [0; 16];
-        destination.copy_from_slice(&self.slice[24..40]);
+        destination.copy_from_slice(&self.slice[Ipv6Header::DESTINATION_AT..Ipv6Header::LEN]);
         destination
     }
 

@@ -16,6 +16,7 @@ mod ipv4_header;
 mod ipv4_header_slice;
 mod ipv6_header;
 mod ipv6_header_slice;
+#[doc(hidden)]
 pub mod laws;
 mod pseudo_header;
 mod refusals;

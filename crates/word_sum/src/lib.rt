@@ -13,4 +13,5 @@
 
 pub mod checksum;
 pub mod checksum_change;
+#[doc(hidden)]
 pub mod laws;
