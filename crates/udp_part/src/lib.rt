@@ -14,6 +14,7 @@
 //! ```
 #![tactic(auto)]
 
+#[doc(hidden)]
 pub mod laws;
 mod translation;
 mod udp_header;

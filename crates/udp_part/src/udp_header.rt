@@ -66,6 +66,15 @@ impl UdpHeader {
     /// The length of a UDP header, in bytes: an older name of `LEN`.
     pub const SERIALIZED_SIZE: usize = UdpHeader::LEN;
 
+    /// The place of the source port, in bytes from the start of the header.
+    pub const SOURCE_PORT_AT: usize = 0;
+
+    /// The place of the destination port, in bytes from the start of the header.
+    pub const DESTINATION_PORT_AT: usize = 2;
+
+    /// The place of the checksum, in bytes from the start of the header.
+    pub const CHECKSUM_AT: usize = 6;
+
     /// The longest payload that the length field can count, in bytes: 65,535 minus the header.
     const MAX_PAYLOAD_LEN: usize = u16::MAX as usize - UdpHeader::LEN;
 
