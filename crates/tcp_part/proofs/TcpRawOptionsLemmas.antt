@@ -16,7 +16,8 @@ use Rattle.tcp_part.specs.TcpOptions.{block_bytes, front, max_options_len, pair,
 use Rattle.tcp_part.specs.TcpOptionsReading.{BeginsWith, Ends, IsInRange, Item, Reads, as_items, fault, fault_of_blocks, fault_of_kind, fault_of_length}
 use Rattle.tcp_part.proofs.TcpOptionsFrontLemmas as front_lemmas
 use Rattle.tcp_part.proofs.TcpOptionsFrontLemmas.{IsBytes-rest}
-use Rattle.tcp_part.specs.TcpRawOptions.{AreItemsOf, AreRawJoined, BeginsAsElements, BeginsWithRaw, HasOneRawReading, IsFaultOf, RawItem, RawOption, ReadsRaw, ReadsRawNext, element_refusal, length_byte, length_of_kind, raw_fault, raw_fault_of, raw_join, raw_spelling}
+use Rattle.tcp_part.specs.TcpOptionKinds.{length_of_kind}
+use Rattle.tcp_part.specs.TcpRawOptions.{AreItemsOf, AreRawJoined, BeginsAsElements, BeginsWithRaw, HasOneRawReading, IsFaultOf, IsMissingBytes, RawItem, RawOption, ReadsRaw, ReadsRawNext, element_refusal, length_byte, raw_fault, raw_fault_of, raw_join, raw_spelling}
 use Rattle.tcp_part.specs.declared.tcp_option_element.TcpOptionElement.{TcpOptionElement}
 use Rattle.tcp_part.specs.declared.tcp_option_element.TcpOptionElement.TheVariants.{Noop, MaximumSegmentSize, WindowScale, SelectiveAcknowledgementPermitted, SelectiveAcknowledgement, Timestamp}
 use Rattle.tcp_part.specs.declared.tcp_raw_option_error.TcpRawOptionError.{TcpRawOptionError}
@@ -310,13 +311,14 @@ fault_of_wrong_blocks : (size left : ℕ) (error : TcpOptionReadError) → 2 ≤
 fault_of_wrong_blocks size left error counts there wrong = grind (arith, nat_tests)
 
 -- the result for either of two faults of a length
-either_fault : (option : RawOption) (left : ℕ) (error : TcpOptionReadError) → length_of_kind option.kind ≤ max_options_len → length_byte option ≤ left
-    → element_refusal option ≡ fault_of_length (length_of_kind option.kind) option.kind (length_byte option) max_options_len
-    → fault_of_length (length_of_kind option.kind) option.kind (length_byte option) left ≡ Some error → IsFaultOf left option error
-either_fault option left error known there same wrong =
-    elim (fault_of_wrong_length (length_of_kind option.kind) option.kind (length_byte option) left error known there wrong) [
+either_fault : (option : RawOption) (left : ℕ) (error : TcpOptionReadError) (len : ℕ) → length_of_kind option.kind ≡ Some len
+    → len ≤ max_options_len → length_byte option ≤ left
+    → element_refusal option ≡ fault_of_length len option.kind (length_byte option) max_options_len
+    → fault_of_length len option.kind (length_byte option) left ≡ Some error → IsFaultOf left option error
+either_fault option left error len one known there same wrong =
+    elim (fault_of_wrong_length len option.kind (length_byte option) left error known there wrong) [
       | inl alike ↦ inl (same ∙ alike)
-      | inr (short, missing, alone) ↦ inr (short, missing, same ∙ alone)
+      | inr (short, missing, alone) ↦ inr (subst (IsMissingBytes left option error) (sym one) (short, missing, same ∙ alone))
     ]
 
 -- an unknown kind is a fault for any length
@@ -331,11 +333,11 @@ refusal_of_other_kind option counts = grind (arith, nat_tests)
 fault_of_counted : (option : RawOption) (left : ℕ) (error : TcpOptionReadError) → 2 ≤ option.kind → 2 ≤ length_byte option → length_byte option ≤ left
     → fault_of_kind option.kind (length_byte option) left ≡ Some error → IsFaultOf left option error
 fault_of_counted option left error counts some there wrong = elim (by_kind option.kind) [
-  | inl two ↦ one_length 2 two (omega arith) (at 2 two) (own 2 two)
-  | inr (inl three) ↦ one_length 3 three (omega arith) (at 3 three) (own 3 three)
-  | inr (inr (inl four)) ↦ one_length 4 four (omega arith) (at 4 four) (own 4 four)
+  | inl two ↦ one_length 2 4 two refl (omega arith) (at 2 two) (own 2 two)
+  | inr (inl three) ↦ one_length 3 3 three refl (omega arith) (at 3 three) (own 3 three)
+  | inr (inr (inl four)) ↦ one_length 4 2 four refl (omega arith) (at 4 four) (own 4 four)
   | inr (inr (inr (inl five))) ↦ inl (own 5 five ∙ fault_of_wrong_blocks (length_byte option) left error some there (at 5 five))
-  | inr (inr (inr (inr (inl eight)))) ↦ one_length 8 eight (omega arith) (at 8 eight) (own 8 eight)
+  | inr (inr (inr (inr (inl eight)))) ↦ one_length 8 10 eight refl (omega arith) (at 8 eight) (own 8 eight)
   | inr (inr (inr (inr (inr (two, three, four, five, eight))))) ↦
       inl (own option.kind refl ∙ fault_of_other_kind option.kind (length_byte option) max_options_len (length_byte option) left counts two three four five eight ∙ wrong)
 ]
@@ -346,13 +348,13 @@ fault_of_counted option left error counts some there wrong = elim (by_kind optio
     own : (kind : ℕ) → option.kind ≡ kind → element_refusal option ≡ fault_of_kind kind (length_byte option) max_options_len
     own kind same = subst (λ k. element_refusal option ≡ fault_of_kind k (length_byte option) max_options_len) same (refusal_of_other_kind option counts)
 
-    one_length : (kind : ℕ) → option.kind ≡ kind → length_of_kind kind ≤ max_options_len
-        → fault_of_length (length_of_kind kind) kind (length_byte option) left ≡ Some error
-        → element_refusal option ≡ fault_of_length (length_of_kind kind) kind (length_byte option) max_options_len → IsFaultOf left option error
-    one_length kind same known is_wrong is_own =
-        either_fault option left error (subst (λ k. length_of_kind k ≤ max_options_len) (sym same) known) there
-        (subst (λ k. element_refusal option ≡ fault_of_length (length_of_kind k) k (length_byte option) max_options_len) (sym same) is_own)
-        (subst (λ k. fault_of_length (length_of_kind k) k (length_byte option) left ≡ Some error) (sym same) is_wrong)
+    one_length : (kind len : ℕ) → option.kind ≡ kind → length_of_kind kind ≡ Some len → len ≤ max_options_len
+        → fault_of_length len kind (length_byte option) left ≡ Some error
+        → element_refusal option ≡ fault_of_length len kind (length_byte option) max_options_len → IsFaultOf left option error
+    one_length kind len same one known is_wrong is_own =
+        either_fault option left error len (subst (λ k. length_of_kind k ≡ Some len) (sym same) one) known there
+        (subst (λ k. element_refusal option ≡ fault_of_length len k (length_byte option) max_options_len) (sym same) is_own)
+        (subst (λ k. fault_of_length len k (length_byte option) left ≡ Some error) (sym same) is_wrong)
 
     by_kind : (kind : ℕ) → (kind ≡ 2) ⊎ ((kind ≡ 3) ⊎ ((kind ≡ 4) ⊎ ((kind ≡ 5) ⊎ ((kind ≡ 8) ⊎ ((kind ≢ 2) × (kind ≢ 3) × (kind ≢ 4) × (kind ≢ 5) × (kind ≢ 8))))))
     by_kind kind = grind arith

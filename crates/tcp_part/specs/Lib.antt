@@ -12,6 +12,7 @@ pub use Rattle.net_base.specs.declared.tcp_option_write_error.TcpOptionWriteErro
 pub use Rattle.word_sum.specs.Checksum
 pub mod ErrorTexts
 pub mod TcpFormat
+pub mod TcpOptionKinds
 pub mod TcpOptions
 pub mod TcpOptionsLending
 pub mod TcpOptionsReading

@@ -5,6 +5,7 @@ use Rattle.std.specs.List.{flat_map}
 use Rattle.net_base.specs.declared.tcp_option_write_error.TcpOptionWriteError.{TcpOptionWriteError}
 use Rattle.net_base.specs.declared.tcp_option_write_error.TcpOptionWriteError.TheVariants.{NotEnoughSpace}
 use Rattle.net_base.specs.Refusals.{RefusesExactly, refused_if}
+use Rattle.tcp_part.specs.TcpOptionKinds.{maximum_segment_size_kind, noop_kind, sack_kind, sack_permitted_kind, timestamp_kind, window_scale_kind}
 use Rattle.tcp_part.specs.declared.tcp_option_element.TcpOptionElement.{TcpOptionElement}
 use Rattle.tcp_part.specs.declared.tcp_option_element.TcpOptionElement.TheVariants.{Noop, MaximumSegmentSize, WindowScale, SelectiveAcknowledgementPermitted, SelectiveAcknowledgement, Timestamp}
 
@@ -33,12 +34,12 @@ with_length kind value = kind ∷ (length value + 2) ∷ value
 --   5  selective acknowledgement            RFC 2018, 3     10, 18, 26, 34  the blocks that are present, each two numbers of 32 bits
 --   8  timestamp                            RFC 7323, 3.2   10              two numbers of 32 bits
 abbrev pub spelling : TcpOptionElement → List ℕ
-spelling Noop = 1 ∷ []
-spelling (MaximumSegmentSize size) = with_length 2 (to_be_bytes w16 size)
-spelling (WindowScale shift) = with_length 3 (shift ∷ [])
-spelling SelectiveAcknowledgementPermitted = with_length 4 []
-spelling (SelectiveAcknowledgement first more) = with_length 5 (pair first ++ flat_map block_bytes more)
-spelling (Timestamp value echo) = with_length 8 (pair (value, echo))
+spelling Noop = noop_kind ∷ []
+spelling (MaximumSegmentSize size) = with_length maximum_segment_size_kind (to_be_bytes w16 size)
+spelling (WindowScale shift) = with_length window_scale_kind (shift ∷ [])
+spelling SelectiveAcknowledgementPermitted = with_length sack_permitted_kind []
+spelling (SelectiveAcknowledgement first more) = with_length sack_kind (pair first ++ flat_map block_bytes more)
+spelling (Timestamp value echo) = with_length timestamp_kind (pair (value, echo))
 
 -- the present blocks in their order, followed by the absent blocks
 abbrev pub present_first : List (Option (ℕ × ℕ)) → List (Option (ℕ × ℕ))

@@ -5,6 +5,7 @@ use Rattle.std.specs.List.{AllByRecursion}
 use Rattle.net_base.specs.declared.tcp_option_read_error.TcpOptionReadError.{TcpOptionReadError}
 use Rattle.net_base.specs.declared.tcp_option_read_error.TcpOptionReadError.TheVariants.{UnexpectedEndOfSlice, UnexpectedSize, UnknownId}
 use Rattle.net_base.specs.Refusals.{first_of, refused_if}
+use Rattle.tcp_part.specs.TcpOptionKinds.{end_kind, maximum_segment_size_kind, maximum_segment_size_len, noop_kind, sack_kind, sack_permitted_kind, sack_permitted_len, timestamp_kind, timestamp_len, window_scale_kind, window_scale_len}
 use Rattle.tcp_part.specs.TcpOptions.{IsBefore, front, join, max_options_len, pad, spelling}
 use Rattle.tcp_part.specs.declared.tcp_option_element.TcpOptionElement.{TcpOptionElement}
 use Rattle.tcp_part.specs.declared.tcp_option_element.TcpOptionElement.TheVariants.{Noop, MaximumSegmentSize, WindowScale, SelectiveAcknowledgementPermitted, SelectiveAcknowledgement, Timestamp}
@@ -32,7 +33,7 @@ pub record BeginsWith (bytes : List ℕ) (element : TcpOptionElement) (rest : Li
 
 -- no byte is left, or the next byte is the end of the list
 abbrev pub Ends : List ℕ → Type 0
-Ends bytes = (length bytes ≡ 0) ⊎ (slice_index bytes 0 ≡ 0)
+Ends bytes = (length bytes ≡ 0) ⊎ (slice_index bytes 0 ≡ end_kind)
 
 -- ---- faults: why the option at the front can't be read, by its kind, its length byte, and the number of
 -- bytes left, including these two. If no length byte is left, no rule checks it.
@@ -57,19 +58,20 @@ is_size_of_blocks size = size == 10 || (size == 18 || (size == 26 || size == 34)
 -- a selective acknowledgement
 abbrev pub fault_of_blocks : ℕ → ℕ → Option TcpOptionReadError
 fault_of_blocks size left = first_of (
-    refused_if (nat_lt left 2) (UnexpectedEndOfSlice 5 2 left)
-    ∷ refused_if (not (is_size_of_blocks size)) (UnexpectedSize 5 size)
-    ∷ refused_if (nat_lt left size) (UnexpectedEndOfSlice 5 size left)
+    refused_if (nat_lt left 2) (UnexpectedEndOfSlice sack_kind 2 left)
+    ∷ refused_if (not (is_size_of_blocks size)) (UnexpectedSize sack_kind size)
+    ∷ refused_if (nat_lt left size) (UnexpectedEndOfSlice sack_kind size left)
     ∷ [])
 
+-- a fault by the kind
 abbrev pub fault_of_kind : ℕ → ℕ → ℕ → Option TcpOptionReadError
 fault_of_kind kind size left =
-    if kind == 0 || kind == 1 then None
-    else if kind == 2 then fault_of_length 4 kind size left
-    else if kind == 3 then fault_of_length 3 kind size left
-    else if kind == 4 then fault_of_length 2 kind size left
-    else if kind == 5 then fault_of_blocks size left
-    else if kind == 8 then fault_of_length 10 kind size left
+    if kind == end_kind || kind == noop_kind then None
+    else if kind == maximum_segment_size_kind then fault_of_length maximum_segment_size_len kind size left
+    else if kind == window_scale_kind then fault_of_length window_scale_len kind size left
+    else if kind == sack_permitted_kind then fault_of_length sack_permitted_len kind size left
+    else if kind == sack_kind then fault_of_blocks size left
+    else if kind == timestamp_kind then fault_of_length timestamp_len kind size left
     else Some (UnknownId kind)
 
 -- the fault at the front of some bytes; a missing byte counts as 0

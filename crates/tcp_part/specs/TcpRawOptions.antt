@@ -5,6 +5,7 @@ use Rattle.std.specs.List.{flat_map}
 use Rattle.net_base.specs.Refusals.{first_of, refused_if}
 use Rattle.net_base.specs.declared.tcp_option_read_error.TcpOptionReadError.{TcpOptionReadError}
 use Rattle.net_base.specs.declared.tcp_option_read_error.TcpOptionReadError.TheVariants.{UnexpectedEndOfSlice, UnexpectedSize, UnknownId}
+use Rattle.tcp_part.specs.TcpOptionKinds.{end_kind, length_of_kind, noop_kind}
 use Rattle.tcp_part.specs.TcpOptions.{max_options_len, spelling, with_length}
 use Rattle.tcp_part.specs.TcpOptionsReading.{BeginsWith, Ends, Item, Reads, as_items, fault, fault_of_kind}
 use Rattle.tcp_part.specs.declared.tcp_option_element.TcpOptionElement.{TcpOptionElement}
@@ -18,15 +19,15 @@ pub record RawOption : Type 0 where
   pub kind : ℕ
   pub value : List ℕ
 
--- the bytes of an option: kind 1, no operation, is one byte, and any other kind has a length byte that also counts the kind and itself
+-- the bytes of an option: no operation is one byte, and any other kind has a length byte that also counts the kind and itself
 abbrev pub raw_spelling : RawOption → List ℕ
-raw_spelling option = if option.kind == 1 then 1 ∷ [] else with_length option.kind option.value
+raw_spelling option = if option.kind == noop_kind then noop_kind ∷ [] else with_length option.kind option.value
 
--- an option is at the front, and the rest comes after it; kind 0 is the end of the list, not an option
+-- an option is at the front, and the rest comes after it; the end of the list is not an option
 pub record BeginsWithRaw (bytes : List ℕ) (option : RawOption) (rest : List ℕ) : Type 0 where
   pub spelled : bytes ≡ raw_spelling option ++ rest
-  pub is_no_end : option.kind ≢ 0
-  pub noop_has_no_value : option.kind ≡ 1 → option.value ≡ []
+  pub is_no_end : option.kind ≢ end_kind
+  pub noop_has_no_value : option.kind ≡ noop_kind → option.value ≡ []
 
 -- ---- faults: why the option at the front can't be read, by its kind, its length byte, and the number of
 -- bytes left, including these two. If no length byte is left, no rule checks it.
@@ -35,7 +36,7 @@ pub record BeginsWithRaw (bytes : List ℕ) (option : RawOption) (rest : List �
 --   0, 1          none: a kind alone
 --   every other   no length byte is left; a length byte below 2; fewer bytes are left than the length byte says
 abbrev pub raw_fault_of : ℕ → ℕ → ℕ → Option TcpRawOptionError
-raw_fault_of kind len available = if kind == 0 || kind == 1 then None else first_of (
+raw_fault_of kind len available = if kind == end_kind || kind == noop_kind then None else first_of (
     refused_if (nat_lt available 2) (NoLengthByte kind)
     ∷ refused_if (nat_lt len 2) (LengthBelowTwo kind len)
     ∷ refused_if (nat_lt available len) (LengthBeyondEnd kind len available)
@@ -99,25 +100,21 @@ abbrev pub length_byte : RawOption → ℕ
 length_byte option = min (length option.value + 2) 255
 
 -- why an option is not an element: the fault of its kind and length byte at the front of as many bytes as
--- a header can hold, so that no byte is missing; kind 0 is the end of the list
+-- a header can hold, so that no byte is missing; the end of the list is no element
 abbrev pub element_refusal : RawOption → Option TcpOptionReadError
-element_refusal option = if option.kind == 0 then Some (UnknownId 0) else fault_of_kind option.kind (length_byte option) max_options_len
+element_refusal option =
+    if option.kind == end_kind then Some (UnknownId end_kind) else fault_of_kind option.kind (length_byte option) max_options_len
 
--- the length of an option whose kind has only one length; 0 for any other kind
-abbrev pub length_of_kind : ℕ → ℕ
-length_of_kind kind =
-    if kind == 2 then 4
-    else if kind == 3 then 3
-    else if kind == 4 then 2
-    else if kind == 8 then 10
-    else 0
+-- fewer bytes are left than the one length of an option's kind, if the kind has one; the option's length byte is another length
+abbrev pub IsMissingBytes : ℕ → RawOption → TcpOptionReadError → Option ℕ → Type 0
+IsMissingBytes left option error None = ⊥
+IsMissingBytes left option error (Some len) = (left < len) × (error ≡ UnexpectedEndOfSlice option.kind len left)
+    × (element_refusal option ≡ Some (UnexpectedSize option.kind (length_byte option)))
 
--- The fault of bytes that begin with an option. The option is not an element, or fewer bytes are left than the length
--- of its kind. In the second case its length byte is another length.
+-- the fault of bytes that begin with an option: the option is not an element, or bytes of it are missing
 abbrev pub IsFaultOf : ℕ → RawOption → TcpOptionReadError → Type 0
-IsFaultOf left option error = (element_refusal option ≡ Some error)
-    ⊎ ((left < length_of_kind option.kind) × (error ≡ UnexpectedEndOfSlice option.kind (length_of_kind option.kind) left)
-    × (element_refusal option ≡ Some (UnexpectedSize option.kind (length_byte option))))
+IsFaultOf left option error =
+    (element_refusal option ≡ Some error) ⊎ IsMissingBytes left option error (length_of_kind option.kind)
 
 -- Items of both readings of some bytes, one for one: an option and its element; an option and its fault, the last item; or the fault of
 -- each reading.

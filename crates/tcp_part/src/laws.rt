@@ -8,7 +8,9 @@ ghost use Rattle.std.specs.Prelude.{◌≡◌, ◌↔◌, ◌++◌, List, [], �
 ghost use Rattle.std.specs.List.{fold};
 ghost use Rattle.std.specs.Hash as fed;
 ghost use Rattle.net_base.specs.Bytes.{IsBytes};
+ghost use Rattle.net_base.specs.StoredChecksum.{tcp_checksum_place};
 ghost use Rattle.tcp_part.specs.TcpFormat.{max_data_offset, max_header_len, min_data_offset, min_header_len};
+ghost use Rattle.tcp_part.specs.TcpOptionKinds.{end_kind, maximum_segment_size_kind, maximum_segment_size_len, noop_kind, sack_kind, sack_permitted_kind, sack_permitted_len, timestamp_kind, timestamp_len, window_scale_kind, window_scale_len};
 ghost use Rattle.tcp_part.specs.TcpOptions.{max_options_len};
 ghost use Rattle.tcp_part.specs.TcpOptionsReading.{Item, ReadAlike, ReadsNext};
 ghost use Rattle.tcp_part.specs.TcpRawOptions.{RawItem, ReadsRawNext, ReadsTheSameItems, ReadsTheSameOptions};
@@ -216,18 +218,21 @@ pub fn limits()
     ensures header_len { (TcpHeader.MIN_LEN ≡ min_header_len) × (TcpHeader.MAX_LEN ≡ max_header_len) }
     ensures data_offset { (TcpHeader.MIN_DATA_OFFSET ≡ min_data_offset) × (TcpHeader.MAX_DATA_OFFSET ≡ max_data_offset) }
     ensures options_len { TcpOptions.MAX_LEN ≡ max_options_len }
+    ensures places { (TcpHeader.SOURCE_PORT_AT ≡ 0) × (TcpHeader.DESTINATION_PORT_AT ≡ 2) × (TcpHeader.CHECKSUM_AT ≡ tcp_checksum_place) }
     ensures older_names { (TCP_MINIMUM_HEADER_SIZE ≡ min_header_len) × (TCP_MINIMUM_DATA_OFFSET ≡ min_data_offset)
         × (TCP_MAXIMUM_DATA_OFFSET ≡ max_data_offset) }
 {}
 
 /// The kinds of options, under both their names, and the fixed lengths of kinds with only one length.
 pub fn kinds()
-    ensures kinds { (KIND_END ≡ 0) × (KIND_NOOP ≡ 1) × (KIND_MAXIMUM_SEGMENT_SIZE ≡ 2)
-        × (KIND_WINDOW_SCALE ≡ 3) × (KIND_SELECTIVE_ACK_PERMITTED ≡ 4) × (KIND_SELECTIVE_ACK ≡ 5)
-        × (KIND_TIMESTAMP ≡ 8) }
-    ensures lengths { (LEN_END ≡ 1) × (LEN_NOOP ≡ 1) × (LEN_MAXIMUM_SEGMENT_SIZE ≡ 4)
-        × (LEN_WINDOW_SCALE ≡ 3) × (LEN_SELECTIVE_ACK_PERMITTED ≡ 2) × (LEN_TIMESTAMP ≡ 10) }
-    ensures older_names { (TCP_OPTION_ID_END ≡ 0) × (TCP_OPTION_ID_NOP ≡ 1) × (TCP_OPTION_ID_MAXIMUM_SEGMENT_SIZE ≡ 2)
-        × (TCP_OPTION_ID_WINDOW_SCALE ≡ 3) × (TCP_OPTION_ID_SELECTIVE_ACK_PERMITTED ≡ 4) × (TCP_OPTION_ID_SELECTIVE_ACK ≡ 5)
-        × (TCP_OPTION_ID_TIMESTAMP ≡ 8) }
+    ensures kinds { (KIND_END ≡ end_kind) × (KIND_NOOP ≡ noop_kind) × (KIND_MAXIMUM_SEGMENT_SIZE ≡ maximum_segment_size_kind)
+        × (KIND_WINDOW_SCALE ≡ window_scale_kind) × (KIND_SELECTIVE_ACK_PERMITTED ≡ sack_permitted_kind)
+        × (KIND_SELECTIVE_ACK ≡ sack_kind) × (KIND_TIMESTAMP ≡ timestamp_kind) }
+    ensures lengths { (LEN_END ≡ 1) × (LEN_NOOP ≡ 1) × (LEN_MAXIMUM_SEGMENT_SIZE ≡ maximum_segment_size_len)
+        × (LEN_WINDOW_SCALE ≡ window_scale_len) × (LEN_SELECTIVE_ACK_PERMITTED ≡ sack_permitted_len)
+        × (LEN_TIMESTAMP ≡ timestamp_len) }
+    ensures older_names { (TCP_OPTION_ID_END ≡ end_kind) × (TCP_OPTION_ID_NOP ≡ noop_kind)
+        × (TCP_OPTION_ID_MAXIMUM_SEGMENT_SIZE ≡ maximum_segment_size_kind) × (TCP_OPTION_ID_WINDOW_SCALE ≡ window_scale_kind)
+        × (TCP_OPTION_ID_SELECTIVE_ACK_PERMITTED ≡ sack_permitted_kind) × (TCP_OPTION_ID_SELECTIVE_ACK ≡ sack_kind)
+        × (TCP_OPTION_ID_TIMESTAMP ≡ timestamp_kind) }
 {}

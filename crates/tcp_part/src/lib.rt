@@ -19,6 +19,7 @@
 
 mod flag_bits;
 mod header_checksum;
+#[doc(hidden)]
 pub mod laws;
 mod tcp_header;
 mod tcp_header_slice;

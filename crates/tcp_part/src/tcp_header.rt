@@ -114,6 +114,15 @@ impl TcpHeader {
     /// The data offset of the longest header, in words of four bytes.
     pub const MAX_DATA_OFFSET: u8 = 15;
 
+    /// The place of the source port, in bytes from the start of the header.
+    pub const SOURCE_PORT_AT: usize = 0;
+
+    /// The place of the destination port, in bytes from the start of the header.
+    pub const DESTINATION_PORT_AT: usize = 2;
+
+    /// The place of the checksum, in bytes from the start of the header.
+    pub const CHECKSUM_AT: usize = 16;
+
     /// A header with these fields. Any other number is 0, no flag is set, and there are no options.
     pub fn new(
         source_port: u16,
