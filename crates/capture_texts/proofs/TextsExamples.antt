@@ -66,7 +66,8 @@ texts_of_interface = refl
 -- hardware with a byte that is not UTF-8, an operating system and an application (section 4.1)
 section : List ℕ
 section =
-    0x4D ∷ 0x3C ∷ 0x2B ∷ 0x1A ∷ 1 ∷ 0 ∷ 0 ∷ 0 ∷ (replicate 8 0xFF ++ 1 ∷ 0 ∷ 3 ∷ 0 ∷ 97 ∷ 0x1B ∷ 98 ∷ 0 ∷ 2 ∷ 0 ∷ 2 ∷ 0 ∷ 120 ∷ 0xE9 ∷ 0 ∷ 0 ∷
+    0x4D ∷ 0x3C ∷ 0x2B ∷ 0x1A ∷ 1 ∷ 0 ∷ 0 ∷ 0 ∷ (replicate 8 0xFF
+    ++ 1 ∷ 0 ∷ 3 ∷ 0 ∷ 97 ∷ 0x1B ∷ 98 ∷ 0 ∷ 2 ∷ 0 ∷ 2 ∷ 0 ∷ 120 ∷ 0xE9 ∷ 0 ∷ 0 ∷
     3 ∷ 0 ∷ 5 ∷ 0 ∷ (codes "Linux" ++ 0 ∷ 0 ∷ 0 ∷ 4 ∷ 0 ∷ 4 ∷ 0 ∷ codes "dump"))
 
 -- the body of an interface description block: Ethernet, a snap length of 262,144, then a name, a description and a comment in UTF-8

@@ -1,3 +1,4 @@
+pub mod Blocks
 pub mod LinkTypes
 pub mod Numbers
 pub mod Options

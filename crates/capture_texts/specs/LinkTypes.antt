@@ -4,13 +4,41 @@ use Rattle.std.specs.Map.{lookup}
 use Rattle.capture_texts.specs.declared.link_type.LinkType.{LinkType}
 use Rattle.capture_texts.specs.declared.link_type.LinkType.TheVariants.{Avs, BsdLoopback, CiscoHdlc, Ethernet, FrameRelay, Ieee80211, InfiniBand, Ipnet, LinuxCooked, LinuxCooked2, Nflog, OpenBsdLoopback, Pflog, Pktap, Ppi, Ppp, PppHdlc, PppOverEthernet, Prism, Radiotap, RawIp}
 
+-- ---- the numbers of link types whose header may be unread
+
+-- LINKTYPE_PFLOG
+abbrev pub pflog_number : ℕ
+pflog_number = 117
+
+-- LINKTYPE_IEEE802_11_PRISM
+abbrev pub prism_number : ℕ
+prism_number = 119
+
+-- LINKTYPE_IEEE802_11_AVS
+abbrev pub avs_number : ℕ
+avs_number = 163
+
+-- LINKTYPE_PPI
+abbrev pub ppi_number : ℕ
+ppi_number = 192
+
+-- LINKTYPE_NFLOG
+abbrev pub nflog_number : ℕ
+nflog_number = 239
+
+-- LINKTYPE_PKTAP
+abbrev pub pktap_number : ℕ
+pktap_number = 258
+
+-- ---- all link types
+
 -- the numbers of the link types that are read
 abbrev pub link_types : List (ℕ × LinkType)
 link_types =
     (0, BsdLoopback) ∷ (1, Ethernet) ∷ (9, Ppp) ∷ (12, RawIp) ∷ (14, RawIp) ∷ (50, PppHdlc) ∷ (51, PppOverEthernet) ∷ (101, RawIp)
-    ∷ (104, CiscoHdlc) ∷ (105, Ieee80211) ∷ (107, FrameRelay) ∷ (108, OpenBsdLoopback) ∷ (113, LinuxCooked) ∷ (117, Pflog) ∷ (119, Prism)
-    ∷ (127, Radiotap) ∷ (163, Avs) ∷ (192, Ppi) ∷ (226, Ipnet) ∷ (228, RawIp) ∷ (229, RawIp) ∷ (239, Nflog)
-    ∷ (242, InfiniBand) ∷ (258, Pktap) ∷ (276, LinuxCooked2) ∷ []
+    ∷ (104, CiscoHdlc) ∷ (105, Ieee80211) ∷ (107, FrameRelay) ∷ (108, OpenBsdLoopback) ∷ (113, LinuxCooked) ∷ (pflog_number, Pflog) ∷ (prism_number, Prism)
+    ∷ (127, Radiotap) ∷ (avs_number, Avs) ∷ (ppi_number, Ppi) ∷ (226, Ipnet) ∷ (228, RawIp) ∷ (229, RawIp) ∷ (nflog_number, Nflog)
+    ∷ (242, InfiniBand) ∷ (pktap_number, Pktap) ∷ (276, LinuxCooked2) ∷ []
 
 -- the link type with this number
 abbrev pub link_type_with : ℕ → Option LinkType

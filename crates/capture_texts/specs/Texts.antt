@@ -1,5 +1,6 @@
 -- The texts of a pcapng file: names, descriptions and comments (draft-ietf-opsawg-pcapng, sections 3.5, 4.1 and 4.2).
 use Rattle.std.specs.Prelude.{ℕ, zero, suc, ◌+◌, ◌*◌, ◌/◌, ◌-◌, ◌^◌, ◌==◌, Bool, false, not, nat_le, nat_lt, if◌then◌else◌, min, List, [], ◌∷◌, ◌++◌, length, take, drop, slice_index, None, unwrap_or}
+use Rattle.capture_texts.specs.Blocks.{enhanced_packet_type, interface_description_len, interface_description_type, section_header_len, section_header_type, timed_captured_at, timed_captured_len_at}
 use Rattle.capture_texts.specs.Numbers.{number_at}
 use Rattle.capture_texts.specs.Options.{option_value}
 use Rattle.capture_texts.specs.declared.byte_order.ByteOrder.{ByteOrder}
@@ -18,9 +19,13 @@ unfoldable pub char_start : List ℕ → ℕ → ℕ
 char_start text zero = 0
 char_start text (suc place) = if is_continuation (slice_index text (suc place)) then char_start text place else suc place
 
--- the number of bytes that are kept of a text: at most 128, and no part of a character
+-- the number of bytes that are kept of a text, at most
+abbrev pub max_text_len : ℕ
+max_text_len = 128
+
+-- the number of bytes that are kept of a text, without a part of a character
 abbrev pub kept_len : List ℕ → ℕ
-kept_len text = if nat_le (length text) 128 then length text else char_start text 128
+kept_len text = if nat_le (length text) max_text_len then length text else char_start text max_text_len
 
 -- what is kept of a text
 abbrev pub kept_text : List ℕ → KeptText
@@ -32,12 +37,36 @@ kept_text text = record { bytes = record { items = take (kept_len text) text }; 
 abbrev pub text_in : ByteOrder → ℕ → List ℕ → List ℕ
 text_in order code options = unwrap_or (option_value order code None options) []
 
--- an interface description block with these options (section 4.2): if_name is option 2, if_description is option 3, and opt_comment is option 1
+-- the code of a comment in any block (opt_comment, section 3.5)
+abbrev pub opt_comment : ℕ
+opt_comment = 1
+
+-- the code of the name in an interface description block (section 4.2)
+abbrev pub if_name : ℕ
+if_name = 2
+
+-- the code of the description in an interface description block
+abbrev pub if_description : ℕ
+if_description = 3
+
+-- the code of the hardware in a section header block (section 4.1)
+abbrev pub shb_hardware : ℕ
+shb_hardware = 2
+
+-- the code of the operating system in a section header block
+abbrev pub shb_os : ℕ
+shb_os = 3
+
+-- the code of the application in a section header block
+abbrev pub shb_userappl : ℕ
+shb_userappl = 4
+
+-- an interface description block with these options
 abbrev pub interface_texts : ByteOrder → List ℕ → InterfaceTexts
 interface_texts order options = record {
-  name = kept_text (text_in order 2 options);
-  description = kept_text (text_in order 3 options);
-  comment = kept_text (text_in order 1 options);
+  name = kept_text (text_in order if_name options);
+  description = kept_text (text_in order if_description options);
+  comment = kept_text (text_in order opt_comment options);
 }
 
 -- before the first block
@@ -51,31 +80,34 @@ no_texts = record {
   commented_packets = 0;
 }
 
--- a section header block with these options (section 4.1): opt_comment is option 1, shb_hardware is option 2, shb_os is option 3, and
--- shb_userappl is option 4
+-- a section header block with these options
 abbrev pub section_begun : ByteOrder → List ℕ → FileTexts → FileTexts
 section_begun order options before = record {
-  comment = kept_text (text_in order 1 options);
-  hardware = kept_text (text_in order 2 options);
-  operating_system = kept_text (text_in order 3 options);
-  application = kept_text (text_in order 4 options);
+  comment = kept_text (text_in order opt_comment options);
+  hardware = kept_text (text_in order shb_hardware options);
+  operating_system = kept_text (text_in order shb_os options);
+  application = kept_text (text_in order shb_userappl options);
   interfaces = record { items = [] };
   commented_packets = before.commented_packets;
 }
 
--- one more interface; the texts of at most 32 interfaces are kept
+-- the number of interfaces of a section whose texts are kept, at most
+abbrev pub max_interfaces_with_texts : ℕ
+max_interfaces_with_texts = 32
+
+-- one more interface, if there is room for its texts
 abbrev pub interface_added : ByteOrder → List ℕ → FileTexts → FileTexts
 interface_added order options before =
-    if nat_lt (length before.interfaces.items) 32
+    if nat_lt (length before.interfaces.items) max_interfaces_with_texts
     then record before { interfaces = record { items = before.interfaces.items ++ interface_texts order options ∷ [] } }
     else before
 
--- an enhanced packet block with this body has a comment, opt_comment (option 1); its options follow the captured bytes, which begin after
--- 20 bytes and are padded to four bytes (section 4.3)
+-- an enhanced packet block with this body has a comment; its options follow the captured bytes, which are padded to four bytes (section
+-- 4.3)
 abbrev pub has_comment : ByteOrder → List ℕ → Bool
 has_comment order body =
-    if nat_le (length body) 20 then false
-    else not (length (text_in order 1 (drop (20 + (number_at order body 12 + 3) / 4 * 4) body)) == 0)
+    if nat_le (length body) timed_captured_at then false
+    else not (length (text_in order opt_comment (drop (timed_captured_at + (number_at order body timed_captured_len_at + 3) / 4 * 4) body)) == 0)
 
 -- one more packet
 abbrev pub packet_added : ByteOrder → List ℕ → FileTexts → FileTexts
@@ -87,7 +119,7 @@ packet_added order body before =
 -- the texts after a block with this type and body, by the byte order of its section
 abbrev pub texts_after : ByteOrder → ℕ → List ℕ → FileTexts → FileTexts
 texts_after order type body before =
-    if type == 0x0A0D0D0A then section_begun order (drop 16 body) before
-    else if type == 1 then interface_added order (drop 8 body) before
-    else if type == 6 then packet_added order body before
+    if type == section_header_type then section_begun order (drop section_header_len body) before
+    else if type == interface_description_type then interface_added order (drop interface_description_len body) before
+    else if type == enhanced_packet_type then packet_added order body before
     else before

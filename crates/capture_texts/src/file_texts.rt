@@ -1,24 +1,31 @@
 ghost use Rattle.std.specs.Prelude.{◌≡◌, drop};
 ghost use Rattle.capture_texts.specs.Texts as specs;
 
+use crate::block::{
+    ENHANCED_PACKET, INTERFACE_DESCRIPTION, INTERFACE_DESCRIPTION_LEN, SECTION_HEADER,
+    SECTION_HEADER_LEN, TIMED_CAPTURED_AT, TIMED_CAPTURED_LEN_AT,
+};
 use crate::options::option_value;
 use crate::{ByteOrder, KeptText};
 use arrayvec::ArrayVec;
 
 /// The number of interfaces of a section whose texts are kept, at most.
-pub const MAX_INTERFACES: usize = 32;
+pub const MAX_INTERFACES_WITH_TEXTS: usize = 32;
 
-/// The type of a section header block (draft-ietf-opsawg-pcapng, section 4.1).
-const SECTION_HEADER: u32 = 0x0A0D_0D0A;
-
-/// The type of an interface description block (section 4.2).
-const INTERFACE_DESCRIPTION: u32 = 1;
-
-/// The type of an enhanced packet block (section 4.3).
-const ENHANCED_PACKET: u32 = 6;
-
-/// The code of a comment in any block (section 3.5).
+/// The code of a comment in any block (draft-ietf-opsawg-pcapng, section 3.5).
 const COMMENT: u16 = 1;
+
+/// The codes of the texts of a section header block (section 4.1).
+const SHB_HARDWARE: u16 = 2;
+
+const SHB_OS: u16 = 3;
+
+const SHB_USERAPPL: u16 = 4;
+
+/// The codes of the texts of an interface description block (section 4.2).
+const IF_NAME: u16 = 2;
+
+const IF_DESCRIPTION: u16 = 3;
 
 /// The texts of an interface description block (section 4.2).
 #[derive(Clone, Debug, Default, Drop)]
@@ -38,8 +45,8 @@ impl InterfaceTexts {
     {
         let text_of = |code| KeptText::new(text_in(order, options, code));
         InterfaceTexts {
-            name: text_of(2),
-            description: text_of(3),
+            name: text_of(IF_NAME),
+            description: text_of(IF_DESCRIPTION),
             comment: text_of(COMMENT),
         }
     }
@@ -57,7 +64,7 @@ pub struct FileTexts {
     /// The application that wrote the section: the option `shb_userappl`.
     pub application: KeptText,
     /// The texts of the first interfaces of the section, in their order.
-    pub interfaces: ArrayVec<InterfaceTexts, 32>,
+    pub interfaces: ArrayVec<InterfaceTexts, MAX_INTERFACES_WITH_TEXTS>,
     /// The number of packets of the file with a comment, in all its sections. It counts to 2^64 - 1 at most.
     pub commented_packets: u64,
 }
@@ -75,8 +82,11 @@ impl FileTexts {
         ensures { self.new ≡ specs.texts_after order block_type body.now self.old }
     {
         match block_type {
-            SECTION_HEADER => self.begin_section(order, after(body, 16)),
-            INTERFACE_DESCRIPTION => self.add_interface(order, after(body, 8)),
+            SECTION_HEADER => self.begin_section(order, after(body, SECTION_HEADER_LEN)),
+            INTERFACE_DESCRIPTION => self.add_interface(
+                order,
+                after(body, INTERFACE_DESCRIPTION_LEN),
+            ),
             ENHANCED_PACKET => self.add_packet(order, body),
             _ => {}
         }
@@ -88,9 +98,9 @@ impl FileTexts {
     {
         let text_of = |code| KeptText::new(text_in(order, options, code));
         self.comment = text_of(COMMENT);
-        self.hardware = text_of(2);
-        self.operating_system = text_of(3);
-        self.application = text_of(4);
+        self.hardware = text_of(SHB_HARDWARE);
+        self.operating_system = text_of(SHB_OS);
+        self.application = text_of(SHB_USERAPPL);
         self.interfaces.clear();
     }
 
@@ -118,11 +128,11 @@ impl FileTexts {
 fn has_comment(order: ByteOrder, body: &[u8]) -> bool
     ensures { result ≡ specs.has_comment order body.now }
 {
-    if body.len() <= 20 {
+    if body.len() <= TIMED_CAPTURED_AT {
         return false;
     }
-    let captured_len = order.number_in(body, 12) as usize;
-    let options = after(body, 20 + (captured_len + 3) / 4 * 4);
+    let captured_len = order.number_in(body, TIMED_CAPTURED_LEN_AT) as usize;
+    let options = after(body, TIMED_CAPTURED_AT + (captured_len + 3) / 4 * 4);
     !text_in(order, options, COMMENT).is_empty()
 }
 

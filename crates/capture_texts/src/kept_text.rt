@@ -10,7 +10,7 @@ pub const MAX_TEXT_LEN: usize = 128;
 #[derive(Clone, Debug, Default, Drop)]
 pub struct KeptText {
     /// The first bytes of the text. It is empty if the block has no such text.
-    pub bytes: ArrayVec<u8, 128>,
+    pub bytes: ArrayVec<u8, MAX_TEXT_LEN>,
     /// Whether the text has more bytes. Then it ends before the character that goes beyond `MAX_TEXT_LEN` bytes.
     pub is_cut: bool,
 }
@@ -32,7 +32,7 @@ impl KeptText {
 fn kept_len(text: &[u8]) -> usize
     ensures len { result ≡ specs.kept_len text.now }
     ensures within { result ≤ length text.now }
-    ensures most { result ≤ 128 }
+    ensures most { result ≤ MAX_TEXT_LEN }
 {
     if text.len() <= MAX_TEXT_LEN {
         text.len()

@@ -10,14 +10,16 @@
 //! ```
 #![tactic(auto)]
 
+pub mod block;
 mod byte_order;
 mod file_texts;
 mod kept_text;
+pub mod link_number;
 mod link_type;
 mod options;
 
 pub use byte_order::ByteOrder;
-pub use file_texts::{FileTexts, InterfaceTexts, MAX_INTERFACES};
+pub use file_texts::{FileTexts, InterfaceTexts, MAX_INTERFACES_WITH_TEXTS};
 pub use kept_text::{KeptText, MAX_TEXT_LEN};
 pub use link_type::LinkType;
 pub use options::option_value;

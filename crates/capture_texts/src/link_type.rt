@@ -1,6 +1,8 @@
 ghost use Rattle.std.specs.Prelude.{◌≡◌};
 ghost use Rattle.capture_texts.specs.LinkTypes.{link_type_with};
 
+use crate::link_number;
+
 /// The link type of a record: the kind of its first header (the registry of link types of draft-ietf-opsawg-pcaplinktype).
 #[derive(Clone, Copy, Debug, PartialEq, Eq)]
 pub enum LinkType {
@@ -68,15 +70,15 @@ impl LinkType {
             107 => Some(LinkType::FrameRelay),
             108 => Some(LinkType::OpenBsdLoopback),
             113 => Some(LinkType::LinuxCooked),
-            117 => Some(LinkType::Pflog),
-            119 => Some(LinkType::Prism),
+            link_number::PFLOG => Some(LinkType::Pflog),
+            link_number::PRISM => Some(LinkType::Prism),
             127 => Some(LinkType::Radiotap),
-            163 => Some(LinkType::Avs),
-            192 => Some(LinkType::Ppi),
+            link_number::AVS => Some(LinkType::Avs),
+            link_number::PPI => Some(LinkType::Ppi),
             226 => Some(LinkType::Ipnet),
-            239 => Some(LinkType::Nflog),
+            link_number::NFLOG => Some(LinkType::Nflog),
             242 => Some(LinkType::InfiniBand),
-            258 => Some(LinkType::Pktap),
+            link_number::PKTAP => Some(LinkType::Pktap),
             276 => Some(LinkType::LinuxCooked2),
             _ => None,
         }
