@@ -90,7 +90,8 @@ session_with_padding : HasLinkHeader Ethernet LittleEndian (session_frame 4 (pac
 session_with_padding = no_tag _ _ 22 None _ refl (omega arith) refl
 
 -- they are no part of the packet
-padding_is_left_out : slice_range (session_frame 4 (packet ++ replicate 3 0)) 22 (end_in (session_frame 4 (packet ++ replicate 3 0)) (Some 24))
+padding_is_left_out : slice_range (session_frame 4 (packet ++ replicate 3 0)) 22
+    (end_in (session_frame 4 (packet ++ replicate 3 0)) (Some 24))
     ≡ packet
 padding_is_left_out = refl
 
@@ -116,7 +117,8 @@ mpls : HasLinkHeader Ethernet LittleEndian (addresses ++ 0x88 ∷ 0x47 ∷ (two_
 mpls = no_tag _ _ 22 None _ refl (omega arith) refl
 
 -- the first byte after the stack is the first byte of a pseudowire
-mpls_with_pseudowire : HasLinkHeader Ethernet LittleEndian (addresses ++ 0x88 ∷ 0x47 ∷ (two_labels ++ 0 ∷ [])) 22 (Some (EtherType 0x8847)) None
+mpls_with_pseudowire : HasLinkHeader Ethernet LittleEndian (addresses ++ 0x88 ∷ 0x47 ∷ (two_labels ++ 0 ∷ [])) 22
+    (Some (EtherType 0x8847)) None
 mpls_with_pseudowire = no_tag _ _ 22 _ _ refl (omega arith) refl
 
 mpls_over_ppp : HasLinkHeader Ppp LittleEndian (0xFF ∷ 0x03 ∷ 0x02 ∷ 0x81 ∷ (two_labels ++ packet)) 12 None None

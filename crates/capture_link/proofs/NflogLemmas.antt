@@ -1,8 +1,7 @@
 -- The attributes of a LINKTYPE_NFLOG frame, read one after another.
 use Rattle.std.proofs.Common.{◌≡◌, ℕ, zero, suc, ◌+◌, ◌-◌, ◌≤◌, ◌<◌, List, length, Ok, Err, refl, ◌∙◌, arith}
 use Rattle.std.proofs.lemmas.Bool.{le-ltb, lt-ltb}
-use Rattle.capture_link.specs.LinkHeaders.{unread}
-use Rattle.capture_link.specs.Nflog.{after_attribute, attribute_at, attributes, attributes_within}
+use Rattle.capture_link.specs.Nflog.{after_attribute, attribute_at, attributes, attributes_within, unread_log}
 use Rattle.capture_texts.specs.declared.byte_order.ByteOrder.{ByteOrder}
 use Rattle.capture_link.specs.declared.link.LinkHeaderCutOff.{LinkHeaderCutOff}
 use Rattle.capture_link.specs.declared.link.header.FirstHeader.{FirstHeader}
@@ -48,10 +47,10 @@ attribute_cut order frame place error left within is =
 
 -- no attribute is left
 none_left : (more : ℕ) (order : ByteOrder) (frame : List ℕ) (place : ℕ) → length frame ≤ place
-    → attributes_within more order frame place ≡ Ok (unread place 239)
+    → attributes_within more order frame place ≡ Ok (unread_log place)
 none_left zero order frame place ends = refl
 none_left (suc more) order frame place ends = rw (le-ltb place (length frame) ends) refl
 
 pub attributes_end : (order : ByteOrder) (frame : List ℕ) (place : ℕ) → IsLeft order frame place → length frame ≤ place
-    → attributes order frame ≡ Ok (unread place 239)
+    → attributes order frame ≡ Ok (unread_log place)
 attributes_end order frame place left ends = left.same ∙ none_left left.more order frame place ends

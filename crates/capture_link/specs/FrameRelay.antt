@@ -1,6 +1,7 @@
 -- Frame Relay frames (RFC 2427, section 3).
 use Rattle.std.specs.Prelude.{ℕ, ◌+◌, ◌==◌, ◌||◌, ◌&&◌, Bool, if◌then◌else◌, bit_and, List, slice_index, Some, None, Result, Ok}
 use Rattle.net_base.specs.Bytes.{be_number}
+use Rattle.capture_link.specs.EtherTypes.{ipv4_ether_type, ipv6_ether_type}
 use Rattle.capture_link.specs.LinkHeaders.{with_bytes}
 use Rattle.capture_link.specs.Llc.{snap_at}
 use Rattle.capture_link.specs.declared.link.LinkHeaderCutOff.{LinkHeaderCutOff}
@@ -26,7 +27,7 @@ is_unnumbered header = bit_and header 0x0101FF == 0x000103
 -- a two-byte address, and the ether type of IPv4 or IPv6 directly after it, without a control byte, as Cisco's equipment writes it
 abbrev pub has_ether_type : List ℕ → Bool
 has_ether_type frame =
-    bit_and (be_number frame 0 3) 0x010100 == 0x000100 && (be_number frame 2 2 == 0x0800 || be_number frame 2 2 == 0x86DD)
+    bit_and (be_number frame 0 3) 0x010100 == 0x000100 && (be_number frame 2 2 == ipv4_ether_type || be_number frame 2 2 == ipv6_ether_type)
 
 -- the header of a frame without the control byte 03 after a two-byte address
 abbrev pub without_control : List ℕ → FirstHeader

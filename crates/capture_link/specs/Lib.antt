@@ -1,5 +1,6 @@
 pub mod AddressFamilies
 pub mod EtherHeaders
+pub mod EtherTypes
 pub mod FrameRelay
 pub mod Ieee80211
 pub mod Link

@@ -1,6 +1,7 @@
 -- The headers of the link layer before a network packet: their lengths, and the protocols that follow them.
 use Rattle.std.specs.Prelude.{◌≡◌, ◌⊎◌, ◌≤◌, ◌<◌, ℕ, zero, suc, ◌+◌, ◌*◌, ◌==◌, ◌||◌, ◌&&◌, nat_le, nat_lt, Bool, true, false, if◌then◌else◌, List, length, slice_index, slice_range, is_some, Option, Some, None, Result, Ok, Err}
 use Rattle.net_base.specs.Bytes.{be_number}
+use Rattle.capture_link.specs.EtherTypes.{customer_tag, ipv4_ether_type, ipv6_ether_type, least_ether_type, mpls, mpls_multicast, old_service_tag, other_old_service_tag, pppoe_session, service_tag}
 use Rattle.capture_link.specs.AddressFamilies.{family_at}
 use Rattle.capture_link.specs.EtherHeaders.{ethernet_at}
 use Rattle.capture_link.specs.FrameRelay.{frame_relay}
@@ -45,14 +46,18 @@ cisco_hdlc = record { len = 4; ether_type_at = 2 }
 abbrev pub infiniband : EtherHeader
 infiniband = record { len = 44; ether_type_at = 40 }
 
--- the ether types before a VLAN tag: 8100 and 88A8 (IEEE 802.1Q, clause 9.5), and 9100 and 9200, which older equipment writes instead of
--- 88A8
+-- the ether types before a VLAN tag
 abbrev pub is_vlan_tag : ℕ → Bool
-is_vlan_tag ether_type = ether_type == 0x8100 || (ether_type == 0x88A8 || (ether_type == 0x9100 || ether_type == 0x9200))
+is_vlan_tag ether_type =
+    ether_type == customer_tag || (ether_type == service_tag || (ether_type == old_service_tag || ether_type == other_old_service_tag))
 
--- the length of a header with this many tags, of four bytes each
+-- the length of a VLAN tag: two bytes of control information, and the next ether type (IEEE 802.1Q, clause 9.5)
+abbrev pub tag_len : ℕ
+tag_len = 4
+
+-- the length of a header with this many tags
 abbrev pub tagged_len : EtherHeader → ℕ → ℕ
-tagged_len header tags = header.len + tags * 4
+tagged_len header tags = header.len + tags * tag_len
 
 -- the ether type after this number of tags: the ether type of the header, or the last two bytes of a tag
 abbrev pub ether_type_after : EtherHeader → List ℕ → ℕ → ℕ
@@ -63,20 +68,19 @@ ether_type_after header frame (suc tags) = be_number frame (tagged_len header ta
 abbrev pub IsTagged : EtherHeader → List ℕ → ℕ → Type 0
 IsTagged header frame tags = (tag : ℕ) → tag < tags → is_vlan_tag (ether_type_after header frame tag) ≡ true
 
--- the ether types of IPv4 and IPv6 (RFC 894; RFC 2464, section 3)
+-- the ether types of IP
 abbrev pub is_ip : ℕ → Bool
-is_ip ether_type = ether_type == 0x0800 || ether_type == 0x86DD
+is_ip ether_type = ether_type == ipv4_ether_type || ether_type == ipv6_ether_type
 
 -- the next protocol according to an ether type; `None` is IP
 abbrev pub by_ether_type : ℕ → Option NetworkProtocol
 by_ether_type ether_type = if is_ip ether_type then None else Some (UnknownEtherType ether_type)
 
--- The header that ends after an ether type, or after the header that follows it. A PPPoE header follows 8864 (RFC 2516, section 4), and a
--- stack of MPLS labels follows 8847 and 8848 (RFC 3032, section 5).
+-- the header that ends after an ether type, or after the header that follows it: a PPPoE header, or a stack of MPLS labels
 abbrev pub after_ether_type : List ℕ → ℕ → ℕ → Result LinkHeader LinkHeaderCutOff
 after_ether_type frame place ether_type =
-    if ether_type == 0x8864 then session_at frame place
-    else if ether_type == 0x8847 || ether_type == 0x8848 then stack_at frame (UnknownEtherType ether_type) place
+    if ether_type == pppoe_session then session_at frame place
+    else if ether_type == mpls || ether_type == mpls_multicast then stack_at frame (UnknownEtherType ether_type) place
     else Ok (record { len = place; next = by_ether_type ether_type; end = None })
 
 -- the header that ends with an LLC header, or with the ether type of a SNAP header after it
@@ -85,11 +89,11 @@ after_llc frame (Ok (Whole header)) = Ok header
 after_llc frame (Ok (EtherType header)) = after_ether_type frame header.len (be_number frame header.ether_type_at 2)
 after_llc frame (Err error) = Err error
 
--- The header that ends after the last ether type of a header and its tags, which end at this place. After a tag, a number below 0600 is a
--- length, and an LLC header follows (IEEE 802.3, clause 3.2.6).
+-- The header that ends after the last ether type of a header and its tags, which end at this place. After a tag, a number
+-- below the least ether type is a length, and an LLC header follows (IEEE 802.3, clause 3.2.6).
 abbrev pub after_tags : EtherHeader → List ℕ → ℕ → ℕ → Result LinkHeader LinkHeaderCutOff
 after_tags header frame place ether_type =
-    if nat_lt header.len place && nat_lt ether_type 0x0600 then after_llc frame (llc_at frame place)
+    if nat_lt header.len place && nat_lt ether_type least_ether_type then after_llc frame (llc_at frame place)
     else after_ether_type frame place ether_type
 
 -- the header has exactly this number of tags, and the frame contains all of them
@@ -135,10 +139,14 @@ NeedsEtherHeader header frame required_len =
 
 -- ---- headers with an ether type or an LLC header
 
--- a frame of LINKTYPE_LINUX_SLL or LINKTYPE_LINUX_SLL2, with an ether type, or with the protocol 0004 and an LLC header
+-- the protocol of a Linux cooked frame with an LLC header (LINKTYPE_LINUX_SLL)
+abbrev pub cooked_llc : ℕ
+cooked_llc = 0x0004
+
+-- a frame of LINKTYPE_LINUX_SLL or LINKTYPE_LINUX_SLL2, with an ether type, or with an LLC header
 abbrev pub cooked_header : EtherHeader → List ℕ → Result FirstHeader LinkHeaderCutOff
 cooked_header header frame = with_bytes frame header.len (
-    if be_number frame header.ether_type_at 2 == 0x0004 then llc_at frame header.len else Ok (EtherType header))
+    if be_number frame header.ether_type_at 2 == cooked_llc then llc_at frame header.len else Ok (EtherType header))
 
 -- ---- all link types
 

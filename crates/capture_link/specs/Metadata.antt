@@ -2,7 +2,7 @@
 -- tcpdump.org.
 use Rattle.std.specs.Prelude.{ℕ, ◌+◌, ◌*◌, ◌/◌, ◌==◌, ◌||◌, ◌&&◌, Bool, nat_le, nat_lt, if◌then◌else◌, List, slice_index, Option, Some, None, Result, Ok}
 use Rattle.net_base.specs.Bytes.{be_number}
-use Rattle.capture_texts.specs.LinkTypes.{link_type_with}
+use Rattle.capture_texts.specs.LinkTypes.{avs_number, link_type_with, pflog_number, pktap_number, ppi_number, prism_number}
 use Rattle.capture_texts.specs.Numbers.{number_at, short_at}
 use Rattle.capture_link.specs.AddressFamilies.{family_at, is_ip_family}
 use Rattle.capture_link.specs.EtherHeaders.{ethernet_at}
@@ -26,46 +26,80 @@ with_family len family is_ip = Whole (record { len = len; next = if is_ip then N
 abbrev pub padded : ℕ → ℕ
 padded len = (len + 3) / 4 * 4
 
--- The header with this number in its length field, which does not count the padding after the fields. The fields up to the direction of the
--- packet have 45 bytes. A shorter header is not read.
+-- the first fields of a LINKTYPE_PFLOG header: its length and the address family, in one byte each
+abbrev pub filter_fields_len : ℕ
+filter_fields_len = 2
+
+-- the least length of a LINKTYPE_PFLOG header: its fields up to the direction of the packet
+abbrev pub least_filter_len : ℕ
+least_filter_len = 45
+
+-- The header with this number in its length field, which does not count the padding after the fields. A shorter header is not read.
 abbrev pub by_filter_len : List ℕ → ℕ → Result FirstHeader LinkHeaderCutOff
 by_filter_len frame len =
-    if nat_lt len 45 then Ok (unread 2 117)
+    if nat_lt len least_filter_len then Ok (unread filter_fields_len pflog_number)
     else with_bytes frame (padded len) (Ok (with_family (padded len) (slice_index frame 1) (is_ip_family (slice_index frame 1))))
 
--- LINKTYPE_PFLOG, of the packet filter of OpenBSD: the length of the header and the address family in one byte each, and more fields
+-- LINKTYPE_PFLOG, of the packet filter of OpenBSD: the first fields, and more fields
 abbrev pub filter_header : List ℕ → Result FirstHeader LinkHeaderCutOff
-filter_header frame = with_bytes frame 2 (by_filter_len frame (slice_index frame 0))
+filter_header frame = with_bytes frame filter_fields_len (by_filter_len frame (slice_index frame 0))
 
--- the address families of IP on Solaris: 2 is IPv4, and 26 is IPv6
+-- the address family of IPv4 on Solaris
+abbrev pub solaris_ipv4 : ℕ
+solaris_ipv4 = 2
+
+-- the address family of IPv6 on Solaris
+abbrev pub solaris_ipv6 : ℕ
+solaris_ipv6 = 26
+
+-- the address families of IP on Solaris
 abbrev pub is_solaris_ip : ℕ → Bool
-is_solaris_ip family = family == 2 || family == 26
+is_solaris_ip family = family == solaris_ipv4 || family == solaris_ipv6
+
+-- the length of a LINKTYPE_IPNET header
+abbrev pub ipnet_len : ℕ
+ipnet_len = 24
 
 -- LINKTYPE_IPNET, of Solaris: a version and the address family in one byte each, the kind of the frame in two bytes, and the length of the
 -- packet, two interfaces and two zones in four bytes each
 abbrev pub ipnet_header : List ℕ → Result FirstHeader LinkHeaderCutOff
-ipnet_header frame = with_bytes frame 24 (Ok (with_family 24 (slice_index frame 1) (is_solaris_ip (slice_index frame 1))))
+ipnet_header frame = with_bytes frame ipnet_len (Ok (with_family ipnet_len (slice_index frame 1) (is_solaris_ip (slice_index frame 1))))
 
 -- ---- an IEEE 802.11 frame
 
--- the number that begins a header of AVS, of version 1 or of version 2
-abbrev pub is_avs : ℕ → Bool
-is_avs magic = magic == 0x80211001 || magic == 0x80211002
+-- the number that begins a header of AVS of version 1
+abbrev pub avs_1 : ℕ
+avs_1 = 0x80211001
 
--- the frame after a header of AVS of this length, which counts at least the first eight bytes, in a frame of the link type with this number
+-- the number that begins a header of AVS of version 2
+abbrev pub avs_2 : ℕ
+avs_2 = 0x80211002
+
+-- the number begins a header of AVS
+abbrev pub is_avs : ℕ → Bool
+is_avs magic = magic == avs_1 || magic == avs_2
+
+-- the first fields of a header of AVS: the number that identifies it, and its length
+abbrev pub avs_fields_len : ℕ
+avs_fields_len = 8
+
+-- the frame after a header of AVS of this length, which counts at least the first fields, in a frame of the link type with this number
 abbrev pub by_avs_len : List ℕ → ℕ → ℕ → Result FirstHeader LinkHeaderCutOff
-by_avs_len frame number len = if nat_le 8 len then frame_at frame len else Ok (unread 8 number)
+by_avs_len frame number len = if nat_le avs_fields_len len then frame_at frame len else Ok (unread avs_fields_len number)
 
 -- LINKTYPE_IEEE802_11_AVS. A header of AVS contains the number that identifies it and its length, in four bytes each, and more fields. The
 -- number also states the version. The length is at the same place in every version, so the number does not matter.
 abbrev pub after_avs : List ℕ → Result FirstHeader LinkHeaderCutOff
-after_avs frame = with_bytes frame 8 (by_avs_len frame 163 (be_number frame 4 4))
+after_avs frame = with_bytes frame avs_fields_len (by_avs_len frame avs_number (be_number frame 4 4))
 
--- LINKTYPE_IEEE802_11_PRISM. A Prism header has 144 bytes: a message code and a message length of four bytes each, the name of a device in
--- 16 bytes, and ten items of 12 bytes each. A header of AVS may be in its place, if it begins with the number of version 1 or 2.
+-- a Prism header: a message code and a message length of four bytes each, the name of a device in 16 bytes, and ten items of 12 bytes each
+abbrev pub prism_len : ℕ
+prism_len = 144
+
+-- LINKTYPE_IEEE802_11_PRISM: a Prism header, or a header of AVS in its place, if it begins with the number of version 1 or 2
 abbrev pub after_prism : List ℕ → Result FirstHeader LinkHeaderCutOff
-after_prism frame = with_bytes frame 8 (
-    if is_avs (be_number frame 0 4) then by_avs_len frame 119 (be_number frame 4 4) else frame_at frame 144)
+after_prism frame = with_bytes frame avs_fields_len (
+    if is_avs (be_number frame 0 4) then by_avs_len frame prism_number (be_number frame 4 4) else frame_at frame prism_len)
 
 -- ---- a frame of a link type that the header states
 
@@ -82,24 +116,37 @@ enclosed_in frame place number other = Ok (unread place number)
 abbrev pub enclosed_at : List ℕ → ℕ → ℕ → Result FirstHeader LinkHeaderCutOff
 enclosed_at frame place number = with_bytes frame place (enclosed_in frame place number (link_type_with number))
 
--- the frame after a LINKTYPE_PPI header with this version and length: the version is 0, and the length counts at least the first eight
--- bytes
+-- the first fields of a LINKTYPE_PPI header: version, flags, length and link type
+abbrev pub ppi_fields_len : ℕ
+ppi_fields_len = 8
+
+-- the frame after a LINKTYPE_PPI header with this version and length: the version is 0, and the length counts at least the first fields
 abbrev pub by_ppi : List ℕ → ℕ → ℕ → Result FirstHeader LinkHeaderCutOff
 by_ppi frame version len =
-    if version == 0 && nat_le 8 len then enclosed_at frame len (short_at LittleEndian frame 4) else Ok (unread 8 192)
+    if version == 0 && nat_le ppi_fields_len len then enclosed_at frame len (short_at LittleEndian frame 4)
+    else Ok (unread ppi_fields_len ppi_number)
 
 -- LINKTYPE_PPI, Per-Packet Information: a version and flags in one byte each, the length of the header in two bytes, and a link type in
 -- four bytes, whose number has 16 bits. The numbers are little-endian.
 abbrev pub after_ppi : List ℕ → Result FirstHeader LinkHeaderCutOff
-after_ppi frame = with_bytes frame 8 (by_ppi frame (slice_index frame 0) (short_at LittleEndian frame 2))
+after_ppi frame = with_bytes frame ppi_fields_len (by_ppi frame (slice_index frame 0) (short_at LittleEndian frame 2))
 
--- the frame after a LINKTYPE_PKTAP header with this length and type of record: the record is a packet, which is type 1, and the length
--- counts at least the first twelve bytes
+-- the first fields of a LINKTYPE_PKTAP header: length, type of the record, and link type
+abbrev pub tap_fields_len : ℕ
+tap_fields_len = 12
+
+-- the type of a record with a packet, in a LINKTYPE_PKTAP header
+abbrev pub packet_record : ℕ
+packet_record = 1
+
+-- the frame after a LINKTYPE_PKTAP header with this length and type of record: the record is a packet, and the length counts at least the
+-- first fields
 abbrev pub by_tap : List ℕ → ℕ → ℕ → Result FirstHeader LinkHeaderCutOff
 by_tap frame len record_type =
-    if nat_le 12 len && record_type == 1 then enclosed_at frame len (short_at LittleEndian frame 8) else Ok (unread 12 258)
+    if nat_le tap_fields_len len && record_type == packet_record then enclosed_at frame len (short_at LittleEndian frame 8)
+    else Ok (unread tap_fields_len pktap_number)
 
 -- LINKTYPE_PKTAP, of the packet tap of Apple: the length of the header, a type of record, and a link type, whose number has 16 bits, in
 -- four bytes each, and more fields. The numbers are little-endian.
 abbrev pub after_tap : List ℕ → Result FirstHeader LinkHeaderCutOff
-after_tap frame = with_bytes frame 12 (by_tap frame (number_at LittleEndian frame 0) (number_at LittleEndian frame 4))
+after_tap frame = with_bytes frame tap_fields_len (by_tap frame (number_at LittleEndian frame 0) (number_at LittleEndian frame 4))

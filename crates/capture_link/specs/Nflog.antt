@@ -1,5 +1,6 @@
 -- Packets that the packet filter of Linux logged (LINKTYPE_NFLOG, in the registry of link types of tcpdump.org).
 use Rattle.std.specs.Prelude.{ℕ, zero, suc, ◌+◌, ◌≤◌, ◌==◌, ◌||◌, Bool, nat_lt, if◌then◌else◌, List, length, slice_index, Option, Some, None, Result, Ok, Err}
+use Rattle.capture_texts.specs.LinkTypes.{nflog_number}
 use Rattle.capture_texts.specs.Numbers.{short_at}
 use Rattle.capture_link.specs.LinkHeaders.{Fits, unread, with_bytes}
 use Rattle.capture_link.specs.Metadata.{padded, with_family}
@@ -10,9 +11,37 @@ use Rattle.capture_link.specs.declared.link.header.FirstHeader.{FirstHeader}
 use Rattle.capture_link.specs.declared.link.nflog.Attribute.{Attribute}
 use Rattle.capture_link.specs.declared.link.nflog.Attribute.TheVariants.{Last, Other}
 
--- the address families of IP on Linux: 2 is IPv4, and 10 is IPv6
+-- the place of the first attribute, after the address family, the version and the number of the group
+abbrev pub attributes_at : ℕ
+attributes_at = 4
+
+-- the first fields of an attribute: its length and its type, in two bytes each
+abbrev pub attribute_fields_len : ℕ
+attribute_fields_len = 4
+
+-- the shortest header, which ends after the fields of its first attribute
+abbrev pub shortest_len : ℕ
+shortest_len = attributes_at + attribute_fields_len
+
+-- the type of the attribute with the packet
+abbrev pub payload_type : ℕ
+payload_type = 9
+
+-- the address family of IPv4 on Linux
+abbrev pub linux_ipv4 : ℕ
+linux_ipv4 = 2
+
+-- the address family of IPv6 on Linux
+abbrev pub linux_ipv6 : ℕ
+linux_ipv6 = 10
+
+-- the address families of IP on Linux
 abbrev pub is_linux_ip : ℕ → Bool
-is_linux_ip family = family == 2 || family == 10
+is_linux_ip family = family == linux_ipv4 || family == linux_ipv6
+
+-- a header up to this place, whose packet is not found
+abbrev pub unread_log : ℕ → FirstHeader
+unread_log place = unread place nflog_number
 
 -- The byte order of the attributes, which is the order of the machine that logged the packet. The type of the first attribute, in bytes 6
 -- and 7, is above 0 and below 256. So its most significant byte is 0, and its other byte is not.
@@ -21,16 +50,16 @@ attribute_order frame =
     if slice_index frame 6 == 0 then (if slice_index frame 7 == 0 then None else Some BigEndian)
     else (if slice_index frame 7 == 0 then Some LittleEndian else None)
 
--- the header up to the packet, which begins after the first four bytes of the attribute at this place; byte 0 is the address family
+-- the header up to the packet, which begins after the fields of the attribute at this place; byte 0 is the address family
 abbrev pub payload_at : List ℕ → ℕ → FirstHeader
-payload_at frame place = with_family (place + 4) (slice_index frame 0) (is_linux_ip (slice_index frame 0))
+payload_at frame place = with_family (place + attribute_fields_len) (slice_index frame 0) (is_linux_ip (slice_index frame 0))
 
--- The attribute at this place. It contains its length and its type, in two bytes each, and a value. The length counts these four bytes, but
--- not the padding up to a multiple of four. The packet is the value of type 9. A header with a shorter length is not read.
+-- The attribute at this place: its fields, and a value. Its length counts the fields, but not the padding up to a multiple of four. A header
+-- with a shorter length is not read.
 abbrev pub attribute_at : ByteOrder → List ℕ → ℕ → Result Attribute LinkHeaderCutOff
-attribute_at order frame place = with_bytes frame (place + 4) (
-    if nat_lt (short_at order frame place) 4 then Ok (Last (unread (place + 4) 239))
-    else if short_at order frame (place + 2) == 9 then Ok (Last (payload_at frame place))
+attribute_at order frame place = with_bytes frame (place + attribute_fields_len) (
+    if nat_lt (short_at order frame place) attribute_fields_len then Ok (Last (unread_log (place + attribute_fields_len)))
+    else if short_at order frame (place + 2) == payload_type then Ok (Last (payload_at frame place))
     else with_bytes frame (place + padded (short_at order frame place)) (Ok (Other (place + padded (short_at order frame place)))))
 
 -- the header, if this is its next attribute, and this header follows from the place after another attribute
@@ -42,26 +71,27 @@ after_attribute next (Err error) = Err error
 
 -- the header with attributes from this place on, if it has at most this number of attributes; a frame without a packet is not read
 abbrev pub attributes_within : ℕ → ByteOrder → List ℕ → ℕ → Result FirstHeader LinkHeaderCutOff
-attributes_within zero order frame place = Ok (unread place 239)
+attributes_within zero order frame place = Ok (unread_log place)
 attributes_within (suc more) order frame place =
     if nat_lt place (length frame) then after_attribute (λ next. attributes_within more order frame next) (attribute_at order frame place)
-    else Ok (unread place 239)
+    else Ok (unread_log place)
 
 -- the header with all its attributes; a frame contains fewer attributes than bytes
 abbrev pub attributes : ByteOrder → List ℕ → Result FirstHeader LinkHeaderCutOff
-attributes order frame = attributes_within (length frame) order frame 4
+attributes order frame = attributes_within (length frame) order frame attributes_at
 
 -- the header with attributes in this byte order, if the order is known
 abbrev pub by_order : List ℕ → Option ByteOrder → Result FirstHeader LinkHeaderCutOff
-by_order frame None = Ok (unread 8 239)
+by_order frame None = Ok (unread_log shortest_len)
 by_order frame (Some order) = attributes order frame
 
 -- A header begins with an address family, version 0, and the number of the group of logged packets, in two bytes. Attributes follow. A
 -- header of another version is not read.
 abbrev pub log_header : List ℕ → Result FirstHeader LinkHeaderCutOff
-log_header frame = with_bytes frame 8 (if slice_index frame 1 == 0 then by_order frame (attribute_order frame) else Ok (unread 8 239))
+log_header frame = with_bytes frame shortest_len (
+    if slice_index frame 1 == 0 then by_order frame (attribute_order frame) else Ok (unread_log shortest_len))
 
 -- the frame contains the attribute at this place, and its header, if the header ends in it
 abbrev pub IsWithin : List ℕ → ℕ → Attribute → Type 0
 IsWithin frame place (Last header) = Fits frame header
-IsWithin frame place (Other end) = (place + 4 ≤ end) × (end ≤ length frame)
+IsWithin frame place (Other end) = (place + attribute_fields_len ≤ end) × (end ≤ length frame)

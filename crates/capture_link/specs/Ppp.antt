@@ -1,6 +1,7 @@
 -- PPP frames (RFC 1661 and RFC 1662), and frames of PPP over Ethernet (RFC 2516).
 use Rattle.std.specs.Prelude.{ℕ, ◌+◌, ◌==◌, ◌||◌, ◌&&◌, Bool, nat_le, if◌then◌else◌, List, length, slice_index, take, Option, Some, None, Result, Ok, Err}
 use Rattle.net_base.specs.Bytes.{be_number, flag}
+use Rattle.capture_link.specs.EtherTypes.{pppoe_session}
 use Rattle.capture_link.specs.LinkHeaders.{with_bytes}
 use Rattle.capture_link.specs.Mpls.{stack_at}
 use Rattle.capture_link.specs.declared.link.LinkHeaderCutOff.{LinkHeaderCutOff}
@@ -37,7 +38,7 @@ ppp_header frame = protocol_at frame (if has_address frame then 2 else 0)
 
 -- a PPPoE header that ends at this place, and whose payload is not read; the next protocol is its ether type
 abbrev pub unread_session : ℕ → LinkHeader
-unread_session place = record { len = place; next = Some (EtherType 0x8864); end = None }
+unread_session place = record { len = place; next = Some (EtherType pppoe_session); end = None }
 
 -- The header up to the packet in a PPPoE payload with this start and this end, after the PPP header in the payload has been read with this
 -- result. A payload without a whole PPP header is not read.

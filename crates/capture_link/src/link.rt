@@ -7,10 +7,11 @@ ghost use Rattle.capture_link.specs.Link as specs;
 ghost use Rattle.capture_link.specs.Link.{AreBytesAfter, HasEtherHeader, HasLinkHeader, IsFoundAfter, NeedsEtherHeader, NeedsLinkHeader, by_ether_type};
 ghost use Rattle.capture_link.specs.LinkHeaders.{Fits, IsHeaderWithin, max_frame_place};
 
-mod ether_type;
+pub mod ether_type;
 mod frame_relay;
 mod header;
 mod ieee80211;
+#[doc(hidden)]
 pub mod laws;
 mod llc;
 mod metadata;

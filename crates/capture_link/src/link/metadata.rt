@@ -8,18 +8,8 @@ use crate::NetworkProtocol;
 use crate::link::header::{FirstHeader, LinkHeader, expect_len, little_endian_short_at, number_at};
 use crate::link::ieee80211::frame_at;
 use crate::link::{LinkHeaderCutOff, ethernet_at, family_at, is_ip_family};
+use capture_texts::link_number::{AVS, PFLOG, PKTAP, PPI, PRISM};
 use capture_texts::{ByteOrder, LinkType};
-
-/// The numbers of the link types LINKTYPE_PFLOG, LINKTYPE_IEEE802_11_PRISM, LINKTYPE_IEEE802_11_AVS, LINKTYPE_PPI and LINKTYPE_PKTAP.
-const PFLOG: u16 = 117;
-
-const PRISM: u16 = 119;
-
-const AVS: u16 = 163;
-
-const PPI: u16 = 192;
-
-const PKTAP: u16 = 258;
 
 /// The length of the first fields of a LINKTYPE_PFLOG header, in bytes: its length, and the address family.
 const FILTER_FIELDS_LEN: usize = 2;

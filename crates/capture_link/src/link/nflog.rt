@@ -10,9 +10,7 @@ use crate::link::LinkHeaderCutOff;
 use crate::link::header::{FirstHeader, expect_len, little_endian_short_at, short_at};
 use crate::link::metadata::{padded, with_family};
 use capture_texts::ByteOrder;
-
-/// The number of the link type LINKTYPE_NFLOG.
-const NFLOG: u16 = 239;
+use capture_texts::link_number::NFLOG;
 
 /// The place of the first attribute, after the address family, the version and the number of the group.
 const ATTRIBUTES_AT: usize = 4;

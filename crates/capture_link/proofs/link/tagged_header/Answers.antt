@@ -8,7 +8,8 @@ loop-len-init c = read_first c.args.header c.args.frame.now _ c.in_ok-expect_len
 pub loop-len-preserved : goal.loop-len-preserved
 loop-len-preserved c =
     read_next c.args.header c.args.frame.now c.loop-len.len c.loop-len.ether_type (c.loop-len.len + 4) _ _ c.loop-len.invariant
-    (sym c.is_vlan_tag.ensures ∙ c.loop-len-test.true) refl (omega arith) c.in_ok-expect_len-2.ensures c.short_at-ether_type-in-loop-len.ensures
+    (sym c.is_vlan_tag.ensures ∙ c.loop-len-test.true) refl
+    (omega arith) c.in_ok-expect_len-2.ensures c.short_at-ether_type-in-loop-len.ensures
 
 pub returns-clause-found : goal.returns-clause-found
 returns-clause-found c =
