@@ -57,7 +57,8 @@ pub up_to : (before after : PcapngReader) (all : List ℕ) (still_left : Option 
     → (count : ℕ) × ReadsUpTo (length buffer) count before all still_left after buffer next
 up_to before after all still_left buffer next reads =
     let (middle, is) = passes_known (length buffer) reads.count before all reads.middle reads.reader reads.passed in
-    in_order (length buffer) reads.count 0 before reads.reader after all middle still_left buffer next (grind (arith, is)) (grind (arith, is))
+    in_order (length buffer) reads.count 0 before reads.reader after all middle still_left buffer next (grind (arith, is))
+    (grind (arith, is))
 
 -- the rest is not longer than the bytes
 left_of : (all : List ℕ) (left : Option (List ℕ)) (bytes : List ℕ) → Consumes (Some all) left bytes
@@ -89,7 +90,9 @@ module _ (room : ℕ) (more : List ℕ) (left first_left : Option (List ℕ)) (a
       (is_room ∙ sym first_is_room) reads first_reads
   compared_up_to zero (suc first_count) before first reads first_reads =
       let (reader, rest, passed, has_room, step, others) = first_reads in
-      let compared = compared_steps before first more left (Some rest) after reader buffer passed (Some next) None (is_room ∙ sym has_room) reads step in
+      let compared =
+      compared_steps before first more left (Some rest) after reader buffer passed (Some next) None
+      (is_room ∙ sym has_room) reads step in
       absurd (⊎_elim (λ same. says_something (packet_in buffer next) next same.says) (λ ends. cc ends.first_ends) compared)
   compared_up_to (suc count) zero before first reads first_reads =
       let (reader, rest, passed, has_room, step, others) = reads in
@@ -108,7 +111,8 @@ module _ (room : ℕ) (more : List ℕ) (left first_left : Option (List ℕ)) (a
       let (reader, rest, passed, has_room, step, others) = reads in
       let (first_reader, first_rest, first_passed, first_has_room, first_step, first_others) = first_reads in
       ⊎_elim
-      (λ same. compared_up_to count first_count reader same.rest (grind (arith, same.left_is)) (grind (arith, same.first_left_is, same.readers)))
+      (λ same. compared_up_to count first_count reader same.rest (grind (arith, same.left_is))
+      (grind (arith, same.first_left_is, same.readers)))
       (λ ends. absurd (cc ends.first_ends))
       (compared_steps before first more (Some rest) (Some first_rest) reader first_reader passed first_passed None None
       (has_room ∙ sym first_has_room) step first_step)
@@ -116,7 +120,8 @@ module _ (room : ℕ) (more : List ℕ) (left first_left : Option (List ℕ)) (a
 -- ---- packet by packet
 
 -- the item that was read, up to the next block with an item
-pub record ReadsSaid (room : ℕ) (before : PcapngReader) (left still_left : Option (List ℕ)) (after : PcapngReader) (said : Said) : Type 0 where
+pub record ReadsSaid (room : ℕ) (before : PcapngReader) (left still_left : Option (List ℕ)) (after : PcapngReader)
+    (said : Said) : Type 0 where
   pub buffer : List ℕ
   pub has_room : length buffer ≡ room
   pub next : NextPacket
@@ -127,8 +132,18 @@ pub record ReadsSaid (room : ℕ) (before : PcapngReader) (left still_left : Opt
 pub said_one : (room : ℕ) (before : PcapngReader) (left still_left : Option (List ℕ)) (after : CaptureReader) (packet : FilePacket)
     → ReadsOne room (Pcapng before) left still_left after packet
     → (reader : PcapngReader) × (after ≡ Pcapng reader) × ReadsSaid room before left still_left reader (given packet)
-said_one room before left still_left after packet one =
-    (one.reads.0, one.reads.1, record { buffer = one.buffer; has_room = one.has_room; next = one.next; reads = one.reads.2; says = grind arith })
+said_one room before left still_left after packet one = (
+  one.reads.0,
+  one.reads.1,
+  record {
+    buffer = one.buffer;
+    has_room = one.has_room;
+    next = one.next;
+    reads = one.reads.2;
+    says =
+        grind arith;
+  },
+)
 
 -- the items in the whole file and in its beginning
 pub compared_said : (room : ℕ) (before : PcapngReader) (first more : List ℕ) (left first_left : Option (List ℕ))
@@ -138,7 +153,8 @@ compared_said room before first more left first_left after first_after said firs
     let (count, up) = up_to before after (first ++ more) left reads.buffer reads.next reads.reads in
     let (first_count, first_up) = up_to before first_after first first_left first_reads.buffer first_reads.next first_reads.reads in
     let compared = compared_up_to room more left first_left after first_after reads.buffer first_reads.buffer reads.next first_reads.next
-    reads.has_room first_reads.has_room count first_count before first (grind (arith, reads.has_room)) (grind (arith, first_reads.has_room)) in
+    reads.has_room first_reads.has_room count first_count before first (grind (arith, reads.has_room))
+    (grind (arith, first_reads.has_room)) in
     subst (λ s. Compared more after first_after left first_left s first_said) reads.says
     (subst (λ s. Compared more after first_after left first_left (said_of reads.buffer (Some reads.next)) s) first_reads.says compared)
 
@@ -195,7 +211,8 @@ last_of_none : (room : ℕ) (reader : PcapngReader) (all : List ℕ) (left : Opt
 last_of_none room reader all left after next read ends = grind (arith, nat_tests, said_by)
 
 -- a packet that was read, with equal states and packets
-same_one : (room : ℕ) (before after other : CaptureReader) (left middle still_left : Option (List ℕ)) (packet same : FilePacket) → after ≡ other
+same_one : (room : ℕ) (before after other : CaptureReader) (left middle still_left : Option (List ℕ)) (packet same : FilePacket)
+    → after ≡ other
     → middle ≡ still_left → packet ≡ same → ReadsOne room before left middle after packet → ReadsOne room before left still_left other same
 same_one room before after other left middle still_left packet same is is_left is_packet one = grind (arith, nat_tests)
 
@@ -210,7 +227,8 @@ module _ (room : ℕ) (more : List ℕ) (left first_left : Option (List ℕ)) (a
       let (still, now, said) = last_of_none room reader (first ++ more) left after next read ends in
       let (first_still, first_now, first_said) = last_of_none room reader first first_left first_after first_next first_read first_ends in
       let compared = compared_said room reader first more still first_still now first_now (last next) (last first_next) said first_said in
-      none_left room reader first more next first_next (λ none. ⊎_elim (λ same. cc same.says) (λ here. cc (here.ends none, here.first_ends)) compared)
+      none_left room reader first more next first_next
+      (λ none. ⊎_elim (λ same. cc same.says) (λ here. cc (here.ends none, here.first_ends)) compared)
   compared_packets reader first [] (q ∷ qs) read first_read =
       let (still, now, said) = last_of_none room reader (first ++ more) left after next read ends in
       let (first_mid, first_middle, first_one, first_others) = first_read in
@@ -248,7 +266,8 @@ module _ (room : ℕ) (more : List ℕ) (left first_left : Option (List ℕ)) (a
       let packet : p ≡ q = cc same.says in
       let further = compared_packets now same.rest ps qs (grind (arith, same.left_is)) (grind (arith, same.first_left_is, same.readers)) in
       let fewer = left_said room reader now (first ++ more) middle (same.rest ++ more) (given p) same.left_is said in
-      let one_of = same_one room (Pcapng reader) mid (Pcapng now) (Some (first ++ more)) middle (Some (same.rest ++ more)) p q is same.left_is
+      let one_of =
+      same_one room (Pcapng reader) mid (Pcapng now) (Some (first ++ more)) middle (Some (same.rest ++ more)) p q is same.left_is
       packet one in
       record {
         others = further.others;
@@ -270,7 +289,8 @@ pub there_is_one_list : (room : ℕ) (reader : CaptureReader) (bytes : List ℕ)
 there_is_one_list room (Classic reader) bytes packets other_packets next other_next has other =
     let (records, rest, reading, are, is_next) = has in
     let (other_records, other_rest, other_reading, other_are, other_is_next) = other in
-    let (same, same_rest) = there_is_one_reading reader.header.byte_order bytes records other_records rest other_rest reading other_reading in
+    let (same, same_rest) =
+    there_is_one_reading reader.header.byte_order bytes records other_records rest other_rest reading other_reading in
     (cc (same, are, other_are), cc (same_rest, is_next, other_is_next))
 there_is_one_list room (Pcapng reader) bytes packets other_packets next other_next has other =
     let (left, after, read, ends) = has in
@@ -305,7 +325,8 @@ first_packets room (Classic reader) bytes first packets next begins has =
       each = each_append order records others each reading.each;
       partial = reading.partial;
     } in
-    let same = there_is_one_list room (Classic reader) bytes packets (map to_packet (records ++ others)) next (next_after order last_rest) has
+    let same =
+    there_is_one_list room (Classic reader) bytes packets (map to_packet (records ++ others)) next (next_after order last_rest) has
     (records ++ others, last_rest, all_read, refl, refl) in
     (map to_packet others, cc (same.0, map-append to_packet records others, are))
 first_packets room (Pcapng reader) bytes first packets next begins has =
@@ -316,9 +337,13 @@ first_packets room (Pcapng reader) bytes first packets next begins has =
     let first_read : ReadsPackets room (Pcapng reader) (Some bytes) (Some rest) (Pcapng last_reader) first =
     subst (λ r. ReadsPackets room (Pcapng reader) (Some bytes) (Some rest) r first) is_after
     (subst (λ l. ReadsPackets room (Pcapng reader) (Some bytes) l after first) is_left read) in
-    let all_read = packets_append room (Pcapng reader) (Pcapng last_reader) last_after (Some bytes) (Some rest) still_left first others first_read
-    others_read in
-    (others, (there_is_one_list room (Pcapng reader) bytes packets (first ++ others) next end has (still_left, last_after, all_read, ends)).0)
+    let all_read =
+    packets_append room (Pcapng reader) (Pcapng last_reader) last_after (Some bytes) (Some rest) still_left first others first_read
+    others_read in (
+      others,
+      (there_is_one_list room (Pcapng reader) bytes packets (first ++ others) next end has
+          (still_left, last_after, all_read, ends)).0,
+    )
 
 -- ---- a file that was cut
 

@@ -28,7 +28,8 @@ packets_append room a b c left middle still_left (p ∷ ps) others read more =
     (read.0, read.1, read.2, packets_append room read.0 b c read.1 middle still_left ps others read.3 more)
 
 -- a packet after others
-pub packets-push : (room : ℕ) (a b c : CaptureReader) (left middle still_left : Option (List ℕ)) (packets : List FilePacket) (packet : FilePacket)
+pub packets-push : (room : ℕ) (a b c : CaptureReader) (left middle still_left : Option (List ℕ)) (packets : List FilePacket)
+    (packet : FilePacket)
     → ReadsPackets room a left middle b packets → ReadsOne room b middle still_left c packet
     → ReadsPackets room a left still_left c (packets ++ packet ∷ [])
 packets-push room a b c left middle still_left packets packet read one =
@@ -37,7 +38,8 @@ packets-push room a b c left middle still_left packets packet read one =
 -- ---- a classic capture
 
 -- a record that was read is its packet
-record_read : (room : ℕ) (capture : CaptureHeader) (left still_left : Option (List ℕ)) (buffer : List ℕ) (next : NextRecord) (packet : FilePacket)
+record_read : (room : ℕ) (capture : CaptureHeader) (left still_left : Option (List ℕ)) (buffer : List ℕ) (next : NextRecord)
+    (packet : FilePacket)
     → length buffer ≡ room → (reads : ReadsNext capture.byte_order left still_left buffer next)
     → packet_in buffer (next_by_record capture next) ≡ Some packet
     → IsRecord capture.byte_order reads.bytes × (packet ≡ record_packet room capture reads.bytes)
@@ -47,7 +49,8 @@ record_read room capture left still_left buffer End packet has_room reads gives 
 record_read room capture left still_left buffer (CutOff required len) packet has_room reads gives = absurd (cc gives)
 
 -- these packets were read from these records
-record ReadsClassic (room : ℕ) (reader : ClassicReader) (left still_left : Option (List ℕ)) (after : CaptureReader) (packets : List FilePacket) : Type 0 where
+record ReadsClassic (room : ℕ) (reader : ClassicReader) (left still_left : Option (List ℕ)) (after : CaptureReader)
+    (packets : List FilePacket) : Type 0 where
   records : List (List ℕ)
   read : ReadsRecords reader.header.byte_order left still_left records
   are_packets : packets ≡ map (record_packet room reader.header) records
@@ -55,7 +58,8 @@ record ReadsClassic (room : ℕ) (reader : ClassicReader) (left still_left : Opt
   is_last : after ≡ Classic last
   same : last.header ≡ reader.header
 
-classic_packets : (room : ℕ) (reader : ClassicReader) (left still_left : Option (List ℕ)) (after : CaptureReader) (packets : List FilePacket)
+classic_packets : (room : ℕ) (reader : ClassicReader) (left still_left : Option (List ℕ)) (after : CaptureReader)
+    (packets : List FilePacket)
     → ReadsPackets room (Classic reader) left still_left after packets → ReadsClassic room reader left still_left after packets
 classic_packets room reader left still_left after [] read = record {
   records = [];
@@ -72,7 +76,9 @@ classic_packets room reader left still_left after (packet ∷ packets) read =
     let (is, is_packet) =
     record_read room reader.header left middle one.buffer by_record.next_record packet one.has_room by_record.reads
     (subst (λ n. packet_in one.buffer n ≡ Some packet) by_record.is one.gives) in
-    let more = classic_packets room now middle still_left after packets (subst (λ r. ReadsPackets room r middle still_left after packets) is_now others) in
+    let more =
+    classic_packets room now middle still_left after packets
+    (subst (λ r. ReadsPackets room r middle still_left after packets) is_now others) in
     let rest = subst (λ h. ReadsRecords h.byte_order middle still_left more.records) by_record.header more.read in
     let all = Consumes-trans left middle still_left bytes (concat more.records) by_record.reads.consumed rest.consumed in
     let are : packets ≡ map (record_packet room reader.header) more.records =
@@ -100,7 +106,8 @@ record_ends room capture left middle still_left buffer (CutOff required len) rec
   grind (arith, reads.is_next.0, reads.is_next.2, reads.is_next.3),
 )
 
-classic_ends : (room : ℕ) (reader last : ClassicReader) (left middle : Option (List ℕ)) (records : List (List ℕ)) (packets : List FilePacket)
+classic_ends : (room : ℕ) (reader last : ClassicReader) (left middle : Option (List ℕ)) (records : List (List ℕ))
+    (packets : List FilePacket)
     (next : NextPacket) → last.header ≡ reader.header → ReadsRecords reader.header.byte_order left middle records
     → packets ≡ map (record_packet room reader.header) records → EndsWith room (Classic last) middle next
     → IfSome left (λ bytes. HasPackets room (Classic reader) bytes packets next)
@@ -110,8 +117,14 @@ classic_ends room reader last (Some all) middle records packets next same read a
     let (reading, is_next) =
     record_ends room last.header (Some all) middle ends.still_left ends.buffer by_record.next_record records
     (subst (λ h. ReadsRecords h.byte_order (Some all) middle records) (sym same) read) by_record.reads
-    (subst (λ n. packet_in ends.buffer n ≡ None) by_record.is ends.no_packet) in
-    (records, by_record.reads.bytes, subst (λ h. IsReading h.byte_order all records by_record.reads.bytes) same reading, are, cc (by_record.is, is_next, same))
+    (subst (λ n. packet_in ends.buffer n ≡ None) by_record.is ends.no_packet) in (
+      records,
+      by_record.reads.bytes,
+      subst (λ h. IsReading h.byte_order all records by_record.reads.bytes) same reading,
+      are,
+      cc
+          (by_record.is, is_next, same),
+    )
 
 -- ---- either format
 

@@ -18,7 +18,8 @@ little_endian_microseconds = refl
 ethernet_is_read : header_refusal ethernet ≡ None
 ethernet_is_read = refl
 
-ethernet_header : IsHeaderOf ethernet (record { byte_order = LittleEndian; resolution = Microseconds; snap_len = 262144; link_type = Ok Ethernet })
+ethernet_header : IsHeaderOf ethernet
+    (record { byte_order = LittleEndian; resolution = Microseconds; snap_len = 262144; link_type = Ok Ethernet })
 ethernet_header = record { resolution = refl; snap_len = refl; link_type = refl }
 
 big_endian_nanoseconds : form_of (161 ∷ 178 ∷ 60 ∷ 77 ∷ []) ≡ Some (BigEndian, Nanoseconds)

@@ -52,8 +52,11 @@ refused_classic left middle still_left first buffer error not_one consumed reads
     ⊎_elim
     (λ short. ap is_section_header (ap (λ l. first ++ l) (reads.none_after short) ∙ append-nil first))
     (λ long. is_section_header_front first reads.bytes (omega (arith, long)))
-    (cases_lt (length first) 12) in
-    (header_read left middle still_left first (Err error) consumed reads, λ same. grind (arith, nat_tests, begins, not_one, reads.says, same))
+    (cases_lt (length first) 12) in (
+      header_read left middle still_left first (Err error) consumed reads,
+      λ same. grind
+          (arith, nat_tests, begins, not_one, reads.says, same),
+    )
 
 -- ---- a pcapng file
 

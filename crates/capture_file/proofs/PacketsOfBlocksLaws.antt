@@ -20,7 +20,8 @@ use Rattle.capture_file.specs.Packets.{long_block}
 use Rattle.capture_file.specs.PacketsOfBlocks.{Contents, FilesHavePacketsOfBlocks, ReadPacketsOfBlocks, before_others, block_result, body_of, interfaces_after, item_after, long_result, packets_of_blocks, result_by, whole_result}
 use Rattle.capture_file.specs.Pcapng.{AreBlocks, IsBlock, IsBlockReading, block_header, block_refusal, is_section_header, order_after, order_of}
 use Rattle.capture_file.specs.PcapngBodies.{section_header_refusal}
-use Rattle.capture_file.specs.PcapngBody.{body_refusal, section_header_type}
+use Rattle.capture_file.specs.PcapngBody.{body_refusal}
+use Rattle.capture_texts.specs.Blocks.{section_header_type}
 use Rattle.capture_file.specs.PcapngReading.{ReadsNextBlock}
 use Rattle.capture_file.specs.PcapngSteps.{ReadsPacket, ReadsStep, is_description, is_packet, next_by_taken, next_by_too_long, offset_after, refused_at}
 use Rattle.capture_texts.specs.declared.byte_order.ByteOrder.{ByteOrder}

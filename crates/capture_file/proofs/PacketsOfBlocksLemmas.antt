@@ -12,7 +12,8 @@ use Rattle.capture_file.specs.Packets.{packet_of_block, packet_start}
 use Rattle.capture_file.specs.PacketsOfBlocks.{interfaces_after, simple_packet, timed_packet, whole_result}
 use Rattle.capture_file.specs.Pcapng.{is_section_header, order_of}
 use Rattle.capture_file.specs.PcapngBodies.{interface_description, section_header_refusal}
-use Rattle.capture_file.specs.PcapngBody.{IsBody, body_refusal, interface_description_type, section_header_type}
+use Rattle.capture_file.specs.PcapngBody.{IsBody, body_refusal}
+use Rattle.capture_texts.specs.Blocks.{interface_description_type, section_header_type}
 use Rattle.capture_file.specs.PcapngPackets.{IsSimplePacketOf, IsTimedPacket, captured_len}
 use Rattle.capture_file.specs.Sections.{Describes, TakesBlock, TakesBody, TakesUnless, max_interfaces}
 use Rattle.capture_texts.specs.declared.byte_order.ByteOrder.{ByteOrder}
@@ -132,7 +133,8 @@ IsTaken header interfaces body buffer given after (Ok (Some packet)) =
 module _ (before : Section) (header : BlockHeader) (body buffer : List ℕ)
     (same : header.block_type ≢ section_header_type → header.byte_order ≡ before.byte_order)
     (at : (start len : ℕ)
-    → slice_range buffer (8 + start) (8 + start + length (slice_range body start (start + len))) ≡ slice_range body start (start + len)) where
+    → slice_range buffer (8 + start) (8 + start + length (slice_range body start (start + len)))
+    ≡ slice_range body start (start + len)) where
   abbrev After : Section → Type 0
   After after = IsAfter header before.interfaces.items body after
 

@@ -65,7 +65,8 @@ no_multiple_of_four = refl
 cut_off : block_refusal LittleEndian (1 ∷ 0 ∷ 0 ∷ 0 ∷ 16 ∷ 0 ∷ 0 ∷ 0 ∷ replicate 7 0) ≡ Some (CutOff 16 15)
 cut_off = refl
 
-lengths_differ : block_refusal LittleEndian (1 ∷ 0 ∷ 0 ∷ 0 ∷ 16 ∷ 0 ∷ 0 ∷ 0 ∷ (replicate 4 0 ++ 20 ∷ 0 ∷ 0 ∷ 0 ∷ [])) ≡ Some (LastLength 16 20)
+lengths_differ : block_refusal LittleEndian (1 ∷ 0 ∷ 0 ∷ 0 ∷ 16 ∷ 0 ∷ 0 ∷ 0 ∷ (replicate 4 0 ++ 20 ∷ 0 ∷ 0 ∷ 0 ∷ []))
+    ≡ Some (LastLength 16 20)
 lengths_differ = refl
 
 -- ---- bodies

@@ -27,7 +27,8 @@ order_by_magic_front first more within =
 pub lacks_magic_front : (first more : List ℕ) → 12 ≤ length first → lacks_magic (first ++ more) ≡ lacks_magic first
 lacks_magic_front first more within = grind (arith, nat_tests, is_section_header_front, order_by_magic_front)
 
-pub order_of_front : (section : ByteOrder) (first more : List ℕ) → 12 ≤ length first → order_of section (first ++ more) ≡ order_of section first
+pub order_of_front : (section : ByteOrder) (first more : List ℕ) → 12 ≤ length first
+    → order_of section (first ++ more) ≡ order_of section first
 order_of_front section first more within = grind (arith, nat_tests, is_section_header_front, order_by_magic_front)
 
 pub block_len_front : (section : ByteOrder) (first more : List ℕ) → 12 ≤ length first
@@ -51,7 +52,8 @@ last_len_front section first more len shortest within = grind (arith, nat_tests,
 
 -- bytes that begin with a block are accepted
 pub accepted : (section : ByteOrder) (block more : List ℕ) → IsBlock section block → block_refusal section (block ++ more) ≡ None
-accepted section block more is = grind (arith, nat_tests, block_len_front, last_len_front, length-append, lacks_magic_front, is_short_section_front)
+accepted section block more is =
+    grind (arith, nat_tests, block_len_front, last_len_front, length-append, lacks_magic_front, is_short_section_front)
 
 -- accepted bytes are at least as long as their block, and contain it
 pub record Begins (section : ByteOrder) (bytes : List ℕ) : Type 0 where

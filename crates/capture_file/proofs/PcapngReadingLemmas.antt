@@ -56,7 +56,8 @@ refused_by section first more within accepted =
     ∷ refused_if (not (last_len section bytes len == len)) (LastLength len (last_len section bytes len))
     ∷ []))
     (block_header_refusal_front section first more within ∙ accepted)
-    ∙ ap (λ first_len. refusal_after first_len (length bytes) (last_len section bytes first_len)) (block_len_front section first more within)
+    ∙ ap (λ first_len. refusal_after first_len (length bytes) (last_len section bytes first_len))
+    (block_len_front section first more within)
 
 short_by : (len its_len last required other : ℕ) → refusal_after len its_len last ≡ Some (CutOff required other) → its_len < len
 short_by len its_len last required other refused = grind (arith, nat_tests)
@@ -74,7 +75,8 @@ pub cut_off_short : (section : ByteOrder) (first more : List ℕ) (required its_
     → block_header_refusal section first ≡ None → block_refusal section (first ++ more) ≡ Some (CutOff required its_len)
     → length (first ++ more) < block_len section first
 cut_off_short section first more required its_len within accepted refused =
-    short_by (block_len section first) (length (first ++ more)) _ required its_len (sym (refused_by section first more within accepted) ∙ refused)
+    short_by (block_len section first) (length (first ++ more)) _ required its_len
+    (sym (refused_by section first more within accepted) ∙ refused)
 
 -- ---- an error other than a block that is cut off remains the error with more bytes after the block
 
@@ -103,9 +105,11 @@ pub last_by : (still_left : Option (List ℕ)) (error : BlockError) → ((requir
 last_by still_left error at_end = grind arith
 
 -- rejected bytes
-abbrev pub refused_after : (section : ByteOrder) (first bytes : List ℕ) (left still_left : Option (List ℕ)) (buffer : List ℕ) (error : BlockError)
+abbrev pub refused_after : (section : ByteOrder) (first bytes : List ℕ) (left still_left : Option (List ℕ)) (buffer : List ℕ)
+    (error : BlockError)
     → Consumes left still_left bytes → 1 ≤ length (first ++ bytes) → block_refusal section (first ++ bytes) ≡ Some error
-    → ((required len : ℕ) → error ≡ CutOff required len → IsAtEnd still_left) → ReadsAfter section first left still_left buffer (Refused error)
+    → ((required len : ℕ) → error ≡ CutOff required len → IsAtEnd still_left)
+    → ReadsAfter section first left still_left buffer (Refused error)
 refused_after section first bytes left still_left buffer error consumed some refused at_end = record {
   bytes = bytes;
   consumed = consumed;
@@ -118,7 +122,8 @@ pub refused_first : (section : ByteOrder) (first : List ℕ) (left : Option (Lis
     → AreFirst first left → 1 ≤ length first → block_header_refusal section first ≡ Some error
     → ReadsAfter section first left left buffer (Refused error)
 refused_first section first left buffer error are some refused =
-    refused_after section first [] left left buffer error (Consumes-nil left) (grind (arith, append-nil)) (grind (arith, nat_tests, append-nil))
+    refused_after section first [] left left buffer error (Consumes-nil left) (grind (arith, append-nil))
+    (grind (arith, nat_tests, append-nil))
     (λ required len is. are.1 (grind (arith, nat_tests)))
 
 -- all bytes of a block, from its first bytes and the bytes after them
@@ -142,14 +147,16 @@ le_number_back zero first more place from is = refl
 le_number_back (suc count) first more place from is =
     grind (arith, le_number_back count first more place from is, get_or-append_right first more (length first) (place + count) 0)
 
-number_at_back : (order : ByteOrder) (first more : List ℕ) (place : ℕ) → place ≡ length first → number_at order (first ++ more) place ≡ number_at order more 0
+number_at_back : (order : ByteOrder) (first more : List ℕ) (place : ℕ) → place ≡ length first
+    → number_at order (first ++ more) place ≡ number_at order more 0
 number_at_back order first more place is = grind (arith, be_number_back 4 first more place 0, le_number_back 4 first more place 0)
 
 -- ---- the bytes that were read after the first bytes of a block
 
 -- the bytes read after first bytes were read together with them
 abbrev pub with_first : (section : ByteOrder) (left middle still_left : Option (List ℕ)) (first buffer : List ℕ) (next : NextBlock)
-    → Consumes left middle first → ReadsAfter section first middle still_left buffer next → ReadsNextBlock section left still_left buffer next
+    → Consumes left middle first → ReadsAfter section first middle still_left buffer next
+    → ReadsNextBlock section left still_left buffer next
 with_first section left middle still_left first buffer next consumed reads = record {
   bytes = first ++ reads.bytes;
   consumed = Consumes-trans left middle still_left first reads.bytes consumed reads.consumed;
@@ -158,7 +165,8 @@ with_first section left middle still_left first buffer next consumed reads = rec
 }
 
 -- a block in front of the buffer
-pub whole_after : (section : ByteOrder) (first : List ℕ) (left still_left : Option (List ℕ)) (part after : List ℕ) (header : BlockHeader) (len : ℕ)
+pub whole_after : (section : ByteOrder) (first : List ℕ) (left still_left : Option (List ℕ)) (part after : List ℕ) (header : BlockHeader)
+    (len : ℕ)
     → 12 ≤ length first → header ≡ block_header section first → length part ≡ header.total_len → FillsAfter first left still_left part len
     → block_refusal section (take len (part ++ after)) ≡ None → ReadsAfter section first left still_left (part ++ after) (Whole header)
 whole_after section first left still_left part after header len within is room fills accepted =
@@ -166,10 +174,12 @@ whole_after section first left still_left part after header len within is room f
     grind (arith, nat_tests, front, length-append, whole_block, block_header_front)
 
 -- the bytes at the front of the buffer are rejected
-pub refused_fill : (section : ByteOrder) (first : List ℕ) (left still_left : Option (List ℕ)) (part after : List ℕ) (header : BlockHeader) (len : ℕ)
+pub refused_fill : (section : ByteOrder) (first : List ℕ) (left still_left : Option (List ℕ)) (part after : List ℕ) (header : BlockHeader)
+    (len : ℕ)
     (error : BlockError) → 12 ≤ length first → block_header_refusal section first ≡ None → header ≡ block_header section first
     → length part ≡ header.total_len → FillsAfter first left still_left part len
-    → block_refusal section (take len (part ++ after)) ≡ Some error → ReadsAfter section first left still_left (part ++ after) (Refused error)
+    → block_refusal section (take len (part ++ after)) ≡ Some error
+    → ReadsAfter section first left still_left (part ++ after) (Refused error)
 refused_fill section first left still_left part after header len error within accepted is room fills refused =
     let refuses : block_refusal section (first ++ fills.bytes) ≡ Some error =
     sym (ap (block_refusal section) (take-append-le len part after fills.within ∙ fills.whole)) ∙ refused in
@@ -180,7 +190,8 @@ refused_fill section first left still_left part after header len error within ac
     fills.end (omega (arith, room, ap (λ h. h.total_len) is, fills.has_len, length-append first fills.bytes, short)))
 
 -- a block without room in the buffer
-pub too_long_after : (section : ByteOrder) (first bytes : List ℕ) (left still_left : Option (List ℕ)) (buffer : List ℕ) (header : BlockHeader)
+pub too_long_after : (section : ByteOrder) (first bytes : List ℕ) (left still_left : Option (List ℕ)) (buffer : List ℕ)
+    (header : BlockHeader)
     → 12 ≤ length first → header ≡ block_header section first → Consumes left still_left bytes → length (first ++ bytes) ≤ header.total_len
     → block_refusal section (first ++ bytes) ≡ None → length buffer < header.total_len
     → ReadsAfter section first left still_left buffer (TooLong header)
@@ -194,7 +205,8 @@ pub short_too_long : (section : ByteOrder) (first : List ℕ) (left : Option (Li
 short_too_long section first left buffer header has_len is short accepted room =
     grind (arith, nat_tests, too_long_after, Consumes-nil, append-nil)
 
-pub short_refused : (section : ByteOrder) (first : List ℕ) (left : Option (List ℕ)) (buffer : List ℕ) (header : BlockHeader) (error : BlockError)
+pub short_refused : (section : ByteOrder) (first : List ℕ) (left : Option (List ℕ)) (buffer : List ℕ) (header : BlockHeader)
+    (error : BlockError)
     → length first ≡ 12 → block_header_refusal section first ≡ None → header ≡ block_header section first → header.total_len ≡ 12
     → block_refusal section first ≡ Some error → ReadsAfter section first left left buffer (Refused error)
 short_refused section first left buffer header error has_len accepted is short refused =
@@ -203,7 +215,8 @@ short_refused section first left buffer header error has_len accepted is short r
 
 -- a block that is cut off after its header
 cut_off_refusal : (section : ByteOrder) (first bytes : List ℕ) (header : BlockHeader) (len : ℕ) → 12 ≤ length first
-    → block_header_refusal section first ≡ None → header ≡ block_header section first → len ≡ length (first ++ bytes) → len < header.total_len
+    → block_header_refusal section first ≡ None → header ≡ block_header section first → len ≡ length (first ++ bytes)
+    → len < header.total_len
     → block_refusal section (first ++ bytes) ≡ Some (CutOff header.total_len len)
 cut_off_refusal section first bytes header len within accepted is has_len short =
     let total : block_len section first ≡ header.total_len = sym (ap (λ h. h.total_len) is) in
@@ -212,7 +225,8 @@ cut_off_refusal section first bytes header len within accepted is has_len short 
     ∙ ap (λ first_len. Some (CutOff first_len (length (first ++ bytes)))) total
     ∙ ap (λ its_len. Some (CutOff header.total_len its_len)) (sym has_len)
 
-pub cut_off_after : (section : ByteOrder) (first bytes : List ℕ) (left still_left : Option (List ℕ)) (buffer : List ℕ) (header : BlockHeader)
+pub cut_off_after : (section : ByteOrder) (first bytes : List ℕ) (left still_left : Option (List ℕ)) (buffer : List ℕ)
+    (header : BlockHeader)
     (len : ℕ) → 12 ≤ length first → block_header_refusal section first ≡ None → header ≡ block_header section first
     → Consumes left still_left bytes → len ≡ length (first ++ bytes) → len < header.total_len → IsAtEnd still_left
     → ReadsAfter section first left still_left buffer (Refused (CutOff header.total_len len))
@@ -276,7 +290,8 @@ last_of section first middle last header number within is counts ends =
     grind (arith, nat_tests, order_of_front, append_assoc, number_at_back, length-append)
 
 -- a block without room in the buffer, by its last four bytes
-pub passed_over : (section : ByteOrder) (first middle last : List ℕ) (left still_left : Option (List ℕ)) (buffer : List ℕ) (header : BlockHeader)
+pub passed_over : (section : ByteOrder) (first middle last : List ℕ) (left still_left : Option (List ℕ)) (buffer : List ℕ)
+    (header : BlockHeader)
     (number : ℕ) → 12 ≤ length first → block_header_refusal section first ≡ None → header ≡ block_header section first
     → Consumes left still_left (middle ++ last) → length last ≡ 4 → length (first ++ middle) + 4 ≡ header.total_len
     → number ≡ number_at header.byte_order last 0 → number ≡ header.total_len → length buffer < header.total_len
@@ -290,7 +305,8 @@ passed_over section first middle last left still_left buffer header number withi
     ∙ accepted_by (block_len section first) (length (first ++ (middle ++ last))) _ (omega (arith, total, whole))
     (last_of section first middle last header number within is counts ends ∙ same ∙ sym total)) room
 
-pub differs_after : (section : ByteOrder) (first middle last : List ℕ) (left still_left : Option (List ℕ)) (buffer : List ℕ) (header : BlockHeader)
+pub differs_after : (section : ByteOrder) (first middle last : List ℕ) (left still_left : Option (List ℕ)) (buffer : List ℕ)
+    (header : BlockHeader)
     (number : ℕ) → 12 ≤ length first → block_header_refusal section first ≡ None → header ≡ block_header section first
     → Consumes left still_left (middle ++ last) → length last ≡ 4 → length (first ++ middle) + 4 ≡ header.total_len
     → number ≡ number_at header.byte_order last 0 → (number ≡ header.total_len → ⊥)

@@ -52,7 +52,8 @@ module _ (form : Form) where
       (λ (found : (len : ℕ) × (0 < len) × (len ≤ length bytes) × form.IsPiece state (take len bytes)).
       let (len, some, within, is) = found in
       let (pieces, rest, whole, are) =
-      exists_within most (form.after state (take len bytes)) (drop len bytes) (omega (arith, short, some, within, length-drop len bytes)) in (
+      exists_within most (form.after state (take len bytes)) (drop len bytes)
+      (omega (arith, short, some, within, length-drop len bytes)) in (
         take len bytes ∷ pieces,
         rest,
         sym (take-append-drop len bytes) ∙ ap (λ l. take len bytes ++ l) whole ∙ sym (append_assoc (take len bytes) (concat pieces) rest),
@@ -64,7 +65,8 @@ module _ (form : Form) where
       → (pieces : List (List ℕ)) × (rest : List ℕ) × (bytes ≡ concat pieces ++ rest) × form.Are state pieces rest
   exists state bytes = exists_within (suc (length bytes)) state bytes (omega arith)
 
-  pub unique : (state : form.State) (a b : List (List ℕ)) (x y : List ℕ) → form.Are state a x → form.Are state b y → concat a ++ x ≡ concat b ++ y
+  pub unique : (state : form.State) (a b : List (List ℕ)) (x y : List ℕ) → form.Are state a x → form.Are state b y
+      → concat a ++ x ≡ concat b ++ y
       → (a ≡ b) × (x ≡ y)
   unique state [] [] x y p q same = (refl, same)
   unique state [] (b ∷ b_more) x y p q same =
@@ -77,11 +79,13 @@ module _ (form : Form) where
       let (equal, rest) = form.same_piece state a b (concat a_more ++ x) (concat b_more ++ y) is is_too
       (sym (append_assoc a (concat a_more) x) ∙ same ∙ append_assoc b (concat b_more) y) in
       let (same_others, same_rest) =
-      unique (form.after state a) a_more b_more x y others (subst (λ piece. form.Are (form.after state piece) b_more y) (sym equal) others_too) rest in
+      unique (form.after state a) a_more b_more x y others
+      (subst (λ piece. form.Are (form.after state piece) b_more y) (sym equal) others_too) rest in
       (cc (equal, same_others), same_rest)
 
   -- the first piece of the cut bytes is the first piece of all bytes, and ends before the cut
-  same_first : (state : form.State) (cut : ℕ) (first more cut_first cut_more : List ℕ) → form.IsPiece state first → form.IsPiece state cut_first
+  same_first : (state : form.State) (cut : ℕ) (first more cut_first cut_more : List ℕ) → form.IsPiece state first
+      → form.IsPiece state cut_first
       → take cut (first ++ more) ≡ cut_first ++ cut_more
       → (cut_first ≡ first) × (length first ≤ cut) × (take (cut - length first) more ≡ cut_more)
   same_first state cut first more cut_first cut_more is is_cut same =
@@ -93,12 +97,14 @@ module _ (form : Form) where
       (equal, within, append_cancel_left first _ cut_more (cc (take_beyond cut first more within, same, equal)))
 
   pub before_cut : (state : form.State) (cut : ℕ) (pieces cut_pieces : List (List ℕ)) (rest cut_rest : List ℕ) → form.Are state pieces rest
-      → form.Are state cut_pieces cut_rest → take cut (concat pieces ++ rest) ≡ concat cut_pieces ++ cut_rest → AreBeforeCut cut pieces cut_pieces
+      → form.Are state cut_pieces cut_rest → take cut (concat pieces ++ rest) ≡ concat cut_pieces ++ cut_rest
+      → AreBeforeCut cut pieces cut_pieces
   before_cut state cut [] [] rest cut_rest p q same =
       record { count = 0; first = refl; within = omega arith; next = λ inside. absurd (omega (arith, inside)) }
   before_cut state cut [] (c ∷ cs) rest cut_rest p q same =
       absurd (form.no_piece state c ((concat cs ++ cut_rest) ++ drop cut rest) (form.first_of state c cs cut_rest q).0
-      (subst (form.Are state []) (sym (take-append-drop cut rest) ∙ ap (λ l. l ++ drop cut rest) (same ∙ append_assoc c (concat cs) cut_rest)
+      (subst (form.Are state [])
+      (sym (take-append-drop cut rest) ∙ ap (λ l. l ++ drop cut rest) (same ∙ append_assoc c (concat cs) cut_rest)
       ∙ append_assoc c (concat cs ++ cut_rest) (drop cut rest)) p))
   before_cut state cut (b ∷ b_more) [] rest cut_rest p q same = grind (arith, nat_tests, append_assoc, take_beyond, append-nil)
   before_cut state cut (b ∷ b_more) (c ∷ cs) rest cut_rest p q same =

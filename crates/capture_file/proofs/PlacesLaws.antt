@@ -88,7 +88,8 @@ record_after file capture place after left still_left buffer (records.TooLong he
     let len : 16 + header.captured_len ≡ length reads.bytes = ap (λ h. 16 + h.captured_len) reads.is_next.1 ∙ sym reads.is_next.0 in
     place_after file place after left still_left reads.bytes short at reads.consumed (is ∙ ap (λ n. min (place + n) (2 ^ 64 - 1)) len)
 record_after file capture place after left still_left buffer records.End packet short at reads gives is = absurd (cc gives)
-record_after file capture place after left still_left buffer (records.CutOff required len) packet short at reads gives is = absurd (cc gives)
+record_after file capture place after left still_left buffer (records.CutOff required len) packet short at reads gives is =
+    absurd (cc gives)
 
 -- the place after a packet
 packet_after : (file : List ℕ) (room : ℕ) (before after : CaptureReader) (left still_left : Option (List ℕ)) (packet : FilePacket)

@@ -77,7 +77,8 @@ offset_at_end capture offset buffer End none = refl
 offset_at_end capture offset buffer (CutOff required len) none = refl
 
 -- the reader stays at an item that is not a packet
-classic_end : (room : ℕ) (before : ClassicReader) (left : Option (List ℕ)) (next : NextPacket) (ends : EndsWith room (Classic before) left next)
+classic_end : (room : ℕ) (before : ClassicReader) (left : Option (List ℕ)) (next : NextPacket)
+    (ends : EndsWith room (Classic before) left next)
     → ends.after ≡ Classic before
 classic_end room before left next ends =
     let (reader, is, by_record) = ends.reads in
@@ -96,11 +97,13 @@ module _ (room : ℕ) (left other_left : Option (List ℕ)) (after other : Pcapn
       → ReadsUpTo room count before (all ++ []) left after buffer next
       → ReadsUpTo room other_count before all other_left other other_buffer other_next → after ≡ other
   one_up_to zero zero before all reads other_reads =
-      one_step before all [] left other_left after other buffer other_buffer (Some next) (Some other_next) refl (is_room ∙ sym other_is_room)
+      one_step before all [] left other_left after other buffer other_buffer (Some next) (Some other_next) refl
+      (is_room ∙ sym other_is_room)
       reads other_reads
   one_up_to zero (suc other_count) before all reads other_reads =
       let (reader, rest, passed, has_room, step, others) = other_reads in
-      let compared = compared_steps before all [] left (Some rest) after reader buffer passed (Some next) None (is_room ∙ sym has_room) reads step in
+      let compared =
+      compared_steps before all [] left (Some rest) after reader buffer passed (Some next) None (is_room ∙ sym has_room) reads step in
       absurd (⊎_elim (λ same. says_something (packet_in buffer next) next same.says) (λ ends. cc ends.first_ends) compared)
   one_up_to (suc count) zero before all reads other_reads =
       let (reader, rest, passed, has_room, step, others) = reads in
@@ -161,7 +164,8 @@ after_pcapng room before all left other_left after other (packet ∷ packets) re
     (subst (λ r. ReadsPackets room r other_middle other_left other packets) (other_is ∙ ap Pcapng (sym same)) other_others))
 
 -- the reader after the item that ends the packets
-pcapng_ends : (room : ℕ) (before : PcapngReader) (all : List ℕ) (next : NextPacket) (ends other : EndsWith room (Pcapng before) (Some all) next)
+pcapng_ends : (room : ℕ) (before : PcapngReader) (all : List ℕ) (next : NextPacket)
+    (ends other : EndsWith room (Pcapng before) (Some all) next)
     → ends.after ≡ other.after
 pcapng_ends room before all next ends other =
     let (reader, is, reads) = ends.reads in
@@ -179,18 +183,21 @@ pcapng_ends room before all next ends other =
 -- ---- either format
 
 -- items that end the packets, after the same reader and with the same bytes left
-same_ends : (room : ℕ) (reader : PcapngReader) (rest : List ℕ) (next : NextPacket) (after other : CaptureReader) (left other_left : Option (List ℕ))
+same_ends : (room : ℕ) (reader : PcapngReader) (rest : List ℕ) (next : NextPacket) (after other : CaptureReader)
+    (left other_left : Option (List ℕ))
     → after ≡ Pcapng reader → other ≡ Pcapng reader → left ≡ Some rest → other_left ≡ Some rest
     → (ends : EndsWith room after left next) (other_ends : EndsWith room other other_left next) → ends.after ≡ other_ends.after
 same_ends room reader rest next after other left other_left after_is other_is left_is other_left_is =
     rw (after_is, other_is, left_is, other_left_is) (pcapng_ends room reader rest next)
 
 -- the same in a classic capture
-same_classic_ends : (room : ℕ) (reader : ClassicReader) (next : NextPacket) (after other : CaptureReader) (left other_left : Option (List ℕ))
+same_classic_ends : (room : ℕ) (reader : ClassicReader) (next : NextPacket) (after other : CaptureReader)
+    (left other_left : Option (List ℕ))
     → after ≡ Classic reader → other ≡ Classic reader
     → (ends : EndsWith room after left next) (other_ends : EndsWith room other other_left next) → ends.after ≡ other_ends.after
 same_classic_ends room reader next after other left other_left after_is other_is =
-    rw (after_is, other_is) (λ ends other_ends. classic_end room reader left next ends ∙ sym (classic_end room reader other_left next other_ends))
+    rw (after_is, other_is)
+    (λ ends other_ends. classic_end room reader left next ends ∙ sym (classic_end room reader other_left next other_ends))
 
 pub leaves_one_reader : (room : ℕ) (reader : CaptureReader) (bytes : List ℕ) → LeavesOneReader room reader bytes
 leaves_one_reader room (Classic reader) bytes = record {

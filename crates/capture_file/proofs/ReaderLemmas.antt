@@ -19,7 +19,8 @@ units_positive (PowerOfTen exponent) = one-le-pow exponent 10 (omega arith)
 units_positive (PowerOfTwo exponent) = one-le-pow exponent 2 (omega arith)
 
 -- a full buffer contains all bytes that were read
-pub full : (left still_left : Option (List ℕ)) (buffer : List ℕ) (len : ℕ) → length buffer ≤ len → Consumes left still_left (take len buffer)
+pub full : (left still_left : Option (List ℕ)) (buffer : List ℕ) (len : ℕ) → length buffer ≤ len
+    → Consumes left still_left (take len buffer)
     → Consumes left still_left buffer
 full left still_left buffer len within consumed = subst (Consumes left still_left) (take_all len buffer within) consumed
 

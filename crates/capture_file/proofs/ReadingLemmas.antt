@@ -57,7 +57,8 @@ next_after_header order left middle still_left first buffer next has_len consume
 }
 
 -- the input ends within the header of a record
-pub cut_off_in_header : (order : ByteOrder) (left still_left : Option (List ℕ)) (first buffer : List ℕ) (len : ℕ) → len ≤ length first → 1 ≤ len
+pub cut_off_in_header : (order : ByteOrder) (left still_left : Option (List ℕ)) (first buffer : List ℕ) (len : ℕ) → len ≤ length first
+    → 1 ≤ len
     → len < 16 → Consumes left still_left (take len first) → IsAtEnd still_left → ReadsNext order left still_left buffer (CutOff 16 len)
 cut_off_in_header order left still_left first buffer len within some short consumed end =
     let has_len = length-take-le len first within in
@@ -130,7 +131,8 @@ pub reading_at_last : (order : ByteOrder) (left middle still_left : Option (List
     → ReadsRecords order left middle records → (reads : ReadsNext order middle still_left buffer next)
     → IfSome left (λ all. IsReading order all records reads.bytes)
 reading_at_last order left middle still_left records buffer End is read reads =
-    reading order left middle still_left records reads.bytes read reads.consumed reads.is_last (inl (omega (arith, ap length reads.is_next)))
+    reading order left middle still_left records reads.bytes read reads.consumed reads.is_last
+    (inl (omega (arith, ap length reads.is_next)))
 reading_at_last order left middle still_left records buffer (CutOff required len) is read reads =
     reading order left middle still_left records reads.bytes read reads.consumed reads.is_last reads.is_next.1
 reading_at_last order left middle still_left records buffer (Whole header) is read reads = absurd (grind (arith, is))

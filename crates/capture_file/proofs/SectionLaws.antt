@@ -7,7 +7,8 @@ use Rattle.std.proofs.lemmas.Option.{slice_get-get_or}
 use Rattle.std.specs.Prelude.{drop, get_or, slice_get, slice_range}
 use Rattle.capture_texts.specs.Numbers.{number_at, short_at}
 use Rattle.capture_file.specs.Packets.{packet_of_block, packet_start}
-use Rattle.capture_file.specs.PcapngBody.{IsBody, body_refusal, enhanced_packet_type, interface_description_type, obsolete_packet_type, section_header_type, simple_packet_type}
+use Rattle.capture_file.specs.PcapngBody.{IsBody, body_refusal}
+use Rattle.capture_texts.specs.Blocks.{enhanced_packet_type, interface_description_type, obsolete_packet_type, section_header_type, simple_packet_type}
 use Rattle.capture_file.specs.PcapngBodies.{interface_description, section_header}
 use Rattle.capture_file.specs.PcapngPackets.{IsSimplePacket, IsTimedPacket, simple_end, simple_refusal, timed_refusal}
 use Rattle.capture_file.specs.Sections.{Describes, TakesBlock, TakesBody, TakesUnless, max_interfaces}

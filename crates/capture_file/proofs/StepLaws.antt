@@ -48,7 +48,8 @@ said_of buffer None = nothing
 said_of buffer (Some next) = said_by (packet_in buffer next) next
 
 -- a part of the buffer that ends within its first bytes
-pub in_front : (len from to : ℕ) (buffer : List ℕ) → to - from ≤ len - from → slice_range buffer from to ≡ slice_range (take len buffer) from to
+pub in_front : (len from to : ℕ) (buffer : List ℕ) → to - from ≤ len - from
+    → slice_range buffer from to ≡ slice_range (take len buffer) from to
 in_front len from to buffer within =
     let taken = λ (l : List ℕ). take-take (to - from) (len - from) l within in
     let whole : from < len → len ≡ from + (len - from) = λ short. omega (arith, short) in
@@ -174,7 +175,8 @@ reader_of section offset texts = record { section = section; offset = offset; te
 -- two readers with the same section, the same place and the same texts are the same
 same_reader : (a b : PcapngReader) → a.section ≡ b.section → a.offset ≡ b.offset → a.texts ≡ b.texts → a ≡ b
 same_reader a b section offset texts =
-    ap (λ s. reader_of s a.offset a.texts) section ∙ ap (λ o. reader_of b.section o a.texts) offset ∙ ap (reader_of b.section b.offset) texts
+    ap (λ s. reader_of s a.offset a.texts) section ∙ ap (λ o. reader_of b.section o a.texts) offset
+    ∙ ap (reader_of b.section b.offset) texts
 
 -- a whole block determines the reader and the item
 one_whole : (before : PcapngReader) (header : BlockHeader) (buffer other : List ℕ) (after other_after : PcapngReader)
@@ -240,7 +242,8 @@ module _ (before : PcapngReader) (first more : List ℕ) (left first_left : Opti
   same_too_long : (header first_header : BlockHeader) → ReadsWhole (TooLong header) → ReadsFirst (TooLong first_header)
       → IsStep before buffer (TooLong header) after next → IsStep before first_buffer (TooLong first_header) first_after first_next
       → Texts (TooLong header) → FirstTexts (TooLong first_header) → StepAlike
-  same_too_long header first_header reads first_reads step first_step texts first_texts = grind (arith, nat_tests, same_front, same_reader, said_too_long)
+  same_too_long header first_header reads first_reads step first_step texts first_texts =
+      grind (arith, nat_tests, same_front, same_reader, said_too_long)
 
   -- the block has the same length in both
   one_len : (a b : List ℕ) (header first_header : BlockHeader) → IsBlock before.section.byte_order a

@@ -1,5 +1,6 @@
 -- The texts of a pcapng file, block by block (draft-ietf-opsawg-pcapng, sections 3.5, 4.1 and 4.2).
 use Rattle.std.specs.Prelude.{ℕ, ◌-◌, List, slice_range, Option, Some}
+use Rattle.capture_texts.specs.Blocks.{body_at, trailer_len}
 use Rattle.capture_file.specs.declared.pcapng.block.BlockHeader.{BlockHeader}
 use Rattle.capture_file.specs.declared.pcapng.read.NextBlock.{NextBlock}
 use Rattle.capture_file.specs.declared.pcapng.read.NextBlock.TheVariants.{Whole}
@@ -20,5 +21,5 @@ unless_refused next before after = after
 -- the texts after a block that was read, which determines this item; a block without room in the buffer changes no text
 abbrev pub noted : NextBlock → List ℕ → Option NextPacket → FileTexts → FileTexts
 noted (Whole header) buffer next before =
-    unless_refused next before (texts_with header (slice_range buffer 8 (header.total_len - 4)) before)
+    unless_refused next before (texts_with header (slice_range buffer body_at (header.total_len - trailer_len)) before)
 noted block buffer next before = before

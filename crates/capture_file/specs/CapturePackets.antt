@@ -1,7 +1,7 @@
 -- The packets of a capture, one after the other, for both file formats (draft-ietf-opsawg-pcap; draft-ietf-opsawg-pcapng).
 use Rattle.std.specs.Prelude.{◌≡◌, ℕ, ◌+◌, ◌<◌, ◌≤◌, if◌then◌else◌, nat_le, List, [], ◌∷◌, ◌++◌, map, drop, length, take, slice_range, Option, Some, None, Ok}
 use Rattle.std.specs.List.{AllByRecursion, concat}
-use Rattle.capture_file.specs.Classic.{IsHeaderOf, IsReading, IsRecord, header_refusal, record_header}
+use Rattle.capture_file.specs.Classic.{IsHeaderOf, IsReading, IsRecord, capture_header_len, header_refusal, record_header, record_header_len}
 use Rattle.capture_file.specs.Opening.{ReadsFirstBlock}
 use Rattle.capture_file.specs.Packets.{begins_records, long_record, packet_of_record}
 use Rattle.capture_file.specs.PcapngSteps.{FailsToPass, HasPassed, ReadsPacket}
@@ -51,7 +51,8 @@ IfCutOff other Statement = Unit {0}
 -- ---- packets that are read from a stream, into a buffer of `room` bytes
 
 -- one packet was read
-pub record ReadsOne (room : ℕ) (before : CaptureReader) (left still_left : Option (List ℕ)) (after : CaptureReader) (packet : FilePacket) : Type 0 where
+pub record ReadsOne (room : ℕ) (before : CaptureReader) (left still_left : Option (List ℕ)) (after : CaptureReader)
+    (packet : FilePacket) : Type 0 where
   pub buffer : List ℕ
   pub has_room : length buffer ≡ room
   pub next : NextPacket
@@ -80,7 +81,8 @@ pub record EndsWith (room : ℕ) (before : CaptureReader) (left : Option (List �
 abbrev pub record_packet : ℕ → CaptureHeader → List ℕ → FilePacket
 record_packet room capture bytes =
     let header = record_header capture.byte_order bytes in
-    if nat_le header.captured_len room then kept (packet_of_record capture header) (drop 16 bytes) else too_long (long_record capture header)
+    if nat_le header.captured_len room then kept (packet_of_record capture header) (drop record_header_len bytes)
+    else too_long (long_record capture header)
 
 -- the next item after the last whole record
 abbrev pub next_after : ByteOrder → List ℕ → NextPacket
@@ -90,7 +92,8 @@ next_after order (byte ∷ bytes) = packets.CutOff (required_len order (byte ∷
 -- the bytes after the beginning of a capture begin with these packets
 abbrev pub BeginsWithPackets : ℕ → CaptureReader → List FilePacket → List ℕ → Type 0
 BeginsWithPackets room (Classic reader) packets bytes =
-    (records : List (List ℕ)) × (rest : List ℕ) × (bytes ≡ concat records ++ rest) × AllByRecursion (IsRecord reader.header.byte_order) records
+    (records : List (List ℕ)) × (rest : List ℕ) × (bytes ≡ concat records ++ rest)
+    × AllByRecursion (IsRecord reader.header.byte_order) records
     × (packets ≡ map (record_packet room reader.header) records)
 BeginsWithPackets room (Pcapng reader) packets bytes =
     (still_left : Option (List ℕ)) × (after : CaptureReader) × ReadsPackets room (Pcapng reader) (Some bytes) still_left after packets
@@ -136,12 +139,13 @@ pub record ArePacketsBeforeCut (room : ℕ) (reader : CaptureReader) (bytes : Li
 
 -- the first 24 bytes are an accepted header of a classic capture
 pub record BeginsWith (header : CaptureHeader) (bytes : List ℕ) : Type 0 where
-  pub accepted : header_refusal (take 24 bytes) ≡ None
-  pub is_header : IsHeaderOf (take 24 bytes) header
+  pub accepted : header_refusal (take capture_header_len bytes) ≡ None
+  pub is_header : IsHeaderOf (take capture_header_len bytes) header
 
 -- the bytes begin a capture, and this reader reads its packets from the bytes after the beginning
 abbrev pub Begins : ℕ → CaptureReader → List ℕ → List ℕ → Type 0
-Begins room (Classic reader) bytes rest = BeginsWith reader.header bytes × (reader ≡ begins_records reader.header) × (rest ≡ drop 24 bytes)
+Begins room (Classic reader) bytes rest =
+    BeginsWith reader.header bytes × (reader ≡ begins_records reader.header) × (rest ≡ drop capture_header_len bytes)
 Begins room (Pcapng reader) bytes rest =
     (buffer : List ℕ) × (length buffer ≡ room) × ReadsFirstBlock (Some bytes) (Some rest) buffer (Ok reader)
 

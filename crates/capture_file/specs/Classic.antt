@@ -5,6 +5,7 @@ use Rattle.std.specs.Option.{option_map, option_or}
 use Rattle.std.specs.Map.{lookup}
 use Rattle.net_base.specs.Bytes.{be_number}
 use Rattle.net_base.specs.Refusals.{first_of, refused_if}
+use Rattle.capture_texts.specs.Blocks.{section_header_type}
 use Rattle.capture_texts.specs.declared.byte_order.ByteOrder.{ByteOrder}
 use Rattle.capture_texts.specs.declared.byte_order.ByteOrder.TheVariants.{BigEndian, LittleEndian}
 use Rattle.capture_texts.specs.LinkTypes.{link_type_with}
@@ -18,6 +19,10 @@ use Rattle.capture_file.specs.declared.classic.record_header.Resolution.{Resolut
 use Rattle.capture_file.specs.declared.classic.record_header.Resolution.TheVariants.{Microseconds, Nanoseconds}
 
 -- ---- the header of a capture (section 4)
+
+-- the length of the header
+abbrev pub capture_header_len : ℕ
+capture_header_len = 24
 
 -- the magic numbers
 abbrev pub magic_numbers : List (ℕ × Resolution)
@@ -50,11 +55,14 @@ form_in order bytes = option_map (λ resolution. (order, resolution)) (resolutio
 abbrev pub form_of : List ℕ → Option (ByteOrder × Resolution)
 form_of bytes = option_or (form_in BigEndian bytes) (form_in LittleEndian bytes)
 
--- The error if the first four bytes are no magic number that is read. A1B2CD34 is the magic number of the modified format of older Linux
--- systems, whose records have longer headers (libpcap).
+-- the magic number of the modified format of older Linux systems, whose records have longer headers (libpcap)
+abbrev pub modified_magic : ℕ
+modified_magic = 0xA1B2CD34
+
+-- the error if the first four bytes are no magic number that is read
 abbrev pub magic_error : List ℕ → CaptureHeaderError
 magic_error bytes =
-    if number_at BigEndian bytes 0 == 0xA1B2CD34 || number_at LittleEndian bytes 0 == 0xA1B2CD34 then Modified
+    if number_at BigEndian bytes 0 == modified_magic || number_at LittleEndian bytes 0 == modified_magic then Modified
     else Magic (be_number bytes 0 4)
 
 -- a version that is read: the major version is 2, and the version is 2.4 or later
@@ -68,17 +76,21 @@ version_refusal (Some form) bytes =
     refused_if (not (is_version_read (short_at form.0 bytes 4) (short_at form.0 bytes 6)))
     (Version (short_at form.0 bytes 4) (short_at form.0 bytes 6))
 
--- Why the header of a capture is rejected, if it is. If several errors apply, the first one counts. A pcapng file begins with 0A0D0D0A, the
--- type of its first block. The header has 24 bytes.
+-- Why the header of a capture is rejected, if it is. If several errors apply, the first one counts. A pcapng file begins with
+-- the type of its first block.
 abbrev pub header_refusal : List ℕ → Option CaptureHeaderError
 header_refusal bytes = first_of (
-    refused_if (be_number bytes 0 4 == 0x0A0D0D0A) Pcapng
-    ∷ refused_if (nat_lt (length bytes) 24) (CutOff (length bytes))
+    refused_if (be_number bytes 0 4 == section_header_type) Pcapng
+    ∷ refused_if (nat_lt (length bytes) capture_header_len) (CutOff (length bytes))
     ∷ refused_if (is_none (form_of bytes)) (magic_error bytes)
     ∷ version_refusal (form_of bytes) bytes
     ∷ [])
 
 -- ---- the records (section 5)
+
+-- the length of the header of a record
+abbrev pub record_header_len : ℕ
+record_header_len = 16
 
 -- the header of a record
 abbrev pub record_header : ByteOrder → List ℕ → RecordHeader
@@ -88,9 +100,9 @@ record_header order bytes = record {
   original_len = number_at order bytes 12;
 }
 
--- the length of the record at the front of these bytes: its header of 16 bytes, and its captured length
+-- the length of the record at the front of these bytes: its header, and its captured length
 abbrev pub record_len : ByteOrder → List ℕ → ℕ
-record_len order bytes = 16 + number_at order bytes 8
+record_len order bytes = record_header_len + number_at order bytes 8
 
 -- a record without bytes after it
 abbrev pub IsRecord : ByteOrder → List ℕ → Type 0
@@ -98,7 +110,7 @@ IsRecord order bytes = length bytes ≡ record_len order bytes
 
 -- bytes that do not begin with a whole record: they end within its header, or within its captured bytes
 abbrev pub IsPartial : ByteOrder → List ℕ → Type 0
-IsPartial order bytes = (length bytes < 16) ⊎ (length bytes < record_len order bytes)
+IsPartial order bytes = (length bytes < record_header_len) ⊎ (length bytes < record_len order bytes)
 
 -- The bytes consist of these records, one after the other, and a rest that does not begin with a whole record.
 pub record IsReading (order : ByteOrder) (bytes : List ℕ) (records : List (List ℕ)) (rest : List ℕ) : Type 0 where

@@ -8,7 +8,8 @@ Exist {Parts} {End} Are = (parts : Parts) × (end : End) × Are parts end
 -- at most one list of parts and one end are in this relation
 abbrev pub AreUnique : {Parts End : Type 0} → (Parts → End → Type 0) → Type 0
 AreUnique {Parts} {End} Are =
-    (parts other_parts : Parts) (end other_end : End) → Are parts end → Are other_parts other_end → (parts ≡ other_parts) × (end ≡ other_end)
+    (parts other_parts : Parts) (end other_end : End) → Are parts end → Are other_parts other_end
+    → (parts ≡ other_parts) × (end ≡ other_end)
 
 -- bytes that were cut after any number of bytes have the parts before the cut
 abbrev pub RemainAtCut : {Part End : Type 0} → (List ℕ → List Part → End → Type 0) → (List ℕ → ℕ → List Part → List Part → Type 0) → Type 0

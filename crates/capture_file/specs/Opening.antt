@@ -2,8 +2,9 @@
 -- a pcapng file, a section header block (draft-ietf-opsawg-pcapng, section 4.1).
 use Rattle.std.specs.Prelude.{◌≡◌, ◌≢◌, ℕ, ◌-◌, ◌<◌, ◌≤◌, true, List, [], ◌++◌, length, slice_range, Option, Some, None, Result, Ok, Err}
 use Rattle.std.specs.Io.KnownBytes.{Consumes, IsAtEnd}
+use Rattle.capture_texts.specs.Blocks.{body_at, min_block_len, trailer_len}
 use Rattle.capture_file.specs.BlockTexts.{texts_with}
-use Rattle.capture_file.specs.Classic.{IsHeaderOf, header_refusal}
+use Rattle.capture_file.specs.Classic.{IsHeaderOf, capture_header_len, header_refusal}
 use Rattle.capture_file.specs.Packets.{begins_records}
 use Rattle.capture_file.specs.Pcapng.{is_section_header}
 use Rattle.capture_file.specs.PcapngBodies.{section_header_refusal}
@@ -45,14 +46,15 @@ BeginsUnless (Some error) header body result = result ≡ Err (errors.Body error
 -- the result of the section header block at the start of a file; a whole block is at the front of the buffer
 abbrev pub IsFirstBlock : List ℕ → NextBlock → Result PcapngReader PacketError → Type 0
 IsFirstBlock buffer (blocks.Whole header) result =
-    let body = slice_range buffer 8 (header.total_len - 4) in
+    let body = slice_range buffer body_at (header.total_len - trailer_len) in
     BeginsUnless (section_header_refusal header.byte_order body) header body result
 IsFirstBlock buffer (blocks.TooLong header) result = result ≡ Err (errors.TooLong header.block_type header.total_len)
-IsFirstBlock buffer blocks.End result = result ≡ Err (errors.Block (CutOff 12 0))
+IsFirstBlock buffer blocks.End result = result ≡ Err (errors.Block (CutOff min_block_len 0))
 IsFirstBlock buffer (blocks.Refused error) result = result ≡ Err (errors.Block error)
 
 -- the rest of the first block was read, after these first bytes
-pub record ReadsRestOfBlock (first : List ℕ) (left still_left : Option (List ℕ)) (buffer : List ℕ) (result : Result PcapngReader PacketError) : Type 0 where
+pub record ReadsRestOfBlock (first : List ℕ) (left still_left : Option (List ℕ)) (buffer : List ℕ)
+    (result : Result PcapngReader PacketError) : Type 0 where
   pub block : NextBlock
   pub reads : ReadsAfter BigEndian first left still_left buffer block
   pub is_first : IsFirstBlock buffer block result
@@ -68,16 +70,17 @@ pub record ReadsFirstBlock (left still_left : Option (List ℕ)) (buffer : List 
 
 -- the header in 24 bytes, or the error that rejects the bytes; there may be fewer bytes at the end of the input
 abbrev pub SaysHeader : List ℕ → Result CaptureHeader CaptureHeaderError → Type 0
-SaysHeader bytes (Ok header) = (length bytes ≡ 24) × (header_refusal bytes ≡ None) × IsHeaderOf bytes header
+SaysHeader bytes (Ok header) = (length bytes ≡ capture_header_len) × (header_refusal bytes ≡ None) × IsHeaderOf bytes header
 SaysHeader bytes (Err error) = header_refusal bytes ≡ Some error
 
 -- the rest of the header was read, after its first bytes; no bytes were read after fewer than 12
-pub record ReadsRestOfHeader (first : List ℕ) (left still_left : Option (List ℕ)) (result : Result CaptureHeader CaptureHeaderError) : Type 0 where
+pub record ReadsRestOfHeader (first : List ℕ) (left still_left : Option (List ℕ))
+    (result : Result CaptureHeader CaptureHeaderError) : Type 0 where
   pub bytes : List ℕ
   pub consumed : Consumes left still_left bytes
-  pub within : length (first ++ bytes) ≤ 24
-  pub end : length (first ++ bytes) < 24 → IsAtEnd still_left
-  pub none_after : length first < 12 → bytes ≡ []
+  pub within : length (first ++ bytes) ≤ capture_header_len
+  pub end : length (first ++ bytes) < capture_header_len → IsAtEnd still_left
+  pub none_after : length first < min_block_len → bytes ≡ []
   pub says : SaysHeader (first ++ bytes) result
 
 -- ---- a capture of either format

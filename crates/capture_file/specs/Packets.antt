@@ -2,8 +2,8 @@
 -- section 4).
 use Rattle.std.specs.Prelude.{◌≡◌, ℕ, ◌+◌, ◌-◌, ◌^◌, ◌/◌, ◌%◌, ◌==◌, ◌≤◌, if◌then◌else◌, min, pos, List, length, Option, Some, None}
 use Rattle.std.specs.Option.{option_map}
-use Rattle.capture_file.specs.Classic.{link_type_or_number}
-use Rattle.capture_file.specs.PcapngBody.{simple_packet_type}
+use Rattle.capture_file.specs.Classic.{capture_header_len, link_type_or_number, record_header_len}
+use Rattle.capture_texts.specs.Blocks.{body_at, simple_captured_at, simple_packet_type, timed_captured_at}
 use Rattle.capture_file.specs.PcapngBodies.{units_per_second}
 use Rattle.capture_file.specs.Reading.{ReadsNext}
 use Rattle.capture_file.specs.declared.classic.capture_header.CaptureHeader.{CaptureHeader}
@@ -50,7 +50,7 @@ timestamp_time interface timestamp = record {
 
 -- the reader of a capture whose header was read: its records begin after 24 bytes
 abbrev pub begins_records : CaptureHeader → ClassicReader
-begins_records capture = record { header = capture; offset = 24 }
+begins_records capture = record { header = capture; offset = capture_header_len }
 
 -- what a record says of its packet; its captured bytes are in front of the buffer
 abbrev pub packet_of_record : CaptureHeader → RecordHeader → CapturedPacket
@@ -81,7 +81,7 @@ next_by_record capture (records.CutOff required_len len) = packets.CutOff requir
 
 -- where the record after this one begins; a number that would be 2^64 or more is the greatest below
 abbrev pub offset_after_record : ℕ → RecordHeader → ℕ
-offset_after_record offset header = min (offset + (16 + header.captured_len)) (2 ^ 64 - 1)
+offset_after_record offset header = min (offset + (record_header_len + header.captured_len)) (2 ^ 64 - 1)
 
 -- the same by what was read: no record begins after the end or after one that is cut off
 abbrev pub offset_by_record : ℕ → NextRecord → ℕ
@@ -90,7 +90,8 @@ offset_by_record offset (records.TooLong header) = offset_after_record offset he
 offset_by_record offset other = offset
 
 -- the next record was read, and it says what comes next
-pub record ReadsRecordPacket (before : ClassicReader) (left still_left : Option (List ℕ)) (after : ClassicReader) (buffer : List ℕ) (next : NextPacket) : Type 0 where
+pub record ReadsRecordPacket (before : ClassicReader) (left still_left : Option (List ℕ)) (after : ClassicReader) (buffer : List ℕ)
+    (next : NextPacket) : Type 0 where
   pub next_record : NextRecord
   pub reads : ReadsNext before.header.byte_order left still_left buffer next_record
   pub is : next ≡ next_by_record before.header next_record
@@ -99,9 +100,9 @@ pub record ReadsRecordPacket (before : ClassicReader) (left still_left : Option 
 
 -- ---- a pcapng file
 
--- where the captured bytes of a packet block begin, by its type: after its header of 8 bytes and the fields before them
+-- where the captured bytes of a packet block begin, by its type
 abbrev pub packet_start : ℕ → ℕ
-packet_start type = if type == simple_packet_type then 12 else 28
+packet_start type = if type == simple_packet_type then body_at + simple_captured_at else body_at + timed_captured_at
 
 -- A packet of this interface, by the header of its block, its timestamp, and its captured and original length. The block is in front of the
 -- buffer.

@@ -10,7 +10,8 @@ use Rattle.capture_texts.specs.Numbers.{number_at, short_at}
 use Rattle.capture_file.specs.Packets.{interface_packet, long_block}
 use Rattle.capture_file.specs.Pcapng.{IsBlockReading, block_header, block_refusal}
 use Rattle.capture_file.specs.PcapngBodies.{interface_description}
-use Rattle.capture_file.specs.PcapngBody.{body_refusal, enhanced_packet_type, interface_description_type, obsolete_packet_type, section_header_type, simple_packet_type}
+use Rattle.capture_file.specs.PcapngBody.{body_refusal}
+use Rattle.capture_texts.specs.Blocks.{body_at, enhanced_packet_type, interface_description_type, obsolete_packet_type, section_header_type, simple_captured_at, simple_packet_type, timed_captured_at, timed_captured_len_at, trailer_len}
 use Rattle.capture_file.specs.PcapngPackets.{simple_end}
 use Rattle.capture_file.specs.PcapngSteps.{is_description, is_packet, next_by_refusal, offset_after, refused_at}
 use Rattle.capture_file.specs.Sections.{max_interfaces}
@@ -30,20 +31,20 @@ use Rattle.capture_file.specs.declared.reader.pcapng_reader.PcapngReader.{Pcapng
 
 -- the body of a block: the bytes between its two total lengths (section 3.1)
 abbrev pub body_of : List ℕ → List ℕ
-body_of block = slice_range block 8 (length block - 4)
+body_of block = slice_range block body_at (length block - trailer_len)
 
 -- the packet in the body of an enhanced packet block (section 4.3) or an obsolete packet block (appendix A), of this interface
 abbrev pub timed_packet : BlockHeader → List ℕ → InterfaceDescription → FilePacket
 timed_packet header body interface =
     let order = header.byte_order in
     let timestamp = number_at order body 4 * 2 ^ 32 + number_at order body 8 in
-    let captured = slice_range body 20 (20 + number_at order body 12) in
+    let captured = slice_range body timed_captured_at (timed_captured_at + number_at order body timed_captured_len_at) in
     kept (interface_packet header interface (Some timestamp) (length captured) (number_at order body 16)) captured
 
 -- the packet in the body of a simple packet block (section 4.4), of this interface
 abbrev pub simple_packet : BlockHeader → List ℕ → InterfaceDescription → FilePacket
 simple_packet header body interface =
-    let captured = slice_range body 4 (simple_end header.byte_order interface.snap_len body) in
+    let captured = slice_range body simple_captured_at (simple_end header.byte_order interface.snap_len body) in
     kept (interface_packet header interface None (length captured) (number_at header.byte_order body 0)) captured
 
 -- the packet in the body of a packet block, which contains the number of the interface; a simple packet block has a packet of interface 0

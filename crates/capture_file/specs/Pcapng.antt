@@ -1,8 +1,9 @@
 -- The blocks of a pcapng file (draft-ietf-opsawg-pcapng, sections 3.1 and 4.1), and the division of a file into blocks.
-use Rattle.std.specs.Prelude.{◌≡◌, ◌≢◌, ℕ, ◌-◌, ◌%◌, ◌≤◌, ◌==◌, Bool, false, not, ◌&&◌, if◌then◌else◌, is_none, nat_le, nat_lt, List, [], ◌∷◌, ◌++◌, drop, length, slice_range, Option, Some, None, unwrap_or}
+use Rattle.std.specs.Prelude.{◌≡◌, ◌≢◌, ℕ, ◌-◌, ◌%◌, ◌≤◌, ◌==◌, Bool, false, not, ◌&&◌, if◌then◌else◌, is_none, nat_le, nat_lt, List, [], ◌∷◌, ◌++◌, drop, length, slice_range, Option, Some, None, unwrap_or, ◌+◌}
 use Rattle.std.specs.List.{concat}
 use Rattle.net_base.specs.Bytes.{be_number}
 use Rattle.net_base.specs.Refusals.{first_of, refused_if}
+use Rattle.capture_texts.specs.Blocks.{body_at, min_block_len, section_header_len, section_header_type, trailer_len}
 use Rattle.capture_texts.specs.Numbers.{number_at}
 use Rattle.capture_texts.specs.declared.byte_order.ByteOrder.{ByteOrder}
 use Rattle.capture_texts.specs.declared.byte_order.ByteOrder.TheVariants.{BigEndian, LittleEndian}
@@ -15,7 +16,7 @@ use Rattle.capture_file.specs.declared.pcapng.block.BlockHeader.{BlockHeader}
 
 -- the type of a section header block, which is the same number in both byte orders (section 4.1)
 abbrev pub is_section_header : List ℕ → Bool
-is_section_header bytes = be_number bytes 0 4 == 0x0A0D0D0A
+is_section_header bytes = be_number bytes 0 4 == section_header_type
 
 -- the byte-order magic (section 4.1)
 abbrev pub byte_order_magic : ℕ
@@ -40,15 +41,15 @@ order_of section bytes = if is_section_header bytes then unwrap_or (order_by_mag
 
 -- the length of a block is at least 12 bytes, and a multiple of 4
 abbrev pub is_block_len : ℕ → Bool
-is_block_len len = nat_le 12 len && len % 4 == 0
+is_block_len len = nat_le min_block_len len && len % 4 == 0
 
 -- the length of the block at the front of these bytes, in its bytes 4 to 7
 abbrev pub block_len : ByteOrder → List ℕ → ℕ
 block_len section bytes = number_at (order_of section bytes) bytes 4
 
--- the number in the last four bytes of a block of this length
+-- the number in the last bytes of a block of this length
 abbrev pub last_len : ByteOrder → List ℕ → ℕ → ℕ
-last_len section bytes len = number_at (order_of section bytes) bytes (len - 4)
+last_len section bytes len = number_at (order_of section bytes) bytes (len - trailer_len)
 
 -- the header of a block, from its first bytes
 abbrev pub block_header : ByteOrder → List ℕ → BlockHeader
@@ -58,15 +59,15 @@ block_header section bytes = record {
   total_len = block_len section bytes;
 }
 
--- a section header block that is too short for its fields, which have 28 bytes together with both total lengths (section 4.1)
+-- a section header block that is too short for its fields (section 4.1)
 abbrev pub is_short_section : ByteOrder → List ℕ → Bool
-is_short_section section bytes = is_section_header bytes && nat_lt (block_len section bytes) 28
+is_short_section section bytes = is_section_header bytes && nat_lt (block_len section bytes) (min_block_len + section_header_len)
 
 -- Why the header of a block is rejected, if it is. If several errors apply, the first one counts. The header is the first 12 bytes of the
 -- block.
 abbrev pub block_header_refusal : ByteOrder → List ℕ → Option BlockError
 block_header_refusal section bytes = first_of (
-    refused_if (nat_lt (length bytes) 12) (CutOff 12 (length bytes))
+    refused_if (nat_lt (length bytes) min_block_len) (CutOff min_block_len (length bytes))
     ∷ refused_if (lacks_magic bytes) (Magic (be_number bytes 8 4))
     ∷ refused_if (not (is_block_len (block_len section bytes))) (TotalLength (block_len section bytes))
     ∷ refused_if (is_short_section section bytes) (SectionLength (block_len section bytes))
@@ -85,7 +86,7 @@ block_refusal section bytes =
 -- the block at the front of these bytes, and the bytes after it
 pub record ReadsBlock (section : ByteOrder) (bytes : List ℕ) (block : Block) (rest : List ℕ) : Type 0 where
   pub header : block.header ≡ block_header section bytes
-  pub body : block.body.now ≡ slice_range bytes 8 (block_len section bytes - 4)
+  pub body : block.body.now ≡ slice_range bytes body_at (block_len section bytes - trailer_len)
   pub rest_is : rest ≡ drop (block_len section bytes) bytes
 
 -- ---- a file as a list of blocks
@@ -93,7 +94,7 @@ pub record ReadsBlock (section : ByteOrder) (bytes : List ℕ) (block : Block) (
 -- the bytes of exactly one block, in a section with this byte order
 pub record IsBlock (section : ByteOrder) (bytes : List ℕ) : Type 0 where
   pub has_order : lacks_magic bytes ≡ false
-  pub shortest : 12 ≤ length bytes
+  pub shortest : min_block_len ≤ length bytes
   pub words : length bytes % 4 ≡ 0
   pub has_fields : is_short_section section bytes ≡ false
   pub begins : block_len section bytes ≡ length bytes

@@ -30,6 +30,7 @@ GivesBlock before (Some (Err error)) after =
 abbrev pub AreItems : ByteOrder → List ℕ → List BlockItem → Type 0
 AreItems section bytes [] = bytes ≡ []
 AreItems section bytes (Ok block ∷ items) =
-    (rest : List ℕ) × (block_refusal section bytes ≡ None) × ReadsBlock section bytes block rest × AreItems block.header.byte_order rest items
+    (rest : List ℕ) × (block_refusal section bytes ≡ None) × ReadsBlock section bytes block rest
+    × AreItems block.header.byte_order rest items
 AreItems section bytes (Err error ∷ items) =
     (bytes ≢ []) × (block_refusal section bytes ≡ Some error.error) × (items ≡ [])

@@ -2,6 +2,7 @@
 use Rattle.std.specs.Prelude.{ℕ, ◌-◌, ◌^◌, ◌==◌, not, nat_lt, if◌then◌else◌, ℤ, pos, List, [], ◌∷◌, drop, length, slice_index, Option, Some, None}
 use Rattle.std.specs.Int.{cast_signed, w64}
 use Rattle.net_base.specs.Refusals.{first_of, refused_if}
+use Rattle.capture_texts.specs.Blocks.{interface_description_len, section_header_len}
 use Rattle.capture_texts.specs.Numbers.{long_at, number_at, short_at}
 use Rattle.capture_texts.specs.Options.{option_value}
 use Rattle.capture_texts.specs.declared.byte_order.ByteOrder.{ByteOrder}
@@ -22,14 +23,26 @@ below required_len body = refused_if (nat_lt (length body) required_len) (CutOff
 abbrev pub section_header : ByteOrder → List ℕ → SectionHeader
 section_header order body = record { major_version = short_at order body 4; minor_version = short_at order body 6 }
 
--- why the body is rejected, if it is: it has fewer than 16 bytes, or else its major version is not 1
+-- the major version that is read
+abbrev pub read_major_version : ℕ
+read_major_version = 1
+
+-- why the body is rejected, if it is: it is too short, or else its major version is not read
 abbrev pub section_header_refusal : ByteOrder → List ℕ → Option BodyError
 section_header_refusal order body = first_of (
-    below 16 body
-    ∷ refused_if (not (short_at order body 4 == 1)) (Version (short_at order body 4) (short_at order body 6))
+    below section_header_len body
+    ∷ refused_if (not (short_at order body 4 == read_major_version)) (Version (short_at order body 4) (short_at order body 6))
     ∷ [])
 
 -- ---- an interface description block (section 4.2)
+
+-- the code of the option with the unit of the timestamps
+abbrev pub if_tsresol : ℕ
+if_tsresol = 9
+
+-- the code of the option with the seconds to add to each timestamp
+abbrev pub if_tsoffset : ℕ
+if_tsoffset = 14
 
 -- the resolution in the byte of if_tsresol: a power of ten below 128, otherwise a power of two
 abbrev pub time_resolution : ℕ → TimeResolution
@@ -40,12 +53,12 @@ abbrev pub units_per_second : TimeResolution → ℕ
 units_per_second (PowerOfTen exponent) = 10 ^ exponent
 units_per_second (PowerOfTwo exponent) = 2 ^ exponent
 
--- the resolution in the option 9, if_tsresol, with a value of one byte; without the option, microseconds
+-- the resolution in the option if_tsresol, with a value of one byte; without the option, microseconds
 abbrev pub resolution_by : Option (List ℕ) → TimeResolution
 resolution_by None = PowerOfTen 6
 resolution_by (Some value) = time_resolution (slice_index value 0)
 
--- the seconds to add to each timestamp: the signed number in the option 14, if_tsoffset, with a value of eight bytes; without the option, 0
+-- the seconds to add to each timestamp: the signed number in the option if_tsoffset, with a value of eight bytes; without the option, 0
 abbrev pub offset_by : ByteOrder → Option (List ℕ) → ℤ
 offset_by order None = pos 0
 offset_by order (Some value) = cast_signed w64 (long_at order value 0)
@@ -55,10 +68,10 @@ abbrev pub interface_description : ByteOrder → List ℕ → InterfaceDescripti
 interface_description order body = record {
   link_type = short_at order body 0;
   snap_len = number_at order body 4;
-  time_resolution = resolution_by (option_value order 9 (Some 1) (drop 8 body));
-  time_offset = offset_by order (option_value order 14 (Some 8) (drop 8 body));
+  time_resolution = resolution_by (option_value order if_tsresol (Some 1) (drop interface_description_len body));
+  time_offset = offset_by order (option_value order if_tsoffset (Some 8) (drop interface_description_len body));
 }
 
--- the error for fewer than 8 bytes
+-- the error for a body that is too short
 abbrev pub interface_refusal : List ℕ → Option BodyError
-interface_refusal body = below 8 body
+interface_refusal body = below interface_description_len body

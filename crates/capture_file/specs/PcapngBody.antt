@@ -1,5 +1,6 @@
 -- The body of a block of a pcapng file, by the type of the block (draft-ietf-opsawg-pcapng, section 4 and appendix A).
 use Rattle.std.specs.Prelude.{◌≡◌, ◌≢◌, ◌⊎◌, ℕ, ◌==◌, if◌then◌else◌, List, length, Option, None}
+use Rattle.capture_texts.specs.Blocks.{enhanced_packet_type, interface_description_type, obsolete_packet_type, section_header_type, simple_packet_type}
 use Rattle.capture_texts.specs.Numbers.{number_at, short_at}
 use Rattle.capture_file.specs.PcapngBodies.{interface_description, interface_refusal, section_header, section_header_refusal}
 use Rattle.capture_file.specs.PcapngPackets.{IsSimplePacket, IsTimedPacket, simple_refusal, timed_refusal}
@@ -8,26 +9,6 @@ use Rattle.capture_file.specs.declared.pcapng.block_body.BlockBody.TheVariants a
 use Rattle.capture_file.specs.declared.pcapng.block.BlockHeader.{BlockHeader}
 use Rattle.capture_file.specs.declared.pcapng.errors.BodyError.{BodyError}
 use Rattle.capture_file.specs.declared.pcapng.interface_description.InterfaceDescription.{InterfaceDescription}
-
--- the type of a section header block
-abbrev pub section_header_type : ℕ
-section_header_type = 0x0A0D0D0A
-
--- the type of an interface description block
-abbrev pub interface_description_type : ℕ
-interface_description_type = 1
-
--- the type of an obsolete packet block
-abbrev pub obsolete_packet_type : ℕ
-obsolete_packet_type = 2
-
--- the type of a simple packet block
-abbrev pub simple_packet_type : ℕ
-simple_packet_type = 3
-
--- the type of an enhanced packet block
-abbrev pub enhanced_packet_type : ℕ
-enhanced_packet_type = 6
 
 -- the error that rejects a body, by the type of its block; the body of a block of another type is not checked
 abbrev pub body_refusal : BlockHeader → List InterfaceDescription → List ℕ → Option BodyError

@@ -2,6 +2,7 @@
 use Rattle.std.specs.Prelude.{◌≡◌, ℕ, ◌+◌, ◌*◌, ◌^◌, ◌==◌, nat_le, if◌then◌else◌, min, List, [], ◌∷◌, slice_get, slice_range, Option, Some, None}
 use Rattle.std.specs.Option.{option_map}
 use Rattle.net_base.specs.Refusals.{first_of, refused_if}
+use Rattle.capture_texts.specs.Blocks.{simple_captured_at, timed_captured_at, timed_captured_len_at}
 use Rattle.capture_texts.specs.Numbers.{number_at}
 use Rattle.capture_file.specs.PcapngBodies.{below}
 use Rattle.capture_texts.specs.declared.byte_order.ByteOrder.{ByteOrder}
@@ -18,19 +19,19 @@ pub record IsTimedPacket (order : ByteOrder) (interface : ℕ) (body : List ℕ)
   pub of_interface : packet.interface ≡ interface
   pub timestamp : packet.timestamp ≡ Some (number_at order body 4 * 2 ^ 32 + number_at order body 8)
   pub original_len : packet.original_len ≡ number_at order body 16
-  pub captured : packet.captured.now ≡ slice_range body 20 (20 + number_at order body 12)
+  pub captured : packet.captured.now ≡ slice_range body timed_captured_at (timed_captured_at + number_at order body timed_captured_len_at)
 
 -- the errors, in this order: an interface that does not exist, in a section with `count` interfaces before the packet; fewer captured bytes
 -- than the block counts
 abbrev pub captured_refusal : ByteOrder → ℕ → ℕ → List ℕ → Option BodyError
 captured_refusal order interface count body = first_of (
     refused_if (nat_le count interface) (Interface interface count)
-    ∷ below (20 + number_at order body 12) body
+    ∷ below (timed_captured_at + number_at order body timed_captured_len_at) body
     ∷ [])
 
 -- the error for fewer bytes than these fields, and then the errors above
 abbrev pub timed_refusal : ByteOrder → ℕ → ℕ → List ℕ → Option BodyError
-timed_refusal order interface count body = first_of (below 20 body ∷ captured_refusal order interface count body ∷ [])
+timed_refusal order interface count body = first_of (below timed_captured_at body ∷ captured_refusal order interface count body ∷ [])
 
 -- ---- a simple packet block (section 4.4): the original length, and the captured bytes of a packet of the first interface
 
@@ -44,14 +45,14 @@ captured_len original_len snap_len = if snap_len == 0 then original_len else min
 
 -- the end of the captured bytes
 abbrev pub simple_end : ByteOrder → ℕ → List ℕ → ℕ
-simple_end order snap_len body = 4 + captured_len (number_at order body 0) snap_len
+simple_end order snap_len body = simple_captured_at + captured_len (number_at order body 0) snap_len
 
 -- the packet in a body, for this snap length
 pub record IsSimplePacketOf (order : ByteOrder) (snap_len : ℕ) (body : List ℕ) (packet : PacketBlock) : Type 0 where
   pub of_interface : packet.interface ≡ 0
   pub timestamp : packet.timestamp ≡ None
   pub original_len : packet.original_len ≡ number_at order body 0
-  pub captured : packet.captured.now ≡ slice_range body 4 (simple_end order snap_len body)
+  pub captured : packet.captured.now ≡ slice_range body simple_captured_at (simple_end order snap_len body)
 
 -- the packet in a body, for the snap length of the first interface
 abbrev pub IsSimplePacket : ByteOrder → List InterfaceDescription → List ℕ → PacketBlock → Type 0
@@ -65,4 +66,5 @@ simple_captured_refusal order (Some snap_len) body = below (simple_end order sna
 
 -- the error for fewer bytes than the original length field, and then the errors above
 abbrev pub simple_refusal : ByteOrder → List InterfaceDescription → List ℕ → Option BodyError
-simple_refusal order interfaces body = first_of (below 4 body ∷ simple_captured_refusal order (first_snap_len interfaces) body ∷ [])
+simple_refusal order interfaces body =
+    first_of (below simple_captured_at body ∷ simple_captured_refusal order (first_snap_len interfaces) body ∷ [])

@@ -1,6 +1,7 @@
 -- The next block of a pcapng file in a stream, by the bytes that the reader had left before and has left afterwards.
 use Rattle.std.specs.Prelude.{◌≡◌, ◌≢◌, ℕ, ◌%◌, ◌<◌, ◌≤◌, List, [], ◌++◌, length, take, Option, Some, None}
 use Rattle.std.specs.Io.KnownBytes.{Consumes, IsAtEnd}
+use Rattle.capture_texts.specs.Blocks.{min_block_len}
 use Rattle.capture_file.specs.Pcapng.{IsBlock, block_header, block_header_refusal, block_refusal}
 use Rattle.capture_texts.specs.declared.byte_order.ByteOrder.{ByteOrder}
 use Rattle.capture_file.specs.declared.pcapng.block.BlockHeader.{BlockHeader}
@@ -26,7 +27,8 @@ IsLastBlock (Refused (CutOff required len)) still_left = IsAtEnd still_left
 IsLastBlock other still_left = Unit {0}
 
 -- these bytes were read after the first bytes, and together they determine the next item
-pub record ReadsAfter (section : ByteOrder) (first : List ℕ) (left still_left : Option (List ℕ)) (buffer : List ℕ) (next : NextBlock) : Type 0 where
+pub record ReadsAfter (section : ByteOrder) (first : List ℕ) (left still_left : Option (List ℕ)) (buffer : List ℕ)
+    (next : NextBlock) : Type 0 where
   pub bytes : List ℕ
   pub consumed : Consumes left still_left bytes
   pub is_next : IsNextBlock section (first ++ bytes) buffer next
@@ -49,11 +51,11 @@ FailsInBlock section left still_left = FailsAfter section [] left still_left
 
 -- the first bytes of a block or of a capture were read: 12 bytes, or all bytes of the input if there are fewer
 abbrev pub AreFirst : List ℕ → Option (List ℕ) → Type 0
-AreFirst first left = (length first ≤ 12) × (length first < 12 → IsAtEnd left)
+AreFirst first left = (length first ≤ min_block_len) × (length first < min_block_len → IsAtEnd left)
 
 -- these are the first 12 bytes of a block, whose header is accepted
 pub record BeginsBlock (section : ByteOrder) (first : List ℕ) (header : BlockHeader) : Type 0 where
-  pub has_len : length first ≡ 12
+  pub has_len : length first ≡ min_block_len
   pub accepted : block_header_refusal section first ≡ None
   pub is_header : header ≡ block_header section first
-  pub len : (12 ≤ header.total_len) × (header.total_len % 4 ≡ 0)
+  pub len : (min_block_len ≤ header.total_len) × (header.total_len % 4 ≡ 0)

@@ -2,7 +2,7 @@
 use Rattle.std.specs.Prelude.{◌≡◌, ℕ, zero, suc, ◌+◌, ◌-◌, ◌^◌, ◌==◌, Bool, ◌||◌, if◌then◌else◌, min, List, length, slice_range, Option, Some, None, Result, Ok, Err}
 use Rattle.capture_file.specs.BlockTexts.{noted}
 use Rattle.capture_file.specs.Packets.{ReadsRecordPacket, long_block}
-use Rattle.capture_file.specs.PcapngBody.{enhanced_packet_type, interface_description_type, obsolete_packet_type, section_header_type, simple_packet_type}
+use Rattle.capture_texts.specs.Blocks.{body_at, enhanced_packet_type, interface_description_type, obsolete_packet_type, section_header_type, simple_packet_type, trailer_len}
 use Rattle.capture_file.specs.PcapngReading.{FailsInBlock, ReadsNextBlock}
 use Rattle.capture_file.specs.Sections.{TakesBlock}
 use Rattle.capture_file.specs.declared.pcapng.errors.BlockError.{BlockError}
@@ -59,7 +59,7 @@ abbrev pub IsStep : PcapngReader → List ℕ → NextBlock → PcapngReader →
 IsStep before buffer (blocks.Whole header) after next =
     (after.offset ≡ offset_after before.offset header)
     × ((taken : Result (Option CapturedPacket) PacketError)
-    × TakesBlock before.section header (slice_range buffer 8 (header.total_len - 4)) after.section taken
+    × TakesBlock before.section header (slice_range buffer body_at (header.total_len - trailer_len)) after.section taken
     × (next ≡ next_by_taken before.offset taken))
 IsStep before buffer (blocks.TooLong header) after next =
     (after.offset ≡ offset_after before.offset header) × (after.section ≡ before.section) × (next ≡ next_by_too_long before.offset header)
@@ -67,7 +67,8 @@ IsStep before buffer blocks.End after next = (after ≡ before) × (next ≡ Som
 IsStep before buffer (blocks.Refused error) after next = (after ≡ before) × (next ≡ Some (next_by_refusal before.offset error))
 
 -- the next block was read
-pub record ReadsStep (before : PcapngReader) (left still_left : Option (List ℕ)) (after : PcapngReader) (buffer : List ℕ) (next : Option NextPacket) : Type 0 where
+pub record ReadsStep (before : PcapngReader) (left still_left : Option (List ℕ)) (after : PcapngReader) (buffer : List ℕ)
+    (next : Option NextPacket) : Type 0 where
   pub block : NextBlock
   pub reads : ReadsNextBlock before.section.byte_order left still_left buffer block
   pub is_step : IsStep before buffer block after next
@@ -92,7 +93,8 @@ abbrev pub HasPassed : ℕ → PcapngReader → Option (List ℕ) → PcapngRead
 HasPassed room before left after = (count : ℕ) × (middle : Option (List ℕ)) × PassesBlocks room count before left middle after
 
 -- blocks were read up to a block that determines the next item
-pub record ReadsBlockPacket (before : PcapngReader) (left still_left : Option (List ℕ)) (after : PcapngReader) (buffer : List ℕ) (next : NextPacket) : Type 0 where
+pub record ReadsBlockPacket (before : PcapngReader) (left still_left : Option (List ℕ)) (after : PcapngReader) (buffer : List ℕ)
+    (next : NextPacket) : Type 0 where
   pub count : ℕ
   pub reader : PcapngReader
   pub middle : Option (List ℕ)

@@ -7,7 +7,8 @@ use Rattle.capture_file.specs.declared.reader.next_packet.NextPacket.{NextPacket
 -- After the same packets of the same bytes there is one reader. After the item that ends these packets there is also one reader.
 pub record LeavesOneReader (room : ℕ) (reader : CaptureReader) (bytes : List ℕ) : Type 0 where
   pub packets : (packets : List FilePacket) (left other_left : Option (List ℕ)) (after other : CaptureReader)
-      → ReadsPackets room reader (Some bytes) left after packets → ReadsPackets room reader (Some bytes) other_left other packets → after ≡ other
+      → ReadsPackets room reader (Some bytes) left after packets → ReadsPackets room reader (Some bytes) other_left other packets
+      → after ≡ other
   pub ends : (packets : List FilePacket) (next : NextPacket) (left other_left : Option (List ℕ)) (after other : CaptureReader)
       → ReadsPackets room reader (Some bytes) left after packets → ReadsPackets room reader (Some bytes) other_left other packets
       → (ends : EndsWith room after left next) (other_ends : EndsWith room other other_left next) → ends.after ≡ other_ends.after

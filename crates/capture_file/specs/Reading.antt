@@ -2,7 +2,7 @@
 use Rattle.std.specs.Prelude.{◌≡◌, ◌≢◌, ℕ, ◌+◌, ◌<◌, ◌≤◌, if◌then◌else◌, nat_lt, List, [], length, take, drop, Option, Some, None, IfSome, Result, Ok, Err}
 use Rattle.std.specs.List.{AllByRecursion, concat}
 use Rattle.std.specs.Io.KnownBytes.{Consumes, IsAtEnd}
-use Rattle.capture_file.specs.Classic.{header_refusal, record_header, record_len, IsHeaderOf, IsPartial, IsRecord}
+use Rattle.capture_file.specs.Classic.{IsHeaderOf, IsPartial, IsRecord, capture_header_len, header_refusal, record_header, record_header_len, record_len}
 use Rattle.capture_texts.specs.declared.byte_order.ByteOrder.{ByteOrder}
 use Rattle.capture_file.specs.declared.classic.capture_header.CaptureHeader.{CaptureHeader}
 use Rattle.capture_file.specs.declared.classic.capture_header_error.CaptureHeaderError.{CaptureHeaderError}
@@ -15,7 +15,7 @@ use Rattle.capture_file.specs.declared.classic.record_header.RecordHeader.{Recor
 -- 24 bytes were read, which are not refused, and this is the header in them
 pub record GivesHeader (left still_left : Option (List ℕ)) (header : CaptureHeader) : Type 0 where
   pub bytes : List ℕ
-  pub has_len : length bytes ≡ 24
+  pub has_len : length bytes ≡ capture_header_len
   pub consumed : Consumes left still_left bytes
   pub accepted : header_refusal bytes ≡ None
   pub is_header : IsHeaderOf bytes header
@@ -23,7 +23,7 @@ pub record GivesHeader (left still_left : Option (List ℕ)) (header : CaptureHe
 -- the first 24 bytes, or all where they are fewer, are refused by this error
 pub record RefusesHeader (left still_left : Option (List ℕ)) (error : CaptureHeaderError) : Type 0 where
   pub bytes : List ℕ
-  pub first : IfSome left (λ all. bytes ≡ take 24 all)
+  pub first : IfSome left (λ all. bytes ≡ take capture_header_len all)
   pub consumed : Consumes left still_left bytes
   pub refused : header_refusal bytes ≡ Some error
 
@@ -35,14 +35,14 @@ ReadsHeader left still_left (Err error) = RefusesHeader left still_left error
 
 -- how many bytes a record has, as far as it can be said
 abbrev pub required_len : ByteOrder → List ℕ → ℕ
-required_len order bytes = if nat_lt (length bytes) 16 then 16 else record_len order bytes
+required_len order bytes = if nat_lt (length bytes) record_header_len then record_header_len else record_len order bytes
 
 -- what comes next by the bytes that were read: one record, with its captured bytes in front of the buffer or with more than it has room
 -- for; no byte; or some bytes that are no whole record
 abbrev pub IsNext : ByteOrder → List ℕ → List ℕ → NextRecord → Type 0
 IsNext order bytes buffer (Whole header) =
     IsRecord order bytes × (header ≡ record_header order bytes) × (header.captured_len ≤ length buffer)
-    × (take header.captured_len buffer ≡ drop 16 bytes)
+    × (take header.captured_len buffer ≡ drop record_header_len bytes)
 IsNext order bytes buffer (TooLong header) =
     IsRecord order bytes × (header ≡ record_header order bytes) × (length buffer < header.captured_len)
 IsNext order bytes buffer End = bytes ≡ []
@@ -71,7 +71,7 @@ IsCaptured header bytes buffer (TooLong same) =
     (same ≡ header) × (length bytes ≡ header.captured_len) × (length buffer < header.captured_len)
 IsCaptured header bytes buffer End = ⊥
 IsCaptured header bytes buffer (CutOff required len) =
-    (length bytes < header.captured_len) × (required ≡ 16 + header.captured_len) × (len ≡ 16 + length bytes)
+    (length bytes < header.captured_len) × (required ≡ record_header_len + header.captured_len) × (len ≡ record_header_len + length bytes)
 
 pub record ReadsCaptured (header : RecordHeader) (left still_left : Option (List ℕ)) (buffer : List ℕ) (next : NextRecord) : Type 0 where
   pub bytes : List ℕ

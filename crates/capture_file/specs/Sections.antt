@@ -1,5 +1,6 @@
 -- A section of a pcapng file while its blocks are read: its byte order and its interfaces (draft-ietf-opsawg-pcapng, section 4.1).
 use Rattle.std.specs.Prelude.{◌≡◌, ◌+◌, ◌<◌, ◌≤◌, ℕ, List, [], ◌∷◌, ◌++◌, length, slice_get, Option, Some, None, Result, Ok, Err}
+use Rattle.capture_texts.specs.Blocks.{body_at}
 use Rattle.capture_file.specs.Packets.{packet_of_block, packet_start}
 use Rattle.capture_file.specs.PcapngBody.{IsBody, body_refusal}
 use Rattle.capture_file.specs.declared.pcapng.block_body.BlockBody.{BlockBody}
@@ -52,5 +53,5 @@ IsInterfaceThere count _ = Unit {0}
 
 -- the captured bytes of a packet end within its block, whose body has this length and begins after 8 bytes
 abbrev pub IsBodyWithin : ℕ → ℕ → BlockBody → Type 0
-IsBodyWithin type len (bodies.Packet packet) = packet_start type + length packet.captured.now ≤ 8 + len
+IsBodyWithin type len (bodies.Packet packet) = packet_start type + length packet.captured.now ≤ body_at + len
 IsBodyWithin type len _ = Unit {0}

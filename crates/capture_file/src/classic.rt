@@ -2,6 +2,7 @@
 
 mod capture_header;
 mod capture_header_error;
+#[doc(hidden)]
 pub mod laws;
 mod read;
 mod record_header;

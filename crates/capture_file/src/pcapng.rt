@@ -18,16 +18,15 @@ mod block;
 mod block_body;
 mod errors;
 mod interface_description;
+#[doc(hidden)]
 pub mod laws;
 mod read;
 mod time_resolution;
 
 pub(crate) use block::is_section_header;
-pub use block::{Block, BlockHeader, Blocks, MIN_BLOCK_LEN, PlacedBlockError, SECTION_HEADER};
+pub use block::{Block, BlockHeader, Blocks, MIN_BLOCK_LEN, PlacedBlockError};
 pub use block_body::{BlockBody, PacketBlock, SectionHeader};
-pub(crate) use block_body::{
-    ENHANCED_PACKET, INTERFACE_DESCRIPTION, OBSOLETE_PACKET, SIMPLE_PACKET,
-};
+pub use capture_texts::block::SECTION_HEADER;
 pub use errors::{BlockError, BodyError};
 pub use interface_description::InterfaceDescription;
 pub(crate) use read::read_rest;

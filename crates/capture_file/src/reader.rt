@@ -2,6 +2,7 @@
 
 mod capture_reader;
 mod captured_packet;
+#[doc(hidden)]
 pub mod laws;
 mod next_packet;
 mod open_error;

@@ -9,6 +9,7 @@ ghost use Rattle.capture_file.specs.Pcapng as specs;
 
 use crate::ByteOrder;
 use crate::pcapng::BlockError;
+use capture_texts::block::{BODY_AT, LAST_LEN, SECTION_HEADER, SECTION_HEADER_LEN};
 use std::marker::Model;
 use thiserror::Error;
 
@@ -42,26 +43,23 @@ impl<'a> Block<'a> {
         if len < required_len {
             return Err(BlockError::CutOff { required_len, len });
         }
-        let last_len = header.byte_order.number_in(bytes, required_len - 4);
+        let last_len = header.byte_order.number_in(bytes, required_len - LAST_LEN);
         if last_len != header.total_len {
             return Err(BlockError::LastLength {
                 total_len: header.total_len,
                 last_len,
             });
         }
-        let body = &bytes[8..required_len - 4];
+        let body = &bytes[BODY_AT..required_len - LAST_LEN];
         Ok((Block { header, body }, &bytes[required_len..]))
     }
 }
 
-/// The type of a section header block, which is the same number in both byte orders (draft-ietf-opsawg-pcapng, section 4.1).
-pub const SECTION_HEADER: u32 = 0x0A0D_0D0A;
-
-/// The length of the shortest block, in bytes: its type and its two total lengths (section 3.1).
-pub const MIN_BLOCK_LEN: usize = 12;
+/// The length of the shortest block, in bytes: its type and its two total lengths (draft-ietf-opsawg-pcapng, section 3.1).
+pub const MIN_BLOCK_LEN: usize = BODY_AT + LAST_LEN;
 
 /// The length of a section header block without options, in bytes (section 4.1).
-const MIN_SECTION_HEADER_LEN: u32 = 28;
+const MIN_SECTION_HEADER_LEN: u32 = (MIN_BLOCK_LEN + SECTION_HEADER_LEN) as u32;
 
 /// The byte-order magic of a section header block (section 4.1).
 const BYTE_ORDER_MAGIC: u32 = 0x1A2B_3C4D;
@@ -96,7 +94,7 @@ impl BlockHeader {
         }
         let byte_order = order_of(section, bytes)?;
         let total_len = byte_order.number_in(bytes, 4);
-        if total_len < 12 || total_len % 4 != 0 {
+        if total_len < MIN_BLOCK_LEN as u32 || total_len % 4 != 0 {
             return Err(BlockError::TotalLength { total_len });
         }
         if total_len < MIN_SECTION_HEADER_LEN && is_section_header(bytes) {

@@ -7,16 +7,11 @@ ghost use Rattle.capture_texts.specs.Numbers.{number_at, short_at};
 ghost use Rattle.capture_file.specs.PcapngPackets.{IsSimplePacket, IsTimedPacket, captured_refusal, simple_refusal, timed_refusal};
 
 use crate::ByteOrder;
-use crate::pcapng::{Block, BodyError, InterfaceDescription, SECTION_HEADER};
-
-/// The type of an interface description block (draft-ietf-opsawg-pcapng, section 4.2).
-pub(crate) const INTERFACE_DESCRIPTION: u32 = 1;
-/// The type of an obsolete packet block (appendix A).
-pub(crate) const OBSOLETE_PACKET: u32 = 2;
-/// The type of a simple packet block (section 4.4).
-pub(crate) const SIMPLE_PACKET: u32 = 3;
-/// The type of an enhanced packet block (section 4.3).
-pub(crate) const ENHANCED_PACKET: u32 = 6;
+use crate::pcapng::{Block, BodyError, InterfaceDescription};
+use capture_texts::block::{
+    ENHANCED_PACKET, INTERFACE_DESCRIPTION, OBSOLETE_PACKET, SECTION_HEADER, SECTION_HEADER_LEN,
+    SIMPLE_CAPTURED_AT, SIMPLE_PACKET, TIMED_CAPTURED_AT, TIMED_CAPTURED_LEN_AT,
+};
 
 /// The content of the body of a block.
 #[derive(Clone, Copy, Debug, PartialEq, Eq)]
@@ -70,9 +65,12 @@ pub struct SectionHeader {
     pub minor_version: u16,
 }
 
+/// The major version that is read (draft-ietf-opsawg-pcapng, section 4.1).
+const MAJOR_VERSION: u16 = 1;
+
 impl SectionHeader {
     /// The length of the body without options, in bytes: magic, versions, and the length of the section.
-    pub const LEN: usize = 16;
+    pub const LEN: usize = SECTION_HEADER_LEN;
 
     /// Reads the body of a section header block. The length of the section and the options are not checked.
     ///
@@ -85,7 +83,7 @@ impl SectionHeader {
     {
         BodyError::check_len(body, SectionHeader::LEN)?;
         let (major, minor) = (order.short_in(body, 4), order.short_in(body, 6));
-        if major != 1 {
+        if major != MAJOR_VERSION {
             return Err(BodyError::Version { major, minor });
         }
         Ok(SectionHeader {
@@ -108,12 +106,6 @@ pub struct PacketBlock<'a> {
     pub captured: &'a [u8],
 }
 
-/// The length of the fields before the captured bytes of an enhanced or obsolete packet block, in bytes.
-const TIMED_LEN: usize = 20;
-
-/// The length of the field before the captured bytes of a simple packet block, in bytes.
-const SIMPLE_LEN: usize = 4;
-
 impl<'a> PacketBlock<'a> {
     /// Reads the body of an enhanced packet block (section 4.3). `interfaces` are the interfaces before the block in its section.
     ///
@@ -130,7 +122,7 @@ impl<'a> PacketBlock<'a> {
         ensures interface { IfOk result (λ packet. packet.interface < length interfaces.now) }
         ensures within { IfOk result (λ packet. 20 + length packet.captured.now ≤ length body.now) }
     {
-        BodyError::check_len(body, TIMED_LEN)?;
+        BodyError::check_len(body, TIMED_CAPTURED_AT)?;
         timed_packet(order, order.number_in(body, 0), interfaces.len(), body)
     }
 
@@ -149,7 +141,7 @@ impl<'a> PacketBlock<'a> {
         ensures interface { IfOk result (λ packet. packet.interface < length interfaces.now) }
         ensures within { IfOk result (λ packet. 20 + length packet.captured.now ≤ length body.now) }
     {
-        BodyError::check_len(body, TIMED_LEN)?;
+        BodyError::check_len(body, TIMED_CAPTURED_AT)?;
         let interface = u32::from(order.short_in(body, 0));
         timed_packet(order, interface, interfaces.len(), body)
     }
@@ -170,7 +162,7 @@ impl<'a> PacketBlock<'a> {
         ensures interface { IfOk result (λ packet. packet.interface < length interfaces.now) }
         ensures within { IfOk result (λ packet. 4 + length packet.captured.now ≤ length body.now) }
     {
-        BodyError::check_len(body, SIMPLE_LEN)?;
+        BodyError::check_len(body, SIMPLE_CAPTURED_AT)?;
         let (interface, count) = (0, interfaces.len());
         let Some(first) = interfaces.first() else {
             return Err(BodyError::Interface { interface, count });
@@ -181,13 +173,13 @@ impl<'a> PacketBlock<'a> {
             0 => original_len,
             snap_len => original_len.min(snap_len),
         };
-        let end = SIMPLE_LEN + captured_len as usize;
+        let end = SIMPLE_CAPTURED_AT + captured_len as usize;
         BodyError::check_len(body, end)?;
         Ok(PacketBlock {
             interface,
             timestamp: None,
             original_len,
-            captured: &body[SIMPLE_LEN..end],
+            captured: &body[SIMPLE_CAPTURED_AT..end],
         })
     }
 }
@@ -208,7 +200,7 @@ fn timed_packet(
     if interface as usize >= count {
         return Err(BodyError::Interface { interface, count });
     }
-    let end = TIMED_LEN + order.number_in(body, 12) as usize;
+    let end = TIMED_CAPTURED_AT + order.number_in(body, TIMED_CAPTURED_LEN_AT) as usize;
     BodyError::check_len(body, end)?;
     let high = u64::from(order.number_in(body, 4));
     let low = u64::from(order.number_in(body, 8));
@@ -216,6 +208,6 @@ fn timed_packet(
         interface,
         timestamp: Some(high * 0x1_0000_0000 + low),
         original_len: order.number_in(body, 16),
-        captured: &body[TIMED_LEN..end],
+        captured: &body[TIMED_CAPTURED_AT..end],
     })
 }

@@ -4,6 +4,7 @@ ghost use Rattle.capture_file.specs.PcapngBodies.{interface_description, interfa
 
 use crate::ByteOrder;
 use crate::pcapng::{BodyError, TimeResolution};
+use capture_texts::block::INTERFACE_DESCRIPTION_LEN;
 use capture_texts::option_value;
 
 /// The code of the option `if_tsresol`, with a value of one byte (draft-ietf-opsawg-pcapng, section 4.2).
@@ -27,7 +28,7 @@ pub struct InterfaceDescription {
 
 impl InterfaceDescription {
     /// The length of the body without options, in bytes: link type, two reserved bytes, and snap length.
-    pub const LEN: usize = 8;
+    pub const LEN: usize = INTERFACE_DESCRIPTION_LEN;
 
     /// Reads the body of an interface description block. If several options have the same code and length, the first option counts.
     ///

@@ -3,6 +3,7 @@ ghost use Rattle.capture_file.specs.PcapngReading.{AreFirst, BeginsBlock, FailsA
 
 use crate::ByteOrder;
 use crate::pcapng::{Block, BlockError, BlockHeader, MIN_BLOCK_LEN};
+use capture_texts::block::LAST_LEN;
 use std::io::{self, Read};
 use streams::{fill, fill_after, skip};
 
@@ -18,9 +19,6 @@ pub enum NextBlock {
     /// Bytes that are rejected as a block. If the block is cut off, the file was read to its end.
     Refused(BlockError),
 }
-
-/// The length of the last total length of a block, in bytes.
-const LAST_LEN: usize = 4;
 
 /// Reads the next block of a pcapng file into the buffer, in a section with this byte order. `Block::from_slice` then returns its body.
 ///

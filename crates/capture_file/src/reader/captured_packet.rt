@@ -2,14 +2,15 @@ ghost use Rattle.std.specs.Prelude.{◌≡◌, nat_lt};
 ghost use Rattle.capture_file.specs.Packets.{packet_of_block, packet_of_record};
 
 use crate::classic::{CaptureHeader, RecordHeader};
-use crate::pcapng::{BlockHeader, InterfaceDescription, PacketBlock, SIMPLE_PACKET};
+use crate::pcapng::{BlockHeader, InterfaceDescription, PacketBlock};
 use crate::{ByteOrder, LinkType, PacketTime};
+use capture_texts::block::{BODY_AT, SIMPLE_CAPTURED_AT, SIMPLE_PACKET, TIMED_CAPTURED_AT};
 
 /// The start of the captured bytes in a simple packet block, in bytes from the start of the block (draft-ietf-opsawg-pcapng, section 4.4).
-const SIMPLE_START: usize = 12;
+const SIMPLE_START: usize = BODY_AT + SIMPLE_CAPTURED_AT;
 
 /// The start of the captured bytes in an enhanced or obsolete packet block (section 4.3 and appendix A).
-const TIMED_START: usize = 28;
+const TIMED_START: usize = BODY_AT + TIMED_CAPTURED_AT;
 
 /// What a capture says of a packet, whatever the form of its file.
 #[derive(Clone, Copy, Debug, PartialEq, Eq)]

@@ -7,13 +7,16 @@ ghost use Rattle.capture_file.specs.Sections.{TakesBlock};
 
 use crate::ByteOrder;
 use crate::pcapng::{
-    Block, BlockBody, BlockError, BlockHeader, ENHANCED_PACKET, INTERFACE_DESCRIPTION,
-    InterfaceDescription, MIN_BLOCK_LEN, NextBlock, OBSOLETE_PACKET, SECTION_HEADER, SIMPLE_PACKET,
+    Block, BlockBody, BlockError, BlockHeader, InterfaceDescription, MIN_BLOCK_LEN, NextBlock,
     SectionHeader, read_block, read_rest,
 };
 use crate::reader::{CapturedPacket, NextPacket, PacketError, PlacedPacketError, TooLongPacket};
 use arrayvec::ArrayVec;
 use capture_texts::FileTexts;
+use capture_texts::block::{
+    BODY_AT, ENHANCED_PACKET, INTERFACE_DESCRIPTION, LAST_LEN, OBSOLETE_PACKET, SECTION_HEADER,
+    SIMPLE_PACKET,
+};
 use std::io::{self, ErrorKind, Read};
 
 /// A pcapng file that is read packet by packet.
@@ -40,7 +43,7 @@ impl PcapngReader {
         Ok(
             match read_rest(input, ByteOrder::BigEndian, first, buffer)? {
                 NextBlock::Whole(header) => {
-                    let body = &buffer[8..header.total_len as usize - 4];
+                    let body = &buffer[BODY_AT..header.total_len as usize - LAST_LEN];
                     let section = Section::new(header.byte_order);
                     let offset = u64::from(header.total_len);
                     let mut texts = FileTexts::new();
@@ -89,7 +92,7 @@ impl PcapngReader {
         Err(io::Error::from(ErrorKind::FileTooLarge))
     }
 
-    /// Reads the next block. None where it says nothing of what comes next.
+    /// Reads the next block. `None` if the block contains no packet and is not refused, so that the search goes on after it.
     fn read_step<R: Read>(
         &mut self,
         input: &mut R,
@@ -105,7 +108,7 @@ impl PcapngReader {
         match read_block(input, self.section.byte_order, buffer)? {
             NextBlock::Whole(header) => {
                 self.offset = offset.saturating_add(u64::from(header.total_len));
-                let body = &buffer[8..header.total_len as usize - 4];
+                let body = &buffer[BODY_AT..header.total_len as usize - LAST_LEN];
                 match self.section.take(&Block { header, body }) {
                     Ok(packet) => {
                         self.texts.note(header.byte_order, header.block_type, body);
@@ -164,7 +167,7 @@ pub struct Section {
     /// The byte order of its numbers.
     pub byte_order: ByteOrder,
     /// Its interfaces, in their order.
-    pub interfaces: ArrayVec<InterfaceDescription, 1024>,
+    pub interfaces: ArrayVec<InterfaceDescription, MAX_INTERFACES>,
 }
 
 impl Section {

@@ -29,5 +29,6 @@ returns-clause-fails g c =
 
 pub returns-then-len-required_len-clause-reads : goal.returns-then-len-required_len-clause-reads
 returns-then-len-required_len-clause-reads g c =
-    cut_off_in_header c.args.order _ _ c.fill.new.buffer c.args.buffer.now c.in_ok-len.len c.in_ok-len.ensures.len (omega arith) (omega arith)
+    cut_off_in_header c.args.order _ _ c.fill.new.buffer c.args.buffer.now c.in_ok-len.len c.in_ok-len.ensures.len (omega arith)
+    (omega arith)
     c.in_ok-len.ensures.consumed (c.in_ok-len.ensures.end (omega arith))

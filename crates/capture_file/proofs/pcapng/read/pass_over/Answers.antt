@@ -7,12 +7,14 @@ use Rattle.capture_file.proofs.pcapng.read.pass_over.Goals as goal
 pub returns-in-Ok-clause-reads : goal.returns-in-Ok-clause-reads
 returns-in-Ok-clause-reads g c = λ buffer room.
     let has_len : length c.args.first.now ≡ 12 = c.requires.has_len in
-    short_too_long c.args.section c.args.first.now _ buffer c.args.header has_len c.requires.is_header (omega arith) c.in-Ok.ensures.refused room
+    short_too_long c.args.section c.args.first.now _ buffer c.args.header has_len c.requires.is_header
+    (omega arith) c.in-Ok.ensures.refused room
 
 pub returns-in-Err-clause-reads : goal.returns-in-Err-clause-reads
 returns-in-Err-clause-reads g c = λ buffer room.
     let has_len : length c.args.first.now ≡ 12 = c.requires.has_len in
-    short_refused c.args.section c.args.first.now _ buffer c.args.header c.in-Err.error has_len c.requires.accepted c.requires.is_header (omega arith)
+    short_refused c.args.section c.args.first.now _ buffer c.args.header c.in-Err.error has_len c.requires.accepted c.requires.is_header
+    (omega arith)
     c.in-Err.ensures.refused
 
 pub returns-then-skipped-middle_len-clause-reads : goal.returns-then-skipped-middle_len-clause-reads
@@ -21,7 +23,8 @@ returns-then-skipped-middle_len-clause-reads g c = λ buffer room.
     let skips = c.in_ok-skipped.ensures.skips in
     let counts : 12 + c.in_ok-skipped.skipped ≡ length (c.args.first.now ++ skips.bytes) =
     omega (arith, has_len, skips.has_len, length-append c.args.first.now skips.bytes) in
-    cut_off_after c.args.section c.args.first.now skips.bytes _ _ buffer c.args.header (12 + c.in_ok-skipped.skipped) (omega (arith, has_len))
+    cut_off_after c.args.section c.args.first.now skips.bytes _ _ buffer c.args.header (12 + c.in_ok-skipped.skipped)
+    (omega (arith, has_len))
     c.requires.accepted c.requires.is_header skips.consumed counts (omega arith) (skips.end (omega arith))
 
 pub returns-then-len-lt-LAST_LEN-clause-reads : goal.returns-then-len-lt-LAST_LEN-clause-reads
@@ -38,7 +41,8 @@ returns-then-len-lt-LAST_LEN-clause-reads g c = λ buffer room.
     omega (arith, has_len, skips.has_len, skips.within, last_len, length-append first (skips.bytes ++ last), length-append skips.bytes last, c.requires.len.0, c.requires.len.1) in
     cut_off_after c.args.section first (skips.bytes ++ last) _ _ buffer c.args.header (12 + (c.args.header.total_len - 12 - 4) + count)
     (omega (arith, has_len)) c.requires.accepted c.requires.is_header
-    (Consumes-trans (remaining c.args.input.now) (remaining c.skip.new.input) (remaining c.fill.new.input) skips.bytes last skips.consumed c.in_ok-len.ensures.consumed)
+    (Consumes-trans (remaining c.args.input.now) (remaining c.skip.new.input)
+    (remaining c.fill.new.input) skips.bytes last skips.consumed c.in_ok-len.ensures.consumed)
     counts (omega (arith, c.requires.len.0, c.requires.len.1)) (c.in_ok-len.ensures.end (omega (arith, four)))
 
 pub returns-then-last_len-header-clause-reads : goal.returns-then-last_len-header-clause-reads
@@ -52,7 +56,8 @@ returns-then-last_len-header-clause-reads g c = λ buffer room.
     let consumed = full _ _ last c.in_ok-len.len (omega (arith, four)) c.in_ok-len.ensures.consumed in
     differs_after c.args.section first skips.bytes last _ _ buffer c.args.header c.number-last_len.result (omega (arith, has_len))
     c.requires.accepted c.requires.is_header
-    (Consumes-trans (remaining c.args.input.now) (remaining c.skip.new.input) (remaining c.fill.new.input) skips.bytes last skips.consumed consumed)
+    (Consumes-trans (remaining c.args.input.now) (remaining c.skip.new.input)
+    (remaining c.fill.new.input) skips.bytes last skips.consumed consumed)
     four (omega (arith, has_len, skips.has_len, skips.within, length-append first skips.bytes, c.requires.len.0, c.requires.len.1)) c.number-last_len.ensures
     (λ same. omega (arith, same))
 
@@ -67,7 +72,8 @@ returns-clause-reads g c = λ buffer room.
     let consumed = full _ _ last c.in_ok-len.len (omega (arith, four)) c.in_ok-len.ensures.consumed in
     passed_over c.args.section first skips.bytes last _ _ buffer c.args.header c.number-last_len.result (omega (arith, has_len))
     c.requires.accepted c.requires.is_header
-    (Consumes-trans (remaining c.args.input.now) (remaining c.skip.new.input) (remaining c.fill.new.input) skips.bytes last skips.consumed consumed)
+    (Consumes-trans (remaining c.args.input.now) (remaining c.skip.new.input)
+    (remaining c.fill.new.input) skips.bytes last skips.consumed consumed)
     four (omega (arith, has_len, skips.has_len, skips.within, length-append first skips.bytes, c.requires.len.0, c.requires.len.1)) c.number-last_len.ensures (omega arith) room
 
 -- ---- a read that fails

@@ -6,7 +6,8 @@ use Rattle.capture_file.proofs.pcapng.read.read_block.Goals as goal
 pub returns-clause-reads : goal.returns-clause-reads
 returns-clause-reads g c =
     IfOk-weaker c.read_rest.result _ _
-    (λ next reads. with_first c.args.section _ (g.R.Read.remaining c.fill.new.input) _ _ c.read_rest.new.buffer next c.in_ok-len.ensures.consumed reads)
+    (λ next reads. with_first c.args.section _
+    (g.R.Read.remaining c.fill.new.input) _ _ c.read_rest.new.buffer next c.in_ok-len.ensures.consumed reads)
     c.read_rest.ensures.reads
 
 pub returns-clause-fails : goal.returns-clause-fails

@@ -24,5 +24,6 @@ returns-in-Ok-2 g c =
 
 pub returns-in-Err-2 : goal.returns-in-Err-2
 returns-in-Err-2 g c =
-    refused_classic _ (g.R.Read.remaining c.fill.new.input) _ _ c.args.buffer.now c.in-Err-2.error (search rules) c.in_ok-len.ensures.consumed
+    refused_classic _ (g.R.Read.remaining c.fill.new.input) _ _ c.args.buffer.now c.in-Err-2.error
+    (search rules) c.in_ok-len.ensures.consumed
     (subst (ReadsRestOfHeader _ _ _) c.in-Err-2.is c.in_ok-header.ensures)

@@ -9,7 +9,8 @@ loop-passed-preserved g c =
     let one_more : suc c.loop-passed._passed ≡ c.loop-passed._passed + 1 = omega arith in
     let none : c.in_ok-next.field-0 ≡ None = c.in_default.is in
     let step = subst
-    (ReadsStep c.loop-passed.self (remaining c.loop-passed.input) (remaining c.read_step.new.input) c.read_step.new.self c.read_step.new.buffer)
+    (ReadsStep c.loop-passed.self (remaining c.loop-passed.input)
+    (remaining c.read_step.new.input) c.read_step.new.self c.read_step.new.buffer)
     none c.in_ok-next.ensures.reads in
     let same : length c.read_step.new.buffer ≡ length c.args.buffer.now = omega (arith, c.loop-passed.invariant.0) in (
       same,

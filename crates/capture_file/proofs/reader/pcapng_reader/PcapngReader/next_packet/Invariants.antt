@@ -6,4 +6,5 @@ use Rattle.capture_file.proofs.reader.pcapng_reader.PcapngReader.next_packet.Giv
 abbrev pub invariant-loop-passed : goal.invariant-loop-passed
 invariant-loop-passed g l =
     (length l.buffer ≡ length l.initial.buffer)
-    × PassesBlocks (length l.initial.buffer) l._passed l.initial.self (g.R.Read.remaining l.initial.input) (g.R.Read.remaining l.input) l.self
+    × PassesBlocks (length l.initial.buffer) l._passed l.initial.self (g.R.Read.remaining l.initial.input)
+    (g.R.Read.remaining l.input) l.self
