@@ -8,11 +8,22 @@ use crate::expect::{
     expect_ok, expect_some, expect_text,
 };
 use etherparse_transport::ip::{
-    IpAddresses, IpError, TransportInIp, transport_in_ip, transport_in_ip_lax,
+    FixedHeader, IpAddresses, IpError, TransportInIp, fixed_header, transport_in_ip,
+    transport_in_ip_lax,
 };
 use etherparse_transport::{IpNumber, ip_number};
 use std::fmt::Debug;
 use std::process::Abort;
+
+/// The fixed part of an IPv4 header with this protocol, from 10.0.0.1 to 10.0.0.2.
+fn fixed_ipv4(protocol: IpNumber) -> FixedHeader<'static> {
+    FixedHeader::Ipv4 {
+        source: &[10, 0, 0, 1],
+        destination: &[10, 0, 0, 2],
+        time_to_live: 64,
+        protocol,
+    }
+}
 
 /// The payload of a whole UDP packet over IPv4, from 10.0.0.1 to 10.0.0.2.
 fn over_ipv4(payload: &[u8]) -> TransportInIp<'_> {
@@ -28,6 +39,9 @@ fn over_ipv4(payload: &[u8]) -> TransportInIp<'_> {
         is_later_fragment: false,
         is_cut_off: false,
         is_length_missing: false,
+        fixed_header: fixed_ipv4(ip_number::UDP),
+        header_len: 20,
+        counted_len: 20 + payload.len(),
     }
 }
 
@@ -101,6 +115,8 @@ fn ipv4_packets_carry_their_transport(rt: HostRuntime) {
 fn expect_with_options(rt: &impl Abort, packet: &[u8]) {
     let mut expected = over_ipv4(bytes_between(rt, packet, 24, 31));
     expected.payload_offset = 24;
+    expected.header_len = 24;
+    expected.counted_len = 31;
     let found = expect_ok(rt, transport_in_ip(packet));
     expect_equal(rt, &found, &expected);
 }
@@ -109,8 +125,10 @@ fn expect_with_options(rt: &impl Abort, packet: &[u8]) {
 fn expect_cut_off(rt: &impl Abort, packet: &[u8]) {
     let mut expected = over_ipv4(bytes_from(rt, packet, 20));
     expected.is_cut_off = true;
+    expected.counted_len = 47;
     let found = expect_ok(rt, transport_in_ip_lax(packet));
     expect_equal(rt, &found, &expected);
+    expect_equal(rt, &found.missing_len(), &1);
 }
 
 /// Both calls refuse these bytes by this error.
@@ -203,6 +221,8 @@ fn expect_authenticated(rt: &impl Abort, row: &AuthenticationRow) {
         payload_offset: start,
         is_fragment,
         is_later_fragment: start == 20,
+        fixed_header: fixed_ipv4(ip_number::AUTHENTICATION_HEADER),
+        counted_len: 46,
         ..over_ipv4(bytes_from(rt, &packet, start))
     };
     expect_both(rt, row, &packet, &expected);
@@ -292,6 +312,8 @@ fn expect_routed(rt: &impl Abort, row: &RouteRow) {
             destination: &destination,
         },
         payload_offset: 32,
+        header_len: 32,
+        counted_len: packet.len(),
         ..over_ipv4(bytes_from(rt, &packet, 32))
     };
     expect_both(rt, row, &packet, &expected);
@@ -606,11 +628,14 @@ fn errors_have_their_texts(rt: HostRuntime) {
     let transport = expect_ok(&rt, transport_in_ip(&packet));
     expect_clone(&rt, &transport);
     expect_clone(&rt, &transport.addresses);
+    expect_clone(&rt, &transport.fixed_header);
+    expect_equal(&rt, &fixed_header(&packet), &Some(transport.fixed_header));
+    expect_equal(&rt, &transport.missing_len(), &0);
     let other = over_ipv4(bytes_between(&rt, &packet, 20, 30));
     expect_equal(&rt, &(transport == other), &false);
     expect_debug_text(
         &rt,
         &over_ipv4(&[7, 8]),
-        "TransportInIp { addresses: Ipv4 { source: [10, 0, 0, 1], destination: [10, 0, 0, 2] }, protocol: IpNumber(17), payload: [7, 8], payload_offset: 20, is_fragment: false, is_later_fragment: false, is_cut_off: false, is_length_missing: false }",
+        "TransportInIp { addresses: Ipv4 { source: [10, 0, 0, 1], destination: [10, 0, 0, 2] }, protocol: IpNumber(17), payload: [7, 8], payload_offset: 20, is_fragment: false, is_later_fragment: false, is_cut_off: false, is_length_missing: false, fixed_header: Ipv4 { source: [10, 0, 0, 1], destination: [10, 0, 0, 2], time_to_live: 64, protocol: IpNumber(17) }, header_len: 20, counted_len: 22 }",
     );
 }

@@ -10,7 +10,8 @@ use etherparse_transport::checksum_change::{
 use etherparse_transport::err::tcp::{HeaderError, HeaderSliceError};
 use etherparse_transport::err::{Layer, LenError, ValueTooBigError, ValueType};
 use etherparse_transport::ip::{
-    IpAddresses, IpError, TransportInIp, transport_in_ip, transport_in_ip_lax,
+    FixedHeader, IpAddresses, IpError, TransportInIp, fixed_header, transport_in_ip,
+    transport_in_ip_lax,
 };
 use etherparse_transport::{
     IcmpEchoHeader, Icmpv4Header, Icmpv4Slice, Icmpv4Type, Icmpv6Header, Icmpv6Slice, Icmpv6Type,
@@ -80,7 +81,16 @@ fn ip_packets(rt: HostRuntime) {
         is_later_fragment: false,
         is_cut_off: false,
         is_length_missing: false,
+        fixed_header: FixedHeader::Ipv4 {
+            source: &[1, 2, 3, 4],
+            destination: &[5, 6, 7, 8],
+            time_to_live: 64,
+            protocol: ip_number::UDP,
+        },
+        header_len: 20,
+        counted_len: 22,
     };
+    expect_equal(&rt, &fixed_header(&PACKET), &Some(transport.fixed_header));
     let cut_off = IpError::PacketCutOff {
         required_len: 22,
         len: 21,

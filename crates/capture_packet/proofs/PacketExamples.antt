@@ -6,6 +6,7 @@ use Rattle.ip_part.specs.Addresses.{by_value}
 use Rattle.ip_part.specs.ExtensionHeaders.{ExtensionHeader}
 use Rattle.ip_part.specs.Ip.{Carries, IsAfterHeaders, Reads, headers_to_transport}
 use Rattle.ip_part.specs.Options.{options_within}
+use Rattle.ip_part.specs.declared.fixed_part.FixedHeader.TheVariants as fixed
 use Rattle.ip_part.specs.declared.ip_addresses.IpAddresses.{IpAddresses}
 use Rattle.ip_part.specs.declared.ip_addresses.IpAddresses.TheVariants.{Ipv4}
 use Rattle.ip_part.specs.declared.ip_error.IpError.TheVariants.{Version}
@@ -64,6 +65,9 @@ found = record {
   is_later_fragment = false;
   is_cut_off = false;
   is_length_missing = false;
+  fixed_header = fixed.Ipv4 (reference_to (192 ∷ 0 ∷ 2 ∷ 1 ∷ [])) (reference_to (192 ∷ 0 ∷ 2 ∷ 2 ∷ [])) 64 (record { 0 = 17 });
+  header_len = 20;
+  counted_len = 29;
 }
 
 is_carried : Carries frame found
@@ -90,6 +94,9 @@ is_carried = record {
   payload_offset = refl;
   is_cut_off = refl;
   is_length_missing = λ missing. missing;
+  fixed_header = refl;
+  header_len = refl;
+  counted_len = refl;
 }
 
 is_after_headers : IsAfterHeaders frame found

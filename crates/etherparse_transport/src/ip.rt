@@ -15,7 +15,8 @@ mod write_packet;
 
 pub use echo_reply::{answer_echo, answer_echo_ipv4, answer_echo_ipv6};
 pub use ip_part::{
-    IpAddresses, IpError, TransportInIp, proto_over, transport_in_ip, transport_in_ip_lax,
+    FixedHeader, IpAddresses, IpError, TransportInIp, fixed_header, proto_over, transport_in_ip,
+    transport_in_ip_lax,
 };
 pub use ipv4_translation::Ipv4Translation;
 pub use ipv6_translation::Ipv6Translation;

@@ -1,3 +1,4 @@
+mod FixedHeaderLemmas
 pub mod HeadersLemmas
 mod LengthLemmas
 pub mod OptionsLemmas

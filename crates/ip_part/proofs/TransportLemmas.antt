@@ -74,6 +74,7 @@ over_ipv4 packet transport is carries =
           (λ may. number_is (slice_index header 9) (and_parts (slice_index header 9 == 51) (ipv4_fragment_offset header == 0) may).0) found.chain)
           ∙ or-false (not (ipv4_fragment_offset header == 0));
       payload = both.1;
+      header_len = carries.header_len ∙ ap (λ headers. headers.len) first;
     }
 
 -- a packet without an extension header has no jumbo payload length
@@ -105,4 +106,5 @@ over_ipv6 packet transport is last carries =
       is_later_fragment = carries.is_later_fragment ∙ ap (λ headers. headers.is_later_fragment) same;
       payload = carries.payload ∙ ap (λ headers. drop headers.len (counted missing packet)) same ∙ ap (λ len. drop 40 (take len packet)) len
           ∙ ap (drop 40) (counted_by missing packet (40 + payload_len packet));
+      header_len = carries.header_len ∙ ap (λ headers. headers.len) first;
     }

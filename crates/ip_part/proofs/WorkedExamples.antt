@@ -1,6 +1,8 @@
 -- Worked examples of the definitions, so that a wrong definition fails before any code does.
 use Rattle.std.proofs.Common.{◌≡◌, ℕ, Bool, true, false, not, List, [], ◌∷◌, ◌++◌, replicate, Some, None, Ok, refl, inl, inr, arith}
 use Rattle.ip_part.specs.ExtensionHeaders.{ExtensionHeader, destination_by, extension_len, final_destination, is_fragment_by, source_by}
+use Rattle.ip_part.specs.FixedHeaders as fixed
+use Rattle.ip_part.specs.FixedHeaders.{fixed_header}
 use Rattle.ip_part.specs.Ip.{IsRefusedAfterHeaders, Reads, counted, counted_len, headers_of, headers_to_transport, is_cut_off, jumbo_len, lacks_len, lax_refusal, padding, refusal}
 use Rattle.ip_part.specs.Options.{ipv4_destination_by, ipv4_option, options_of, options_within}
 use Rattle.ip_part.specs.Headers.{Headers}
@@ -26,6 +28,27 @@ over_ipv4 : headers_of false (ipv4_packet 21 0x40 0 (7 ∷ 8 ∷ [])) ≡ Ok (re
 })
 unfolding ipv4_packet headers_to_transport options_within
 over_ipv4 = refl
+
+-- the fixed part of the header, also if the packet is rejected because its six words are cut off
+fixed_over_ipv4 : fixed_header (ipv4_packet 21 0x40 0 (7 ∷ 8 ∷ [])) ≡ Some (fixed.Ipv4 (10 ∷ 0 ∷ 0 ∷ 1 ∷ []) (10 ∷ 0 ∷ 0 ∷ 2 ∷ []) 64 17)
+unfolding ipv4_packet
+fixed_over_ipv4 = refl
+
+fixed_of_six_words : fixed_header (0x46 ∷ replicate 19 5) ≡ Some (fixed.Ipv4 (replicate 4 5) (replicate 4 5) 5 5)
+fixed_of_six_words = refl
+
+nineteen_bytes : fixed_header (0x45 ∷ replicate 18 5) ≡ None
+nineteen_bytes = refl
+
+fixed_over_ipv6 : fixed_header (0x60 ∷ 1 ∷ 2 ∷ 3 ∷ 4 ∷ 5 ∷ 17 ∷ 64 ∷ replicate 16 8 ++ replicate 16 9)
+    ≡ Some (fixed.Ipv6 (replicate 16 8) (replicate 16 9) 64 17)
+fixed_over_ipv6 = refl
+
+thirty_nine_bytes : fixed_header (0x60 ∷ replicate 38 5) ≡ None
+thirty_nine_bytes = refl
+
+no_version : fixed_header (0x50 ∷ replicate 39 5) ≡ None
+no_version = refl
 
 one_byte_of_padding : padding false (ipv4_packet 21 0x40 0 (7 ∷ 8 ∷ [])) ≡ 8 ∷ []
 unfolding ipv4_packet

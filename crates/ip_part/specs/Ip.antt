@@ -6,6 +6,7 @@ use Rattle.net_base.specs.IpHeaders.{ipv4_fragment_offset, ipv4_header_len, ipv4
 use Rattle.net_base.specs.Refusals.{first_of, refused_if}
 use Rattle.ip_part.specs.Addresses.{Addresses, Ipv4, Ipv6, by_value, is_ipv6}
 use Rattle.ip_part.specs.ExtensionHeaders.{ExtensionHeader, IsChain, LeadsTo, RefusesNext, authentication, begins_with_jumbo_payload, bytes_of, destination_after, destination_by, extension_len, fragment, has_fragment_header, hop_by_hop_options, is_extension, is_fragment_by, is_later_fragment, is_later_fragment_by, is_one_of_fragments, next_number, source_after, source_by}
+use Rattle.ip_part.specs.FixedHeaders.{fixed_by_value, fixed_header}
 use Rattle.ip_part.specs.Headers.{Headers}
 use Rattle.ip_part.specs.Options.{AreOptions, ipv4_destination_by, ipv4_option, ipv6_option, jumbo_payload_len, options_of}
 use Rattle.ip_part.specs.declared.ip_error.IpError.{IpError}
@@ -312,6 +313,9 @@ pub record Carries (packet : List ℕ) (transport : TransportInIp) : Type 0 wher
   pub payload_offset : transport.payload_offset ≡ headers.len
   pub is_cut_off : transport.is_cut_off ≡ is_cut_off transport.is_length_missing packet
   pub is_length_missing : transport.is_length_missing ≡ true → lacks_len packet ≡ true
+  pub fixed_header : fixed_header packet ≡ Some (fixed_by_value transport.fixed_header)
+  pub header_len : transport.header_len ≡ (first_headers packet).len
+  pub counted_len : transport.counted_len ≡ counted_len transport.is_length_missing packet
 
 -- the counted bytes after an IPv4 header, or all bytes after it if its length is missing
 abbrev pub after_ipv4_header : Bool → List ℕ → List ℕ
@@ -336,6 +340,7 @@ pub record IsOverIpv4 (packet : List ℕ) (transport : TransportInIp) : Type 0 w
   pub is_fragment : transport.is_fragment ≡ ipv4_is_fragment (ipv4_header packet)
   pub is_later_fragment : transport.is_later_fragment ≡ not (ipv4_fragment_offset (ipv4_header packet) == 0)
   pub payload : transport.payload.now ≡ ipv4_payload (ipv4_header packet) (after_ipv4_header transport.is_length_missing packet)
+  pub header_len : transport.header_len ≡ ipv4_header_len packet
 
 -- the transport of an IPv6 packet without an extension header
 pub record IsOverIpv6 (packet : List ℕ) (transport : TransportInIp) : Type 0 where
@@ -344,6 +349,7 @@ pub record IsOverIpv6 (packet : List ℕ) (transport : TransportInIp) : Type 0 w
   pub is_fragment : transport.is_fragment ≡ false
   pub is_later_fragment : transport.is_later_fragment ≡ false
   pub payload : transport.payload.now ≡ drop 40 (if transport.is_length_missing then packet else take (40 + payload_len packet) packet)
+  pub header_len : transport.header_len ≡ 40
 
 -- the bytes after the bytes that the IP header counts
 abbrev pub padding : Bool → List ℕ → List ℕ
@@ -411,8 +417,9 @@ pub record IsRefusedAfterHeaders (is_length_missing : Bool) (packet : List ℕ) 
   pub refuses : RefusesNext (first_headers packet).payload_len (first_headers packet).is_jumbogram
       (length (ip_header packet) + length (bytes_of extensions)) number rest error
 
--- two transports have equal fields, with addresses and payloads compared by their bytes
+-- two transports have equal fields, with addresses, payloads and fixed headers compared by their bytes
 abbrev pub AreAlike : TransportInIp → TransportInIp → Type 0
 AreAlike a b = (by_value a.addresses ≡ by_value b.addresses) × (a.protocol ≡ b.protocol) × (a.payload.now ≡ b.payload.now)
     × (a.payload_offset ≡ b.payload_offset) × (a.is_fragment ≡ b.is_fragment) × (a.is_later_fragment ≡ b.is_later_fragment)
     × (a.is_cut_off ≡ b.is_cut_off) × (a.is_length_missing ≡ b.is_length_missing)
+    × (fixed_by_value a.fixed_header ≡ fixed_by_value b.fixed_header) × (a.header_len ≡ b.header_len) × (a.counted_len ≡ b.counted_len)

@@ -155,6 +155,7 @@ fn headers_after<'a>(headers: &Headers<'a>, header: &'a [u8]) -> Headers<'a>
     let is_over_ipv6 = matches!(headers.addresses, IpAddresses::Ipv6 { .. });
     let is_later = is_later_fragment(headers.protocol, header);
     Headers {
+        fixed_header: headers.fixed_header,
         addresses: addresses_after(headers, header),
         protocol: IpNumber(header[0]),
         len: headers.len + header.len(),

@@ -1,9 +1,11 @@
-use crate::IpAddresses;
+use crate::{FixedHeader, IpAddresses};
 use net_base::IpNumber;
 
 /// The contents of the headers of an IP packet, as far as they are read.
 #[derive(Clone, Copy)]
 pub(crate) struct Headers<'a> {
+    /// The fixed part of the IP header.
+    pub fixed_header: FixedHeader<'a>,
     /// The addresses.
     pub addresses: IpAddresses<'a>,
     /// The number of the next header or of the protocol.

@@ -1,13 +1,17 @@
-ghost use Rattle.std.specs.Prelude.{◌≡◌, ◌≤◌, ◌<◌, ◌^◌, ◌==◌, ◌&&◌, IfOk, IfSome, false, length};
+ghost use Rattle.std.specs.Prelude.{◌≡◌, ◌≤◌, ◌<◌, ◌^◌, ◌==◌, ◌&&◌, IfOk, IfSome, Some, false, length};
 ghost use Rattle.net_base.specs.Bytes.{be_number};
 ghost use Rattle.net_base.specs.IpHeaders.{ipv4_fragment_offset, ipv4_header_len, ipv4_is_fragment, version};
 ghost use Rattle.net_base.specs.Refusals.{RefusesExactly};
+ghost use Rattle.ip_part.specs.FixedHeaders.{fixed_by_value, fixed_header, fixed_ipv4};
 ghost use Rattle.ip_part.specs.Headers.{headers_by_value};
 ghost use Rattle.ip_part.specs.Ip as specs;
 ghost use Rattle.ip_part.specs.Ip.{counted_len, first_headers, header_refusal, ipv4_header_refusal, ipv4_headers, ipv4_refusal, ipv4_stated_len, ipv6_headers, ipv6_refusal, ipv6_stated_len, is_jumbogram, jumbo_refusal, len_in_options_refusal, missing_len_refusal, next_header, options_refusal, payload_len, strict_header_refusal};
 
 use crate::address::{ipv4_address, ipv6_address};
 use crate::extension_headers::{MIN_LEN, extension_len};
+use crate::fixed_part::{
+    IPV4_SOURCE_AT, IPV6_DESTINATION_AT, IPV6_SOURCE_AT, ipv4_fixed_header, ipv6_fixed_header,
+};
 use crate::headers::Headers;
 use crate::ipv4_options::final_destination;
 use crate::ipv6_options::jumbo_payload_len;
@@ -15,19 +19,10 @@ use crate::{IpAddresses, IpError};
 use net_base::{IpNumber, Ipv6HeaderSlice, ip_number};
 
 /// The shortest IPv4 header, in bytes (RFC 791, section 3.1).
-const IPV4_MIN_LEN: usize = 20;
+pub(crate) const IPV4_MIN_LEN: usize = 20;
 
 /// The length of an IPv6 header, in bytes (RFC 8200, section 3).
 pub(crate) const IPV6_LEN: usize = 40;
-
-/// The place of the sender's address, in bytes from the start of an IPv4 header (RFC 791, section 3.1).
-const IPV4_SOURCE_AT: usize = 12;
-
-/// The place of the sender's address, in bytes from the start of an IPv6 header (RFC 8200, section 3).
-const IPV6_SOURCE_AT: usize = 8;
-
-/// The place of the receiver's address, in bytes from the start of an IPv6 header (RFC 8200, section 3).
-const IPV6_DESTINATION_AT: usize = 24;
 
 /// The longest payload that the payload length of IPv6 can count (RFC 2675, section 2).
 const MAX_PAYLOAD_LEN: usize = 65_535;
@@ -37,6 +32,7 @@ const MAX_PAYLOAD_LEN: usize = 65_535;
 #[inline(always)]
 pub(crate) fn read_ip_header_with_len(packet: &[u8]) -> Result<(Headers<'_>, usize), IpError>
     ensures refused { RefusesExactly result (strict_header_refusal packet.now) }
+    ensures fixed { IfOk result (λ read. fixed_header packet.now ≡ Some (fixed_by_value read.0.fixed_header)) }
     ensures first { IfOk result (λ read. headers_by_value read.0 ≡ first_headers packet.now) }
     ensures counted { IfOk result (λ read. read.1 ≡ counted_len false packet.now) }
     ensures within { IfOk result (λ read. (read.0.len ≤ read.1) × (read.0.len ≤ length packet.now)) }
@@ -72,6 +68,7 @@ fn len_of_header(headers: &Headers<'_>) -> Result<usize, IpError>
 #[inline(always)]
 pub(crate) fn read_ip_header(packet: &[u8]) -> Result<(Headers<'_>, Option<usize>), IpError>
     ensures refused { RefusesExactly result (header_refusal packet.now) }
+    ensures fixed { IfOk result (λ read. fixed_header packet.now ≡ Some (fixed_by_value read.0.fixed_header)) }
     ensures first { IfOk result (λ read. headers_by_value read.0 ≡ first_headers packet.now) }
     ensures stated { IfOk result (λ read. read.1 ≡ specs.stated_len packet.now) }
     ensures within { IfOk result (λ read. read.0.len ≤ length packet.now) }
@@ -95,6 +92,7 @@ pub(crate) fn read_ip_header(packet: &[u8]) -> Result<(Headers<'_>, Option<usize
 fn read_ipv4_header_with_len(packet: &[u8]) -> Result<(Headers<'_>, usize), IpError>
     requires { version packet.now ≡ 4 }
     ensures refused { RefusesExactly result (strict_header_refusal packet.now) }
+    ensures fixed { IfOk result (λ read. fixed_header packet.now ≡ Some (fixed_by_value read.0.fixed_header)) }
     ensures first { IfOk result (λ read. headers_by_value read.0 ≡ first_headers packet.now) }
     ensures counted { IfOk result (λ read. read.1 ≡ counted_len false packet.now) }
     ensures within { IfOk result (λ read. (read.0.len ≤ read.1) × (read.0.len ≤ length packet.now)) }
@@ -150,9 +148,11 @@ fn has_authentication(header: &[u8]) -> bool
 #[inline(always)]
 fn ipv4_headers(header: &[u8]) -> Headers<'_>
     requires { 20 ≤ length header.now }
-    ensures { headers_by_value result ≡ specs.ipv4_headers (length header.now) header.now }
+    ensures contents { headers_by_value result ≡ specs.ipv4_headers (length header.now) header.now }
+    ensures fixed { fixed_by_value result.fixed_header ≡ fixed_ipv4 header.now }
 {
     Headers {
+        fixed_header: ipv4_fixed_header(header),
         addresses: IpAddresses::Ipv4 {
             source: ipv4_address(header, IPV4_SOURCE_AT),
             destination: final_destination(header),
@@ -172,6 +172,7 @@ fn ipv4_headers(header: &[u8]) -> Headers<'_>
 fn read_ipv4_header(packet: &[u8]) -> Result<(Headers<'_>, Option<usize>), IpError>
     requires { version packet.now ≡ 4 }
     ensures refused { RefusesExactly result (ipv4_refusal packet.now) }
+    ensures fixed { IfOk result (λ read. fixed_header packet.now ≡ Some (fixed_by_value read.0.fixed_header)) }
     ensures first { IfOk result (λ read. headers_by_value read.0 ≡ ipv4_headers (ipv4_header_len packet.now) (specs.ipv4_header packet.now)) }
     ensures stated { IfOk result (λ read. read.1 ≡ ipv4_stated_len packet.now) }
     ensures within { IfOk result (λ read. read.0.len ≤ length packet.now) }
@@ -230,6 +231,7 @@ fn ipv4_header(packet: &[u8]) -> Result<&[u8], IpError>
 fn read_ipv6_header(packet: &[u8]) -> Result<(Headers<'_>, Option<usize>), IpError>
     requires { version packet.now ≡ 6 }
     ensures refused { RefusesExactly result (ipv6_refusal packet.now) }
+    ensures fixed { IfOk result (λ read. fixed_header packet.now ≡ Some (fixed_by_value read.0.fixed_header)) }
     ensures first { IfOk result (λ read. headers_by_value read.0 ≡ ipv6_headers (is_jumbogram packet.now) (specs.ipv6_header packet.now)) }
     ensures stated { IfOk result (λ read. read.1 ≡ ipv6_stated_len (specs.jumbo_len packet.now) (payload_len packet.now) (next_header packet.now)) }
     ensures within { IfOk result (λ read. read.0.len ≤ length packet.now) }
@@ -244,6 +246,7 @@ fn read_ipv6_header(packet: &[u8]) -> Result<(Headers<'_>, Option<usize>), IpErr
     let payload_len = usize::from(header.payload_length());
     let jumbo_len = jumbo_len(packet, payload_len, header.next_header())?;
     let headers = Headers {
+        fixed_header: ipv6_fixed_header(header.slice()),
         addresses: IpAddresses::Ipv6 {
             source: ipv6_address(header.slice(), IPV6_SOURCE_AT),
             destination: Some(ipv6_address(header.slice(), IPV6_DESTINATION_AT)),

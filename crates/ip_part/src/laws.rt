@@ -8,9 +8,10 @@
 
 ghost use Rattle.std.specs.Prelude.{◌≡◌, ◌↔◌, IsTrue, IsOkAnd};
 ghost use Rattle.ip_part.specs.Addresses.{by_value};
+ghost use Rattle.ip_part.specs.FixedHeaders.{fixed_by_value};
 ghost use Rattle.ip_part.specs.Ip.{AreAlike};
 
-use crate::{IpAddresses, IpError, Proto, TransportInIp};
+use crate::{FixedHeader, IpAddresses, IpError, Proto, TransportInIp};
 use std::alloc::AllocError;
 
 /// A clone of `IpAddresses` is the same value.
@@ -23,6 +24,20 @@ pub fn cloned_ip_addresses<'a>(value: &IpAddresses<'a>) -> Result<IpAddresses<'a
 /// Two values of `IpAddresses` are equal exactly if their bytes are the same.
 pub fn equal_ip_addresses<'a>(a: &IpAddresses<'a>, b: &IpAddresses<'a>) -> bool
     ensures same { IsTrue result ↔ (by_value a.now ≡ by_value b.now) }
+{
+    a == b
+}
+
+/// A clone of a `FixedHeader` is the same value.
+pub fn cloned_fixed_header<'a>(value: &FixedHeader<'a>) -> Result<FixedHeader<'a>, AllocError>
+    ensures same { IsOkAnd result (λ copy. copy ≡ value.now) }
+{
+    value.clone()
+}
+
+/// Two values of `FixedHeader` are equal exactly if their bytes are the same.
+pub fn equal_fixed_header<'a>(a: &FixedHeader<'a>, b: &FixedHeader<'a>) -> bool
+    ensures same { IsTrue result ↔ (fixed_by_value a.now ≡ fixed_by_value b.now) }
 {
     a == b
 }
@@ -64,7 +79,8 @@ pub fn cloned_transport_in_ip<'a>(
     value.clone()
 }
 
-/// Two values of `TransportInIp` are equal exactly if their fields are equal, with the payload compared by its bytes.
+/// Two values of `TransportInIp` are equal exactly if their fields are equal, with the payload and the fixed
+/// header compared by their bytes.
 pub fn equal_transport_in_ip<'a>(a: &TransportInIp<'a>, b: &TransportInIp<'a>) -> bool
     ensures same { IsTrue result ↔ AreAlike a.now b.now }
 {

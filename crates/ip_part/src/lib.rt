@@ -15,6 +15,7 @@
 
 mod address;
 mod extension_headers;
+mod fixed_part;
 mod headers;
 mod ip_addresses;
 mod ip_error;
@@ -25,6 +26,7 @@ pub mod laws;
 mod proto;
 mod transport;
 
+pub use fixed_part::{FixedHeader, fixed_header};
 pub use ip_addresses::IpAddresses;
 pub use ip_error::IpError;
 pub use ipv4_options::has_source_route;

@@ -1,4 +1,4 @@
-ghost use Rattle.std.specs.Prelude.{◌≡◌, IfErr, IfOk, IsOkAnd, None, false};
+ghost use Rattle.std.specs.Prelude.{◌≡◌, ◌-◌, IfErr, IfOk, IsOkAnd, None, false, length};
 ghost use Rattle.net_base.specs.IpHeaders.{version};
 ghost use Rattle.net_base.specs.Refusals.{RefusesExactly};
 ghost use Rattle.ip_part.specs.Addresses.{by_value};
@@ -7,7 +7,7 @@ ghost use Rattle.ip_part.specs.Protocols as specs;
 
 use crate::extension_headers::read_extension_headers;
 use crate::ip_header::{read_ip_header, read_ip_header_with_len};
-use crate::{IpAddresses, IpError, Proto, proto_over};
+use crate::{FixedHeader, IpAddresses, IpError, Proto, proto_over};
 use net_base::IpNumber;
 
 /// The transport in an IP packet (RFC 791, section 3.1; RFC 8200, sections 3 and 4).
@@ -45,6 +45,13 @@ pub struct TransportInIp<'a> {
     /// The IP header states no length, and all bytes of the slice are counted. The total length is 0, or the payload length is 0
     /// without a jumbo payload option and with a next header other than "no next header". It is false in a result of `transport_in_ip`.
     pub is_length_missing: bool,
+    /// The fixed part of the IP header, with its addresses and its hop limit.
+    pub fixed_header: FixedHeader<'a>,
+    /// The length of the IP header, in bytes: 20 to 60 over IPv4, options included, and 40 over IPv6, without extension headers.
+    pub header_len: usize,
+    /// The number of bytes that the IP header counts, header included. If the packet is cut off, the slice contains fewer bytes. If the
+    /// IP header states no length, it is the number of all bytes of the slice.
+    pub counted_len: usize,
 }
 
 impl<'a> TransportInIp<'a> {
@@ -55,6 +62,15 @@ impl<'a> TransportInIp<'a> {
         ensures { result ≡ specs.proto_over (by_value self.now.addresses) self.now.protocol.0 }
     {
         proto_over(self.addresses, self.protocol)
+    }
+
+    /// The number of bytes that the IP header counts and the slice does not contain. It is 0 unless the packet is cut off.
+    pub fn missing_len(&self) -> usize
+        ensures { result ≡ self.now.counted_len - self.now.payload_offset - length self.now.payload.now }
+    {
+        self.counted_len
+            .saturating_sub(self.payload_offset)
+            .saturating_sub(self.payload.len())
     }
 }
 
@@ -125,6 +141,9 @@ pub fn transport_in_ip(packet: &[u8]) -> Result<TransportInIp<'_>, IpError>
         is_later_fragment: headers.is_later_fragment,
         is_cut_off: false,
         is_length_missing: false,
+        fixed_header: first.fixed_header,
+        header_len: first.len,
+        counted_len,
     })
 }
 
@@ -166,5 +185,8 @@ pub fn transport_in_ip_lax(packet: &[u8]) -> Result<TransportInIp<'_>, IpError>
         is_later_fragment: headers.is_later_fragment,
         is_cut_off: packet.len() < counted_len,
         is_length_missing: stated_len.is_none(),
+        fixed_header: first.fixed_header,
+        header_len: first.len,
+        counted_len,
     })
 }

@@ -27,6 +27,9 @@ returns-clause-found c =
       payload_offset = refl;
       is_cut_off = sym there ∙ ap (nat_lt (length packet)) c.in_ok-first.ensures.counted;
       is_length_missing = λ is. absurd (cc is);
+      fixed_header = c.in_ok-first.ensures.fixed;
+      header_len = ap (λ headers. headers.len) c.in_ok-first.ensures.first;
+      counted_len = c.in_ok-first.ensures.counted;
     }
 
 pub returns-clause-parts : goal.returns-clause-parts

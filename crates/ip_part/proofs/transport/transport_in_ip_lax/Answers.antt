@@ -35,6 +35,9 @@ returns-clause-found c =
       payload_offset = refl;
       is_cut_off = ap (nat_lt (length packet)) counts;
       is_length_missing = λ is. sym missing ∙ is;
+      fixed_header = c.in_ok-first.ensures.fixed;
+      header_len = ap (λ headers. headers.len) c.in_ok-first.ensures.first;
+      counted_len = counts;
     }
 
 pub returns-clause-parts : goal.returns-clause-parts
