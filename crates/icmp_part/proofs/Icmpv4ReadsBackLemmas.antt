@@ -171,7 +171,7 @@ timestamp_back type variant message checksum small fit is_written twenty read =
     let P : List ℕ → Type 0 = λ b. DecodesAs b (record { icmp_type = variant message; checksum = checksum }) [] in
     subst P (ap (λ w. w.type ∷ (w.code ∷ (checksum / 256 % 256 ∷ (checksum % 256 ∷ w.fields)))) (sym is_written)) decodes
 
--- with a payload they are rejected
+-- with a payload they are refused
 whole_or_refused : (bytes payload : List ℕ) (layer : Layer) (header : Icmpv4Header) (none : Bool) → (length payload == 0) ≡ none
     → DecodesAs bytes header []
     → (length payload ≢ 0 → refusal (bytes ++ payload) ≡ Some (wrong_length layer 20 (20 + length payload)))

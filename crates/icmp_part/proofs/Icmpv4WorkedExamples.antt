@@ -87,7 +87,7 @@ seven_bytes : refusal (replicate 7 0) ≡ Some (expects layers.Icmpv4 8 7)
 unfolding expects
 seven_bytes = refl
 
--- fewer than eight bytes are rejected for their length, for any type
+-- fewer than eight bytes are refused for their length, for any type
 short_timestamp : refusal (13 ∷ 0 ∷ []) ≡ Some (expects layers.Icmpv4 8 2)
 unfolding expects
 short_timestamp = refl

@@ -169,7 +169,7 @@ pub fields_len : (message : Icmpv6Type) → FieldsFit message → length (writte
 fields_len (Unknown type code bytes5to8) fit = fit
 fields_len other fit = refl
 
--- longer packets are rejected
+-- longer packets are refused
 long_refused : (bytes payload : List ℕ) → length bytes ≡ 8 + length payload → max_payload_len < length payload
     → refusal bytes ≡ Some (wrong_length layers.Icmpv6 max_packet_len (8 + length payload))
 long_refused bytes payload len long =

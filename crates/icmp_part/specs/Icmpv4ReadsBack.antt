@@ -14,7 +14,7 @@ use Rattle.icmp_part.specs.declared.icmpv4_header.Icmpv4Header.{Icmpv4Header}
 use Rattle.icmp_part.specs.declared.icmpv4_type.Icmpv4Type.{Icmpv4Type}
 use Rattle.icmp_part.specs.declared.icmpv4_type.Icmpv4Type.TheVariants.{Unknown, EchoReply, DestinationUnreachable, Redirect, EchoRequest, TimeExceeded, ParameterProblem, TimestampRequest, TimestampReply}
 
--- the bytes are rejected with this error, or read as this header and these bytes after it
+-- the bytes are refused with this error, or read as this header and these bytes after it
 abbrev pub IsReadAs : List ℕ → Result (Icmpv4Header × List ℕ) LenError → Type 0
 IsReadAs bytes (Ok found) = DecodesAs bytes found.0 found.1
 IsReadAs bytes (Err error) = refusal bytes ≡ Some error
@@ -23,14 +23,14 @@ IsReadAs bytes (Err error) = refusal bytes ≡ Some error
 abbrev pub icmpv4_header : Icmpv4Type → ℕ → Icmpv4Header
 icmpv4_header message checksum = record { icmp_type = message; checksum = checksum }
 
--- a timestamp message is the whole packet, so it is rejected with a payload
+-- a timestamp message is the whole packet, so it is refused with a payload
 abbrev pub timestamp_reads_back : Icmpv4Type → Layer → ℕ → List ℕ → Result (Icmpv4Header × List ℕ) LenError
 timestamp_reads_back message layer checksum payload =
     if length payload == 0 then Ok (icmpv4_header message checksum, [])
     else Err (wrong_length layer 20 (20 + length payload))
 
 -- a raw header with the type and code of a timestamp message is read as a timestamp message together with the twelve
--- bytes after it, and is rejected with any other number of bytes
+-- bytes after it, and is refused with any other number of bytes
 abbrev pub raw_timestamp_reads_back : (TimestampMessage → Icmpv4Type) → Layer → List ℕ → ℕ → List ℕ → Result (Icmpv4Header × List ℕ) LenError
 raw_timestamp_reads_back variant layer bytes5to8 checksum payload =
     if length payload == 12 then Ok (icmpv4_header (variant (timestamp_of (bytes5to8 ++ payload) 0)) checksum, [])

@@ -12,7 +12,7 @@ use Rattle.icmp_part.specs.declared.icmpv6_header.Icmpv6Header.{Icmpv6Header}
 use Rattle.icmp_part.specs.declared.icmpv6_type.Icmpv6Type.{Icmpv6Type}
 use Rattle.icmp_part.specs.declared.icmpv6_type.Icmpv6Type.TheVariants.{Unknown, DestinationUnreachable, PacketTooBig, TimeExceeded, ParameterProblem, EchoRequest, EchoReply, RouterSolicitation, RouterAdvertisement, NeighborSolicitation, NeighborAdvertisement, Redirect}
 
--- the bytes are rejected with this error, or read as this header and these bytes after it
+-- the bytes are refused with this error, or read as this header and these bytes after it
 abbrev pub IsReadAs : List ℕ → Result (Icmpv6Header × List ℕ) LenError → Type 0
 IsReadAs bytes (Ok found) = DecodesAs bytes found.0 found.1
 IsReadAs bytes (Err error) = refusal bytes ≡ Some error
@@ -30,7 +30,7 @@ abbrev pub message_reads_back : Icmpv6Type → Icmpv6Type
 message_reads_back (Unknown type code bytes5to8) = unwrap_or (listed_kind type code bytes5to8) (Unknown type code bytes5to8)
 message_reads_back other = other
 
--- a packet with too long a payload is rejected; otherwise the checksum is read back, and the payload comes after the header
+-- a packet with too long a payload is refused; otherwise the checksum is read back, and the payload comes after the header
 abbrev pub reads_back : Icmpv6Type → ℕ → List ℕ → Result (Icmpv6Header × List ℕ) LenError
 reads_back message checksum payload =
     if nat_lt max_payload_len (length payload)

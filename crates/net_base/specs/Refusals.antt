@@ -10,7 +10,7 @@ use Rattle.net_base.specs.declared.err.value_too_big_error.ValueTooBigError.{Val
 abbrev pub refused_if : {E : Type 0} → Bool → E → Option E
 refused_if condition error = if condition then Some error else None
 
--- the error of the first rule, in their order, that rejects
+-- the error of the first rule, in their order, that refuses
 abbrev pub first_of : {E : Type 0} → List (Option E) → Option E
 first_of [] = None
 first_of (Some error ∷ rules) = Some error
@@ -29,7 +29,7 @@ wrong_length layer required_len len =
 abbrev pub no_room : Layer → List ℕ → ℕ → Option LenError
 no_room layer bytes len = refused_if (nat_lt len (length bytes)) (wrong_length layer (length bytes) len)
 
--- a value above its limit is rejected
+-- a value above its limit is refused
 abbrev pub too_big : ValueType → ℕ → ℕ → Option (ValueTooBigError ℕ)
 too_big value_type limit value =
     refused_if (nat_lt limit value) (record { actual = value; max_allowed = limit; value_type = value_type })

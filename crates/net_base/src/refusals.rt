@@ -16,7 +16,7 @@ pub fn wrong_length(layer: Layer, required_len: usize, len: usize) -> LenError
     }
 }
 
-/// Rejects a payload whose length, in bytes, is above the largest allowed length.
+/// Refuses a payload whose length, in bytes, is above the largest allowed length.
 ///
 /// # Errors
 ///

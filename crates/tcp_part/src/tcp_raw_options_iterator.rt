@@ -7,7 +7,7 @@ use std::marker::Model;
 /// Reads option bytes as kinds and values, one option after the other, up to the end of the list or the first fault
 /// (RFC 9293, section 3.1).
 ///
-/// Only the length byte gives the end of an option, known or not (RFC 1122, section 4.2.2.5). So no kind is rejected,
+/// Only the length byte gives the end of an option, known or not (RFC 1122, section 4.2.2.5). So no kind is refused,
 /// and the length of a kind is not checked. `element` of the option checks both. After `None` or an error no bytes
 /// are left, and `next` returns `None`. There are at most as many items as bytes.
 ///

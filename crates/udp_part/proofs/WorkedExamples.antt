@@ -132,7 +132,7 @@ field_9_strict : strict_refusal (packet 9 0)
 unfolding packet
 field_9_strict = refl
 
--- a missing header is rejected before a length field above the slice
+-- a missing header is refused before a length field above the slice
 seven_bytes_strict : strict_refusal (0 ∷ 0 ∷ 0 ∷ 0 ∷ 0 ∷ 9 ∷ 0 ∷ [])
     ≡ Some (record { required_len = 8; len = 7; len_source = Slice; layer = layers.UdpHeader; layer_start_offset = 0 })
 seven_bytes_strict = refl

@@ -19,7 +19,7 @@ use Rattle.udp_part.specs.declared.udp_header.UdpHeader.{UdpHeader}
 abbrev pub layout : HeaderLayout
 layout = record { header_len = 8; masks = replicate 8 0xff }
 
--- a slice shorter than a header is rejected; the length field is not checked
+-- a slice shorter than a header is refused; the length field is not checked
 abbrev pub refusal : List ℕ → Option LenError
 refusal bytes = first_of (
     refused_if (nat_lt (length bytes) layout.header_len) (wrong_length layers.UdpHeader layout.header_len (length bytes)) ∷ [])
