@@ -48,6 +48,7 @@ def check_writing(tally):
     check_written_files(tally, data)
     check_kept_files(tally, data)
     check_written_blocks(tally)
+    check_written_errors(tally, data)
     found = []
     ends = list(itertools.accumulate(map(len, [header] + records)))
     for length in range(ends[4] + 1):
