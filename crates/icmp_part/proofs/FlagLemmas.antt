@@ -25,7 +25,8 @@ flag_bit byte k some = tested_bit (bit_and byte (2 ^ k)) (2 ^ k) (byte / 2 ^ k %
 
 -- the flags of the three highest bits, each times its bit, are the byte under the mask of the three
 pub three_flags : (byte : ℕ) → byte < 256
-    → from_bool (not (bit_and byte 0x80 == 0)) * 0x80 + from_bool (not (bit_and byte 0x40 == 0)) * 0x40 + from_bool (not (bit_and byte 0x20 == 0)) * 0x20
+    → from_bool (not (bit_and byte 0x80 == 0)) * 0x80 + from_bool (not (bit_and byte 0x40 == 0)) * 0x40
+    + from_bool (not (bit_and byte 0x20 == 0)) * 0x20
     ≡ bit_and byte 0xe0
 three_flags byte small =
     let mask : bit_and byte 0xe0 ≡ byte / 32 * 32 = and_high_mask 8 5 (omega arith) byte small in

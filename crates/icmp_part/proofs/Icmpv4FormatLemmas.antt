@@ -28,7 +28,8 @@ use Rattle.icmp_part.proofs.IcmpEchoLemmas.{echo_lawful}
 
 -- a packet is read by its type and code, or raw
 pub icmp_type_of_listed : (bytes : List ℕ)
-    → icmp_type_of bytes ≡ unwrap_or (listed (codes_of formats (slice_index bytes 0)) (slice_index bytes 1) bytes) (unknown.message_of bytes)
+    → icmp_type_of bytes ≡ unwrap_or (listed (codes_of formats (slice_index bytes 0)) (slice_index bytes 1) bytes)
+    (unknown.message_of bytes)
 unfolding format_of
 icmp_type_of_listed bytes = format_in-reads formats unknown (slice_index bytes 0) (slice_index bytes 1) bytes
 
@@ -51,7 +52,8 @@ IsLawfulIcmpv4 type code format = IsLawful Icmpv4Type written IsLen type code fo
 
 -- the MTU of the next hop in bytes 6 and 7
 with_next_hop_mtu_lawful : IsLawfulIcmpv4 3 4 (inside DestinationUnreachable with_next_hop_mtu)
-with_next_hop_mtu_lawful = eight_lawful written IsLen 3 4 0 0 255 255 (λ bytes. DestinationUnreachable (dest.FragmentationNeeded (be_number bytes 6 2))) (inl refl)
+with_next_hop_mtu_lawful =
+    eight_lawful written IsLen 3 4 0 0 255 255 (λ bytes. DestinationUnreachable (dest.FragmentationNeeded (be_number bytes 6 2))) (inl refl)
     (λ bytes fits.
     let high : be_number bytes 6 2 / 256 % 256 ≡ slice_index bytes 6 = omega (arith, fits 6, fits 7) in
     let low : be_number bytes 6 2 % 256 ≡ slice_index bytes 7 = omega (arith, fits 6, fits 7) in
@@ -63,10 +65,12 @@ with_next_hop_mtu_lawful = eight_lawful written IsLen 3 4 0 0 255 255 (λ bytes.
 
 -- the pointer in byte 4
 with_pointer_lawful : IsLawfulIcmpv4 12 0 (inside ParameterProblem with_pointer)
-with_pointer_lawful = eight_lawful written IsLen 12 0 255 0 0 0 (λ bytes. ParameterProblem (problem.PointerIndicatesError (slice_index bytes 4))) (inl refl)
+with_pointer_lawful =
+    eight_lawful written IsLen 12 0 255 0 0 0 (λ bytes. ParameterProblem (problem.PointerIndicatesError (slice_index bytes 4))) (inl refl)
     (λ bytes fits. rw (and_zero_r (slice_index bytes 5), and_zero_r (slice_index bytes 6), and_zero_r (slice_index bytes 7), bit_and-all (slice_index bytes 4) (fits 4)) refl)
     (λ bytes other fits other_fits same.
-    ap (λ at. ParameterProblem (problem.PointerIndicatesError at)) (masked_alike_at (used 4 ++ (used 1 ++ cleared 3)) bytes other 4 fits other_fits refl same))
+    ap (λ at. ParameterProblem (problem.PointerIndicatesError at))
+    (masked_alike_at (used 4 ++ (used 1 ++ cleared 3)) bytes other 4 fits other_fits refl same))
 
 -- the gateway's address
 redirect_lawful : (code : RedirectCode) → IsLawfulIcmpv4 5 (redirect_code code) (redirect code)
@@ -89,7 +93,8 @@ timestamp_lawful : (type : ℕ) (variant : TimestampMessage → Icmpv4Type) → 
     → ((fields : TimestampMessage) → written (variant fields) ≡ record { type = type; code = 0; fields = timestamp_fields fields })
     → IsLawfulIcmpv4 type 0 (timestamp variant)
 timestamp_lawful type variant is_timestamp is_written =
-    all_used_lawful written IsLen type 0 20 (λ bytes. variant (timestamp_of bytes 4)) (inr (refl, refl, is_timestamp)) refl refl refl refl refl
+    all_used_lawful written IsLen type 0 20 (λ bytes. variant (timestamp_of bytes 4))
+    (inr (refl, refl, is_timestamp)) refl refl refl refl refl
     (λ bytes fits enough is_type is_code.
     ap (λ w. w.type ∷ (w.code ∷ (to_be_bytes w16 (be_number bytes 2 2) ++ (w.fields ++ drop 20 bytes)))) (is_written (timestamp_of bytes 4))
     ∙ begins bytes type 0 _ fits (omega arith) is_type is_code
@@ -180,7 +185,8 @@ header_len_timestamp : (type code at : ℕ) → type ≡ at → code ≡ 0 → h
 header_len_timestamp type code at is_type is_code twenty =
     ap (λ t. header_len_at t code) is_type ∙ ap (header_len_at at) is_code ∙ twenty
 
-pub header_len_of_timestamps : (bytes : List ℕ) → (slice_index bytes 0 ≡ 13) ⊎ (slice_index bytes 0 ≡ 14) → slice_index bytes 1 ≡ 0 → (layout_of bytes).header_len ≡ 20
+pub header_len_of_timestamps : (bytes : List ℕ) → (slice_index bytes 0 ≡ 13) ⊎ (slice_index bytes 0 ≡ 14) → slice_index bytes 1 ≡ 0
+    → (layout_of bytes).header_len ≡ 20
 unfolding format_of header_len_at
 header_len_of_timestamps bytes (inl type) code = header_len_timestamp (slice_index bytes 0) (slice_index bytes 1) 13 type code refl
 header_len_of_timestamps bytes (inr type) code = header_len_timestamp (slice_index bytes 0) (slice_index bytes 1) 14 type code refl
@@ -190,7 +196,8 @@ other_len : (type code len : ℕ) → (len ≡ 8) ⊎ ((len ≡ 20) × (code ≡
 other_len type code len (inl eight) other = eight
 other_len type code len (inr timestamp) other = absurd (other timestamp.2 timestamp.1)
 
-pub header_len_of_others : (bytes : List ℕ) → ((slice_index bytes 0 ≡ 13) ⊎ (slice_index bytes 0 ≡ 14) → slice_index bytes 1 ≢ 0) → (layout_of bytes).header_len ≡ 8
+pub header_len_of_others : (bytes : List ℕ) → ((slice_index bytes 0 ≡ 13) ⊎ (slice_index bytes 0 ≡ 14) → slice_index bytes 1 ≢ 0)
+    → (layout_of bytes).header_len ≡ 8
 header_len_of_others bytes other = other_len (slice_index bytes 0) (slice_index bytes 1) _ (format_of-lawful bytes).header_len other
 
 whole_len : (type code len there : ℕ) → (len ≡ 8) ⊎ ((len ≡ 20) × (code ≡ 0) × ((type ≡ 13) ⊎ (type ≡ 14)))
@@ -200,7 +207,8 @@ whole_len type code len there (inr timestamp) shortest timestamps = omega (arith
 
 -- the bytes contain a whole header
 pub header_len_whole : (bytes : List ℕ) → HasWholeHeader bytes → (layout_of bytes).header_len ≤ length bytes
-header_len_whole bytes whole = whole_len (slice_index bytes 0) (slice_index bytes 1) _ _ (format_of-lawful bytes).header_len whole.shortest whole.timestamp
+header_len_whole bytes whole =
+    whole_len (slice_index bytes 0) (slice_index bytes 1) _ _ (format_of-lawful bytes).header_len whole.shortest whole.timestamp
 
 timestamp_len : (bytes : List ℕ) → refusal bytes ≡ None → slice_index bytes 0 ≡ 13 → slice_index bytes 1 ≡ 0 → length bytes ≡ 20
 timestamp_len bytes accepted type code = grind (arith, nat_tests)
@@ -208,7 +216,8 @@ timestamp_len bytes accepted type code = grind (arith, nat_tests)
 timestamp_reply_len : (bytes : List ℕ) → refusal bytes ≡ None → slice_index bytes 0 ≡ 14 → slice_index bytes 1 ≡ 0 → length bytes ≡ 20
 timestamp_reply_len bytes accepted type code = grind (arith, nat_tests)
 
-timestamps_len : (bytes : List ℕ) → refusal bytes ≡ None → (slice_index bytes 0 ≡ 13) ⊎ (slice_index bytes 0 ≡ 14) → slice_index bytes 1 ≡ 0 → length bytes ≡ 20
+timestamps_len : (bytes : List ℕ) → refusal bytes ≡ None → (slice_index bytes 0 ≡ 13) ⊎ (slice_index bytes 0 ≡ 14) → slice_index bytes 1 ≡ 0
+    → length bytes ≡ 20
 timestamps_len bytes accepted (inl type) code = timestamp_len bytes accepted type code
 timestamps_len bytes accepted (inr type) code = timestamp_reply_len bytes accepted type code
 
@@ -245,7 +254,8 @@ unfolding format_of
 read_alike bytes other fits other_fits same = canonical_alike written IsLen format_at format_at-lawful bytes other fits other_fits same
 
 -- two accepted packets read alike exactly if their canonical bytes are the same
-pub decode_alike : (bytes other : List ℕ) (header : Icmpv4Header) (rest : List ℕ) → IsBytes bytes → IsBytes other → DecodesAs bytes header rest
+pub decode_alike : (bytes other : List ℕ) (header : Icmpv4Header) (rest : List ℕ) → IsBytes bytes → IsBytes other
+    → DecodesAs bytes header rest
     → refusal other ≡ None → (DecodesAs other header rest ↔ (canonical other ≡ canonical bytes))
 decode_alike bytes other header rest fits other_fits read accepted = (
   λ alike. sym (written_back other header rest other_fits alike) ∙ written_back bytes header rest fits read,

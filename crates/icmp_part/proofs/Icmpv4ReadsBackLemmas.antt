@@ -66,7 +66,8 @@ eight_back : (message : Icmpv4Type) (checksum type code a b c d : ℕ) (payload 
     → written message ≡ record { type = type; code = code; fields = a ∷ (b ∷ (c ∷ (d ∷ []))) }
     → (format_at type code).layout.header_len ≡ 8
     → ((x y : ℕ) → (format_at type code).message_of (type ∷ (code ∷ (x ∷ (y ∷ (a ∷ (b ∷ (c ∷ (d ∷ payload)))))))) ≡ message)
-    → DecodesAs (wire (record { icmp_type = message; checksum = checksum }) ++ payload) (record { icmp_type = message; checksum = checksum }) payload
+    → DecodesAs (wire (record { icmp_type = message; checksum = checksum }) ++ payload)
+    (record { icmp_type = message; checksum = checksum }) payload
 unfolding format_of
 eight_back message checksum type code a b c d payload small is_written eight read =
     let bytes = type ∷ (code ∷ (checksum / 256 % 256 ∷ (checksum % 256 ∷ (a ∷ (b ∷ (c ∷ (d ∷ payload))))))) in
@@ -85,9 +86,11 @@ echo_back : (type : ℕ) (variant : IcmpEchoHeader → Icmpv4Type) (echo : IcmpE
     → written (variant echo) ≡ record { type = type; code = 0; fields = to_be_bytes w16 echo.id ++ to_be_bytes w16 echo.seq }
     → (format_at type 0).layout.header_len ≡ 8
     → ((bytes : List ℕ) → (format_at type 0).message_of bytes ≡ variant (record { id = be_number bytes 4 2; seq = be_number bytes 6 2 }))
-    → DecodesAs (wire (record { icmp_type = variant echo; checksum = checksum }) ++ payload) (record { icmp_type = variant echo; checksum = checksum }) payload
+    → DecodesAs (wire (record { icmp_type = variant echo; checksum = checksum }) ++ payload)
+    (record { icmp_type = variant echo; checksum = checksum }) payload
 echo_back type variant echo checksum payload small fit is_written eight read =
-    eight_back (variant echo) checksum type 0 (echo.id / 256 % 256) (echo.id % 256) (echo.seq / 256 % 256) (echo.seq % 256) payload small is_written eight
+    eight_back (variant echo) checksum type 0 (echo.id / 256 % 256) (echo.id % 256) (echo.seq / 256 % 256)
+    (echo.seq % 256) payload small is_written eight
     (λ x y.
     let bytes = type ∷ (0 ∷ (x ∷ (y ∷ (echo.id / 256 % 256 ∷ (echo.id % 256 ∷ (echo.seq / 256 % 256 ∷ (echo.seq % 256 ∷ payload))))))) in
     let id : be_number bytes 4 2 ≡ echo.id = omega (arith, fit.0) in
@@ -105,7 +108,8 @@ dest_unreachable_len other = refl
 
 parameter_problem_read : (header : ParameterProblemHeader) (bytes : List ℕ) → slice_index bytes 4 ≡ pointer header
     → (format_at 12 (parameter_problem_code header)).message_of bytes ≡ ParameterProblem header
-parameter_problem_read (problem.PointerIndicatesError at) bytes is_pointer = ap (λ p. ParameterProblem (problem.PointerIndicatesError p)) is_pointer
+parameter_problem_read (problem.PointerIndicatesError at) bytes is_pointer =
+    ap (λ p. ParameterProblem (problem.PointerIndicatesError p)) is_pointer
 parameter_problem_read other bytes is_pointer = refl
 
 parameter_problem_len : (header : ParameterProblemHeader) → (format_at 12 (parameter_problem_code header)).layout.header_len ≡ 8
@@ -113,7 +117,8 @@ parameter_problem_len problem.BadLength = refl
 parameter_problem_len other = refl
 
 redirect_read : (code : RedirectCode) (bytes : List ℕ)
-    → (format_at 5 (redirect_code code)).message_of bytes ≡ Redirect (record { code = code; gateway_internet_address = slice_range bytes 4 8 })
+    → (format_at 5 (redirect_code code)).message_of bytes
+    ≡ Redirect (record { code = code; gateway_internet_address = slice_range bytes 4 8 })
 redirect_read redirected.RedirectForNetwork bytes = refl
 redirect_read other bytes = refl
 
@@ -125,7 +130,8 @@ redirect_back : (code : RedirectCode) (address : List ℕ) (checksum : ℕ) (pay
     → IsReadAs (wire (record { icmp_type = Redirect (record { code = code; gateway_internet_address = address }); checksum = checksum }) ++ payload)
     (reads_back (Redirect (record { code = code; gateway_internet_address = address })) checksum payload)
 redirect_back code (a ∷ (b ∷ (c ∷ (d ∷ [])))) checksum payload small four =
-    eight_back (Redirect (record { code = code; gateway_internet_address = a ∷ (b ∷ (c ∷ (d ∷ []))) })) checksum 5 (redirect_code code) a b c d payload small refl (redirect_len code)
+    eight_back (Redirect (record { code = code; gateway_internet_address = a ∷ (b ∷ (c ∷ (d ∷ []))) })) checksum 5
+    (redirect_code code) a b c d payload small refl (redirect_len code)
     (λ x y. redirect_read code (5 ∷ (redirect_code code ∷ (x ∷ (y ∷ (a ∷ (b ∷ (c ∷ (d ∷ payload)))))))))
 redirect_back code [] checksum payload small four = absurd (omega arith)
 redirect_back code (a ∷ []) checksum payload small four = absurd (omega arith)
@@ -134,7 +140,8 @@ redirect_back code (a ∷ (b ∷ (c ∷ []))) checksum payload small four = absu
 redirect_back code (a ∷ (b ∷ (c ∷ (d ∷ (e ∷ more))))) checksum payload small four = absurd (omega arith)
 
 time_exceeded_back : (code : TimeExceededCode) (checksum : ℕ) (payload : List ℕ) → checksum < 2 ^ 16
-    → IsReadAs (wire (record { icmp_type = TimeExceeded code; checksum = checksum }) ++ payload) (reads_back (TimeExceeded code) checksum payload)
+    → IsReadAs (wire (record { icmp_type = TimeExceeded code; checksum = checksum }) ++ payload)
+    (reads_back (TimeExceeded code) checksum payload)
 time_exceeded_back exceeded.TtlExceededInTransit checksum payload small =
     eight_back (TimeExceeded exceeded.TtlExceededInTransit) checksum 11 0 0 0 0 0 payload small refl refl (λ x y. refl)
 time_exceeded_back exceeded.FragmentReassemblyTimeExceeded checksum payload small =
@@ -143,7 +150,8 @@ time_exceeded_back exceeded.FragmentReassemblyTimeExceeded checksum payload smal
 -- ---- every message except timestamps
 
 -- four bytes come after the checksum
-pub four_fields : (message : Icmpv4Type) → FieldsFit message → fixed_payload_size message ≡ None → take 4 (written message).fields ≡ (written message).fields
+pub four_fields : (message : Icmpv4Type) → FieldsFit message → fixed_payload_size message ≡ None
+    → take 4 (written message).fields ≡ (written message).fields
 four_fields (Unknown type code bytes5to8) fit none = take_all 4 bytes5to8 (omega (arith, fit))
 four_fields (Redirect header) fit none = take_all 4 header.gateway_internet_address (omega (arith, fit))
 four_fields (TimestampRequest message) fit none = cc
@@ -157,12 +165,14 @@ timestamp_back : (type : ℕ) (variant : TimestampMessage → Icmpv4Type) (messa
     → written (variant message) ≡ record { type = type; code = 0; fields = timestamp_fields message }
     → (format_at type 0).layout.header_len ≡ 20
     → ((bytes : List ℕ) → (format_at type 0).message_of bytes ≡ variant (timestamp_of bytes 4))
-    → DecodesAs (wire (record { icmp_type = variant message; checksum = checksum })) (record { icmp_type = variant message; checksum = checksum }) []
+    → DecodesAs (wire (record { icmp_type = variant message; checksum = checksum }))
+    (record { icmp_type = variant message; checksum = checksum }) []
 unfolding format_of
 timestamp_back type variant message checksum small fit is_written twenty read =
     let bytes = type ∷ (0 ∷ (checksum / 256 % 256 ∷ (checksum % 256 ∷ timestamp_fields message))) in
     let sum : checksum ≡ be_number bytes 2 2 = omega arith in
-    let kind : variant message ≡ icmp_type_of bytes = sym (read bytes ∙ ap variant (timestamp_read type 0 (checksum / 256 % 256) (checksum % 256) message [] fit)) in
+    let kind : variant message ≡ icmp_type_of bytes =
+    sym (read bytes ∙ ap variant (timestamp_read type 0 (checksum / 256 % 256) (checksum % 256) message [] fit)) in
     let decodes : DecodesAs bytes (record { icmp_type = variant message; checksum = checksum }) [] = record {
       accepted = whole-accepted bytes (record { shortest = omega arith; timestamp = λ is_type is_code. refl });
       fields = header_same (variant message) checksum (icmp_type_of bytes) (be_number bytes 2 2) kind sum;
@@ -185,7 +195,8 @@ whole_or_refused bytes payload layer header false is_none read refused = refused
 -- ---- raw headers
 
 -- a code after the first is not listed if there is only one code
-alone_alike : (format : MessageFormat Icmpv4Type) (code : ℕ) (bytes other : List ℕ) → code ≢ 0 → listed (format ∷ []) code bytes ≡ listed (format ∷ []) code other
+alone_alike : (format : MessageFormat Icmpv4Type) (code : ℕ) (bytes other : List ℕ) → code ≢ 0
+    → listed (format ∷ []) code bytes ≡ listed (format ∷ []) code other
 alone_alike format zero bytes other later = absurd (later refl)
 alone_alike format (suc code) bytes other later = refl
 
@@ -218,7 +229,9 @@ raw_back type code checksum a b c d payload small other =
     let eight : (layout_of bytes).header_len ≡ 8 = header_len_of_others bytes other in
     let sum : checksum ≡ be_number bytes 2 2 = omega arith in
     let is_kind : icmp_type_of bytes ≡ kind =
-    icmp_type_of_listed bytes ∙ ap (λ found. unwrap_or found (Unknown type code fields)) (raw_listed type code (checksum / 256 % 256) (checksum % 256) a b c d payload other) in
+    icmp_type_of_listed bytes
+    ∙ ap (λ found. unwrap_or found (Unknown type code fields))
+    (raw_listed type code (checksum / 256 % 256) (checksum % 256) a b c d payload other) in
     record {
       accepted = eight-accepted bytes (omega arith) eight;
       fields = header_same kind checksum (icmp_type_of bytes) (be_number bytes 2 2) (sym is_kind) sum;
@@ -226,10 +239,12 @@ raw_back type code checksum a b c d payload small other =
     }
 
 -- a raw header with the type and code of a timestamp message
-raw_timestamp_back : (type code checksum a b c d : ℕ) (payload : List ℕ) (variant : TimestampMessage → Icmpv4Type) (layer : Layer) (whole : Bool)
+raw_timestamp_back : (type code checksum a b c d : ℕ) (payload : List ℕ) (variant : TimestampMessage → Icmpv4Type) (layer : Layer)
+    (whole : Bool)
     → (length payload == 12) ≡ whole → checksum < 2 ^ 16 → (type ≡ 13) ⊎ (type ≡ 14) → code ≡ 0
     → ((bytes : List ℕ) → (format_at type code).message_of bytes ≡ variant (timestamp_of bytes 4))
-    → ((bytes : List ℕ) → 8 ≤ length bytes → slice_index bytes 0 ≡ type → slice_index bytes 1 ≡ 0 → length bytes ≢ 20 → refusal bytes ≡ Some (wrong_length layer 20 (length bytes)))
+    → ((bytes : List ℕ) → 8 ≤ length bytes → slice_index bytes 0 ≡ type → slice_index bytes 1 ≡ 0 → length bytes ≢ 20
+    → refusal bytes ≡ Some (wrong_length layer 20 (length bytes)))
     → IsReadAs (wire (icmpv4_header (Unknown type code (a ∷ (b ∷ (c ∷ (d ∷ []))))) checksum) ++ payload)
     (if whole then Ok (icmpv4_header (variant (timestamp_of (a ∷ (b ∷ (c ∷ (d ∷ payload)))) 0)) checksum, [])
     else Err (wrong_length layer 20 (8 + length payload)))
@@ -286,8 +301,10 @@ raw_reads_back type code checksum a b c d payload false false small request repl
     raw_back type code checksum a b c d payload small (λ either. neither type code not_request not_reply either)
 
 unknown_back : (type code : ℕ) (fields : List ℕ) (checksum : ℕ) (payload : List ℕ) → checksum < 2 ^ 16 → length fields ≡ 4
-    → IsReadAs (wire (icmpv4_header (Unknown type code fields) checksum) ++ payload) (reads_back (Unknown type code fields) checksum payload)
-unknown_back type code (a ∷ (b ∷ (c ∷ (d ∷ [])))) checksum payload small four = raw_reads_back type code checksum a b c d payload _ _ small refl refl
+    → IsReadAs (wire (icmpv4_header (Unknown type code fields) checksum) ++ payload)
+    (reads_back (Unknown type code fields) checksum payload)
+unknown_back type code (a ∷ (b ∷ (c ∷ (d ∷ [])))) checksum payload small four =
+    raw_reads_back type code checksum a b c d payload _ _ small refl refl
 unknown_back type code [] checksum payload small four = absurd (omega arith)
 unknown_back type code (a ∷ []) checksum payload small four = absurd (omega arith)
 unknown_back type code (a ∷ (b ∷ [])) checksum payload small four = absurd (omega arith)
@@ -299,21 +316,29 @@ unknown_back type code (a ∷ (b ∷ (c ∷ (d ∷ (e ∷ more))))) checksum pay
 pub written_reads_back : (message : Icmpv4Type) (checksum : ℕ) (payload : List ℕ) → checksum < 2 ^ 16 → FieldsFit message
     → IsReadAs (wire (icmpv4_header message checksum) ++ payload) (reads_back message checksum payload)
 written_reads_back (Unknown type code fields) checksum payload small fit = unknown_back type code fields checksum payload small fit
-written_reads_back (EchoReply echo) checksum payload small fit = echo_back 0 EchoReply echo checksum payload small fit refl refl (λ bytes. refl)
+written_reads_back (EchoReply echo) checksum payload small fit =
+    echo_back 0 EchoReply echo checksum payload small fit refl refl (λ bytes. refl)
 written_reads_back (DestinationUnreachable header) checksum payload small fit =
-    eight_back (DestinationUnreachable header) checksum 3 (dest_unreachable_code header) 0 0 (next_hop_mtu header / 256 % 256) (next_hop_mtu header % 256) payload small refl (dest_unreachable_len header)
+    eight_back (DestinationUnreachable header) checksum 3 (dest_unreachable_code header) 0 0 (next_hop_mtu header / 256 % 256)
+    (next_hop_mtu header % 256) payload small refl (dest_unreachable_len header)
     (λ x y. dest_unreachable_read header _ (omega (arith, fit)))
-written_reads_back (Redirect header) checksum payload small fit = redirect_back header.code header.gateway_internet_address checksum payload small fit
-written_reads_back (EchoRequest echo) checksum payload small fit = echo_back 8 EchoRequest echo checksum payload small fit refl refl (λ bytes. refl)
+written_reads_back (Redirect header) checksum payload small fit =
+    redirect_back header.code header.gateway_internet_address checksum payload small fit
+written_reads_back (EchoRequest echo) checksum payload small fit =
+    echo_back 8 EchoRequest echo checksum payload small fit refl refl (λ bytes. refl)
 written_reads_back (TimeExceeded code) checksum payload small fit = time_exceeded_back code checksum payload small
 written_reads_back (ParameterProblem header) checksum payload small fit =
-    eight_back (ParameterProblem header) checksum 12 (parameter_problem_code header) (pointer header) 0 0 0 payload small refl (parameter_problem_len header)
+    eight_back (ParameterProblem header) checksum 12 (parameter_problem_code header) (pointer header) 0 0 0 payload small refl
+    (parameter_problem_len header)
     (λ x y. parameter_problem_read header _ refl)
 written_reads_back (TimestampRequest message) checksum payload small fit =
     whole_or_refused (wire (icmpv4_header (TimestampRequest message) checksum)) payload layers.Icmpv4Timestamp _ (length payload == 0) refl
     (timestamp_back 13 TimestampRequest message checksum small fit refl refl (λ bytes. refl))
-    (λ some. request_refused (wire (icmpv4_header (TimestampRequest message) checksum) ++ payload) (omega arith) refl refl (λ e. some (omega arith)) ∙ ap (λ n. Some (wrong_length layers.Icmpv4Timestamp 20 n)) (omega arith))
+    (λ some. request_refused (wire (icmpv4_header (TimestampRequest message) checksum) ++ payload) (omega arith) refl refl
+    (λ e. some (omega arith)) ∙ ap (λ n. Some (wrong_length layers.Icmpv4Timestamp 20 n)) (omega arith))
 written_reads_back (TimestampReply message) checksum payload small fit =
-    whole_or_refused (wire (icmpv4_header (TimestampReply message) checksum)) payload layers.Icmpv4TimestampReply _ (length payload == 0) refl
+    whole_or_refused (wire (icmpv4_header (TimestampReply message) checksum)) payload layers.Icmpv4TimestampReply _
+    (length payload == 0) refl
     (timestamp_back 14 TimestampReply message checksum small fit refl refl (λ bytes. refl))
-    (λ some. reply_refused (wire (icmpv4_header (TimestampReply message) checksum) ++ payload) (omega arith) refl refl (λ e. some (omega arith)) ∙ ap (λ n. Some (wrong_length layers.Icmpv4TimestampReply 20 n)) (omega arith))
+    (λ some. reply_refused (wire (icmpv4_header (TimestampReply message) checksum) ++ payload) (omega arith) refl refl
+    (λ e. some (omega arith)) ∙ ap (λ n. Some (wrong_length layers.Icmpv4TimestampReply 20 n)) (omega arith))

@@ -12,7 +12,8 @@ abbrev pub message_sum : Icmpv4Type → List ℕ → ℕ
 message_sum message payload = checksummed (record { icmp_type = message; checksum = 0 }) payload
 
 id_replaced : (message : Icmpv4Type) (old id : ℕ) (payload : List ℕ) → Some old ≡ icmpv4_echo_id message
-    → message_sum (icmpv4_with_echo_id message id) payload + total (to_be_bytes w16 old) ≡ message_sum message payload + total (to_be_bytes w16 id)
+    → message_sum (icmpv4_with_echo_id message id) payload + total (to_be_bytes w16 old) ≡ message_sum message payload
+    + total (to_be_bytes w16 id)
 id_replaced (EchoRequest echo) old id payload found = let same : old ≡ echo.id = cc in omega arith
 id_replaced (EchoReply echo) old id payload found = let same : old ≡ echo.id = cc in omega arith
 id_replaced (Unknown type code fields) old id payload found = cc

@@ -246,7 +246,8 @@ raw_timestamp_alone : reads_back (kinds.Unknown 13 0 (replicate 4 0)) 7 [] ≡ E
 unfolding expects
 raw_timestamp_alone = refl
 
-raw_timestamp_with_20_bytes : reads_back (kinds.Unknown 14 0 (replicate 4 0)) 7 (replicate 20 0) ≡ Err (expects layers.Icmpv4TimestampReply 20 28)
+raw_timestamp_with_20_bytes : reads_back (kinds.Unknown 14 0 (replicate 4 0)) 7 (replicate 20 0)
+    ≡ Err (expects layers.Icmpv4TimestampReply 20 28)
 unfolding expects
 raw_timestamp_with_20_bytes = refl
 
@@ -259,7 +260,8 @@ raw_echo : reads_back (kinds.Unknown 8 0 (0 ∷ 1 ∷ 0 ∷ 2 ∷ [])) 7 (9 ∷ 
 unfolding echo_message
 raw_echo = refl
 
-raw_fragmentation_needed : reads_back (kinds.Unknown 3 4 (1 ∷ 2 ∷ 5 ∷ 0xDC ∷ [])) 7 [] ≡ Ok (record { icmp_type = fragmentation_needed; checksum = 7 }, [])
+raw_fragmentation_needed : reads_back (kinds.Unknown 3 4 (1 ∷ 2 ∷ 5 ∷ 0xDC ∷ [])) 7 []
+    ≡ Ok (record { icmp_type = fragmentation_needed; checksum = 7 }, [])
 unfolding fragmentation_needed
 raw_fragmentation_needed = refl
 

@@ -28,7 +28,8 @@ use Rattle.icmp_part.proofs.MessageFormatLemmas.{◌⊗◌, AllAreLawful, AreLaw
 
 -- a packet is read by its type and code, or raw
 pub icmp_type_of_listed : (bytes : List ℕ)
-    → icmp_type_of bytes ≡ unwrap_or (listed (codes_of formats (slice_index bytes 0)) (slice_index bytes 1) bytes) (unknown.message_of bytes)
+    → icmp_type_of bytes ≡ unwrap_or (listed (codes_of formats (slice_index bytes 0)) (slice_index bytes 1) bytes)
+    (unknown.message_of bytes)
 unfolding format_of
 icmp_type_of_listed bytes = format_in-reads formats unknown (slice_index bytes 0) (slice_index bytes 1) bytes
 
@@ -45,7 +46,8 @@ unlisted_is_unknown bytes type code fields is_type is_code are_fields unlisted =
 -- the flags of a neighbor advertisement are the bits that its masks keep
 pub neighbor_advertisement_written_back : (bytes : List ℕ) → IsBytes bytes → length bytes ≡ 4
     → neighbor_advertisement_fields (neighbor_advertisement_of bytes 0) ≡ masked neighbor_advertisement_masks bytes
-neighbor_advertisement_written_back (a ∷ (b ∷ (c ∷ (d ∷ [])))) fits four = rw (three_flags a (fits 0), and_zero_r b, and_zero_r c, and_zero_r d) refl
+neighbor_advertisement_written_back (a ∷ (b ∷ (c ∷ (d ∷ [])))) fits four =
+    rw (three_flags a (fits 0), and_zero_r b, and_zero_r c, and_zero_r d) refl
 neighbor_advertisement_written_back [] fits four = absurd (omega arith)
 neighbor_advertisement_written_back (a ∷ []) fits four = absurd (omega arith)
 neighbor_advertisement_written_back (a ∷ (b ∷ [])) fits four = absurd (omega arith)
@@ -74,8 +76,10 @@ neighbor_advertisement_read header bytes from is =
     let s = from_bool-lt header.solicited in
     let o = from_bool-lt header.override_flag in
     let router : header.router ≡ flag bytes from 0x80 = flag_read (slice_index bytes from) 7 header.router (lit≤ tt) (omega arith) in
-    let solicited : header.solicited ≡ flag bytes from 0x40 = flag_read (slice_index bytes from) 6 header.solicited (lit≤ tt) (omega arith) in
-    let override_flag : header.override_flag ≡ flag bytes from 0x20 = flag_read (slice_index bytes from) 5 header.override_flag (lit≤ tt) (omega arith) in
+    let solicited : header.solicited ≡ flag bytes from 0x40 =
+    flag_read (slice_index bytes from) 6 header.solicited (lit≤ tt) (omega arith) in
+    let override_flag : header.override_flag ≡ flag bytes from 0x20 =
+    flag_read (slice_index bytes from) 5 header.override_flag (lit≤ tt) (omega arith) in
     flags_same _ _ _ header (sym router) (sym solicited) (sym override_flag)
 
 -- the fields of a router advertisement are the bits that its masks keep
@@ -96,7 +100,8 @@ router_record limit managed other lifetime =
     record { cur_hop_limit = limit; managed_address_config = managed; other_config = other; router_lifetime = lifetime }
 
 router_same : (limit : ℕ) (managed other : Bool) (lifetime : ℕ) (header : RouterAdvertisementHeader)
-    → limit ≡ header.cur_hop_limit → managed ≡ header.managed_address_config → other ≡ header.other_config → lifetime ≡ header.router_lifetime
+    → limit ≡ header.cur_hop_limit → managed ≡ header.managed_address_config → other ≡ header.other_config
+    → lifetime ≡ header.router_lifetime
     → router_record limit managed other lifetime ≡ header
 router_same limit managed other lifetime header e f g h =
     ap (λ l. router_record l managed other lifetime) e
@@ -128,7 +133,8 @@ IsLen type code len = len ≡ 8
 abbrev pub IsLawfulIcmpv6 : ℕ → ℕ → MessageFormat Icmpv6Type → Type 0
 IsLawfulIcmpv6 type code format = IsLawful Icmpv6Type written IsLen type code format
 
-dest_unreachable_lawful : (code : DestUnreachableCode) → IsLawfulIcmpv6 1 (dest_unreachable_code code) (unused (DestinationUnreachable code))
+dest_unreachable_lawful : (code : DestUnreachableCode)
+    → IsLawfulIcmpv6 1 (dest_unreachable_code code) (unused (DestinationUnreachable code))
 dest_unreachable_lawful code = unused_lawful written IsLen 1 (dest_unreachable_code code) (DestinationUnreachable code) refl refl
 
 time_exceeded_lawful : (code : TimeExceededCode) → IsLawfulIcmpv6 3 (time_exceeded_code code) (unused (TimeExceeded code))
@@ -158,7 +164,8 @@ parameter_problem_lawful code =
     whole_lawful 4 (parameter_problem_code code) _ (λ bytes. to_be_bytes w32 (be_number bytes 4 4)) (λ bytes. refl) number_fields
 
 neighbor_advertisement_lawful : IsLawfulIcmpv6 136 0 neighbor_advertisement
-neighbor_advertisement_lawful = eight_lawful written IsLen 136 0 0xe0 0 0 0 (λ bytes. NeighborAdvertisement (neighbor_advertisement_of bytes 4)) refl
+neighbor_advertisement_lawful =
+    eight_lawful written IsLen 136 0 0xe0 0 0 0 (λ bytes. NeighborAdvertisement (neighbor_advertisement_of bytes 4)) refl
     (λ bytes fits.
     rw (and_zero_r (slice_index bytes 5), and_zero_r (slice_index bytes 6), and_zero_r (slice_index bytes 7), three_flags (slice_index bytes 4) (fits 4)) refl)
     (λ bytes other fits other_fits same.
@@ -172,7 +179,8 @@ router_solicitation_lawful : IsLawfulIcmpv6 133 0 (unused RouterSolicitation)
 router_solicitation_lawful = unused_lawful written IsLen 133 0 RouterSolicitation refl refl
 
 router_advertisement_lawful : IsLawfulIcmpv6 134 0 router_advertisement
-router_advertisement_lawful = eight_lawful written IsLen 134 0 0xff 0xc0 0xff 0xff (λ bytes. RouterAdvertisement (router_advertisement_of bytes 4)) refl
+router_advertisement_lawful =
+    eight_lawful written IsLen 134 0 0xff 0xc0 0xff 0xff (λ bytes. RouterAdvertisement (router_advertisement_of bytes 4)) refl
     (λ bytes fits.
     let high : be_number bytes 6 2 / 256 % 256 ≡ slice_index bytes 6 = omega (arith, fits 6, fits 7) in
     let low : be_number bytes 6 2 % 256 ≡ slice_index bytes 7 = omega (arith, fits 6, fits 7) in
@@ -223,7 +231,8 @@ mapped_lawful type number format_of_code lawful first (code ∷ codes) in_order 
 formats_lawful : AllAreLawful written IsLen formats
 unfolding AreLawful AllAreLawful numbers_from
 formats_lawful =
-    mapped_lawful 1 dest_unreachable_code (λ code. unused (DestinationUnreachable code)) dest_unreachable_lawful 0 dest_unreachable_codes refl
+    mapped_lawful 1 dest_unreachable_code
+    (λ code. unused (DestinationUnreachable code)) dest_unreachable_lawful 0 dest_unreachable_codes refl
     ⊗ (packet_too_big_lawful ⊗ tt)
     ⊗ mapped_lawful 3 time_exceeded_code (λ code. unused (TimeExceeded code)) time_exceeded_lawful 0 time_exceeded_codes refl
     ⊗ mapped_lawful 4 parameter_problem_code parameter_problem parameter_problem_lawful 0 parameter_problem_codes refl
@@ -290,7 +299,8 @@ unfolding format_of
 read_alike bytes other fits other_fits same = canonical_alike written IsLen format_at format_at-lawful bytes other fits other_fits same
 
 -- two accepted packets read alike exactly if their canonical bytes are the same
-pub decode_alike : (bytes other : List ℕ) (header : Icmpv6Header) (rest : List ℕ) → IsBytes bytes → IsBytes other → DecodesAs bytes header rest
+pub decode_alike : (bytes other : List ℕ) (header : Icmpv6Header) (rest : List ℕ) → IsBytes bytes → IsBytes other
+    → DecodesAs bytes header rest
     → refusal other ≡ None → (DecodesAs other header rest ↔ (canonical other ≡ canonical bytes))
 decode_alike bytes other header rest fits other_fits read accepted = (
   λ alike. sym (written_back other header rest other_fits alike) ∙ written_back bytes header rest fits read,

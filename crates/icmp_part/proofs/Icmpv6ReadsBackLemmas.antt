@@ -32,7 +32,8 @@ header_same message checksum other other_checksum e f = ap (λ m. icmpv6_header 
 -- ---- packets within the limit
 
 -- a header that is written as these bytes is read as the header in these bytes
-eight_back : (message back : Icmpv6Type) (checksum type code a b c d : ℕ) (payload : List ℕ) → checksum < 2 ^ 16 → length payload ≤ max_payload_len
+eight_back : (message back : Icmpv6Type) (checksum type code a b c d : ℕ) (payload : List ℕ) → checksum < 2 ^ 16
+    → length payload ≤ max_payload_len
     → written message ≡ record { type = type; code = code; fields = a ∷ (b ∷ (c ∷ (d ∷ []))) }
     → ((x y : ℕ) → icmp_type_of (type ∷ (code ∷ (x ∷ (y ∷ (a ∷ (b ∷ (c ∷ (d ∷ payload)))))))) ≡ back)
     → DecodesAs (wire (icmpv6_header message checksum) ++ payload) (icmpv6_header back checksum) payload
@@ -48,11 +49,13 @@ eight_back message back checksum type code a b c d payload small within is_writt
     let P : List ℕ → Type 0 = λ b. DecodesAs b (icmpv6_header back checksum) payload in
     subst P (ap (λ w. w.type ∷ (w.code ∷ (checksum / 256 % 256 ∷ (checksum % 256 ∷ (w.fields ++ payload))))) (sym is_written)) decodes
 
-dest_unreachable_read : (code : DestUnreachableCode) (bytes : List ℕ) → (format_at 1 (dest_unreachable_code code)).message_of bytes ≡ DestinationUnreachable code
+dest_unreachable_read : (code : DestUnreachableCode) (bytes : List ℕ)
+    → (format_at 1 (dest_unreachable_code code)).message_of bytes ≡ DestinationUnreachable code
 dest_unreachable_read unreachable.NoRoute bytes = refl
 dest_unreachable_read other bytes = refl
 
-time_exceeded_read : (code : TimeExceededCode) (bytes : List ℕ) → (format_at 3 (time_exceeded_code code)).message_of bytes ≡ TimeExceeded code
+time_exceeded_read : (code : TimeExceededCode) (bytes : List ℕ)
+    → (format_at 3 (time_exceeded_code code)).message_of bytes ≡ TimeExceeded code
 time_exceeded_read exceeded.HopLimitExceeded bytes = refl
 time_exceeded_read other bytes = refl
 
@@ -86,7 +89,8 @@ raw_listed type code x y a b c d payload =
     ⊗ (λ is_type. listed_alike (codes_of formats 137) code bytes header refl)
     ⊗ tt)
 
-unknown_back : (type code : ℕ) (bytes5to8 : List ℕ) (checksum : ℕ) (payload : List ℕ) → checksum < 2 ^ 16 → length payload ≤ max_payload_len → length bytes5to8 ≡ 4
+unknown_back : (type code : ℕ) (bytes5to8 : List ℕ) (checksum : ℕ) (payload : List ℕ) → checksum < 2 ^ 16 → length payload ≤ max_payload_len
+    → length bytes5to8 ≡ 4
     → DecodesAs (wire (icmpv6_header (Unknown type code bytes5to8) checksum) ++ payload)
     (icmpv6_header (unwrap_or (listed_kind type code bytes5to8) (Unknown type code bytes5to8)) checksum) payload
 unknown_back type code (a ∷ (b ∷ (c ∷ (d ∷ [])))) checksum payload small within four =
@@ -101,7 +105,8 @@ unknown_back type code (a ∷ (b ∷ [])) checksum payload small within four = a
 unknown_back type code (a ∷ (b ∷ (c ∷ []))) checksum payload small within four = absurd (omega arith)
 unknown_back type code (a ∷ (b ∷ (c ∷ (d ∷ (e ∷ more))))) checksum payload small within four = absurd (omega arith)
 
-echo_back : (type : ℕ) (variant : IcmpEchoHeader → Icmpv6Type) (echo : IcmpEchoHeader) (checksum : ℕ) (payload : List ℕ) → checksum < 2 ^ 16 → length payload ≤ max_payload_len
+echo_back : (type : ℕ) (variant : IcmpEchoHeader → Icmpv6Type) (echo : IcmpEchoHeader) (checksum : ℕ) (payload : List ℕ) → checksum < 2 ^ 16
+    → length payload ≤ max_payload_len
     → EchoFits echo
     → written (variant echo) ≡ record {
       type = type;
@@ -112,7 +117,8 @@ echo_back : (type : ℕ) (variant : IcmpEchoHeader → Icmpv6Type) (echo : IcmpE
     → DecodesAs (wire (icmpv6_header (variant echo) checksum) ++ payload) (icmpv6_header (variant echo) checksum) payload
 unfolding format_of
 echo_back type variant echo checksum payload small within fit is_written read =
-    eight_back (variant echo) (variant echo) checksum type 0 (echo.id / 256 % 256) (echo.id % 256) (echo.seq / 256 % 256) (echo.seq % 256) payload small within is_written
+    eight_back (variant echo) (variant echo) checksum type 0 (echo.id / 256 % 256) (echo.id % 256) (echo.seq / 256 % 256)
+    (echo.seq % 256) payload small within is_written
     (λ x y.
     let bytes = type ∷ (0 ∷ (x ∷ (y ∷ (echo.id / 256 % 256 ∷ (echo.id % 256 ∷ (echo.seq / 256 % 256 ∷ (echo.seq % 256 ∷ payload))))))) in
     let id : be_number bytes 4 2 ≡ echo.id = omega (arith, fit.0) in
@@ -120,15 +126,19 @@ echo_back type variant echo checksum payload small within fit is_written read =
     read bytes ∙ ap variant (echo_of-same bytes 4 echo id seq))
 
 -- every message, with a payload that is not too long
-within_back : (message : Icmpv6Type) (checksum : ℕ) (payload : List ℕ) → checksum < 2 ^ 16 → length payload ≤ max_payload_len → FieldsFit message
+within_back : (message : Icmpv6Type) (checksum : ℕ) (payload : List ℕ) → checksum < 2 ^ 16 → length payload ≤ max_payload_len
+    → FieldsFit message
     → DecodesAs (wire (icmpv6_header message checksum) ++ payload) (icmpv6_header (message_reads_back message) checksum) payload
 unfolding format_of
-within_back (Unknown type code bytes5to8) checksum payload small within fit = unknown_back type code bytes5to8 checksum payload small within fit
+within_back (Unknown type code bytes5to8) checksum payload small within fit =
+    unknown_back type code bytes5to8 checksum payload small within fit
 within_back (DestinationUnreachable code) checksum payload small within fit =
-    eight_back (DestinationUnreachable code) (DestinationUnreachable code) checksum 1 (dest_unreachable_code code) 0 0 0 0 payload small within refl
+    eight_back (DestinationUnreachable code) (DestinationUnreachable code) checksum 1
+    (dest_unreachable_code code) 0 0 0 0 payload small within refl
     (λ x y. dest_unreachable_read code (1 ∷ (dest_unreachable_code code ∷ (x ∷ (y ∷ (0 ∷ (0 ∷ (0 ∷ (0 ∷ payload)))))))))
 within_back (PacketTooBig mtu) checksum payload small within fit =
-    eight_back (PacketTooBig mtu) (PacketTooBig mtu) checksum 2 0 (mtu / 16777216 % 256) (mtu / 65536 % 256) (mtu / 256 % 256) (mtu % 256) payload small within refl
+    eight_back (PacketTooBig mtu) (PacketTooBig mtu) checksum 2 0 (mtu / 16777216 % 256) (mtu / 65536 % 256) (mtu / 256 % 256)
+    (mtu % 256) payload small within refl
     (λ x y. ap PacketTooBig (omega (arith, fit)))
 within_back (TimeExceeded code) checksum payload small within fit =
     eight_back (TimeExceeded code) (TimeExceeded code) checksum 3 (time_exceeded_code code) 0 0 0 0 payload small within refl
@@ -138,18 +148,22 @@ within_back (ParameterProblem header) checksum payload small within fit =
     eight_back (ParameterProblem header) (ParameterProblem header) checksum 4 (parameter_problem_code header.code)
     (pointer / 16777216 % 256) (pointer / 65536 % 256) (pointer / 256 % 256) (pointer % 256) payload small within refl
     (λ x y.
-    let bytes = 4 ∷ (parameter_problem_code header.code ∷ (x ∷ (y ∷ (pointer / 16777216 % 256 ∷ (pointer / 65536 % 256 ∷ (pointer / 256 % 256 ∷ (pointer % 256 ∷ payload))))))) in
+    let bytes =
+    4 ∷ (parameter_problem_code header.code ∷ (x ∷ (y ∷ (pointer / 16777216 % 256 ∷ (pointer / 65536 % 256 ∷ (pointer / 256 % 256 ∷ (pointer % 256 ∷ payload))))))) in
     let same : be_number bytes 4 4 ≡ pointer = omega (arith, fit) in
     parameter_problem_read header.code bytes ∙ ap (problem_at header.code) same)
-within_back (EchoRequest echo) checksum payload small within fit = echo_back 128 EchoRequest echo checksum payload small within fit refl (λ bytes. refl)
-within_back (EchoReply echo) checksum payload small within fit = echo_back 129 EchoReply echo checksum payload small within fit refl (λ bytes. refl)
+within_back (EchoRequest echo) checksum payload small within fit =
+    echo_back 128 EchoRequest echo checksum payload small within fit refl (λ bytes. refl)
+within_back (EchoReply echo) checksum payload small within fit =
+    echo_back 129 EchoReply echo checksum payload small within fit refl (λ bytes. refl)
 within_back RouterSolicitation checksum payload small within fit =
     eight_back RouterSolicitation RouterSolicitation checksum 133 0 0 0 0 0 payload small within refl (λ x y. refl)
 within_back (RouterAdvertisement header) checksum payload small within fit =
     let limit = header.cur_hop_limit in
     let flags = router_advertisement_flags header in
     let lifetime = header.router_lifetime in
-    eight_back (RouterAdvertisement header) (RouterAdvertisement header) checksum 134 0 limit flags (lifetime / 256 % 256) (lifetime % 256) payload small within refl
+    eight_back (RouterAdvertisement header) (RouterAdvertisement header) checksum 134 0 limit flags (lifetime / 256 % 256)
+    (lifetime % 256) payload small within refl
     (λ x y.
     let bytes = 134 ∷ (0 ∷ (x ∷ (y ∷ (limit ∷ (flags ∷ (lifetime / 256 % 256 ∷ (lifetime % 256 ∷ payload))))))) in
     let same : be_number bytes 6 2 ≡ lifetime = omega (arith, fit) in
@@ -159,7 +173,8 @@ within_back NeighborSolicitation checksum payload small within fit =
 within_back (NeighborAdvertisement header) checksum payload small within fit =
     let flags = neighbor_advertisement_flags header in
     eight_back (NeighborAdvertisement header) (NeighborAdvertisement header) checksum 136 0 flags 0 0 0 payload small within refl
-    (λ x y. ap NeighborAdvertisement (neighbor_advertisement_read header (136 ∷ (0 ∷ (x ∷ (y ∷ (flags ∷ (0 ∷ (0 ∷ (0 ∷ payload)))))))) 4 refl))
+    (λ x y. ap NeighborAdvertisement
+    (neighbor_advertisement_read header (136 ∷ (0 ∷ (x ∷ (y ∷ (flags ∷ (0 ∷ (0 ∷ (0 ∷ payload)))))))) 4 refl))
 within_back Redirect checksum payload small within fit =
     eight_back Redirect Redirect checksum 137 0 0 0 0 0 payload small within refl (λ x y. refl)
 
@@ -177,9 +192,11 @@ long_refused bytes payload len long =
     let enough : 8 ≤ length bytes = omega (arith, len) in
     grind (arith, nat_tests)
 
-by_length : (message : Icmpv6Type) (checksum : ℕ) (payload : List ℕ) (long : Bool) → nat_lt max_payload_len (length payload) ≡ long → checksum < 2 ^ 16 → FieldsFit message
+by_length : (message : Icmpv6Type) (checksum : ℕ) (payload : List ℕ) (long : Bool) → nat_lt max_payload_len (length payload) ≡ long
+    → checksum < 2 ^ 16 → FieldsFit message
     → IsReadAs (wire (icmpv6_header message checksum) ++ payload)
-    (if long then Err (wrong_length layers.Icmpv6 max_packet_len (8 + length payload)) else Ok (icmpv6_header (message_reads_back message) checksum, payload))
+    (if long then Err (wrong_length layers.Icmpv6 max_packet_len (8 + length payload))
+    else Ok (icmpv6_header (message_reads_back message) checksum, payload))
 by_length message checksum payload true is_long small fit =
     let bytes = wire (icmpv6_header message checksum) in
     long_refused (bytes ++ payload) payload (length-append bytes payload ∙ omega (arith, fields_len message fit)) (grind (arith, nat_tests))

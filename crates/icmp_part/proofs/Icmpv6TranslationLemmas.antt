@@ -33,7 +33,8 @@ id_replaced source destination NeighborSolicitation old id payload found = cc
 id_replaced source destination (NeighborAdvertisement header) old id payload found = cc
 id_replaced source destination Redirect old id payload found = cc
 
-pub echo_id_replaced : (source destination : List ℕ) (message changed : Icmpv6Type) (old id : ℕ) (payload : List ℕ) → Some old ≡ icmpv6_echo_id message
+pub echo_id_replaced : (source destination : List ℕ) (message changed : Icmpv6Type) (old id : ℕ) (payload : List ℕ)
+    → Some old ≡ icmpv6_echo_id message
     → changed ≡ icmpv6_with_echo_id message id
     → message_sum source destination changed payload + total (to_be_bytes w16 old)
     ≡ message_sum source destination message payload + total (to_be_bytes w16 id)
@@ -45,7 +46,8 @@ pub source_replaced : (old new destination : List ℕ) (message : Icmpv6Type) (p
 source_replaced old new destination message payload alike =
     omega (arith, total_replaced [] old new (destination ++ (to_be_bytes w32 (packet_len message payload) ++ (0 ∷ 0 ∷ 0 ∷ 58 ∷ []))) refl alike)
 
-pub destination_replaced : (source old new : List ℕ) (message : Icmpv6Type) (payload : List ℕ) → length source % 2 ≡ 0 → length old % 2 ≡ length new % 2
+pub destination_replaced : (source old new : List ℕ) (message : Icmpv6Type) (payload : List ℕ) → length source % 2 ≡ 0
+    → length old % 2 ≡ length new % 2
     → message_sum source new message payload + total old ≡ message_sum source old message payload + total new
 destination_replaced source old new message payload even alike =
     omega (arith, total_replaced source old new (to_be_bytes w32 (packet_len message payload) ++ (0 ∷ 0 ∷ 0 ∷ 58 ∷ [])) even alike)

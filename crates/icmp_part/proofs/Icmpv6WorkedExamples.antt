@@ -138,7 +138,8 @@ payload_too_long = refl
 
 -- a hop limit of 64, the M flag, and a lifetime of 1800 seconds
 advertised : Icmpv6Type
-advertised = kinds.RouterAdvertisement (record { cur_hop_limit = 64; managed_address_config = true; other_config = false; router_lifetime = 1800 })
+advertised =
+    kinds.RouterAdvertisement (record { cur_hop_limit = 64; managed_address_config = true; other_config = false; router_lifetime = 1800 })
 
 advertised_written : wire (record { icmp_type = advertised; checksum = 0 }) ≡ 0x86 ∷ 0 ∷ 0 ∷ 0 ∷ 0x40 ∷ 0x80 ∷ 7 ∷ 8 ∷ []
 unfolding advertised
@@ -271,16 +272,19 @@ raw_advertisement : reads_back (kinds.Unknown 136 0 (replicate 4 0xFF)) 7 [] ≡
 unfolding every_flag
 raw_advertisement = refl
 
-raw_router_advertisement : reads_back (kinds.Unknown 134 0 (64 ∷ 191 ∷ 7 ∷ 8 ∷ [])) 7 [] ≡ Ok (record { icmp_type = advertised; checksum = 7 }, [])
+raw_router_advertisement : reads_back (kinds.Unknown 134 0 (64 ∷ 191 ∷ 7 ∷ 8 ∷ [])) 7 []
+    ≡ Ok (record { icmp_type = advertised; checksum = 7 }, [])
 unfolding advertised
 raw_router_advertisement = refl
 
-raw_address_unreachable : reads_back (kinds.Unknown 1 3 (1 ∷ 2 ∷ 3 ∷ 4 ∷ [])) 7 [] ≡ Ok (record { icmp_type = address_unreachable; checksum = 7 }, [])
+raw_address_unreachable : reads_back (kinds.Unknown 1 3 (1 ∷ 2 ∷ 3 ∷ 4 ∷ [])) 7 []
+    ≡ Ok (record { icmp_type = address_unreachable; checksum = 7 }, [])
 unfolding address_unreachable
 raw_address_unreachable = refl
 
 -- with an unlisted type or code it stays raw
-raw_unlisted : reads_back (kinds.Unknown 136 1 (replicate 4 0xFF)) 7 [] ≡ Ok (record { icmp_type = kinds.Unknown 136 1 (replicate 4 0xFF); checksum = 7 }, [])
+raw_unlisted : reads_back (kinds.Unknown 136 1 (replicate 4 0xFF)) 7 []
+    ≡ Ok (record { icmp_type = kinds.Unknown 136 1 (replicate 4 0xFF); checksum = 7 }, [])
 raw_unlisted = refl
 
 listed_stays : reads_back every_flag 7 (9 ∷ []) ≡ Ok (record { icmp_type = every_flag; checksum = 7 }, 9 ∷ [])

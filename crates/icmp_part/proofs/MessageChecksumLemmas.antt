@@ -23,6 +23,7 @@ total_packet (a ∷ (b ∷ (c ∷ []))) enough = absurd (omega arith)
 pub agrees : (pseudo : ℕ) (bytes : List ℕ) → IsBytes bytes → 4 ≤ length bytes
     → IsAllOnes (pseudo + total bytes) ↔ AcceptsChecksum (pseudo + total (with_zero_checksum bytes)) (be_number bytes 2 2)
 agrees pseudo bytes fits enough =
-    let apart : pseudo + total bytes ≡ pseudo + total (with_zero_checksum bytes) + be_number bytes 2 2 = omega (arith, total_packet bytes enough) in
+    let apart : pseudo + total bytes ≡ pseudo + total (with_zero_checksum bytes) + be_number bytes 2 2 =
+    omega (arith, total_packet bytes enough) in
     let both = accepted_checksum (pseudo + total (with_zero_checksum bytes)) (be_number bytes 2 2) (omega (arith, fits 2, fits 3)) in
     rw apart both

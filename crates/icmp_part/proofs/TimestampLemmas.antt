@@ -31,7 +31,8 @@ timestamp_read a b c d message later fit =
     let originate : be_number bytes 8 4 ≡ message.originate_timestamp = omega (arith, fit.2) in
     let receive : be_number bytes 12 4 ≡ message.receive_timestamp = omega (arith, fit.3) in
     let transmit : be_number bytes 16 4 ≡ message.transmit_timestamp = omega (arith, fit.4) in
-    timestamp_same (be_number bytes 4 2) (be_number bytes 6 2) (be_number bytes 8 4) (be_number bytes 12 4) (be_number bytes 16 4) message id seq originate receive transmit
+    timestamp_same (be_number bytes 4 2) (be_number bytes 6 2) (be_number bytes 8 4) (be_number bytes 12 4)
+    (be_number bytes 16 4) message id seq originate receive transmit
 
 -- and by themselves
 pub timestamp_fields_read : (message : TimestampMessage) → TimestampFits message → timestamp_of (timestamp_fields message) 0 ≡ message
@@ -42,7 +43,8 @@ timestamp_fields_read message fit =
     let originate : be_number bytes 4 4 ≡ message.originate_timestamp = omega (arith, fit.2) in
     let receive : be_number bytes 8 4 ≡ message.receive_timestamp = omega (arith, fit.3) in
     let transmit : be_number bytes 12 4 ≡ message.transmit_timestamp = omega (arith, fit.4) in
-    timestamp_same (be_number bytes 0 2) (be_number bytes 2 2) (be_number bytes 4 4) (be_number bytes 8 4) (be_number bytes 12 4) message id seq originate receive transmit
+    timestamp_same (be_number bytes 0 2) (be_number bytes 2 2) (be_number bytes 4 4) (be_number bytes 8 4)
+    (be_number bytes 12 4) message id seq originate receive transmit
 
 -- writing the fields of sixteen bytes gives these bytes
 pub timestamp_written_back : (bytes : List ℕ) → IsBytes bytes → length bytes ≡ 16 → timestamp_fields (timestamp_of bytes 0) ≡ bytes

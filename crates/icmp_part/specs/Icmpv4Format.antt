@@ -233,7 +233,8 @@ timestamp_fields message =
 abbrev pub written : Icmpv4Type → Written
 written (Unknown type code fields) = record { type = type; code = code; fields = fields }
 written (EchoReply echo) = record { type = 0; code = 0; fields = echo_fields echo }
-written (DestinationUnreachable header) = record { type = 3; code = dest_unreachable_code header; fields = 0 ∷ 0 ∷ to_be_bytes w16 (next_hop_mtu header) }
+written (DestinationUnreachable header) =
+    record { type = 3; code = dest_unreachable_code header; fields = 0 ∷ 0 ∷ to_be_bytes w16 (next_hop_mtu header) }
 written (Redirect header) = record { type = 5; code = redirect_code header.code; fields = header.gateway_internet_address }
 written (EchoRequest echo) = record { type = 8; code = 0; fields = echo_fields echo }
 written (TimeExceeded code) = record { type = 11; code = time_exceeded_code code; fields = 0 ∷ 0 ∷ 0 ∷ 0 ∷ [] }

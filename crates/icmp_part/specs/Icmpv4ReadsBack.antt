@@ -31,7 +31,8 @@ timestamp_reads_back message layer checksum payload =
 
 -- a raw header with the type and code of a timestamp message is read as a timestamp message together with the twelve
 -- bytes after it, and is refused with any other number of bytes
-abbrev pub raw_timestamp_reads_back : (TimestampMessage → Icmpv4Type) → Layer → List ℕ → ℕ → List ℕ → Result (Icmpv4Header × List ℕ) LenError
+abbrev pub raw_timestamp_reads_back : (TimestampMessage → Icmpv4Type) → Layer → List ℕ → ℕ → List ℕ
+    → Result (Icmpv4Header × List ℕ) LenError
 raw_timestamp_reads_back variant layer bytes5to8 checksum payload =
     if length payload == 12 then Ok (icmpv4_header (variant (timestamp_of (bytes5to8 ++ payload) 0)) checksum, [])
     else Err (wrong_length layer 20 (8 + length payload))

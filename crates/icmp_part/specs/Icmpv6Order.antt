@@ -37,7 +37,8 @@ router_advertisement_cmp a b =
 
 abbrev pub router_advertisement_writes : RouterAdvertisementHeader → HashWrites
 router_advertisement_writes header =
-    fed.u8 header.cur_hop_limit ++ (fed.bool header.managed_address_config ++ (fed.bool header.other_config ++ fed.u16 header.router_lifetime))
+    fed.u8 header.cur_hop_limit
+    ++ (fed.bool header.managed_address_config ++ (fed.bool header.other_config ++ fed.u16 header.router_lifetime))
 
 abbrev pub neighbor_advertisement_cmp : NeighborAdvertisementHeader → NeighborAdvertisementHeader → Ordering
 neighbor_advertisement_cmp a b =

@@ -24,6 +24,9 @@ impl IcmpEchoHeader {
     /// The length of the two fields, in bytes.
     pub const LEN: usize = 4;
 
+    /// The place of the identifier, in bytes from the start of the ICMP header.
+    pub const ID_AT: usize = 4;
+
     /// The bytes of the two fields: bytes 4 to 7 of the header (RFC 792; RFC 4443, sections 4.1 and 4.2).
     pub fn to_bytes(&self) -> [u8; 4]
         ensures written { result ≡ echo_fields self.now }

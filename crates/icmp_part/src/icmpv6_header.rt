@@ -48,6 +48,9 @@ impl Icmpv6Header {
     /// An older name of `MAX_LEN`.
     pub const MAX_SERIALIZED_SIZE: usize = Icmpv6Header::MAX_LEN;
 
+    /// The place of the checksum, in bytes from the start of the header.
+    pub const CHECKSUM_AT: usize = 2;
+
     /// A header without a checksum: the field is 0 until `update_checksum` stores the checksum.
     pub fn new(icmp_type: Icmpv6Type) -> Icmpv6Header
         ensures { result ≡ record { icmp_type = icmp_type; checksum = 0 } }

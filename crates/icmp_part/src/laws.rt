@@ -44,7 +44,8 @@ pub fn hashed_echo<H: Hasher>(echo: &IcmpEchoHeader, state: &mut H)
     echo.hash(state);
 }
 
-/// The length of the two fields.
+/// The length and the place of the two fields.
 pub fn constants()
     ensures echo_len { IcmpEchoHeader.LEN ≡ 4 }
+    ensures id_place { IcmpEchoHeader.ID_AT ≡ 4 }
 {}

@@ -25,6 +25,7 @@ mod icmpv6_header;
 mod icmpv6_slice;
 mod icmpv6_translation;
 mod icmpv6_type;
+#[doc(hidden)]
 pub mod laws;
 mod message_start;
 mod quoted_packet;

@@ -4,6 +4,7 @@
 //!
 //! None: each clone succeeds.
 ghost use Rattle.std.specs.Prelude.{◌≡◌, ◌↔◌, IsOkAnd, IsTrue};
+ghost use Rattle.net_base.specs.StoredChecksum.{icmp_checksum_place};
 
 use crate::icmpv4::*;
 use crate::{Icmpv4Header, Icmpv4Slice, Icmpv4Type};
@@ -146,6 +147,7 @@ pub fn equal_timestamp_message(a: &TimestampMessage, b: &TimestampMessage) -> bo
 pub fn constants()
     ensures header_lens { (Icmpv4Header.MIN_LEN ≡ 8) × (Icmpv4Header.MIN_SERIALIZED_SIZE ≡ 8) × (Icmpv4Header.MAX_LEN ≡ 20)
         × (Icmpv4Header.MAX_SERIALIZED_SIZE ≡ 20) }
+    ensures checksum_place { Icmpv4Header.CHECKSUM_AT ≡ icmp_checksum_place }
     ensures timestamp_lens { (TimestampMessage.LEN ≡ 20) × (TimestampMessage.SERIALIZED_SIZE ≡ 20) }
     ensures types { (TYPE_ECHO_REPLY ≡ 0) × (TYPE_DEST_UNREACH ≡ 3) × (TYPE_SOURCE_QUENCH ≡ 4) × (TYPE_REDIRECT ≡ 5)
         × (TYPE_ALTERNATE_HOST_ADDRESS ≡ 6) × (TYPE_ECHO_REQUEST ≡ 8) × (TYPE_ROUTER_ADVERTISEMENT ≡ 9)

@@ -8,6 +8,7 @@ ghost use Rattle.std.specs.Ordering.{nat_cmp};
 ghost use Rattle.std.specs.Hash as fed;
 ghost use Rattle.icmp_part.specs.Icmpv6Format.{dest_unreachable_code, managed_bit, max_packet_len, other_bit, override_bit, parameter_problem_code, router_bit, solicited_bit, time_exceeded_code};
 ghost use Rattle.icmp_part.specs.Icmpv6Order.{message_cmp, message_writes, neighbor_advertisement_cmp, neighbor_advertisement_writes, parameter_problem_cmp, parameter_problem_writes, router_advertisement_cmp, router_advertisement_writes};
+ghost use Rattle.net_base.specs.StoredChecksum.{icmp_checksum_place};
 
 use crate::icmpv6::*;
 use crate::{Icmpv6Header, Icmpv6Slice, Icmpv6Type};
@@ -280,6 +281,7 @@ pub fn hashed_time_exceeded_code<H: Hasher>(code: &TimeExceededCode, state: &mut
 pub fn constants()
     ensures header_lens { (Icmpv6Header.MIN_LEN ≡ 8) × (Icmpv6Header.MIN_SERIALIZED_SIZE ≡ 8) × (Icmpv6Header.MAX_LEN ≡ 40)
         × (Icmpv6Header.MAX_SERIALIZED_SIZE ≡ 40) }
+    ensures checksum_place { Icmpv6Header.CHECKSUM_AT ≡ icmp_checksum_place }
     ensures packet_len { (MAX_ICMPV6_BYTE_LEN ≡ max_packet_len) }
     ensures router_advertisement_flags { (RouterAdvertisementHeader.MANAGED_ADDRESS_CONFIG_MASK ≡ managed_bit)
         × (RouterAdvertisementHeader.OTHER_CONFIG_MASK ≡ other_bit) }

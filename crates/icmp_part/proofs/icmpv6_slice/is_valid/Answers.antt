@@ -9,7 +9,8 @@ pub returns-clause-valid : goal.returns-clause-valid
 returns-clause-valid c =
     let pseudo : ℕ = total (pseudo_header c.args.source_ip c.args.destination_ip (length c.args.packet.now)) in
     let tested = complement_tested (pseudo + total c.args.packet.now) _
-    (rw (c.ones_complement.ensures, c.add_slice.ensures.sum, c.pseudo_header_ipv6-pseudo_header.ensures.sum) (ap complement (folded-add pseudo (total c.args.packet.now)))) in
+    (rw (c.ones_complement.ensures, c.add_slice.ensures.sum, c.pseudo_header_ipv6-pseudo_header.ensures.sum)
+    (ap complement (folded-add pseudo (total c.args.packet.now)))) in
     (λ passed. (c.requires.longest, tested.0 passed), λ valid. tested.1 valid.1)
 
 pub returns-clause-bytes : goal.returns-clause-bytes

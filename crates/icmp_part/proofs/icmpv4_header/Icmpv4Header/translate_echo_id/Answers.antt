@@ -4,7 +4,8 @@ use Rattle.word_sum.specs.ChecksumChange.{TurnsInto}
 use Rattle.icmp_part.proofs.icmpv4_header.Icmpv4Header.translate_echo_id.Goals as goal
 
 turns : (c : goal.After-self-1) (payload : List ℕ)
-    → TurnsInto c.replace_2bytes-change.result (message_sum c.args.self.now.icmp_type payload) (message_sum c.replace_echo_id.new.self payload)
+    → TurnsInto c.replace_2bytes-change.result (message_sum c.args.self.now.icmp_type payload)
+    (message_sum c.replace_echo_id.new.self payload)
 turns c payload =
     let packet = message_sum c.args.self.now.icmp_type payload in
     c.replace_2bytes-change.ensures.extends packet packet _

@@ -13,16 +13,19 @@ use Rattle.icmp_part.proofs.icmpv4_slice.Icmpv4Slice.message.Goals.{in-0+else-co
 pub returns-in-Some : goal.returns-in-Some
 returns-in-Some c =
     let mtu : be_number c.args.self.now 6 2 ≡ c.from_be_bytes-next_hop_mtu.result = search rules in
-    let part : Some c.in-Some.header ≡ listed dest_unreachable_formats c.code_u8-code.result c.args.self.now = c.in-Some.ensures c.args.self.now mtu in
+    let part : Some c.in-Some.header ≡ listed dest_unreachable_formats c.code_u8-code.result c.args.self.now =
+    c.in-Some.ensures c.args.self.now mtu in
     grind (arith, common_steps, icmp_type_of_listed, listed_inside)
 
 pub returns : goal.returns
 returns c =
-    let unlisted : listed (codes_of formats (slice_index c.args.self.now 0)) (slice_index c.args.self.now 1) c.args.self.now ≡ None = elim c.match-type_u8.branch [
+    let unlisted : listed (codes_of formats (slice_index c.args.self.now 0)) (slice_index c.args.self.now 1) c.args.self.now ≡ None =
+    elim c.match-type_u8.branch [
       | in-0+else-code-eq0 w ↦ grind (arith, common_steps, slice_get_past, listed_mapped)
       | in-3+in_default-from_values w ↦
           let mtu : be_number c.args.self.now 6 2 ≡ w.from_be_bytes-next_hop_mtu.result = search rules in
-          let part : w.from_values.result ≡ listed dest_unreachable_formats c.code_u8-code.result c.args.self.now = w.from_values.ensures c.args.self.now mtu in
+          let part : w.from_values.result ≡ listed dest_unreachable_formats c.code_u8-code.result c.args.self.now =
+          w.from_values.ensures c.args.self.now mtu in
           grind (arith, common_steps, listed_inside)
       | in-5+in_default-from_u8 w ↦ grind (arith, common_steps, slice_get_past, listed_mapped)
       | in-8+else-code-eq0-2 w ↦ grind (arith, common_steps, slice_get_past, listed_mapped)

@@ -22,7 +22,8 @@ returns-clause-updated c source destination payload address address_too right =
 
 pub returns-clause-verifies : goal.returns-clause-verifies
 returns-clause-verifies c source destination payload address address_too =
-    verifies_alike (message_sum source destination c.args.self.now.icmp_type payload) (message_sum source destination c.replace_echo_id.new.self payload)
+    verifies_alike (message_sum source destination c.args.self.now.icmp_type payload)
+    (message_sum source destination c.replace_echo_id.new.self payload)
     c.args.self.now.checksum c.apply-self.result
     (c.apply-self.ensures.remainder _ _ (turns c source destination payload))
     (some_sum source destination c.args.self.now.icmp_type payload (omega (arith, address)) (omega (arith, address_too)))

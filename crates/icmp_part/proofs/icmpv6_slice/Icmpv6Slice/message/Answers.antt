@@ -11,7 +11,8 @@ use Rattle.icmp_part.proofs.icmpv6_slice.Icmpv6Slice.message.Goals.{in-1+in_defa
 
 pub returns : goal.returns
 returns c =
-    let unlisted : listed (codes_of formats (slice_index c.args.self.now 0)) (slice_index c.args.self.now 1) c.args.self.now ≡ None = elim c.match-type_u8.branch [
+    let unlisted : listed (codes_of formats (slice_index c.args.self.now 0)) (slice_index c.args.self.now 1) c.args.self.now ≡ None =
+    elim c.match-type_u8.branch [
       | in-1+in_default-from_u8 w ↦ grind (arith, common_steps, slice_get_past, listed_mapped)
       | in-2+else-code-eq0 w ↦ grind (arith, common_steps, slice_get_past, listed_mapped)
       | in-3+in_default-from_u8-2 w ↦ grind (arith, common_steps, slice_get_past, listed_mapped)

@@ -9,7 +9,8 @@ use Rattle.icmp_part.proofs.icmpv6_type.Icmpv6Type.checksum_within_limit.Goals a
 pub returns-clause-sum : goal.returns-clause-sum
 returns-clause-sum c =
     let fields = fields_len c.args.self.now c.start.ensures.fits in
-    let len : length (header_bytes (written c.args.self.now) 0) + length c.args.payload.now ≡ header_len + length c.args.payload.now = omega (arith, fields) in
+    let len : length (header_bytes (written c.args.self.now) 0) + length c.args.payload.now ≡ header_len + length c.args.payload.now =
+    omega (arith, fields) in
     let pseudo = ap (λ n. total (pseudo_header c.args.source_ip c.args.destination_ip n)) len in
     let header = ap (λ start. total (header_bytes start 0)) c.start.ensures.written in
     rw (c.ones_complement.ensures, c.add_slice.ensures.sum, c.add_to.ensures, c.pseudo_header_ipv6-pseudo_header.ensures.sum)

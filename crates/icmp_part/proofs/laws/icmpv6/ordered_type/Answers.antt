@@ -17,7 +17,8 @@ use Rattle.icmp_part.specs.contracts.icmpv6_type.Icmpv6TypeOrd.TheImpl as messag
 use Rattle.icmp_part.proofs.laws.icmpv6.ordered_type.Goals as goal
 
 -- the derived order of codes is the order of their numbers
-dest_unreachable_by_code : (a b : DestUnreachableCode) → dest_unreachable_code_order.cmp-value.it a b ≡ nat_cmp (dest_unreachable_code a) (dest_unreachable_code b)
+dest_unreachable_by_code : (a b : DestUnreachableCode)
+    → dest_unreachable_code_order.cmp-value.it a b ≡ nat_cmp (dest_unreachable_code a) (dest_unreachable_code b)
 dest_unreachable_by_code NoRoute NoRoute = refl
 dest_unreachable_by_code Prohibited Prohibited = refl
 dest_unreachable_by_code BeyondScope BeyondScope = refl
@@ -27,12 +28,14 @@ dest_unreachable_by_code SourceAddressFailedPolicy SourceAddressFailedPolicy = r
 dest_unreachable_by_code RejectRoute RejectRoute = refl
 dest_unreachable_by_code a b = refl
 
-time_exceeded_by_code : (a b : TimeExceededCode) → time_exceeded_code_order.cmp-value.it a b ≡ nat_cmp (time_exceeded_code a) (time_exceeded_code b)
+time_exceeded_by_code : (a b : TimeExceededCode)
+    → time_exceeded_code_order.cmp-value.it a b ≡ nat_cmp (time_exceeded_code a) (time_exceeded_code b)
 time_exceeded_by_code HopLimitExceeded HopLimitExceeded = refl
 time_exceeded_by_code FragmentReassemblyTimeExceeded FragmentReassemblyTimeExceeded = refl
 time_exceeded_by_code a b = refl
 
-parameter_problem_by_code : (a b : ParameterProblemCode) → parameter_problem_code_order.cmp-value.it a b ≡ nat_cmp (parameter_problem_code a) (parameter_problem_code b)
+parameter_problem_by_code : (a b : ParameterProblemCode)
+    → parameter_problem_code_order.cmp-value.it a b ≡ nat_cmp (parameter_problem_code a) (parameter_problem_code b)
 parameter_problem_by_code ErroneousHeaderField ErroneousHeaderField = refl
 parameter_problem_by_code UnrecognizedNextHeader UnrecognizedNextHeader = refl
 parameter_problem_by_code UnrecognizedIpv6Option UnrecognizedIpv6Option = refl
