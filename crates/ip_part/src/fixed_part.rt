@@ -5,19 +5,19 @@ ghost use Rattle.ip_part.specs.FixedHeaders as specs;
 
 use crate::address::{ipv4_address, ipv6_address};
 use crate::ip_header::{IPV4_MIN_LEN, IPV6_LEN};
-use net_base::IpNumber;
+use net_base::{IpNumber, Ipv4Header, Ipv6Header};
 
 /// The place of the sender's address, in bytes from the start of an IPv4 header (RFC 791, section 3.1).
-pub(crate) const IPV4_SOURCE_AT: usize = 12;
+pub(crate) const IPV4_SOURCE_AT: usize = Ipv4Header::SOURCE_AT;
 
 /// The place of the receiver's address, in bytes from the start of an IPv4 header (RFC 791, section 3.1).
-const IPV4_DESTINATION_AT: usize = 16;
+const IPV4_DESTINATION_AT: usize = Ipv4Header::DESTINATION_AT;
 
 /// The place of the sender's address, in bytes from the start of an IPv6 header (RFC 8200, section 3).
-pub(crate) const IPV6_SOURCE_AT: usize = 8;
+pub(crate) const IPV6_SOURCE_AT: usize = Ipv6Header::SOURCE_AT;
 
 /// The place of the receiver's address, in bytes from the start of an IPv6 header (RFC 8200, section 3).
-pub(crate) const IPV6_DESTINATION_AT: usize = 24;
+pub(crate) const IPV6_DESTINATION_AT: usize = Ipv6Header::DESTINATION_AT;
 
 /// The fixed part of an IP header: the first 20 bytes of an IPv4 header (RFC 791, section 3.1), or the 40 bytes of an IPv6 header (RFC
 /// 8200, section 3). Options and extension headers don't change it.

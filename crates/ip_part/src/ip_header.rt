@@ -16,13 +16,13 @@ use crate::headers::Headers;
 use crate::ipv4_options::final_destination;
 use crate::ipv6_options::jumbo_payload_len;
 use crate::{IpAddresses, IpError};
-use net_base::{IpNumber, Ipv6HeaderSlice, ip_number};
+use net_base::{IpNumber, Ipv4Header, Ipv6Header, Ipv6HeaderSlice, ip_number};
 
 /// The shortest IPv4 header, in bytes (RFC 791, section 3.1).
-pub(crate) const IPV4_MIN_LEN: usize = 20;
+pub(crate) const IPV4_MIN_LEN: usize = Ipv4Header::MIN_LEN;
 
 /// The length of an IPv6 header, in bytes (RFC 8200, section 3).
-pub(crate) const IPV6_LEN: usize = 40;
+pub(crate) const IPV6_LEN: usize = Ipv6Header::LEN;
 
 /// The longest payload that the payload length of IPv6 can count (RFC 2675, section 2).
 const MAX_PAYLOAD_LEN: usize = 65_535;

@@ -4,12 +4,13 @@ ghost use Rattle.ip_part.specs.Ip as ip;
 ghost use Rattle.ip_part.specs.Options as specs;
 
 use crate::address::ipv4_address;
+use net_base::Ipv4Header;
 
 /// The place of the receiver's address, in bytes from the start of an IPv4 header (RFC 791, section 3.1).
-const DESTINATION_AT: usize = 16;
+const DESTINATION_AT: usize = Ipv4Header::DESTINATION_AT;
 
 /// The place of the options, in bytes from the start of an IPv4 header (RFC 791, section 3.1).
-const OPTIONS_AT: usize = 20;
+const OPTIONS_AT: usize = Ipv4Header::MIN_LEN;
 
 /// The kind that ends the list of options (RFC 791, section 3.1).
 const END_OF_LIST: u8 = 0;
