@@ -14,18 +14,18 @@ use crate::expected::{
     is_all_ones_with, judged, sum_but_checksum, sum_unless_right, wrong_or_partial,
 };
 use crate::{ChecksumVerdict, TransportSlice, Untested};
-use icmp_part::{Icmpv4Slice, Icmpv6Slice};
+use icmp_part::{Icmpv4Slice, Icmpv6Header, Icmpv6Slice};
 use ip_part::IpAddresses;
 use net_base::{ip_number, pseudo_header_ipv4, pseudo_header_ipv6};
-use tcp_part::TcpSlice;
-use udp_part::UdpSlice;
+use tcp_part::{TcpHeader, TcpSlice};
+use udp_part::{UdpHeader, UdpSlice};
 
 /// The places of the checksum in UDP, TCP and ICMP headers, in bytes (RFC 768; RFC 9293, section 3.1; RFC 792; RFC 4443).
-const UDP_CHECKSUM_AT: usize = 6;
+const UDP_CHECKSUM_AT: usize = UdpHeader::CHECKSUM_AT;
 
-const TCP_CHECKSUM_AT: usize = 16;
+const TCP_CHECKSUM_AT: usize = TcpHeader::CHECKSUM_AT;
 
-const ICMP_CHECKSUM_AT: usize = 2;
+const ICMP_CHECKSUM_AT: usize = Icmpv6Header::CHECKSUM_AT;
 
 /// Whether the length field of a UDP packet is 0 although it could count the packet.
 #[inline(always)]
