@@ -7,12 +7,13 @@ ghost use Rattle.capture_packet.specs.Tunnels.{packet_of_version};
 
 use crate::HopLimit;
 use ip_part::IpAddresses;
+use net_base::{Ipv4Header, Ipv6Header};
 
 /// The length of an IPv4 header without options, in bytes (RFC 791, section 3.1).
-const IPV4_LEN: usize = 20;
+const IPV4_LEN: usize = Ipv4Header::MIN_LEN;
 
 /// The length of an IPv6 header, in bytes (RFC 8200, section 3).
-pub(crate) const IPV6_LEN: usize = 40;
+pub(crate) const IPV6_LEN: usize = Ipv6Header::LEN;
 
 /// Source and destination of an IP header, if its fixed part is complete.
 pub(crate) fn fixed_addresses(packet: &[u8]) -> Option<IpAddresses<'_>>

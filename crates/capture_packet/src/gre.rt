@@ -6,6 +6,7 @@ ghost use Rattle.capture_packet.specs.Gre as specs;
 ghost use Rattle.capture_packet.specs.Tunnels.{packet_after_gre, packet_of_type};
 
 use crate::fixed_header::{ipv4_packet, ipv6_packet};
+use capture_link::link::ether_type;
 
 /// The length of a header without optional fields, in bytes (RFC 2784, section 2.1).
 const SHORTEST_LEN: usize = 4;
@@ -26,10 +27,10 @@ const SEQUENCE_NUMBER: u16 = 0x1000;
 const ZEROS: u16 = 0x4C07;
 
 /// The protocol type of IPv4 (RFC 2784, section 3).
-const IPV4: u16 = 0x0800;
+const IPV4: u16 = ether_type::IPV4;
 
 /// The protocol type of IPv6 (RFC 7676, section 3.1).
-const IPV6: u16 = 0x86DD;
+const IPV6: u16 = ether_type::IPV6;
 
 /// The IP packet after the GRE header at the front of these bytes. None if the header is cut off, is of another version, or has a reserved
 /// bit that a receiver rejects, and if another protocol follows.
