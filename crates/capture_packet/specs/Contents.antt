@@ -1,12 +1,14 @@
 -- The content of a packet.
-use Rattle.std.specs.Prelude.{◌≡◌, ℕ, Bool, true, false, not, ◌&&◌, nat_le, if◌then◌else◌, ◌==◌, List, length, slice_range, Option, Some, None}
+use Rattle.std.specs.Prelude.{◌≡◌, ℕ, Bool, true, false, not, ◌&&◌, nat_le, if◌then◌else◌, List, length, Option, Some, None}
+use Rattle.std.specs.Option.{option_map}
 use Rattle.ip_part.specs.Addresses.{Addresses, Ipv4, Ipv6, by_value}
+use Rattle.ip_part.specs.FixedHeaders as fixed
+use Rattle.ip_part.specs.FixedHeaders.{Fixed, fixed_header}
 use Rattle.ip_part.specs.Protocols.{proto_over}
 use Rattle.ip_part.specs.declared.proto.Proto.{Proto}
 use Rattle.ip_part.specs.declared.proto.Proto.TheVariants as protos
 use Rattle.ip_part.specs.declared.transport.TransportInIp.{TransportInIp}
 use Rattle.net_base.specs.Bytes.{be_number}
-use Rattle.net_base.specs.IpHeaders.{version}
 use Rattle.net_base.specs.declared.err.tcp.header_slice_error.HeaderSliceError.{HeaderSliceError}
 use Rattle.transport_part.specs.Transports.{kept, refusal}
 use Rattle.transport_part.specs.declared.transport_slice.TransportSlice.{TransportSlice}
@@ -71,13 +73,14 @@ Shows bytes found (Ip addresses protocol proto transport len) =
     × ((proto ≡ proto_over (by_value found.addresses) found.protocol.0)
     × (Holds found transport × (len ≡ payload_len (counted_payload_len bytes found) transport))))
 
--- source and destination of an IP header with a complete fixed part: 20 bytes of version 4 (RFC 791, section 3.1), or 40 bytes of version 6
--- (RFC 8200, section 3)
+-- source and destination of an IP header
+abbrev pub addresses_in : Fixed → Addresses
+addresses_in (fixed.Ipv4 source destination time_to_live protocol) = Ipv4 source destination
+addresses_in (fixed.Ipv6 source destination hop_limit next_header) = Ipv6 source (Some destination)
+
+-- source and destination of the IP header at the front of a packet, if its fixed part is complete
 abbrev pub fixed_addresses : List ℕ → Option Addresses
-fixed_addresses packet =
-    if version packet == 4 && nat_le 20 (length packet) then Some (Ipv4 (slice_range packet 12 16) (slice_range packet 16 20))
-    else if version packet == 6 && nat_le 40 (length packet) then Some (Ipv6 (slice_range packet 8 24) (Some (slice_range packet 24 40)))
-    else None
+fixed_addresses packet = option_map addresses_in (fixed_header packet)
 
 -- the content of an IP packet with rejected headers: the addresses of its fixed header, if it is complete
 abbrev pub ShowsRefused : List ℕ → Content → Type 0

@@ -1,30 +1,18 @@
 //! The length of a payload.
 
-ghost use Rattle.std.specs.Prelude.{◌≡◌, ◌-◌, None};
-ghost use Rattle.ip_part.specs.Ip.{Carries, lacks_len, lax_refusal};
+ghost use Rattle.std.specs.Prelude.{◌≡◌, ◌-◌};
 ghost use Rattle.capture_packet.specs.Payloads as specs;
 
 use crate::Transport;
-use ip_part::{IpError, TransportInIp, transport_in_ip};
+use ip_part::TransportInIp;
 use transport_part::TransportSlice;
 use udp_part::UdpHeader;
 
 /// The number of bytes after the headers of an IP packet that the IP header counts. If the packet is cut off, fewer bytes are present.
-pub(crate) fn counted_payload_len(packet: &[u8], found: &TransportInIp<'_>) -> usize
-    requires accepted { lax_refusal packet.now ≡ None }
-    requires carries { Carries packet.now found.now }
-    requires stated { found.now.is_length_missing ≡ lacks_len packet.now }
-    ensures { result ≡ specs.counted_payload_len packet.now found.now }
+pub(crate) fn counted_payload_len(found: &TransportInIp<'_>) -> usize
+    ensures { result ≡ found.now.counted_len - found.now.payload_offset }
 {
-    if !found.is_cut_off {
-        return found.payload.len();
-    }
-    match transport_in_ip(packet) {
-        Err(IpError::PacketCutOff { required_len, .. }) => {
-            required_len.saturating_sub(found.payload_offset)
-        }
-        _ => found.payload.len(),
-    }
+    found.counted_len.saturating_sub(found.payload_offset)
 }
 
 /// The length of the payload of a transport. The IP header counts this number of bytes after the IP headers.

@@ -7,7 +7,7 @@ ghost use Rattle.capture_packet.specs.HopLimits as hop_limits;
 ghost use Rattle.capture_packet.specs.Tunnels.{innermost, max_tunnels, payload_packet};
 ghost use Rattle.capture_packet.specs.Verdicts as specs;
 
-use crate::fixed_header::{IPV6_LEN, fixed_addresses, hop_limit_of};
+use crate::fixed_header::{IPV6_LEN, addresses_in, hop_limit_in};
 use crate::payload::{counted_payload_len, payload_len};
 use crate::transport::{is_transport_cut_off, read_transport};
 use crate::tunnel::packet_in_payload;
@@ -15,7 +15,7 @@ use crate::{Content, Packet, Refusal, Tunnel, Tunnels, Verdict};
 use arrayvec::ArrayVec;
 use capture_link::{Frame, LinkHeaderCutOff, network_packet};
 use capture_texts::{ByteOrder, LinkType};
-use ip_part::{IpError, TransportInIp, transport_in_ip, transport_in_ip_lax};
+use ip_part::{IpError, TransportInIp, fixed_header, transport_in_ip, transport_in_ip_lax};
 use transport_part::Untested;
 
 /// The maximum length in bytes of a packet that is read, and of a block of a pcapng file. It is twice the maximum that libpcap captures of
@@ -161,7 +161,7 @@ fn carried<'a>(
     ensures hop_limit { result.hop_limit ≡ hop_limits.hop_limit_of packet.now }
 {
     let (transport, verdict) = read_transport(found, is_cut);
-    let payload_len = payload_len(&transport, counted_payload_len(packet, found));
+    let payload_len = payload_len(&transport, counted_payload_len(found));
     Packet {
         tunnels,
         content: Content::Ip {
@@ -172,7 +172,7 @@ fn carried<'a>(
             payload_len,
         },
         verdict,
-        hop_limit: hop_limit_of(packet),
+        hop_limit: Some(hop_limit_in(found.fixed_header)),
     }
 }
 
@@ -187,15 +187,18 @@ fn unread<'a>(
     ensures is { IsUnread is_cut_off packet.now error result }
     ensures hop_limit { result.hop_limit ≡ hop_limits.hop_limit_of packet.now }
 {
-    let content = match fixed_addresses(packet) {
-        Some(addresses) => Content::IpHeader(addresses),
-        None => Content::Unread,
+    let (content, hop_limit) = match fixed_header(packet) {
+        Some(header) => (
+            Content::IpHeader(addresses_in(header)),
+            Some(hop_limit_in(header)),
+        ),
+        None => (Content::Unread, None),
     };
     Packet {
         tunnels,
         content,
         verdict: unread_verdict(error, is_cut_off),
-        hop_limit: hop_limit_of(packet),
+        hop_limit,
     }
 }
 
