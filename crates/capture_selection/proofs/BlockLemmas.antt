@@ -20,30 +20,21 @@ use Rattle.capture_file.specs.declared.reader.packet_error.PlacedPacketError.{Pl
 use Rattle.capture_file.specs.declared.reader.pcapng_reader.PcapngReader.{PcapngReader}
 use Rattle.capture_packet.specs.Frames.{max_packet_len}
 use Rattle.capture_request.specs.declared.parts.Parts.{Parts}
-use Rattle.capture_selection.proofs.PassingLemmas.{ends_by_read, front_of, next_to_end}
-use Rattle.capture_selection.specs.Blocks.{HasBlockOutcome, IsBlockPart, IsLongBlock, IsRefusedBlock, StepsTo, block_place, blocks_of, refused_by}
-use Rattle.capture_selection.specs.Passing.{IsEndBy, IsFront, IsReadError, IsWriteError, PassesNext, StopsBy, written_by}
+use Rattle.capture_selection.proofs.PassingLemmas.{ended}
+use Rattle.capture_copy.specs.Passing.{StopsBy}
+use Rattle.capture_selection.specs.Blocks.{HasBlockOutcome, IsBlockPart, IsLongBlock, IsRefusedBlock, StepsTo, block_place, block_selection, blocks_of, refused_by}
+use Rattle.capture_selection.specs.Passing.{IsEndBy, IsFront, IsWriteError, LeavesAt, written_by}
+use Rattle.capture_selection.specs.declared.place.Place.{Place}
 use Rattle.capture_selection.specs.declared.counts.Counts.{Counts}
 use Rattle.capture_selection.specs.declared.outcome.Outcome.{Outcome}
 use Rattle.capture_selection.specs.declared.outcome.Outcome.TheVariants.{Excluded, Unlisted, Written}
 use Rattle.capture_selection.specs.declared.blocks.Blocks.{Blocks}
 use Rattle.capture_selection.specs.declared.selection_error.SelectionError.{SelectionError}
 
--- bytes that are all that is left, read to the end
-pub alone : (rest : List ℕ) → Consumes (Some rest) (Some []) rest
-alone rest = sym (append-nil rest)
-
--- the next item according to first bytes and all bytes after them
-pub next_of : (section : ByteOrder) (first rest buffer : List ℕ) (next : NextBlock) → ReadsAfter section first (Some rest) (Some []) buffer next
-    → IsNextBlock section (first ++ rest) buffer next
-next_of section first rest buffer next reads =
-    let same : reads.bytes ≡ rest = sym (reads.consumed ∙ append-nil reads.bytes) in
-    subst (λ bytes. IsNextBlock section (first ++ bytes) buffer next) same reads.is_next
-
 -- a block with the outcome of its packet
 pub block_part : (options : Parts) (before after : PcapngReader) (bytes buffer : List ℕ) (block : NextBlock) (outcome : Option Outcome)
     → length buffer ≡ max_packet_len → IsNextBlock before.section.byte_order bytes buffer block
-    → StepsTo options before buffer block after (Ok outcome) → IsBlockPart options before (record { bytes = bytes; outcome = outcome }) after
+    → StepsTo options before buffer block after (Ok outcome) → IsBlockPart options before bytes outcome after
 block_part options before after bytes buffer block outcome has_room is_next steps = record {
   buffer = buffer;
   next = steps.0;
@@ -62,73 +53,65 @@ refused_block options before after bytes buffer block error has_room is_next ste
 )
 
 -- the end by bytes at the place of a block that are no block
-refused_end : (options : Parts) (state : Blocks) (error : BlockError) (rest buffer : List ℕ) (still_left : Option (List ℕ)) (counts : Counts)
-    → length buffer ≡ max_packet_len → (rest ≢ []) → block_refusal state.reader.section.byte_order rest ≡ Some error
-    → IsLastBlock (blocks.Refused error) still_left
-    → IsEndBy (blocks_of options) (refused_by (block_place state) error) state rest still_left still_left counts
-refused_end options state (CutOff required len) rest buffer still_left counts has_room some refused last =
-    ((refl, refl), (some, refused), last, refl)
-refused_end options state (Magic magic) rest buffer still_left counts has_room some refused last = (
-  (
-    state.reader,
-    buffer,
-    record { has_room = has_room; block = blocks.Refused (Magic magic); is_next = (some, refused); is_step = (refl, refl) },
-  ),
-  refl,
+refused_end : (options : Parts) (state : Blocks) (error : BlockError) (bytes buffer : List ℕ) (counts : Counts)
+    → length buffer ≡ max_packet_len → (bytes ≢ []) → block_refusal state.reader.section.byte_order bytes ≡ Some error
+    → IsEndBy (block_selection options) state counts bytes (refused_by (block_place state) error)
+refused_end options state (CutOff required len) bytes buffer counts has_room some refused = ((refl, refl), (some, refused))
+refused_end options state (Magic magic) bytes buffer counts has_room some refused = (
+  state.reader,
+  buffer,
+  record { has_room = has_room; block = blocks.Refused (Magic magic); is_next = (some, refused); is_step = (refl, refl) },
 )
-refused_end options state (TotalLength total_len) rest buffer still_left counts has_room some refused last = (
-  (
-    state.reader,
-    buffer,
-    record { has_room = has_room; block = blocks.Refused (TotalLength total_len); is_next = (some, refused); is_step = (refl, refl) },
-  ),
-  refl,
+refused_end options state (TotalLength total_len) bytes buffer counts has_room some refused = (
+  state.reader,
+  buffer,
+  record { has_room = has_room; block = blocks.Refused (TotalLength total_len); is_next = (some, refused); is_step = (refl, refl) },
 )
-refused_end options state (SectionLength total_len) rest buffer still_left counts has_room some refused last = (
-  (
-    state.reader,
-    buffer,
-    record { has_room = has_room; block = blocks.Refused (SectionLength total_len); is_next = (some, refused); is_step = (refl, refl) },
-  ),
-  refl,
+refused_end options state (SectionLength total_len) bytes buffer counts has_room some refused = (
+  state.reader,
+  buffer,
+  record { has_room = has_room; block = blocks.Refused (SectionLength total_len); is_next = (some, refused); is_step = (refl, refl) },
 )
-refused_end options state (LastLength total_len last_len) rest buffer still_left counts has_room some refused last = (
-  (
-    state.reader,
-    buffer,
-    record { has_room = has_room; block = blocks.Refused (LastLength total_len last_len); is_next = (some, refused); is_step = (refl, refl) },
-  ),
-  refl,
+refused_end options state (LastLength total_len last_len) bytes buffer counts has_room some refused = (
+  state.reader,
+  buffer,
+  record { has_room = has_room; block = blocks.Refused (LastLength total_len last_len); is_next = (some, refused); is_step = (refl, refl) },
 )
+
+-- what is left of the input at the end of a file by bytes that are no block
+refused_leaves : (place : Place) (error : BlockError) (still_left : Option (List ℕ)) → IsLastBlock (blocks.Refused error) still_left
+    → LeavesAt (refused_by place error) still_left still_left
+refused_leaves place (CutOff required len) still_left last = (last, refl)
+refused_leaves place (Magic magic) still_left last = refl
+refused_leaves place (TotalLength total_len) still_left last = refl
+refused_leaves place (SectionLength total_len) still_left last = refl
+refused_leaves place (LastLength total_len last_len) still_left last = refl
 
 -- the error of bytes that are no block, of which these first bytes were written
 pub ends_refused : (options : Parts) (result : SelectionError) (state : Blocks) (error : BlockError)
-    (left still_left held now_held : Option (List ℕ)) (counts : Counts) (rest front buffer : List ℕ)
-    → result ≡ refused_by (block_place state) error → length buffer ≡ max_packet_len → Consumes left still_left rest
-    → Appends held now_held front → ((front ≡ []) ⊎ (IsLongBlock state.reader rest × IsFront front rest))
-    → IsNextBlock state.reader.section.byte_order rest buffer (blocks.Refused error) → IsLastBlock (blocks.Refused error) still_left
-    → IsWriteError result ⊎ (StopsBy (blocks_of options) result state left still_left held now_held counts × (counts ≡ counts))
-ends_refused options result state error left still_left held now_held counts rest front buffer is has_room consumed appended is_front is_next last =
-    subst (λ given. IsWriteError given ⊎ (StopsBy (blocks_of options) given state left still_left held now_held counts × (counts ≡ counts))) (sym is)
-    (inr (
-      record {
-        then_left = still_left;
-        rest = rest;
-        front = front;
-        consumed = consumed;
-        appended = appended;
-        is_front = is_front;
-        ends = refused_end options state error rest buffer still_left counts has_room is_next.0 is_next.1 last;
-      },
-      refl,
-    ))
+    (left still_left held now_held : Option (List ℕ)) (counts : Counts) (bytes front buffer : List ℕ)
+    → result ≡ refused_by (block_place state) error → length buffer ≡ max_packet_len → Consumes left still_left bytes
+    → Appends held now_held front → ((front ≡ []) ⊎ (IsLongBlock state.reader bytes × IsFront front bytes))
+    → IsNextBlock state.reader.section.byte_order bytes buffer (blocks.Refused error) → IsLastBlock (blocks.Refused error) still_left
+    → IsWriteError result ⊎ StopsBy (blocks_of options) result state left still_left held now_held counts counts
+ends_refused options result state error left still_left held now_held counts bytes front buffer is has_room consumed appended is_front is_next last =
+    subst (λ given. IsWriteError given ⊎ StopsBy (blocks_of options) given state left still_left held now_held counts counts) (sym is)
+    (inr (record {
+      then_left = still_left;
+      front = ended bytes front;
+      is_end = (refl, is_front, refused_end options state error bytes buffer counts has_room is_next.0 is_next.1);
+      consumed = consumed;
+      appended = appended;
+      counted = refl;
+      leaves = refused_leaves (block_place state) error still_left last;
+    }))
 
 -- the same of bytes that were read after first bytes, and not written
 pub ends_unread : (options : Parts) (result : SelectionError) (state : Blocks) (error : BlockError)
     (left middle still_left held : Option (List ℕ)) (counts : Counts) (first buffer room : List ℕ)
     → result ≡ refused_by (block_place state) error → length room ≡ max_packet_len → Consumes left middle first
     → ReadsAfter state.reader.section.byte_order first middle still_left buffer (blocks.Refused error)
-    → IsWriteError result ⊎ (StopsBy (blocks_of options) result state left still_left held held counts × (counts ≡ counts))
+    → IsWriteError result ⊎ StopsBy (blocks_of options) result state left still_left held held counts counts
 ends_unread options result state error left middle still_left held counts first buffer room is has_room consumed reads =
     ends_refused options result state error left still_left held held counts (first ++ reads.bytes) [] room is has_room
     (Consumes-trans left middle still_left first reads.bytes consumed reads.consumed) (Appends-nil held) (inl refl) reads.is_next reads.is_last
@@ -189,20 +172,3 @@ front_before None first middle last Long (inr is) = inr (is, (last, grind (arith
 front_before (Some Written) first middle last Long (inr is) = inr (is, (last, grind (arith, append_assoc)))
 front_before (Some Unlisted) first middle last Long (inr is) = inl refl
 front_before (Some Excluded) first middle last Long (inr is) = inl refl
-
--- reading failed after first bytes of a block
-pub long_read_error : {A : Type 0} → (options : Parts) (result : Result A SelectionError) (error : SelectionError) (before after : Blocks)
-    (left then_left still_left held now_held : Option (List ℕ)) (counts : Counts) (outcome : Option Outcome) (bytes : List ℕ)
-    → IsReadError (block_place before) error → Consumes left then_left bytes → Appends held now_held (written_by bytes outcome)
-    → ((written_by bytes outcome ≡ []) ⊎ IsLongBlock before.reader bytes) → result ≡ Err error
-    → PassesNext (blocks_of options) result before after left still_left held now_held counts counts
-long_read_error options result error before after left then_left still_left held now_held counts outcome bytes is consumed appended long fails =
-    next_to_end (blocks_of options) result error before after left still_left held now_held counts (record {
-      then_left = then_left;
-      rest = bytes;
-      front = written_by bytes outcome;
-      consumed = consumed;
-      appended = appended;
-      is_front = front_of outcome bytes (IsLongBlock before.reader bytes) long;
-      ends = ends_by_read (blocks_of options) error before bytes then_left still_left counts is;
-    }) fails

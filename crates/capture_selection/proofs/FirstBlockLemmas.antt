@@ -16,9 +16,11 @@ use Rattle.capture_file.specs.declared.reader.pcapng_reader.PcapngReader.{Pcapng
 use Rattle.capture_request.specs.declared.capture_error.CaptureError.TheVariants.{Enough, Header, Read, ReadHeader, RecordCutOff, Refused, TooManyPackets}
 use Rattle.capture_request.specs.Limits.{is_full}
 use Rattle.capture_request.specs.declared.parts.Parts.{Parts}
-use Rattle.capture_selection.proofs.PassingLemmas.{error_below, header_ends_none, passes_to_first_error}
-use Rattle.capture_selection.specs.Blocks.{IsPastFirst, PassesFile, at_beginning, blocks_of}
-use Rattle.capture_selection.specs.Passing.{AreParts, EndsAtLimit, IsWriteError, Part, Passes, PassesTo, StopsBy}
+use Rattle.capture_copy.proofs.PassingLemmas.{passes_to_first_error}
+use Rattle.capture_copy.specs.Passing.{AreParts, Passes, PassesTo, StopsBy}
+use Rattle.capture_selection.proofs.PassingLemmas.{error_below, header_ends_none}
+use Rattle.capture_selection.specs.Blocks.{IsPastFirst, PassesFile, at_beginning, block_selection, blocks_of}
+use Rattle.capture_selection.specs.Passing.{EndsAtLimit, IsWriteError, Part}
 use Rattle.capture_selection.specs.declared.blocks.Blocks.{Blocks}
 use Rattle.capture_selection.specs.declared.counts.Counts.{Counts}
 use Rattle.capture_selection.specs.declared.selection_error.SelectionError.{SelectionError}
@@ -46,7 +48,7 @@ parts_past : (options : Parts) (before after : Blocks) (parts : List Part) → A
 parts_past options before after [] are past = subst (λ state. 1 ≤ state.reader.offset) (sym are) past
 parts_past options before after (part ∷ parts) are past =
     parts_past options are.0 after parts are.2
-    (step_past before.reader are.0.reader are.1.0.buffer are.1.0.steps.block are.1.0.next are.1.0.steps.is_step past)
+    (let part = are.1.0.0 in step_past before.reader are.0.reader part.buffer part.steps.block part.next part.steps.is_step past)
 
 -- the blocks after the first one
 pub passes_past : (options : Parts) (before after : Blocks) (left still_left held now_held : Option (List ℕ)) (counts now_counts : Counts)
@@ -81,19 +83,20 @@ refused_offset before after buffer (blocks.Refused (TotalLength len)) error is =
 refused_offset before after buffer (blocks.Refused (SectionLength len)) error is = cc is.1
 refused_offset before after buffer (blocks.Refused (LastLength len last)) error is = cc is.1
 
-error_past : (options : Parts) (error : SelectionError) (state : Blocks) (left still_left held now_held : Option (List ℕ)) (counts : Counts)
-    → 1 ≤ state.reader.offset → StopsBy (blocks_of options) error state left still_left held now_held counts → IsPastFirst {A = Unit {0}} (Err error)
-error_past options (Capture (RecordCutOff number offset required len)) state left still_left held now_held counts past stops =
-    subst (λ at. 1 ≤ at) (sym stops.ends.0.1) past
-error_past options (Capture (Refused error)) state left still_left held now_held counts past stops =
-    let refused = stops.ends.0 in
+error_past : (options : Parts) (error : SelectionError) (state : Blocks) (left still_left held now_held : Option (List ℕ)) (counts now_counts : Counts)
+    → 1 ≤ state.reader.offset → StopsBy (blocks_of options) error state left still_left held now_held counts now_counts
+    → IsPastFirst {A = Unit {0}} (Err error)
+error_past options (Capture (RecordCutOff number offset required len)) state left still_left held now_held counts now_counts past stops =
+    subst (λ at. 1 ≤ at) (sym stops.is_end.2.0.1) past
+error_past options (Capture (Refused error)) state left still_left held now_held counts now_counts past stops =
+    let refused = stops.is_end.2 in
     subst (λ at. 1 ≤ at) (sym (refused_offset state.reader refused.0 refused.1 refused.2.block error refused.2.is_step)) past
-error_past options (Capture (Read number offset error)) state left still_left held now_held counts past stops = tt
-error_past options (Capture (Header error)) state left still_left held now_held counts past stops = tt
-error_past options (Capture (ReadHeader error)) state left still_left held now_held counts past stops = tt
-error_past options (Capture TooManyPackets) state left still_left held now_held counts past stops = tt
-error_past options (Capture Enough) state left still_left held now_held counts past stops = tt
-error_past options (Write error) state left still_left held now_held counts past stops = tt
+error_past options (Capture (Read number offset error)) state left still_left held now_held counts now_counts past stops = tt
+error_past options (Capture (Header error)) state left still_left held now_held counts now_counts past stops = tt
+error_past options (Capture (ReadHeader error)) state left still_left held now_held counts now_counts past stops = tt
+error_past options (Capture TooManyPackets) state left still_left held now_held counts now_counts past stops = tt
+error_past options (Capture Enough) state left still_left held now_held counts now_counts past stops = tt
+error_past options (Write error) state left still_left held now_held counts now_counts past stops = tt
 
 write_error_past : (error : SelectionError) → IsWriteError error → IsPastFirst {A = Unit {0}} (Err error)
 write_error_past (Write error) failed = tt
@@ -101,14 +104,13 @@ write_error_past (Capture error) failed = absurd failed
 
 -- an error within a block that is not the first one
 pub stops_past : (options : Parts) (result : Result (Unit {0}) SelectionError) (error : SelectionError) (state : Blocks)
-    (left still_left held now_held : Option (List ℕ)) (counts now_counts then_counts : Counts)
-    → 1 ≤ state.reader.offset
-    → (IsWriteError error ⊎ (StopsBy (blocks_of options) error state left still_left held now_held counts × (now_counts ≡ then_counts)))
+    (left still_left held now_held : Option (List ℕ)) (counts now_counts : Counts)
+    → 1 ≤ state.reader.offset → (IsWriteError error ⊎ StopsBy (blocks_of options) error state left still_left held now_held counts now_counts)
     → result ≡ Err error → IsPastFirst result
-stops_past options result error state left still_left held now_held counts now_counts then_counts past (inl failed) fails =
+stops_past options result error state left still_left held now_held counts now_counts past (inl failed) fails =
     subst (λ given. IsPastFirst given) (sym fails) (write_error_past error failed)
-stops_past options result error state left still_left held now_held counts now_counts then_counts past (inr (stops, same)) fails =
-    subst (λ given. IsPastFirst given) (sym fails) (error_past options error state left still_left held now_held counts past stops)
+stops_past options result error state left still_left held now_held counts now_counts past (inr stops) fails =
+    subst (λ given. IsPastFirst given) (sym fails) (error_past options error state left still_left held now_held counts now_counts past stops)
 
 -- a file whose first block is not rejected
 pub file_passes : (options : Parts) (result : Result (Unit {0}) SelectionError) (start after : Blocks)
@@ -120,7 +122,7 @@ file_passes options (Err (Write error)) start after left still_left held now_hel
 file_passes options (Err (Capture (Header (Classic error)))) start after left still_left held now_held counts now_counts passes past = (passes, past)
 file_passes options (Err (Capture (Header (Pcapng error)))) start after left still_left held now_held counts now_counts (inl failed) past = absurd failed
 file_passes options (Err (Capture (Header (Pcapng error)))) start after left still_left held now_held counts now_counts (inr ends) past =
-    absurd (header_ends_none (blocks_of options) (Pcapng error) start left still_left held now_held counts now_counts ends)
+    absurd (header_ends_none (block_selection options) (Pcapng error) start left still_left held now_held counts now_counts ends)
 file_passes options (Err (Capture (ReadHeader error))) start after left still_left held now_held counts now_counts passes past = (passes, past)
 file_passes options (Err (Capture (Read number offset error))) start after left still_left held now_held counts now_counts passes past = (passes, past)
 file_passes options (Err (Capture (RecordCutOff number offset required len))) start after left still_left held now_held counts now_counts passes past =
@@ -132,26 +134,26 @@ file_passes options (Err (Capture Enough)) start after left still_left held now_
 -- a file whose first block can't be passed
 first_error : (options : Parts) (error : SelectionError) (start after : Blocks) (left still_left held now_held : Option (List ℕ))
     (counts now_counts : Counts)
-    → (IsWriteError error ⊎ (StopsBy (blocks_of options) error start left still_left held now_held counts × (now_counts ≡ counts)))
+    → (IsWriteError error ⊎ StopsBy (blocks_of options) error start left still_left held now_held counts now_counts)
     → PassesFile options (Err (at_beginning error)) start after left still_left held now_held counts now_counts
 first_error options (Write error) start after left still_left held now_held counts now_counts (inl failed) = (inl failed, tt)
-first_error options (Write error) start after left still_left held now_held counts now_counts (inr (stops, same)) = absurd stops.ends
+first_error options (Write error) start after left still_left held now_held counts now_counts (inr stops) = absurd stops.is_end.2
 first_error options (Capture error) start after left still_left held now_held counts now_counts (inl failed) = absurd failed
-first_error options (Capture (RecordCutOff number offset required len)) start after left still_left held now_held counts now_counts (inr (stops, same)) =
-    record { given = Capture (RecordCutOff number offset required len); is = refl; stops = stops; same = same }
-first_error options (Capture (Refused error)) start after left still_left held now_held counts now_counts (inr (stops, same)) =
-    record { given = Capture (Refused error); is = refl; stops = stops; same = same }
-first_error options (Capture (Header error)) start after left still_left held now_held counts now_counts (inr (stops, same)) = absurd stops.ends
-first_error options (Capture (ReadHeader error)) start after left still_left held now_held counts now_counts (inr (stops, same)) = absurd stops.ends
-first_error options (Capture (Read number offset error)) start after left still_left held now_held counts now_counts (inr (stops, same)) = (
+first_error options (Capture (RecordCutOff number offset required len)) start after left still_left held now_held counts now_counts (inr stops) =
+    record { given = Capture (RecordCutOff number offset required len); is = refl; stops = stops }
+first_error options (Capture (Refused error)) start after left still_left held now_held counts now_counts (inr stops) =
+    record { given = Capture (Refused error); is = refl; stops = stops }
+first_error options (Capture (Header error)) start after left still_left held now_held counts now_counts (inr stops) = absurd stops.is_end.2
+first_error options (Capture (ReadHeader error)) start after left still_left held now_held counts now_counts (inr stops) = absurd stops.is_end.2
+first_error options (Capture (Read number offset error)) start after left still_left held now_held counts now_counts (inr stops) = (
   passes_to_first_error {A = Unit {0}} (blocks_of options) (Err (Capture (Read number offset error))) _ start after left still_left held now_held
-      counts now_counts (inr (stops, same)) refl,
+      counts now_counts (inr stops) refl,
   tt,
 )
-first_error options (Capture TooManyPackets) start after left still_left held now_held counts now_counts (inr (stops, same)) = absurd stops.ends
-first_error options (Capture Enough) start after left still_left held now_held counts now_counts (inr (stops, same)) = (
+first_error options (Capture TooManyPackets) start after left still_left held now_held counts now_counts (inr stops) = absurd stops.is_end.2
+first_error options (Capture Enough) start after left still_left held now_held counts now_counts (inr stops) = (
   passes_to_first_error {A = Unit {0}} (blocks_of options) (Err (Capture Enough)) _ start after left still_left held now_held
-      counts now_counts (inr (stops, same)) refl,
+      counts now_counts (inr stops) refl,
   tt,
 )
 
@@ -159,7 +161,7 @@ first_error options (Capture Enough) start after left still_left held now_held c
 pub file_refused : (options : Parts) (error given : SelectionError) (start after : Blocks) (left still_left held now_held : Option (List ℕ))
     (counts now_counts : Counts)
     → given ≡ at_beginning error
-    → (IsWriteError error ⊎ (StopsBy (blocks_of options) error start left still_left held now_held counts × (now_counts ≡ counts)))
+    → (IsWriteError error ⊎ StopsBy (blocks_of options) error start left still_left held now_held counts now_counts)
     → PassesFile options (Err given) start after left still_left held now_held counts now_counts
 file_refused options error given start after left still_left held now_held counts now_counts is stops =
     subst (λ given. PassesFile options (Err given) start after left still_left held now_held counts now_counts) (sym is)
@@ -180,9 +182,9 @@ at_beginning_below limit chosen (Capture Enough) ends = ends
 pub first_below : (options : Parts) (error given : SelectionError) (start : Blocks) (left still_left held now_held : Option (List ℕ))
     (counts now_counts : Counts)
     → is_full options.limit counts.chosen ≡ false → given ≡ at_beginning error
-    → (IsWriteError error ⊎ (StopsBy (blocks_of options) error start left still_left held now_held counts × (now_counts ≡ counts)))
+    → (IsWriteError error ⊎ StopsBy (blocks_of options) error start left still_left held now_held counts now_counts)
     → EndsAtLimit options.limit now_counts.chosen (Err given)
 first_below options error given start left still_left held now_held counts now_counts below is ends =
     subst (λ given. EndsAtLimit options.limit now_counts.chosen (Err given)) (sym is)
     (at_beginning_below options.limit now_counts.chosen error
-    (error_below (blocks_of options) error start left still_left held now_held counts now_counts below ends))
+    (error_below (block_selection options) error start left still_left held now_held counts now_counts below ends))

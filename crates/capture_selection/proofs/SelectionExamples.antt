@@ -8,8 +8,8 @@ use Rattle.capture_file.specs.declared.classic.record_header.Resolution.TheVaria
 use Rattle.capture_packet.proofs.PacketExamples.{frame, is_read, is_rejected, packet, rejected}
 use Rattle.capture_request.specs.declared.parts.Lines.TheVariants.{All}
 use Rattle.capture_request.specs.declared.parts.Parts.{Parts}
+use Rattle.capture_selection.proofs.PassingLemmas.{part_of}
 use Rattle.capture_selection.specs.Captures.{SelectsCapture}
-use Rattle.capture_selection.specs.Passing.{Part}
 use Rattle.capture_selection.specs.Records.{IsRecordPart, first_records, records_after}
 use Rattle.capture_selection.specs.declared.counts.Counts.{Counts}
 use Rattle.capture_selection.specs.declared.outcome.Outcome.TheVariants.{Excluded, Written}
@@ -41,7 +41,7 @@ options others = record others {
 
 -- ---- its records
 
-udp_part : (others : Parts) → IsRecordPart (options others) capture (record { bytes = udp_record; outcome = Some Written })
+udp_part : (others : Parts) → IsRecordPart (options others) capture udp_record (Some Written)
 udp_part others = record {
   is_record = refl;
   has_outcome = record {
@@ -53,7 +53,7 @@ udp_part others = record {
   };
 }
 
-other_part : (others : Parts) → IsRecordPart (options others) capture (record { bytes = other_record; outcome = Some Excluded })
+other_part : (others : Parts) → IsRecordPart (options others) capture other_record (Some Excluded)
 other_part others = record {
   is_record = refl;
   has_outcome = record { packet = rejected; is_packet = is_rejected; given = Excluded; is_outcome = λ chosen. cc chosen.protocols; has = refl };
@@ -78,11 +78,11 @@ selection others = inl (record {
   appended = refl;
   after = records_after (records_after (first_records capture) 45) 17;
   passes = record {
-    parts = record { bytes = udp_record; outcome = Some Written } ∷ record { bytes = other_record; outcome = Some Excluded } ∷ [];
+    parts = part_of udp_record (Some Written) ∷ part_of other_record (Some Excluded) ∷ [];
     each = (
       records_after (first_records capture) 45,
-      (refl, udp_part others),
-      (records_after (records_after (first_records capture) 45) 17, (refl, other_part others), refl),
+      ((refl, udp_part others), refl),
+      (records_after (records_after (first_records capture) 45) 17, ((refl, other_part others), refl), refl),
     );
     consumed = refl;
     appended = refl;

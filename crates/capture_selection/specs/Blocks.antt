@@ -20,8 +20,9 @@ use Rattle.capture_packet.specs.Frames.{max_packet_len}
 use Rattle.capture_request.specs.Report.{IsPacketOf}
 use Rattle.capture_request.specs.declared.capture_error.CaptureError.TheVariants.{Header, RecordCutOff, Refused}
 use Rattle.capture_request.specs.declared.parts.Parts.{Parts}
-use Rattle.capture_selection.specs.Outcomes.{HasOutcome, one_more}
-use Rattle.capture_selection.specs.Passing.{Format, Part, PassesTo, StopsBy}
+use Rattle.capture_copy.specs.Passing.{Format, PassesTo, StopsBy, one_more}
+use Rattle.capture_selection.specs.Outcomes.{HasOutcome}
+use Rattle.capture_selection.specs.Passing.{Selection, format_of}
 use Rattle.capture_selection.specs.declared.blocks.Blocks.{Blocks}
 use Rattle.capture_selection.specs.declared.counts.Counts.{Counts}
 use Rattle.capture_selection.specs.declared.outcome.Outcome.{Outcome}
@@ -44,11 +45,11 @@ pub record StepsOver (before : PcapngReader) (bytes : List ℕ) (after : PcapngR
   pub is_step : IsStep before buffer block after next
 
 -- a whole block, with the outcome of its packet, if it contains a packet
-pub record IsBlockPart (options : Parts) (before : PcapngReader) (part : Part) (after : PcapngReader) : Type 0 where
+pub record IsBlockPart (options : Parts) (before : PcapngReader) (bytes : List ℕ) (outcome : Option Outcome) (after : PcapngReader) : Type 0 where
   pub buffer : List ℕ
   pub next : Option NextPacket
-  pub steps : StepsOver before part.bytes after buffer next
-  pub has_outcome : HasBlockOutcome options buffer next part.outcome
+  pub steps : StepsOver before bytes after buffer next
+  pub has_outcome : HasBlockOutcome options buffer next outcome
 
 -- The buffer has no room for the block that begins with these bytes. The block is neither a section header block nor an interface
 -- description block: the reader rejects such a long block of these two types.
@@ -76,16 +77,20 @@ abbrev pub block_place : Blocks → Place
 block_place blocks = record { number = blocks.number; offset = blocks.reader.offset }
 
 -- pcapng files, with these options
-abbrev pub blocks_of : Parts → Format
-blocks_of options = record {
+abbrev pub block_selection : Parts → Selection
+block_selection options = record {
   State = Blocks;
   place_of = block_place;
-  IsPart = λ before part after. IsBlockPart options before.reader part after.reader × (after.number ≡ number_after before.number part.outcome);
+  IsPart = λ before bytes outcome after.
+      IsBlockPart options before.reader bytes outcome after.reader × (after.number ≡ number_after before.number outcome);
   IsLong = λ blocks. IsLongBlock blocks.reader;
   IsCut = λ blocks. IsCutBlock blocks.reader;
   IsRefused = λ blocks. IsRefusedBlock blocks.reader;
   limit = options.limit;
 }
+
+abbrev pub blocks_of : Parts → Format
+blocks_of options = format_of (block_selection options)
 
 -- the start of a file; the section header block states its byte order
 pub record IsFileStart (blocks : Blocks) : Type 0 where
@@ -107,8 +112,7 @@ pub record RefusesFirst (options : Parts) (start : Blocks) (error : PacketError)
     (counts now_counts : Counts) : Type 0 where
   pub given : SelectionError
   pub is : at_beginning given ≡ Capture (Header (Pcapng error))
-  pub stops : StopsBy (blocks_of options) given start left still_left held now_held counts
-  pub same : now_counts ≡ counts
+  pub stops : StopsBy (blocks_of options) given start left still_left held now_held counts now_counts
 
 -- if the error rejects a block, this block is not the first block of the file
 abbrev pub IsPastFirst : {A : Type 0} → Result A SelectionError → Type 0

@@ -1,18 +1,16 @@
 -- The selection of a whole capture.
-use Rattle.std.specs.Prelude.{◌≡◌, ◌⊎◌, ℕ, true, false, List, take, ⊤, Option, Some, IfSome, Result, Ok, Err}
+use Rattle.std.specs.Prelude.{◌≡◌, ◌⊎◌, ℕ, true, List, ⊤, Option, Result, Ok, Err}
 use Rattle.std.specs.Io.KnownBytes.{Appends, Consumes}
-use Rattle.capture_file.specs.Classic.{header_refusal}
+use Rattle.capture_copy.specs.Captures.{IsNoPcapng, IsPcapng}
+use Rattle.capture_copy.specs.Passing.{PassesTo}
 use Rattle.capture_file.specs.Opening.{SaysHeader}
 use Rattle.capture_file.specs.Reading.{RefusesHeader}
 use Rattle.capture_file.specs.declared.classic.capture_header.CaptureHeader.{CaptureHeader}
 use Rattle.capture_file.specs.declared.reader.open_error.OpenError.TheVariants.{Classic, Pcapng}
-use Rattle.capture_request.specs.declared.capture_error.CaptureError.{CaptureError}
 use Rattle.capture_request.specs.declared.capture_error.CaptureError.TheVariants.{Enough, Header, ReadHeader}
 use Rattle.capture_request.specs.Limits.{is_full}
 use Rattle.capture_request.specs.declared.parts.Parts.{Parts}
-use Rattle.capture_file.specs.Pcapng.{is_section_header}
 use Rattle.capture_selection.specs.Blocks.{IsFileStart, PassesFile}
-use Rattle.capture_selection.specs.Passing.{PassesTo}
 use Rattle.capture_selection.specs.Records.{first_records, records_of}
 use Rattle.capture_selection.specs.declared.blocks.Blocks.{Blocks}
 use Rattle.capture_selection.specs.declared.records.Records.{Records}
@@ -42,23 +40,17 @@ SelectsNothing held now_held counts now_counts = (now_held ≡ held) × (now_cou
 abbrev pub SelectsBlocks : Parts → Result (Unit {0}) SelectionError → Option (List ℕ) → Option (List ℕ) → Option (List ℕ) → Option (List ℕ)
     → Counts → Counts → Type 0
 SelectsBlocks options result left still_left held now_held counts now_counts =
-    IfSome left (λ all. is_section_header (take 12 all) ≡ true)
+    IsPcapng left
     × (((start : Blocks) × (after : Blocks) × IsFileStart start
     × PassesFile options result start after left still_left held now_held counts now_counts)
     ⊎ ((is_full options.limit counts.chosen ≡ true) × SelectsNothing held now_held counts now_counts × (result ≡ Err (Capture Enough))))
-
--- this error rejects the first bytes of a capture; an error of reading states nothing about them
-abbrev pub RefusesBytes : List ℕ → CaptureError → Type 0
-RefusesBytes bytes (Header (Classic error)) = header_refusal bytes ≡ Some error
-RefusesBytes bytes (ReadHeader error) = Unit {0}
-RefusesBytes bytes other = ⊥
 
 -- The selection of a capture. If the header of a classic capture is rejected or can't be read, nothing was written. The header of a pcapng
 -- file is not rejected as the header of a classic capture. If a write failed, nothing is known.
 abbrev pub SelectsCapture : Parts → Result (Unit {0}) SelectionError → Option (List ℕ) → Option (List ℕ) → Option (List ℕ) → Option (List ℕ)
     → Counts → Counts → Type 0
 SelectsCapture options (Err (Capture (Header (Classic error)))) left still_left held now_held counts now_counts =
-    RefusesHeader left still_left error × IfSome left (λ all. is_section_header (take 12 all) ≡ false)
+    RefusesHeader left still_left error × IsNoPcapng left
     × SelectsNothing held now_held counts now_counts
 SelectsCapture options (Err (Capture (Header (Pcapng error)))) left still_left held now_held counts now_counts =
     SelectsBlocks options (Err (Capture (Header (Pcapng error)))) left still_left held now_held counts now_counts

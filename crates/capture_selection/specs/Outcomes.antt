@@ -1,5 +1,6 @@
 -- What is done with the packets of a capture, and how many there are.
-use Rattle.std.specs.Prelude.{◌≡◌, ◌+◌, ◌-◌, ◌^◌, ℕ, true, false, min, Option, Some}
+use Rattle.std.specs.Prelude.{◌≡◌, true, false, Option, Some}
+use Rattle.capture_copy.specs.Passing.{one_more}
 use Rattle.capture_packet.specs.declared.packet.Packet.{Packet}
 use Rattle.capture_summary.specs.Choice.{IsChosen}
 use Rattle.capture_request.specs.Lines.{has_line}
@@ -21,10 +22,6 @@ pub record HasOutcome (options : Parts) (IsPacket : Packet → Type 0) (outcome 
   pub given : Outcome
   pub is_outcome : IsOutcomeOf options packet given
   pub has : outcome ≡ Some given
-
--- the number of packets with one packet more; it is at most 2^64 - 1
-abbrev pub one_more : ℕ → ℕ
-one_more count = min (count + 1) (2 ^ 64 - 1)
 
 -- the counts with one more packet, by its outcome: every packet was read, and a written packet is also a chosen packet
 abbrev pub counted : Counts → Outcome → Counts

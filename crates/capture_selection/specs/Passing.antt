@@ -1,7 +1,9 @@
--- What is read and written, part by part. A part is a record of a classic capture or a block of a pcapng file.
-use Rattle.std.specs.Prelude.{◌≡◌, ◌≤◌, ◌++◌, ◌⊎◌, ℕ, Bool, true, false, List, [], ◌∷◌, flat_map, fold, length, ⊤, Option, Some, None, Result, Ok, Err}
+-- What is read and written by a selection, part by part. A part is a record of a classic capture or a block of a pcapng file.
+use Rattle.std.specs.Prelude.{◌≡◌, ◌++◌, ◌⊎◌, ℕ, true, List, [], length, ⊤, Option, Some, None, Result, Ok, Err}
 use Rattle.std.specs.Io.KnownBytes.{Appends, Consumes, IsAtEnd}
-use Rattle.std.specs.Option.{option_to_list}
+use Rattle.capture_copy.specs.Copies.{Copies}
+use Rattle.capture_copy.specs.Passing as copier
+use Rattle.capture_copy.specs.Passing.{Format}
 use Rattle.capture_request.specs.declared.capture_error.CaptureError.TheVariants.{Enough, Header, Read, ReadHeader, RecordCutOff, Refused, TooManyPackets}
 use Rattle.capture_request.specs.Endings.{max_packets}
 use Rattle.capture_request.specs.Limits.{EndsByLimit, is_full}
@@ -16,10 +18,9 @@ use Rattle.capture_selection.specs.declared.selection_error.SelectionError.TheVa
 
 -- ---- parts
 
--- the bytes of a part, and the outcome of the packet in it, if it contains a packet
-pub record Part : Type 0 where
-  pub bytes : List ℕ
-  pub outcome : Option Outcome
+-- a part with the outcome of the packet in it
+abbrev pub Part : Type 0
+Part = copier.Part Outcome
 
 -- what is written for these bytes: the same bytes, or nothing if they contain a packet that is left out
 abbrev pub written_by : List ℕ → Option Outcome → List ℕ
@@ -28,24 +29,15 @@ written_by bytes (Some Written) = bytes
 written_by bytes (Some Unlisted) = []
 written_by bytes (Some Excluded) = []
 
--- all bytes that were read, all that were written, and all outcomes
-abbrev pub read_of : List Part → List ℕ
-read_of parts = flat_map (λ part. part.bytes) parts
-
-abbrev pub written_of : List Part → List ℕ
-written_of parts = flat_map (λ part. written_by part.bytes part.outcome) parts
-
-abbrev pub outcomes_of : List Part → List Outcome
-outcomes_of parts = flat_map (λ part. option_to_list part.outcome) parts
-
--- A format of captures. A part leads from one state to the next: in a pcapng file a block can begin a section or describe an interface.
-pub record Format : Type 1 where
+-- A format of captures from which packets are selected. A part leads from one state to the next: in a pcapng file a block can begin a section or
+-- describe an interface.
+pub record Selection : Type 1 where
   -- what the parts before determine about the next part
   pub State : Type 0
   -- the place of the next part: the number of the next packet, and the number of bytes before the part
   pub place_of : State → Place
-  -- the part is a record or block, and its outcome is right
-  pub IsPart : State → Part → State → Type 0
+  -- the part with these bytes is a record or block, and this outcome is right
+  pub IsPart : State → List ℕ → Option Outcome → State → Type 0
   -- these first bytes belong to a part for which the buffer has no room, and which may be written
   pub IsLong : State → List ℕ → Type 0
   -- the capture ends with these bytes, within a part: the length of the part as far as it is known, and the length of the bytes
@@ -54,30 +46,6 @@ pub record Format : Type 1 where
   pub IsRefused : State → List ℕ → PlacedPacketError → Type 0
   -- the requested number of packets
   pub limit : Option ℕ
-
--- parts, one after the other
-abbrev pub AreParts : (format : Format) → format.State → List Part → format.State → Type 0
-AreParts format before [] after = after ≡ before
-AreParts format before (part ∷ parts) after = (between : format.State) × format.IsPart before part between × AreParts format between parts after
-
--- Parts were read, and were written unless their packet is left out. The input lost exactly the bytes of the parts, in their order. The
--- output grew by exactly what is written for them. Each outcome was counted.
-pub record Passes (format : Format) (before after : format.State) (left still_left held now_held : Option (List ℕ)) (counts now_counts : Counts)
-    : Type 0 where
-  pub parts : List Part
-  pub each : AreParts format before parts after
-  pub consumed : Consumes left still_left (read_of parts)
-  pub appended : Appends held now_held (written_of parts)
-  pub counted : now_counts ≡ fold counted counts (outcomes_of parts)
-
--- One part was read, and was written unless its packet is left out. Its outcome was counted.
-pub record PassesOne (format : Format) (before after : format.State) (left still_left held now_held : Option (List ℕ)) (counts now_counts : Counts)
-    : Type 0 where
-  pub part : Part
-  pub is_part : format.IsPart before part after
-  pub consumed : Consumes left still_left part.bytes
-  pub appended : Appends held now_held (written_by part.bytes part.outcome)
-  pub counted : now_counts ≡ fold counted counts (option_to_list part.outcome)
 
 -- ---- errors
 
@@ -101,79 +69,53 @@ abbrev pub IsWriteError : SelectionError → Type 0
 IsWriteError (Write error) = ⊤
 IsWriteError (Capture error) = ⊥
 
--- The error occurred in a part after its first bytes, which are `rest`. `then_left` is what the input contains after these bytes, and
--- `still_left` is what it contains after the error. They differ only if reading failed. If the error contains a place, it is the place of
--- the part.
-abbrev pub IsEndBy : (format : Format) → SelectionError → format.State → List ℕ → Option (List ℕ) → Option (List ℕ) → Counts → Type 0
-IsEndBy format (Capture (RecordCutOff number offset required len)) state rest then_left still_left counts =
-    IsAt (format.place_of state) number offset × format.IsCut state rest required len × IsAtEnd still_left × (then_left ≡ still_left)
-IsEndBy format (Capture (Refused error)) state rest then_left still_left counts = format.IsRefused state rest error × (then_left ≡ still_left)
-IsEndBy format (Capture (Read number offset error)) state rest then_left still_left counts = IsAt (format.place_of state) number offset
-IsEndBy format (Capture Enough) state rest then_left still_left counts =
-    (rest ≡ []) × (then_left ≡ still_left) × (is_full format.limit counts.chosen ≡ true)
-IsEndBy format (Capture TooManyPackets) state rest then_left still_left counts = ⊥
-IsEndBy format (Capture (Header error)) state rest then_left still_left counts = ⊥
-IsEndBy format (Capture (ReadHeader error)) state rest then_left still_left counts = ⊥
-IsEndBy format (Write error) state rest then_left still_left counts = ⊥
+-- This error occurred in a part after its first bytes, before which the counts were these. If the error contains a place, it is the place of the
+-- part.
+abbrev pub IsEndBy : (selection : Selection) → selection.State → Counts → List ℕ → SelectionError → Type 0
+IsEndBy selection state counts bytes (Capture (RecordCutOff number offset required len)) =
+    IsAt (selection.place_of state) number offset × selection.IsCut state bytes required len
+IsEndBy selection state counts bytes (Capture (Refused error)) = selection.IsRefused state bytes error
+IsEndBy selection state counts bytes (Capture (Read number offset error)) = IsAt (selection.place_of state) number offset
+IsEndBy selection state counts bytes (Capture Enough) = (bytes ≡ []) × (is_full selection.limit counts.chosen ≡ true)
+IsEndBy selection state counts bytes (Capture TooManyPackets) = ⊥
+IsEndBy selection state counts bytes (Capture (Header error)) = ⊥
+IsEndBy selection state counts bytes (Capture (ReadHeader error)) = ⊥
+IsEndBy selection state counts bytes (Write error) = ⊥
 
 -- `bytes` begins with `front`
 abbrev pub IsFront : List ℕ → List ℕ → Type 0
 IsFront front bytes = (more : List ℕ) × (bytes ≡ front ++ more)
 
--- The first bytes of a part were read, and then an error occurred. Nothing was written for this part, unless the buffer has no room for
--- it. Then some of its first bytes may have been written.
-pub record StopsBy (format : Format) (error : SelectionError) (state : format.State) (left still_left held now_held : Option (List ℕ))
-    (counts : Counts) : Type 0 where
-  pub then_left : Option (List ℕ)
-  pub rest : List ℕ
-  pub front : List ℕ
-  pub consumed : Consumes left then_left rest
-  pub appended : Appends held now_held front
-  pub is_front : (front ≡ []) ⊎ (format.IsLong state rest × IsFront front rest)
-  pub ends : IsEndBy format error state rest then_left still_left counts
+-- An error occurred in a part after its first bytes, and no packet was counted. Nothing was written for this part, unless the buffer has no room
+-- for it. Then some of its first bytes may have been written.
+abbrev pub IsEnd : (selection : Selection) → selection.State → Counts → Part → SelectionError → Type 0
+IsEnd selection state counts part error =
+    (part.outcome ≡ None) × ((part.written ≡ []) ⊎ (selection.IsLong state part.read × IsFront part.written part.read))
+    × IsEndBy selection state counts part.read error
 
--- The number of these parts reached the limit of 2^64 - 2. Nothing was read or written after them.
-pub record StopsByNumber (error : SelectionError) (parts : List Part) (left still_left held now_held : Option (List ℕ)) : Type 0 where
-  pub is : error ≡ Capture TooManyPackets
-  pub many : max_packets ≤ length parts
-  pub unread : still_left ≡ left
-  pub unwritten : now_held ≡ held
+-- What an input has left at an error, next to what it had left after the first bytes of the part: the same, unless reading failed. A part is cut
+-- off only at the end of the input.
+abbrev pub LeavesAt : SelectionError → Option (List ℕ) → Option (List ℕ) → Type 0
+LeavesAt (Capture (RecordCutOff number offset required len)) then_left still_left = IsAtEnd still_left × (then_left ≡ still_left)
+LeavesAt (Capture (Refused error)) then_left still_left = then_left ≡ still_left
+LeavesAt (Capture Enough) then_left still_left = then_left ≡ still_left
+LeavesAt error then_left still_left = ⊤
 
--- Parts were read and written. Then an error occurred in the next part, or the number of parts reached the limit.
-pub record EndsBy (format : Format) (error : SelectionError) (before : format.State) (left still_left held now_held : Option (List ℕ))
-    (counts now_counts : Counts) : Type 0 where
-  pub after : format.State
-  pub middle : Option (List ℕ)
-  pub then_held : Option (List ℕ)
-  pub passes : Passes format before after left middle held then_held counts now_counts
-  pub stops : StopsBy format error after middle still_left then_held now_held now_counts
-      ⊎ StopsByNumber error passes.parts middle still_left then_held now_held
-
--- What was read and written up to this result. If a write failed, nothing is known.
-abbrev pub PassesTo : {A : Type 0} → (format : Format) → Result A SelectionError → format.State → format.State → Option (List ℕ) → Option (List ℕ)
-    → Option (List ℕ) → Option (List ℕ) → Counts → Counts → Type 0
-PassesTo format (Ok given) before after left still_left held now_held counts now_counts =
-    Passes format before after left still_left held now_held counts now_counts
-PassesTo format (Err error) before after left still_left held now_held counts now_counts =
-    IsWriteError error ⊎ EndsBy format error before left still_left held now_held counts now_counts
-
--- What was read and written by a call that passes one part. If an error occurred in the part, nothing was counted.
-abbrev pub PassesNext : {A : Type 0} → (format : Format) → Result A SelectionError → format.State → format.State → Option (List ℕ) → Option (List ℕ)
-    → Option (List ℕ) → Option (List ℕ) → Counts → Counts → Type 0
-PassesNext format (Ok given) before after left still_left held now_held counts now_counts =
-    PassesOne format before after left still_left held now_held counts now_counts
-PassesNext format (Err error) before after left still_left held now_held counts now_counts =
-    IsWriteError error ⊎ (StopsBy format error before left still_left held now_held counts × (now_counts ≡ counts))
-
--- The same for a call that returns whether there is a next part. If there is no part, nothing was read, written or counted.
-abbrev pub PassesAny : (format : Format) → Result Bool SelectionError → format.State → format.State → Option (List ℕ) → Option (List ℕ)
-    → Option (List ℕ) → Option (List ℕ) → Counts → Counts → Type 0
-PassesAny format (Ok true) before after left still_left held now_held counts now_counts =
-    PassesOne format before after left still_left held now_held counts now_counts
-PassesAny format (Ok false) before after left still_left held now_held counts now_counts =
-    (after ≡ before) × Consumes left still_left [] × (now_held ≡ held) × (now_counts ≡ counts)
-PassesAny format (Err error) before after left still_left held now_held counts now_counts =
-    IsWriteError error ⊎ (StopsBy format error before left still_left held now_held counts × (now_counts ≡ counts))
+-- the format whose parts and ends these are; a part is written unless its packet is left out
+abbrev pub format_of : Selection → Format
+format_of selection = record {
+  State = selection.State;
+  Outcome = Outcome;
+  Counts = Counts;
+  Error = SelectionError;
+  counted = counted;
+  IsPart = λ before part after. selection.IsPart before part.read part.outcome after × (part.written ≡ written_by part.read part.outcome);
+  IsEnd = IsEnd selection;
+  LeavesAt = LeavesAt;
+  IsWriteError = IsWriteError;
+  too_many = Capture TooManyPackets;
+  max_parts = max_packets;
+}
 
 -- A selection ended early exactly if as many packets were chosen as are requested. Nothing is stated of a capture whose beginning is
 -- rejected, of a write that failed, or of too many packets.
@@ -183,13 +125,6 @@ EndsAtLimit limit chosen (Err (Capture error)) = EndsByLimit limit chosen (Err e
 EndsAtLimit limit chosen (Err (Write error)) = ⊤
 
 -- ---- bytes that are copied by pieces
-
--- bytes were read, and the same bytes were written
-pub record Copies (left still_left held now_held : Option (List ℕ)) (len : ℕ) : Type 0 where
-  pub bytes : List ℕ
-  pub has_len : length bytes ≡ len
-  pub consumed : Consumes left still_left bytes
-  pub appended : Appends held now_held bytes
 
 -- The result is the number of bytes that were copied of the part at this place. If reading failed, some bytes were copied before.
 abbrev pub CopiesUpTo : Place → Result ℕ SelectionError → Option (List ℕ) → Option (List ℕ) → Option (List ℕ) → Option (List ℕ) → Type 0

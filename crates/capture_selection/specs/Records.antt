@@ -1,31 +1,28 @@
 -- The records of a classic capture as parts (draft-ietf-opsawg-pcap, section 5).
-use Rattle.std.specs.Prelude.{◌≡◌, ◌≢◌, ◌<◌, ◌+◌, ◌-◌, ◌^◌, ℕ, min, List, [], length}
+use Rattle.std.specs.Prelude.{◌≡◌, ◌<◌, ◌+◌, ◌-◌, ◌^◌, ℕ, min, List, length, Option}
 use Rattle.capture_file.specs.CapturePackets.{record_packet}
-use Rattle.capture_file.specs.Classic.{IsPartial, IsRecord}
+use Rattle.capture_copy.specs.Passing.{Format, one_more}
+use Rattle.capture_copy.specs.Records.{IsCutRecord}
+use Rattle.capture_file.specs.Classic.{IsRecord}
 use Rattle.capture_texts.specs.Numbers.{number_at}
-use Rattle.capture_file.specs.Reading.{required_len}
 use Rattle.capture_file.specs.declared.classic.capture_header.CaptureHeader.{CaptureHeader}
 use Rattle.capture_packet.specs.Frames.{max_packet_len}
 use Rattle.capture_request.specs.Report.{IsPacketOf}
 use Rattle.capture_request.specs.declared.parts.Parts.{Parts}
-use Rattle.capture_selection.specs.Outcomes.{HasOutcome, one_more}
-use Rattle.capture_selection.specs.Passing.{Format, Part}
+use Rattle.capture_selection.specs.Outcomes.{HasOutcome}
+use Rattle.capture_selection.specs.Passing.{Selection, format_of}
+use Rattle.capture_selection.specs.declared.outcome.Outcome.{Outcome}
 use Rattle.capture_selection.specs.declared.place.Place.{Place}
 use Rattle.capture_selection.specs.declared.records.Records.{Records}
 
 -- a record of this capture, with the outcome of its packet, which is read as the report reads it
-pub record IsRecordPart (options : Parts) (capture : CaptureHeader) (part : Part) : Type 0 where
-  pub is_record : IsRecord capture.byte_order part.bytes
-  pub has_outcome : HasOutcome options (IsPacketOf (record_packet max_packet_len capture part.bytes)) part.outcome
+pub record IsRecordPart (options : Parts) (capture : CaptureHeader) (bytes : List ℕ) (outcome : Option Outcome) : Type 0 where
+  pub is_record : IsRecord capture.byte_order bytes
+  pub has_outcome : HasOutcome options (IsPacketOf (record_packet max_packet_len capture bytes)) outcome
 
 -- the captured length in the header of the record that begins with these bytes is above the maximum length of a packet that is read
 abbrev pub IsLongRecord : CaptureHeader → List ℕ → Type 0
 IsLongRecord capture bytes = max_packet_len < number_at capture.byte_order bytes 8
-
--- The bytes end within a record. `required` is the length of the record, as far as it is known, and `len` is the number of bytes.
-abbrev pub IsCutRecord : CaptureHeader → List ℕ → ℕ → ℕ → Type 0
-IsCutRecord capture bytes required len =
-    (bytes ≢ []) × IsPartial capture.byte_order bytes × (required ≡ required_len capture.byte_order bytes) × (len ≡ length bytes)
 
 -- the place after a record with this length: the number of a packet and the number of bytes are at most 2^64 - 1
 abbrev pub place_after : Place → ℕ → Place
@@ -40,13 +37,16 @@ abbrev pub first_records : CaptureHeader → Records
 first_records header = record { header = header; place = record { number = 1; offset = 24 } }
 
 -- classic captures, with these options; no record is rejected
-abbrev pub records_of : Parts → Format
-records_of options = record {
+abbrev pub record_selection : Parts → Selection
+record_selection options = record {
   State = Records;
   place_of = λ records. records.place;
-  IsPart = λ before part after. (after ≡ records_after before (length part.bytes)) × IsRecordPart options before.header part;
+  IsPart = λ before bytes outcome after. (after ≡ records_after before (length bytes)) × IsRecordPart options before.header bytes outcome;
   IsLong = λ records. IsLongRecord records.header;
-  IsCut = λ records. IsCutRecord records.header;
+  IsCut = λ records. IsCutRecord records.header.byte_order;
   IsRefused = λ records bytes error. ⊥;
   limit = options.limit;
 }
+
+abbrev pub records_of : Parts → Format
+records_of options = format_of (record_selection options)

@@ -2,12 +2,13 @@
 
 ghost use Rattle.std.specs.Prelude.{◌≡◌, ◌<◌, ◌≤◌, ◌+◌, ℕ, List, Ok, OnErr, OnOk, Option, Some, false, length};
 ghost use Rattle.std.specs.Io.KnownBytes.{Consumes, IsAtEnd};
+ghost use Rattle.capture_copy.specs.Passing.{PassesAny, PassesNext, PassesTo};
 ghost use Rattle.capture_file.specs.PcapngReading.{AreFirst, BeginsBlock};
 ghost use Rattle.capture_file.specs.declared.pcapng.read.NextBlock.TheVariants.{TooLong, Whole};
 ghost use Rattle.capture_packet.specs.Frames.{max_packet_len};
 ghost use Rattle.capture_selection.specs.Blocks.{IsFileStart, IsPastFirst, PassesFile, StepsTo, block_place, blocks_of, number_after};
 ghost use Rattle.capture_request.specs.Limits.{IsWithin, is_full};
-ghost use Rattle.capture_selection.specs.Passing.{EndsAtLimit, PassesAny, PassesNext, PassesTo};
+ghost use Rattle.capture_selection.specs.Passing.{EndsAtLimit};
 ghost use Rattle.capture_selection.specs.declared.outcome.Outcome.{Outcome};
 ghost use Rattle.capture_selection.specs.declared.outcome.Outcome.TheVariants.{Excluded};
 

@@ -1,21 +1,20 @@
 //! The selection of a capture.
 
-ghost use Rattle.std.specs.Prelude.{◌≡◌, ◌≤◌, ℕ, IfErr, IfOk, IfSome, List, OnOk, Ok, Option, false, length, take, true};
+ghost use Rattle.std.specs.Prelude.{◌≡◌, ℕ, List, OnOk, Option, true};
 ghost use Rattle.std.specs.Io.KnownBytes.{Consumes, IsAtEnd};
-ghost use Rattle.capture_file.specs.Opening.{SaysHeader};
-ghost use Rattle.capture_file.specs.Pcapng.{is_section_header};
+ghost use Rattle.capture_copy.specs.Captures.{IsNoPcapng};
 ghost use Rattle.capture_file.specs.PcapngReading.{AreFirst};
 ghost use Rattle.capture_request.specs.Limits.{IsWithin, is_full};
-ghost use Rattle.capture_selection.specs.Captures.{RefusesBytes, SelectsCapture};
+ghost use Rattle.capture_selection.specs.Captures.{SelectsCapture};
 ghost use Rattle.capture_selection.specs.Passing.{EndsAtLimit};
 
 use crate::blocks::{Blocks, select_blocks};
 use crate::records::{Records, select_records};
 use crate::transfer::{Buffer, write};
 use crate::{Counts, SelectionError};
-use capture_file::ByteOrder;
-use capture_file::classic::{CaptureHeader, read_capture_header};
-use capture_file::pcapng::{MIN_BLOCK_LEN, SECTION_HEADER};
+use capture_copy::{header_in, is_pcapng};
+use capture_file::classic::CaptureHeader;
+use capture_file::pcapng::MIN_BLOCK_LEN;
 use capture_file::reader::OpenError;
 use capture_request::{CaptureError, Parts};
 use std::io::{Read, Write};
@@ -66,17 +65,6 @@ pub fn write_selected<R: Read, W: Write>(
     select_blocks(input, output, buffer, begin, &mut file, parts, counts)
 }
 
-/// Whether these bytes begin a pcapng file.
-fn is_pcapng(bytes: &[u8]) -> bool
-    ensures is { result ≡ is_section_header bytes.now }
-    ensures some { result ≡ true → 1 ≤ length bytes.now }
-{
-    match bytes {
-        [a, b, c, d, ..] => ByteOrder::BigEndian.number([*a, *b, *c, *d]) == SECTION_HEADER,
-        _ => false,
-    }
-}
-
 /// Selects the records of a classic capture that begins with these bytes.
 fn select_capture<R: Read, W: Write>(
     input: &mut R,
@@ -88,8 +76,8 @@ fn select_capture<R: Read, W: Write>(
 ) -> Result<(), SelectionError>
     requires begin { AreFirst begin.now (R.remaining input.old) }
     ensures selects { (left : Option (List ℕ)) → Consumes left (R.remaining input.old) begin.now
-        → IfSome left (λ all. is_section_header (take 12 all) ≡ false) → SelectsCapture parts.now result left
-        (R.remaining input.new) (W.contents output.old) (W.contents output.new) counts.old counts.new }
+        → IsNoPcapng left → SelectsCapture parts.now result left (R.remaining input.new) (W.contents output.old) (W.contents output.new)
+        counts.old counts.new }
     ensures ends { OnOk result (IsAtEnd (R.remaining input.new)) }
     ensures limit { EndsAtLimit parts.now.limit counts.new.chosen result }
     ensures full { is_full parts.now.limit counts.old.chosen ≡ true → counts.new ≡ counts.old }
@@ -101,24 +89,14 @@ fn select_capture<R: Read, W: Write>(
         Err(error) => return Err(SelectionError::Capture(CaptureError::ReadHeader(error))),
     };
     let header = match header_in(&first[..len]) {
-        Ok(header) => header,
-        Err(error) => return Err(SelectionError::Capture(error)),
+        Ok(Ok(header)) => header,
+        Ok(Err(error)) => {
+            let refused = OpenError::Classic(error);
+            return Err(SelectionError::Capture(CaptureError::Header(refused)));
+        }
+        Err(error) => return Err(SelectionError::Capture(CaptureError::ReadHeader(error))),
     };
     write(output, &first)?;
     let mut records = Records::after(header);
     select_records(input, output, buffer, &mut records, parts, counts)
-}
-
-/// The header of a classic capture in its first 24 bytes. There are fewer bytes at the end of the input.
-fn header_in(bytes: &[u8]) -> Result<CaptureHeader, CaptureError>
-    requires { length bytes.now ≤ 24 }
-    ensures accepted { IfOk result (λ header. SaysHeader bytes.now (Ok header)) }
-    ensures refused { IfErr result (RefusesBytes bytes.now) }
-{
-    let mut rest = bytes;
-    match read_capture_header(&mut rest) {
-        Ok(Ok(header)) => Ok(header),
-        Ok(Err(error)) => Err(CaptureError::Header(OpenError::Classic(error))),
-        Err(error) => Err(CaptureError::ReadHeader(error)),
-    }
 }

@@ -2,10 +2,11 @@
 
 ghost use Rattle.std.specs.Prelude.{◌≡◌, ◌<◌, ◌≤◌, ◌+◌, ℕ, List, OnOk, Ok, Option, false, true};
 ghost use Rattle.std.specs.Io.KnownBytes.{Consumes, IsAtEnd};
+ghost use Rattle.capture_copy.specs.Passing.{PassesAny, PassesNext, PassesTo};
 ghost use Rattle.capture_file.specs.Classic.{record_header};
 ghost use Rattle.capture_request.specs.Limits.{IsWithin, is_full};
 ghost use Rattle.capture_packet.specs.Frames.{max_packet_len};
-ghost use Rattle.capture_selection.specs.Passing.{EndsAtLimit, PassesAny, PassesNext, PassesTo};
+ghost use Rattle.capture_selection.specs.Passing.{EndsAtLimit};
 ghost use Rattle.capture_selection.specs.Records.{first_records, records_after, records_of};
 
 use crate::place::Place;

@@ -7,6 +7,7 @@ ghost use Rattle.capture_selection.specs.Passing.{CopiesUpTo, IsReadError, IsWri
 
 use crate::place::Place;
 use crate::{Outcome, SelectionError};
+use capture_copy::CopyError;
 use capture_packet::MAX_PACKET_LEN;
 use std::io::{Read, Write};
 use streams::{fill, fill_after, skip};
@@ -83,18 +84,11 @@ fn copy<R: Read, W: Write>(
     ensures within { IfOk result (λ len. len ≤ count) }
     ensures end { IfOk result (λ len. len < count → IsAtEnd (R.remaining input.new)) }
 {
-    let mut copied = 0;
-    while copied < count {
-        let room = buffer.len().min(count - copied);
-        let part = &mut buffer[..room];
-        let len = read_into(input, part, place)?;
-        if len == 0 {
-            return Ok(copied);
-        }
-        write(output, &part[..len])?;
-        copied += len;
+    match capture_copy::copy(input, output, buffer, count) {
+        Ok(len) => Ok(len),
+        Err(CopyError::Read(error)) => Err(place.read_error(error)),
+        Err(CopyError::Write(error)) => Err(SelectionError::Write(error)),
     }
-    Ok(copied)
 }
 
 /// Writes a part, which consists of these bytes one after the other, unless its packet is left out.

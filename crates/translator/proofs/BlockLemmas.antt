@@ -27,11 +27,15 @@ use Rattle.capture_file.specs.declared.reader.packet_error.PacketError.TheVarian
 use Rattle.capture_file.specs.declared.reader.pcapng_reader.Section.{Section}
 use Rattle.capture_packet.specs.Frames.{max_packet_len}
 use Rattle.translator.proofs.PacketLemmas.{range_within}
-use Rattle.translator.proofs.PassingLemmas.{leaves_at_read, next_to_end, next_to_read_error, next_to_write_error, passes_part}
-use Rattle.translator.proofs.RecordLemmas.{copied}
+use Rattle.capture_copy.proofs.BlockLemmas.{alone, next_of}
+use Rattle.capture_copy.proofs.PassingLemmas.{next_to_end, next_to_error, next_to_write_error, passes_part}
+use Rattle.capture_copy.specs.Copies.{Copies, CopiesFront}
+use Rattle.capture_copy.specs.Passing.{PassesNext, PassesOne, StopsBy}
+use Rattle.translator.proofs.RecordLemmas.{copied, leaves_at_read}
 use Rattle.translator.specs.Blocks.{CopiesRest, CopiesToEnd, DiffersAtEnd, HasTaken, IsBeyond, IsBlockEnd, IsFilled, IsKept, IsLongFront, IsRestEnd, StopsRest, TakesKept, TranslatesBlock, TranslatesKept, TranslatesWhere, blocks_of, cut_at, kept_body, written_at}
 use Rattle.translator.specs.Packets.{TranslatesCaptured}
-use Rattle.translator.specs.Passing.{Copies, CopiesFront, IfBlockCutOff, IsReadError, IsWriteError, Part, PassesNext, PassesOne, StopsBy, counted_if}
+use Rattle.translator.specs.Outcomes.{counted_if}
+use Rattle.translator.specs.Passing.{IfBlockCutOff, IsReadError, IsWriteError, Part}
 use Rattle.translator.specs.declared.blocks.Blocks.{Blocks}
 use Rattle.translator.specs.declared.capture_error.CaptureError.{CaptureError}
 use Rattle.translator.specs.declared.capture_error.CaptureError.TheVariants as capture_errors
@@ -145,17 +149,6 @@ short_block section header read within is kept short accepted =
     (whole_block section read [] within empty (ap (block_refusal section) (append-nil read) ∙ accepted)).0
 
 -- ---- ends within a block
-
--- bytes that are all that is left, read to the end
-alone : (rest : List ℕ) → Consumes (Some rest) (Some []) rest
-alone rest = sym (append-nil rest)
-
--- the next item according to first bytes and all bytes after them
-next_of : (section : ByteOrder) (first rest buffer : List ℕ) (next : NextBlock) → ReadsAfter section first (Some rest) (Some []) buffer next
-    → IsNextBlock section (first ++ rest) buffer next
-next_of section first rest buffer next reads =
-    let same : reads.bytes ≡ rest = sym (reads.consumed ∙ append-nil reads.bytes) in
-    subst (λ bytes. IsNextBlock section (first ++ bytes) buffer next) same reads.is_next
 
 -- these first bytes of a block are cut off
 cut_next : (section : ByteOrder) (first rest : List ℕ) (header : BlockHeader) (len : ℕ) → 12 ≤ length first
@@ -518,8 +511,8 @@ pub next_unread : {A : Type 0} → (table : Table) (result : Result A CaptureErr
     → IsReadError state.offset error → result ≡ Err error
     → PassesNext (blocks_of table) result state then_state left still_left held held counts counts
 next_unread table result error state then_state left still_left held counts is fails =
-    next_to_read_error (blocks_of table) result error state then_state left left still_left held held counts counts state.offset (copied [])
-    is (no_block table state error is) (Consumes-nil left) (Appends-nil held) refl fails
+    next_to_error (blocks_of table) result error state then_state left left still_left held held counts counts (copied [])
+    (no_block table state error is) (Consumes-nil left) (Appends-nil held) refl (leaves_at_read state.offset error left still_left is) fails
 
 -- ---- the rest of a long block
 

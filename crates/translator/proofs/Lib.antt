@@ -3,5 +3,4 @@ pub mod CaptureLemmas
 pub mod CountLemmas
 pub mod OutputLemmas
 pub mod PacketLemmas
-pub mod PassingLemmas
 pub mod RecordLemmas

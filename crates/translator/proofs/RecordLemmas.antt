@@ -12,10 +12,14 @@ use Rattle.capture_file.specs.declared.classic.capture_header.CaptureHeader.{Cap
 use Rattle.capture_file.specs.declared.classic.record_header.RecordHeader.{RecordHeader}
 use Rattle.capture_file.specs.declared.reader.capture_reader.ClassicReader.{ClassicReader}
 use Rattle.capture_packet.specs.Frames.{max_packet_len}
-use Rattle.translator.proofs.PassingLemmas.{next_to_read_error, next_to_write_error}
+use Rattle.capture_copy.proofs.PassingLemmas.{next_to_error, next_to_write_error}
+use Rattle.capture_copy.proofs.RecordLemmas.{is_record}
+use Rattle.capture_copy.specs.Copies.{CopiesFront}
+use Rattle.capture_copy.specs.Passing.{PassesNext, StopsBy}
+use Rattle.capture_copy.specs.Records.{IsCutRecord}
 use Rattle.translator.specs.Packets.{TranslatesCaptured}
-use Rattle.translator.specs.Passing.{CopiesFront, IsReadError, IsWriteError, Part, PassesNext, StopsBy}
-use Rattle.translator.specs.Records.{IsCutRecord, IsRecordEnd, IsRecordFront, IsRecordPart, passed, records_after, records_of}
+use Rattle.translator.specs.Passing.{IsReadError, IsWriteError, LeavesAt, Part}
+use Rattle.translator.specs.Records.{IsRecordEnd, IsRecordFront, IsRecordPart, passed, records_after, records_of}
 use Rattle.translator.specs.declared.capture_error.CaptureError.{CaptureError}
 use Rattle.translator.specs.declared.capture_error.CaptureError.TheVariants.{Block, Header, Read, RecordCutOff, TooManyParts, Write}
 use Rattle.translator.specs.declared.counts.Counts.{Counts}
@@ -28,12 +32,6 @@ abbrev pub copied : List ℕ → Part
 copied bytes = record { read = bytes; written = bytes; outcome = None }
 
 -- ---- whole records
-
--- a header and the bytes that it counts are a record
-is_record : (order : ByteOrder) (first captured : List ℕ) → length first ≡ 16 → length captured ≡ number_at order first 8
-    → IsRecord order (first ++ captured)
-is_record order first captured has_len counted =
-    omega (arith, length-append first captured, record_len_front order first captured (omega (arith, has_len)), has_len, counted)
 
 -- a record whose frame was translated
 pub record_translated : (table : Table) (capture : CaptureHeader) (first captured after : List ℕ) (result : Result Bool Reason)
@@ -75,45 +73,18 @@ after_record records after header first captured has_len is_header is =
 
 -- ---- ends within a record
 
--- a capture that ends within the header of a record
-pub cut_header : (capture : CaptureHeader) (first : List ℕ) (len : ℕ) → length first ≡ 16 → (len ≡ 0 → ⊥) → len < 16
-    → IsCutRecord capture (copied (take len first)) 16 len
-cut_header capture first len has_len some within =
-    let taken = length-take-le len first (omega (arith, has_len, within)) in (
-      (refl, refl),
-      λ none. some (omega (arith, taken, ap length none)),
-      inl (omega (arith, taken, within)),
-      grind (arith, nat_tests, taken),
-      omega (arith, taken),
-    )
-
--- a capture that ends within the captured bytes of a record
-pub cut_captured : (capture : CaptureHeader) (first captured : List ℕ) (required len : ℕ) → length first ≡ 16
-    → length captured < number_at capture.byte_order first 8 → required ≡ 16 + number_at capture.byte_order first 8 → len ≡ 16 + length captured
-    → IsCutRecord capture (copied (first ++ captured)) required len
-cut_captured capture first captured required len has_len within is_required is_len =
-    let order = capture.byte_order in
-    let total = length-append first captured in
-    let record_len_is = record_len_front order first captured (omega (arith, has_len)) in (
-      (refl, refl),
-      λ none. omega (arith, ap length none, total, has_len),
-      inr (omega (arith, total, record_len_is, has_len, within)),
-      grind (arith, nat_tests, total, record_len_is, within, has_len, is_required),
-      omega (arith, total, has_len, is_len),
-    )
-
 -- the capture ends within a record, whose bytes were copied
 pub ends_cut : (table : Table) (error : CaptureError) (records : ClassicReader) (left still_left held now_held : Option (List ℕ)) (counts : Counts)
     (bytes : List ℕ) (required len : ℕ)
     → error ≡ RecordCutOff records.offset required len → Consumes left still_left bytes → Appends held now_held bytes
-    → IsCutRecord records.header (copied bytes) required len → IsAtEnd still_left
+    → IsCutRecord records.header.byte_order bytes required len → IsAtEnd still_left
     → IsWriteError error ⊎ StopsBy (records_of table) error records left still_left held now_held counts counts
 ends_cut table error records left still_left held now_held counts bytes required len is consumed appended cut at_end =
     subst (λ given. IsWriteError given ⊎ StopsBy (records_of table) given records left still_left held now_held counts counts) (sym is)
     (inr (record {
       then_left = still_left;
       front = copied bytes;
-      is_end = (refl, cut);
+      is_end = (refl, (refl, refl), cut);
       consumed = consumed;
       appended = appended;
       counted = refl;
@@ -135,6 +106,15 @@ read_end records part (Read offset error) is front = (is, front)
 read_end records part TooManyParts is front = absurd is
 read_end records part (Write error) is front = absurd is
 
+-- what an input has left at a read error is not known
+pub leaves_at_read : (place : ℕ) (error : CaptureError) (then_left still_left : Option (List ℕ)) → IsReadError place error → LeavesAt error then_left still_left
+leaves_at_read place (Header error) then_left still_left is = absurd is
+leaves_at_read place (RecordCutOff offset required len) then_left still_left is = absurd is
+leaves_at_read place (Block error) then_left still_left is = absurd is
+leaves_at_read place (Read offset error) then_left still_left is = tt
+leaves_at_read place TooManyParts then_left still_left is = absurd is
+leaves_at_read place (Write error) then_left still_left is = absurd is
+
 -- reading failed, after these bytes of a record were copied
 pub next_front : {A : Type 0} → (table : Table) (result : Result A CaptureError) (error : CaptureError) (records after : ClassicReader)
     (left then_left still_left held now_held : Option (List ℕ)) (counts : Counts) (bytes : List ℕ)
@@ -142,8 +122,8 @@ pub next_front : {A : Type 0} → (table : Table) (result : Result A CaptureErro
     → ((length bytes < 16) ⊎ (length bytes ≤ record_len records.header.byte_order bytes)) → result ≡ Err error
     → PassesNext (records_of table) result records after left still_left held now_held counts counts
 next_front table result error records after left then_left still_left held now_held counts bytes is consumed appended front fails =
-    next_to_read_error (records_of table) result error records after left then_left still_left held now_held counts counts records.offset
-    (copied bytes) is (read_end records (copied bytes) error is ((refl, refl), front)) consumed appended refl fails
+    next_to_error (records_of table) result error records after left then_left still_left held now_held counts counts (copied bytes)
+    (read_end records (copied bytes) error is ((refl, refl), front)) consumed appended refl (leaves_at_read records.offset error then_left still_left is) fails
 
 -- copying the captured bytes of a record failed
 pub next_copied : {A : Type 0} → (table : Table) (result : Result A CaptureError) (error : CaptureError) (records after : ClassicReader)

@@ -19,7 +19,9 @@ use Rattle.capture_file.specs.declared.reader.packet_error.PacketError.TheVarian
 use Rattle.capture_file.specs.declared.reader.pcapng_reader.Section.{Section}
 use Rattle.capture_packet.specs.Frames.{max_packet_len}
 use Rattle.translator.specs.Packets.{TranslatesCaptured}
-use Rattle.translator.specs.Passing.{Copies, Format, IsUnchanged, IsWriteError, LeavesAt, Part}
+use Rattle.capture_copy.specs.Copies.{Copies}
+use Rattle.capture_copy.specs.Passing.{Format, IsUnchanged}
+use Rattle.translator.specs.Passing.{IsWriteError, LeavesAt, Part, format_of}
 use Rattle.translator.specs.declared.blocks.Blocks.{Blocks}
 use Rattle.translator.specs.declared.capture_error.CaptureError.{CaptureError}
 use Rattle.translator.specs.declared.capture_error.CaptureError.TheVariants as capture_errors
@@ -140,12 +142,11 @@ IsBlockEnd table blocks part (capture_errors.Write error) = ⊥
 
 -- pcapng files, whose packets are translated by this table
 abbrev pub blocks_of : Table → Format
-blocks_of table = record {
-  State = Blocks;
-  IsPart = λ before part after. IsBlockPart table before.section part after.section
-      × (after.offset ≡ offset_after before.offset (block_header before.section.byte_order part.read));
-  IsEnd = IsBlockEnd table;
-}
+blocks_of table = format_of
+    Blocks
+    (λ before part after. IsBlockPart table before.section part after.section
+    × (after.offset ≡ offset_after before.offset (block_header before.section.byte_order part.read)))
+    (IsBlockEnd table)
 
 -- the start of a file; the section header block states its byte order
 pub record IsFileStart (blocks : Blocks) : Type 0 where

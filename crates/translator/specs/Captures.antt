@@ -1,28 +1,20 @@
 -- The translation of a whole capture.
-use Rattle.std.specs.Prelude.{◌≡◌, ◌⊎◌, ℕ, true, false, List, take, ⊤, Option, Some, IfSome, Result, Ok, Err}
+use Rattle.std.specs.Prelude.{◌≡◌, ◌⊎◌, ℕ, List, ⊤, Option, Result, Ok, Err}
 use Rattle.std.specs.Io.KnownBytes.{Appends, Consumes}
-use Rattle.capture_file.specs.Classic.{header_refusal}
+use Rattle.capture_copy.specs.Captures.{IsNoPcapng, IsPcapng}
+use Rattle.capture_copy.specs.Passing.{PassesTo}
 use Rattle.capture_file.specs.Opening.{SaysHeader}
 use Rattle.capture_file.specs.Packets.{begins_records}
-use Rattle.capture_file.specs.Pcapng.{is_section_header}
 use Rattle.capture_file.specs.Reading.{RefusesHeader}
 use Rattle.capture_file.specs.declared.classic.capture_header.CaptureHeader.{CaptureHeader}
 use Rattle.capture_file.specs.declared.reader.capture_reader.ClassicReader.{ClassicReader}
 use Rattle.translator.specs.Blocks.{IsFileStart, blocks_of}
-use Rattle.translator.specs.Passing.{PassesTo}
 use Rattle.translator.specs.Records.{records_of}
 use Rattle.translator.specs.declared.blocks.Blocks.{Blocks}
 use Rattle.translator.specs.declared.capture_error.CaptureError.{CaptureError}
 use Rattle.translator.specs.declared.capture_error.CaptureError.TheVariants.{Block, Header, Read, RecordCutOff, TooManyParts, Write}
 use Rattle.translator.specs.declared.counts.Counts.{Counts}
 use Rattle.translator.specs.declared.table.Table.{Table}
-
--- whether the first 12 bytes of an input, if they are known, begin with the type of a section header block
-abbrev pub IsPcapng : Option (List ℕ) → Type 0
-IsPcapng left = IfSome left (λ all. is_section_header (take 12 all) ≡ true)
-
-abbrev pub IsNoPcapng : Option (List ℕ) → Type 0
-IsNoPcapng left = IfSome left (λ all. is_section_header (take 12 all) ≡ false)
 
 -- The translation of a classic capture. Its header of 24 bytes was written as it was read, and then its records were passed.
 pub record TranslatesRecords (table : Table) (result : Result (Unit {0}) CaptureError) (left still_left held now_held : Option (List ℕ))
@@ -75,12 +67,3 @@ TranslatesCapture table (Err (Block error)) left still_left held now_held counts
 TranslatesCapture table (Err TooManyParts) left still_left held now_held counts now_counts =
     TranslatesEither table (Err TooManyParts) left still_left held now_held counts now_counts
 TranslatesCapture table (Err (Write error)) left still_left held now_held counts now_counts = ⊤
-
--- this error rejects the first bytes of a capture; if reading failed, it states nothing
-abbrev pub RefusesBytes : List ℕ → CaptureError → Type 0
-RefusesBytes bytes (Header error) = header_refusal bytes ≡ Some error
-RefusesBytes bytes (Read offset error) = offset ≡ 0
-RefusesBytes bytes (RecordCutOff offset required_len len) = ⊥
-RefusesBytes bytes (Block error) = ⊥
-RefusesBytes bytes TooManyParts = ⊥
-RefusesBytes bytes (Write error) = ⊥

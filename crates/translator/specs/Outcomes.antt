@@ -1,5 +1,7 @@
 -- The outcomes of packets, their counts, and the exit status.
-use Rattle.std.specs.Prelude.{ℕ, ◌+◌, ◌-◌, ◌^◌, ◌==◌, Bool, true, false, if◌then◌else◌, min, List, [], ◌∷◌, ◌++◌, flat_map, slice_index, slice_set, zero, suc, Result, Ok, Err, codes, decimal}
+use Rattle.std.specs.Prelude.{ℕ, ◌==◌, Bool, true, false, if◌then◌else◌, List, fold, Option, [], ◌∷◌, ◌++◌, flat_map, slice_index, slice_set, zero, suc, Result, Ok, Err, codes, decimal}
+use Rattle.std.specs.Option.{option_to_list}
+use Rattle.capture_copy.specs.Passing.{one_more}
 use Rattle.capture_file.specs.declared.classic.capture_header_error.CaptureHeaderError.TheVariants.{CutOff, Magic, Modified, Pcapng, Version}
 use Rattle.capture_file.specs.declared.classic.capture_header_error.CaptureHeaderError.{CaptureHeaderError}
 use Rattle.capture_file.specs.declared.reader.packet_error.PacketError.{PacketError}
@@ -28,16 +30,16 @@ place reasons.QuotedAddresses = 10
 
 -- ---- counts
 
--- a count with a packet more; 2^64 - 1 stays
-abbrev pub one_more : ℕ → ℕ
-one_more count = min (count + 1) (2 ^ 64 - 1)
-
 -- the counts with the outcome of a packet: the count of this outcome grows by one, and the others stay
 abbrev pub counted : Counts → Result Bool Reason → Counts
 counted counts (Ok true) = record counts { translated = one_more counts.translated }
 counted counts (Ok false) = record counts { unaffected = one_more counts.unaffected }
 counted counts (Err reason) =
     record counts { by_reason = slice_set counts.by_reason (place reason) (one_more (slice_index counts.by_reason (place reason))) }
+
+-- the counts after an outcome, if there is one
+abbrev pub counted_if : Counts → Option (Result Bool Reason) → Counts
+counted_if counts outcome = fold counted counts (option_to_list outcome)
 
 -- ---- the lines on standard error
 

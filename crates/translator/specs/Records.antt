@@ -1,15 +1,16 @@
 -- The records of a classic capture as parts (draft-ietf-opsawg-pcap, section 5).
-use Rattle.std.specs.Prelude.{◌≡◌, ◌≢◌, ◌<◌, ◌≤◌, ◌++◌, ◌⊎◌, ℕ, Bool, List, [], drop, length, take, Some, None, Result, Err}
-use Rattle.capture_file.specs.Classic.{IsPartial, IsRecord, record_header, record_len}
+use Rattle.std.specs.Prelude.{◌≡◌, ◌<◌, ◌≤◌, ◌++◌, ◌⊎◌, ℕ, Bool, List, drop, length, take, Some, None, Result, Err}
+use Rattle.capture_file.specs.Classic.{IsRecord, record_header, record_len}
 use Rattle.capture_texts.specs.Numbers.{number_at}
 use Rattle.capture_file.specs.Packets.{offset_after_record}
-use Rattle.capture_file.specs.Reading.{required_len}
 use Rattle.capture_file.specs.declared.classic.capture_header.CaptureHeader.{CaptureHeader}
 use Rattle.capture_file.specs.declared.classic.record_header.RecordHeader.{RecordHeader}
 use Rattle.capture_file.specs.declared.reader.capture_reader.ClassicReader.{ClassicReader}
 use Rattle.capture_packet.specs.Frames.{max_packet_len}
 use Rattle.translator.specs.Packets.{TranslatesCaptured}
-use Rattle.translator.specs.Passing.{Format, IsUnchanged, Part}
+use Rattle.capture_copy.specs.Passing.{Format, IsUnchanged}
+use Rattle.capture_copy.specs.Records.{IsCutRecord}
+use Rattle.translator.specs.Passing.{Part, format_of}
 use Rattle.translator.specs.declared.capture_error.CaptureError.{CaptureError}
 use Rattle.translator.specs.declared.capture_error.CaptureError.TheVariants.{Block, Header, Read, RecordCutOff, TooManyParts, Write}
 use Rattle.translator.specs.declared.reason.Reason.{Reason}
@@ -48,13 +49,6 @@ passed records header = record { header = records.header; offset = offset_after_
 abbrev pub records_after : ClassicReader → List ℕ → ClassicReader
 records_after records bytes = passed records (record_header records.header.byte_order bytes)
 
--- The capture ends within the record that begins with these bytes, which are copied: the length of the record as far as it is known, and the
--- number of these bytes.
-abbrev pub IsCutRecord : CaptureHeader → Part → ℕ → ℕ → Type 0
-IsCutRecord capture part required len =
-    IsUnchanged part None × (part.read ≢ []) × IsPartial capture.byte_order part.read
-    × (required ≡ required_len capture.byte_order part.read) × (len ≡ length part.read)
-
 -- at most the bytes of one record, which are copied
 abbrev pub IsRecordFront : CaptureHeader → Part → Type 0
 IsRecordFront capture part =
@@ -62,7 +56,8 @@ IsRecordFront capture part =
 
 -- this error ends the capture within a record, which is not counted
 abbrev pub IsRecordEnd : ClassicReader → Part → CaptureError → Type 0
-IsRecordEnd records part (RecordCutOff offset required len) = (offset ≡ records.offset) × IsCutRecord records.header part required len
+IsRecordEnd records part (RecordCutOff offset required len) =
+    (offset ≡ records.offset) × IsUnchanged part None × IsCutRecord records.header.byte_order part.read required len
 IsRecordEnd records part (Read offset error) = (offset ≡ records.offset) × IsRecordFront records.header part
 IsRecordEnd records part (Header error) = ⊥
 IsRecordEnd records part (Block error) = ⊥
@@ -71,8 +66,7 @@ IsRecordEnd records part (Write error) = ⊥
 
 -- classic captures, whose packets are translated by this table
 abbrev pub records_of : Table → Format
-records_of table = record {
-  State = ClassicReader;
-  IsPart = λ before part after. (after ≡ records_after before part.read) × IsRecordPart table before.header part;
-  IsEnd = IsRecordEnd;
-}
+records_of table = format_of
+    ClassicReader
+    (λ before part after. (after ≡ records_after before part.read) × IsRecordPart table before.header part)
+    IsRecordEnd

@@ -2,12 +2,13 @@
 
 ghost use Rattle.std.specs.Prelude.{◌≡◌, ◌%◌, ◌≤◌, ℕ, IfErr, List, Ok, OnOk, Option, Some, false, length, min};
 ghost use Rattle.std.specs.Io.KnownBytes.{Appends, Consumes, IsAtEnd};
+ghost use Rattle.capture_copy.specs.Passing.{PassesAny, PassesNext, PassesTo};
 ghost use Rattle.capture_file.specs.Packets.{IsWithin};
 ghost use Rattle.capture_file.specs.Pcapng.{block_refusal};
 ghost use Rattle.capture_file.specs.PcapngReading.{AreFirst, BeginsBlock};
 ghost use Rattle.capture_packet.specs.Frames.{max_packet_len};
 ghost use Rattle.translator.specs.Blocks.{CopiesRest, IsFileStart, TranslatesKept, TranslatesWhere, blocks_of, cut_at, written_at};
-ghost use Rattle.translator.specs.Passing.{IsWriteError, PassesAny, PassesNext, PassesTo};
+ghost use Rattle.translator.specs.Passing.{IsWriteError};
 ghost use Rattle.translator.specs.declared.capture_error.CaptureError.TheVariants.{Block as BlockRefused};
 
 use crate::capture_error::CaptureError;

@@ -1,11 +1,10 @@
 //! The translation of a capture in either format.
 
-ghost use Rattle.std.specs.Prelude.{◌≡◌, ◌≤◌, ℕ, IfErr, IfOk, List, OnOk, Ok, Option, length, true};
+ghost use Rattle.std.specs.Prelude.{ℕ, List, OnOk, Option};
 ghost use Rattle.std.specs.Io.KnownBytes.{Consumes, IsAtEnd};
-ghost use Rattle.capture_file.specs.Opening.{SaysHeader};
-ghost use Rattle.capture_file.specs.Pcapng.{is_section_header};
 ghost use Rattle.capture_file.specs.PcapngReading.{AreFirst};
-ghost use Rattle.translator.specs.Captures.{IsNoPcapng, RefusesBytes, TranslatesCapture};
+ghost use Rattle.capture_copy.specs.Captures.{IsNoPcapng};
+ghost use Rattle.translator.specs.Captures.{TranslatesCapture};
 
 use crate::blocks::{Blocks, translate_blocks};
 use crate::capture_error::CaptureError;
@@ -13,9 +12,9 @@ use crate::counts::Counts;
 use crate::records::translate_records;
 use crate::table::Table;
 use crate::transfer::{Buffer, read_after, read_into, write};
-use capture_file::ByteOrder;
-use capture_file::classic::{CaptureHeader, read_capture_header};
-use capture_file::pcapng::{MIN_BLOCK_LEN, SECTION_HEADER};
+use capture_copy::{header_in, is_pcapng};
+use capture_file::classic::CaptureHeader;
+use capture_file::pcapng::MIN_BLOCK_LEN;
 use capture_file::reader::ClassicReader;
 use std::io::{Read, Write};
 
@@ -49,17 +48,6 @@ pub fn translate_capture<R: Read, W: Write>(
     }
 }
 
-/// Whether these bytes begin a pcapng file.
-fn is_pcapng(bytes: &[u8]) -> bool
-    ensures is { result ≡ is_section_header bytes.now }
-    ensures some { result ≡ true → 1 ≤ length bytes.now }
-{
-    match bytes {
-        [a, b, c, d, ..] => ByteOrder::BigEndian.number([*a, *b, *c, *d]) == SECTION_HEADER,
-        _ => false,
-    }
-}
-
 /// Translates the packets of a classic capture that begins with these bytes.
 fn translate_classic<R: Read, W: Write>(
     input: &mut R,
@@ -77,22 +65,12 @@ fn translate_classic<R: Read, W: Write>(
 {
     let mut first = [0u8; CaptureHeader::LEN];
     let len = read_after(input, begin, &mut first, 0)?;
-    let header = header_in(&first[..len])?;
+    let header = match header_in(&first[..len]) {
+        Ok(Ok(header)) => header,
+        Ok(Err(error)) => return Err(CaptureError::Header(error)),
+        Err(error) => return Err(CaptureError::Read { offset: 0, error }),
+    };
     write(output, &first)?;
     let mut records = ClassicReader::new(header);
     translate_records(input, output, buffer, &mut records, table, counts)
-}
-
-/// The header of a classic capture in its first 24 bytes. There are fewer bytes at the end of the input.
-fn header_in(bytes: &[u8]) -> Result<CaptureHeader, CaptureError>
-    requires { length bytes.now ≤ 24 }
-    ensures accepted { IfOk result (λ header. SaysHeader bytes.now (Ok header)) }
-    ensures refused { IfErr result (RefusesBytes bytes.now) }
-{
-    let mut rest = bytes;
-    match read_capture_header(&mut rest) {
-        Ok(Ok(header)) => Ok(header),
-        Ok(Err(error)) => Err(CaptureError::Header(error)),
-        Err(error) => Err(CaptureError::Read { offset: 0, error }),
-    }
 }

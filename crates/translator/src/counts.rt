@@ -1,7 +1,6 @@
 ghost use Rattle.std.specs.Prelude.{◌≡◌, OnOk};
 ghost use Rattle.std.specs.Io.KnownBytes.{Appends};
-ghost use Rattle.translator.specs.Outcomes.{counted, counted_line, counts_text, reason_line};
-ghost use Rattle.translator.specs.Passing.{counted_if};
+ghost use Rattle.translator.specs.Outcomes.{counted, counted_if, counted_line, counts_text, reason_line};
 
 use crate::reason::Reason;
 use std::io;

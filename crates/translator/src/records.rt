@@ -2,10 +2,10 @@
 
 ghost use Rattle.std.specs.Prelude.{◌≡◌, ◌<◌, ◌≤◌, ℕ, List, OnOk, Ok, Option, false, length};
 ghost use Rattle.std.specs.Io.KnownBytes.{Appends, Consumes, IsAtEnd};
+ghost use Rattle.capture_copy.specs.Passing.{PassesAny, PassesNext, PassesTo};
 ghost use Rattle.capture_file.specs.Classic.{record_header};
 ghost use Rattle.capture_packet.specs.Frames.{max_packet_len};
 ghost use Rattle.translator.specs.declared.capture_error.CaptureError.TheVariants.{RecordCutOff};
-ghost use Rattle.translator.specs.Passing.{PassesAny, PassesNext, PassesTo};
 ghost use Rattle.translator.specs.Records.{passed, records_of};
 
 use crate::capture_error::CaptureError;

@@ -6,6 +6,7 @@ ghost use Rattle.streams.specs.Streams.{FillsAfter};
 ghost use Rattle.translator.specs.Passing.{CopiesUpTo, IsReadError, IsWriteError};
 
 use crate::capture_error::CaptureError;
+use capture_copy::CopyError;
 use capture_packet::MAX_PACKET_LEN;
 use std::io::{Read, Write};
 use streams::{fill, fill_after};
@@ -73,16 +74,9 @@ pub(crate) fn copy<R: Read, W: Write>(
     ensures within { IfOk result (λ len. len ≤ count) }
     ensures end { IfOk result (λ len. len < count → IsAtEnd (R.remaining input.new)) }
 {
-    let mut copied = 0;
-    while copied < count {
-        let room = buffer.len().min(count - copied);
-        let part = &mut buffer[..room];
-        let len = read_into(input, part, offset)?;
-        if len == 0 {
-            return Ok(copied);
-        }
-        write(output, &part[..len])?;
-        copied += len;
+    match capture_copy::copy(input, output, buffer, count) {
+        Ok(len) => Ok(len),
+        Err(CopyError::Read(error)) => Err(CaptureError::Read { offset, error }),
+        Err(CopyError::Write(error)) => Err(CaptureError::Write(error)),
     }
-    Ok(copied)
 }

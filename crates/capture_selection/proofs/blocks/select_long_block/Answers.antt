@@ -6,17 +6,19 @@ use Rattle.capture_file.proofs.ReaderLemmas.{full}
 use Rattle.capture_file.specs.declared.pcapng.errors.BlockError.TheVariants.{CutOff, LastLength}
 use Rattle.capture_file.specs.declared.pcapng.read.NextBlock.TheVariants.{Refused, TooLong}
 use Rattle.capture_packet.specs.Frames.{max_packet_len}
-use Rattle.capture_selection.proofs.BlockLemmas.{alone, block_part, ends_refused, front_before, long_front, long_read_error, next_of, refused_block, written_append}
+use Rattle.capture_selection.proofs.BlockLemmas.{block_part, ends_refused, front_before, long_front, refused_block, written_append}
 use Rattle.capture_selection.proofs.FirstBlockLemmas.{begun_past}
-use Rattle.capture_selection.proofs.PassingLemmas.{cut_at, front_of, next_long_at, passes_part, read_error_at}
-use Rattle.capture_selection.specs.Blocks.{IsLongBlock, StepsTo, blocks_of, refused_by}
+use Rattle.capture_copy.proofs.BlockLemmas.{alone, next_of}
+use Rattle.capture_copy.proofs.PassingLemmas.{passes_part}
+use Rattle.capture_selection.proofs.PassingLemmas.{cut_at, ended, front_of, next_long_at, next_to_read_error, part_of, read_error_at}
+use Rattle.capture_selection.specs.Blocks.{IsLongBlock, StepsTo, block_selection, refused_by}
 use Rattle.capture_selection.specs.Passing.{written_by}
 use Rattle.capture_selection.proofs.blocks.select_long_block.Goals as goal
 
 pub returns-in_err-len-clause-passes : goal.returns-in_err-len-clause-passes
 returns-in_err-len-clause-passes g c =
     λ left consumed.
-    next_long_at (blocks_of c.args.parts.now) _ _ c.args.file.now _ left _ _ _ _ _ _ c.args.first.now _ c.place-place.ensures
+    next_long_at (block_selection c.args.parts.now) _ _ c.args.file.now _ left _ _ _ _ _ _ c.args.first.now _ c.place-place.ensures
     (λ bytes. long_front c.args.parts.now c.args.file.now.reader c.long_outcome-stepped.new.file c.args.first.now bytes c.args.buffer.now
     (c.args.first.now ++ bytes) c.args.header.now c.long_outcome-stepped.result c.kept_outcome-outcome.result c.requires.header.has_len
     c.requires.header.is_header c.requires.room (c.long_outcome-stepped.ensures.steps c.args.buffer.now) c.kept_outcome-outcome.ensures.refused)
@@ -35,7 +37,7 @@ returns-then-len-middle_len-clause-passes g c =
     let long = long_front c.args.parts.now c.args.file.now.reader c.long_outcome-stepped.new.file first middle.bytes c.args.buffer.now
     (first ++ middle.bytes) header c.long_outcome-stepped.result outcome c.requires.header.has_len c.requires.header.is_header c.requires.room
     (c.long_outcome-stepped.ensures.steps c.args.buffer.now) c.kept_outcome-outcome.ensures.refused in
-    ends_refused _ _ c.args.file.now (CutOff header.total_len len) left _ _ _ _ (first ++ middle.bytes)
+    ends_refused c.args.parts.now _ c.args.file.now (CutOff header.total_len len) left _ _ _ _ (first ++ middle.bytes)
     (written_by (first ++ middle.bytes) outcome) c.args.buffer.now (c.cut_off.ensures ∙ ap (λ place. cut_at place header.total_len len) c.place-place.ensures) has_room
     (Consumes-trans _ _ _ first middle.bytes consumed middle.consumed) middle.appended
     (front_of outcome (first ++ middle.bytes) (IsLongBlock c.args.file.now.reader (first ++ middle.bytes)) long)
@@ -51,11 +53,13 @@ returns-in_err-len-2-clause-passes g c =
     λ left consumed.
     let first = c.args.first.now in
     let middle = c.in_ok-len.ensures.passes in
-    long_read_error c.args.parts.now _ _ c.args.file.now _ left _ _ _ _ _ c.kept_outcome-outcome.result (first ++ middle.bytes)
+    let outcome = c.kept_outcome-outcome.result in
+    let bytes = first ++ middle.bytes in
+    next_to_read_error (block_selection c.args.parts.now) _ _ c.args.file.now _ left _ _ _ _ _ bytes (written_by bytes outcome)
     (read_error_at _ _ _ c.place-place.ensures c.in_err-len-2.ensures.failed) (Consumes-trans _ _ _ first middle.bytes consumed middle.consumed) middle.appended
-    (long_front c.args.parts.now c.args.file.now.reader c.long_outcome-stepped.new.file first middle.bytes c.args.buffer.now (first ++ middle.bytes)
+    (front_of outcome bytes (IsLongBlock c.args.file.now.reader bytes) (long_front c.args.parts.now c.args.file.now.reader c.long_outcome-stepped.new.file first middle.bytes c.args.buffer.now (first ++ middle.bytes)
     c.args.header.now c.long_outcome-stepped.result c.kept_outcome-outcome.result c.requires.header.has_len c.requires.header.is_header c.requires.room
-    (c.long_outcome-stepped.ensures.steps c.args.buffer.now) c.kept_outcome-outcome.ensures.refused)
+    (c.long_outcome-stepped.ensures.steps c.args.buffer.now) c.kept_outcome-outcome.ensures.refused))
     (search rules)
 
 pub returns-then-len-lt-LAST_LEN-clause-passes : goal.returns-then-len-lt-LAST_LEN-clause-passes
@@ -75,7 +79,7 @@ returns-then-len-lt-LAST_LEN-clause-passes g c =
     let long = long_front c.args.parts.now c.args.file.now.reader c.long_outcome-stepped.new.file first (middle.bytes ++ last) c.args.buffer.now
     (first ++ middle.bytes) header c.long_outcome-stepped.result outcome c.requires.header.has_len c.requires.header.is_header c.requires.room
     (c.long_outcome-stepped.ensures.steps c.args.buffer.now) c.kept_outcome-outcome.ensures.refused in
-    ends_refused _ _ c.args.file.now (CutOff header.total_len len) left _ _ _ _ (first ++ (middle.bytes ++ last))
+    ends_refused c.args.parts.now _ c.args.file.now (CutOff header.total_len len) left _ _ _ _ (first ++ (middle.bytes ++ last))
     (written_by (first ++ middle.bytes) outcome) c.args.buffer.now (c.cut_off-then-len-lt-LAST_LEN.ensures ∙ ap (λ place. cut_at place header.total_len len) c.place-place.ensures) has_room
     (Consumes-trans _ _ _ first (middle.bytes ++ last) consumed
     (Consumes-trans _ _ _ middle.bytes last middle.consumed c.in_ok-len-2.ensures.consumed)) middle.appended
@@ -104,7 +108,7 @@ returns-then-last_len-header-clause-passes g c =
     (first ++ middle.bytes) header c.long_outcome-stepped.result outcome c.requires.header.has_len c.requires.header.is_header c.requires.room
     (c.long_outcome-stepped.ensures.steps c.args.buffer.now) c.kept_outcome-outcome.ensures.refused in
     let read_last = full _ _ last c.in_ok-len-2.len (omega (arith, four, c.if-len-lt-LAST_LEN.false)) c.in_ok-len-2.ensures.consumed in
-    ends_refused _ _ c.args.file.now (LastLength header.total_len number) left _ _ _ _ (first ++ (middle.bytes ++ last))
+    ends_refused c.args.parts.now _ c.args.file.now (LastLength header.total_len number) left _ _ _ _ (first ++ (middle.bytes ++ last))
     (written_by (first ++ middle.bytes) outcome) c.args.buffer.now (c.refused.ensures ∙ ap (λ place. refused_by place (LastLength header.total_len number)) c.place-place.ensures) has_room
     (Consumes-trans _ _ _ first (middle.bytes ++ last) consumed (Consumes-trans _ _ _ middle.bytes last middle.consumed read_last)) middle.appended
     (front_before outcome first middle.bytes last (IsLongBlock c.args.file.now.reader (first ++ (middle.bytes ++ last))) long)
@@ -137,22 +141,20 @@ returns-in-Err-clause-passes g c =
     c.number-last_len.ensures (omega (arith, c.if-last_len-header.false)) (omega (arith, has_room, c.requires.room))) in
     let steps = subst (StepsTo c.args.parts.now c.args.file.now.reader c.args.buffer.now (TooLong header) c.long_outcome-stepped.new.file) c.in-Err.is
     (c.long_outcome-stepped.ensures.steps c.args.buffer.now) in
-    inr (
-      record {
-        then_left = _;
-        rest = first ++ (middle.bytes ++ last);
-        front = written_by (first ++ middle.bytes) outcome;
-        consumed = Consumes-trans _ _ _ first (middle.bytes ++ last) consumed (Consumes-trans _ _ _ middle.bytes last middle.consumed read_last);
-        appended = middle.appended;
-        is_front = front_before outcome first middle.bytes last (IsLongBlock c.args.file.now.reader (first ++ (middle.bytes ++ last))) long;
-        ends = (
-          refused_block c.args.parts.now c.args.file.now.reader c.long_outcome-stepped.new.file (first ++ (middle.bytes ++ last)) c.args.buffer.now
-              (TooLong header) c.in-Err.error has_room is_next steps,
-          refl,
-        );
-      },
-      refl,
-    )
+    inr (record {
+      then_left = _;
+      front = ended (first ++ (middle.bytes ++ last)) (written_by (first ++ middle.bytes) outcome);
+      is_end = (
+        refl,
+        front_before outcome first middle.bytes last (IsLongBlock c.args.file.now.reader (first ++ (middle.bytes ++ last))) long,
+        refused_block c.args.parts.now c.args.file.now.reader c.long_outcome-stepped.new.file (first ++ (middle.bytes ++ last)) c.args.buffer.now
+            (TooLong header) c.in-Err.error has_room is_next steps,
+      );
+      consumed = Consumes-trans _ _ _ first (middle.bytes ++ last) consumed (Consumes-trans _ _ _ middle.bytes last middle.consumed read_last);
+      appended = middle.appended;
+      counted = refl;
+      leaves = refl;
+    })
 
 pub returns-clause-passes : goal.returns-clause-passes
 returns-clause-passes g c =
@@ -174,10 +176,13 @@ returns-clause-passes g c =
     let stepped : c.long_outcome-stepped.result ≡ Ok outcome = c.in_default.is ∙ ap Ok (sym (c.kept_outcome-outcome.ensures.kept c.in_default.field-0 c.in_default.is)) in
     let steps = subst (StepsTo c.args.parts.now c.args.file.now.reader c.args.buffer.now (TooLong header) c.long_outcome-stepped.new.file) stepped
     (c.long_outcome-stepped.ensures.steps c.args.buffer.now) in
-    passes_part _ _ _ left _ _ _ _ _ (record { bytes = first ++ (middle.bytes ++ last); outcome = outcome }) (
-      block_part c.args.parts.now c.args.file.now.reader c.long_outcome-stepped.new.file (first ++ (middle.bytes ++ last)) c.args.buffer.now (TooLong header)
-          outcome has_room is_next steps,
-      c.number_after-file.ensures,
+    passes_part _ _ _ left _ _ _ _ _ (part_of (first ++ (middle.bytes ++ last)) outcome) (
+      (
+        block_part c.args.parts.now c.args.file.now.reader c.long_outcome-stepped.new.file (first ++ (middle.bytes ++ last)) c.args.buffer.now (TooLong header)
+            outcome has_room is_next steps,
+        c.number_after-file.ensures,
+      ),
+      refl,
     )
     (Consumes-trans _ _ _ first (middle.bytes ++ last) consumed (Consumes-trans _ _ _ middle.bytes last middle.consumed read_last))
     (subst (Appends (g.W.Write.contents c.args.output.now) (g.W.Write.contents c.write_part.new.output)) (sym (written_append outcome first middle.bytes last))

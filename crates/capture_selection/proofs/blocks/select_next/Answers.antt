@@ -1,11 +1,12 @@
 use Rattle.std.proofs.Common.{refl, rules, subst, take}
 use Rattle.std.specs.Io.KnownBytes.{Consumes}
 use Rattle.capture_selection.proofs.PassingLemmas.{any_to_read_error, read_error_at}
+use Rattle.capture_selection.specs.Blocks.{block_selection}
 use Rattle.capture_selection.proofs.blocks.select_next.Goals as goal
 
 pub returns-in_err-len-clause-passes : goal.returns-in_err-len-clause-passes
 returns-in_err-len-clause-passes g c =
-    any_to_read_error _ _ _ _ _ _ _ _ _ (read_error_at _ _ _ c.place.ensures c.in_err-len.ensures.failed) (search rules)
+    any_to_read_error (block_selection c.args.parts.now) _ _ _ _ _ _ _ _ (read_error_at _ _ _ c.place.ensures c.in_err-len.ensures.failed) (search rules)
 
 pub returns-then-len-eq0-clause-passes : goal.returns-then-len-eq0-clause-passes
 returns-then-len-eq0-clause-passes g c = (

@@ -1,7 +1,9 @@
-use Rattle.std.proofs.Common.{◌∙◌, arith, inr, rules, sym}
+use Rattle.std.proofs.Common.{◌∙◌, ◌≤◌, arith, inr, length, rules, sym}
 use Rattle.capture_selection.proofs.FirstBlockLemmas.{passes_past, stops_past}
-use Rattle.capture_selection.proofs.PassingLemmas.{ends_below, ends_by_limit, ends_by_number, none_below, passes_any, passes_more, passes_nothing, passes_on, passes_on_to_error, within_one}
-use Rattle.capture_selection.specs.Blocks.{blocks_of}
+use Rattle.capture_request.specs.Endings.{max_packets}
+use Rattle.capture_copy.proofs.PassingLemmas.{ends_by_number, passes_any, passes_more, passes_nothing, passes_on, passes_on_to_error}
+use Rattle.capture_selection.proofs.PassingLemmas.{ends_below, ends_by_limit, none_below, within_one}
+use Rattle.capture_selection.specs.Blocks.{block_selection}
 use Rattle.capture_selection.proofs.blocks.select_others.Goals as goal
 
 pub loop-block-init : goal.loop-block-init
@@ -9,7 +11,7 @@ loop-block-init g c = record { passes = (passes_nothing _ _ _ _ _, omega arith);
 
 pub returns-then-is_full-clause-passes : goal.returns-then-is_full-clause-passes
 returns-then-is_full-clause-passes g c =
-    inr (ends_by_limit _ _ _ _ _ _ _ _ _ c.loop-block.invariant.passes.0 (sym c.is_full.ensures ∙ c.if-is_full.true))
+    inr (ends_by_limit (block_selection c.args.parts.now) _ _ _ _ _ _ _ _ c.loop-block.invariant.passes.0 (sym c.is_full.ensures ∙ c.if-is_full.true))
 
 pub returns-then-is_full-clause-limit : goal.returns-then-is_full-clause-limit
 returns-then-is_full-clause-limit g c = sym c.is_full.ensures ∙ c.if-is_full.true
@@ -20,7 +22,7 @@ returns-in_err-is_block-clause-passes g c =
 
 pub returns-in_err-is_block-clause-limit : goal.returns-in_err-is_block-clause-limit
 returns-in_err-is_block-clause-limit g c =
-    ends_below (blocks_of c.args.parts.now) _ _ _ _ _ _ _ _ _ (sym c.is_full.ensures ∙ c.if-is_full.false) c.in_err-is_block.ensures.passes (search rules)
+    ends_below (block_selection c.args.parts.now) _ _ _ _ _ _ _ _ _ (sym c.is_full.ensures ∙ c.if-is_full.false) c.in_err-is_block.ensures.passes (search rules)
 
 pub returns-then-not-is_block-clause-passes : goal.returns-then-not-is_block-clause-passes
 returns-then-not-is_block-clause-passes g c =
@@ -28,7 +30,7 @@ returns-then-not-is_block-clause-passes g c =
 
 pub returns-then-not-is_block-clause-limit : goal.returns-then-not-is_block-clause-limit
 returns-then-not-is_block-clause-limit g c =
-    none_below (blocks_of c.args.parts.now) _ _ _ _ _ _ _ _ _ (sym c.is_full.ensures ∙ c.if-is_full.false) c.in_ok-is_block.ensures.passes
+    none_below (block_selection c.args.parts.now) _ _ _ _ _ _ _ _ _ (sym c.is_full.ensures ∙ c.if-is_full.false) c.in_ok-is_block.ensures.passes
     (search rules)
 
 pub loop-block-preserved : goal.loop-block-preserved
@@ -36,16 +38,17 @@ loop-block-preserved g c =
     let more = passes_more _ _ _ _ _ _ _ _ _ _ _ _ _ _ c.loop-block.invariant.passes.0 c.in_ok-is_block.ensures.passes (search rules) in
     record {
       passes = (more.0, omega (arith, more.1, c.loop-block.invariant.passes.1));
-      past = λ past. passes_past _ _ _ _ _ _ _ _ _ (passes_any _ _ _ _ _ _ _ _ _ _ c.in_ok-is_block.ensures.passes) (c.loop-block.invariant.past past);
+      past = λ past. passes_past c.args.parts.now _ _ _ _ _ _ _ _ (passes_any _ _ _ _ _ _ _ _ _ _ c.in_ok-is_block.ensures.passes) (c.loop-block.invariant.past past);
       within = λ within. within_one _ _ _ (sym c.is_full.ensures ∙ c.if-is_full.false) c.select_next.ensures.one;
     }
 
 pub returns-in_err-is_block-clause-past : goal.returns-in_err-is_block-clause-past
 returns-in_err-is_block-clause-past g c =
-    λ past. stops_past _ _ _ _ _ _ _ _ _ _ _ (c.loop-block.invariant.past past) c.in_err-is_block.ensures.passes (search rules)
+    λ past. stops_past c.args.parts.now _ _ _ _ _ _ _ _ _ (c.loop-block.invariant.past past) c.in_err-is_block.ensures.passes (search rules)
 
 -- after the last number the limit of blocks is reached
 pub returns-clause-passes : goal.returns-clause-passes
 returns-clause-passes g c =
-    inr (ends_by_number _ _ _ _ _ _ _ _ _ c.loop-block.invariant.passes.0
-    (omega (arith, c.loop-block.invariant.passes.1, c.loop-block-test.false)))
+    let passes = c.loop-block.invariant.passes.0 in
+    let many : max_packets ≤ length passes.parts = omega (arith, c.loop-block.invariant.passes.1, c.loop-block-test.false) in
+    inr (ends_by_number _ _ _ _ _ _ _ _ _ passes many)

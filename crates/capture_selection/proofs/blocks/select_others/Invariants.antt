@@ -1,7 +1,7 @@
 use Rattle.std.proofs.Common.{◌≤◌, length}
 use Rattle.capture_request.specs.Limits.{IsWithin}
 use Rattle.capture_selection.specs.Blocks.{blocks_of}
-use Rattle.capture_selection.specs.Passing.{Passes}
+use Rattle.capture_copy.specs.Passing.{Passes}
 use Rattle.capture_selection.proofs.blocks.select_others.Given as goal
 
 -- the blocks read so far were passed, each iteration passed a block, the next block is not the first one, and no more packets are chosen

@@ -1,5 +1,6 @@
 use Rattle.std.proofs.Common.{inl, inr, refl, sym, false, true, ◌∙◌}
-use Rattle.capture_selection.proofs.CaptureLemmas.{begins_pcapng, selects_blocks}
+use Rattle.capture_copy.proofs.BeginLemmas.{begins_pcapng}
+use Rattle.capture_selection.proofs.CaptureLemmas.{selects_blocks}
 use Rattle.capture_selection.proofs.capture.write_selected.Goals as goal
 
 pub returns-then-not-is_pcapng-clause-selects : goal.returns-then-not-is_pcapng-clause-selects

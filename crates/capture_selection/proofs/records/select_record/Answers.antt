@@ -2,12 +2,13 @@ use Rattle.std.proofs.Common.{arith, inl, refl, rules, subst, take, []}
 use Rattle.std.proofs.KnownBytes.{Appends-nil}
 use Rattle.std.specs.Io.KnownBytes.{Consumes}
 use Rattle.capture_selection.proofs.PassingLemmas.{any_to_read_error, ends_cut}
-use Rattle.capture_selection.proofs.RecordLemmas.{cut_header}
+use Rattle.capture_copy.proofs.RecordLemmas.{cut_header}
+use Rattle.capture_selection.specs.Records.{record_selection}
 use Rattle.capture_selection.proofs.records.select_record.Goals as goal
 
 pub returns-in_err-len-clause-passes : goal.returns-in_err-len-clause-passes
 returns-in_err-len-clause-passes g c =
-    any_to_read_error _ _ _ _ _ _ _ _ _ c.in_err-len.ensures.failed (search rules)
+    any_to_read_error (record_selection c.args.parts.now) _ _ _ _ _ _ _ _ c.in_err-len.ensures.failed (search rules)
 
 pub returns-then-len-eq0-clause-passes : goal.returns-then-len-eq0-clause-passes
 returns-then-len-eq0-clause-passes g c = (
@@ -22,6 +23,6 @@ pub returns-then-len-lt-LEN-clause-passes : goal.returns-then-len-lt-LEN-clause-
 returns-then-len-lt-LEN-clause-passes g c =
     let first = c.read_into.new.buffer in
     let len = c.in_ok-len.len in
-    ends_cut _ _ _ _ _ _ _ _ _ _ (take len first) [] c.cut_off.ensures c.in_ok-len.ensures.consumed (Appends-nil _) (inl refl)
-    (cut_header c.args.records.now.header first len (search rules) (λ none. search rules) (omega (arith, c.if-len-lt-LEN.true)))
+    ends_cut (record_selection c.args.parts.now) _ _ _ _ _ _ _ _ _ (take len first) [] c.cut_off.ensures c.in_ok-len.ensures.consumed (Appends-nil _) (inl refl)
+    (cut_header c.args.records.now.header.byte_order first len (search rules) (λ none. search rules) (omega (arith, c.if-len-lt-LEN.true)))
     (c.in_ok-len.ensures.end (search rules))

@@ -1,6 +1,6 @@
 use Rattle.std.proofs.Common.{◌≡◌, ◌≤◌, ◌+◌, length, true}
 use Rattle.capture_request.specs.Limits.{IsWithin, is_full}
-use Rattle.capture_selection.specs.Passing.{Passes}
+use Rattle.capture_copy.specs.Passing.{Passes}
 use Rattle.capture_selection.specs.Records.{records_of}
 use Rattle.capture_selection.proofs.records.select_records.Given as goal
 

@@ -1,5 +1,5 @@
 use Rattle.std.proofs.Common.{rules}
-use Rattle.translator.proofs.PassingLemmas.{passes_one, passes_to_first_error, passes_to_on}
+use Rattle.capture_copy.proofs.PassingLemmas.{passes_one, passes_to_first_error, passes_to_on}
 use Rattle.translator.proofs.blocks.translate_blocks.Goals as goal
 
 pub returns-in_err-translate_block-clause-passes : goal.returns-in_err-translate_block-clause-passes

@@ -1,7 +1,7 @@
 use Rattle.std.proofs.Common.{Err, refl, rules, subst, take}
 use Rattle.std.specs.Io.KnownBytes.{Consumes}
 use Rattle.translator.proofs.BlockLemmas.{next_unread}
-use Rattle.translator.proofs.PassingLemmas.{any_to_end}
+use Rattle.capture_copy.proofs.PassingLemmas.{any_to_end}
 use Rattle.translator.proofs.blocks.translate_next.Goals as goal
 
 pub returns-in_err-len-clause-passes : goal.returns-in_err-len-clause-passes

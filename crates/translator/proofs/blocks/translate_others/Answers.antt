@@ -1,5 +1,6 @@
-use Rattle.std.proofs.Common.{arith, inr, rules}
-use Rattle.translator.proofs.PassingLemmas.{ends_by_number, passes_any, passes_more, passes_nothing, passes_on, passes_on_to_error}
+use Rattle.std.proofs.Common.{◌≤◌, arith, inr, length, rules}
+use Rattle.capture_copy.proofs.PassingLemmas.{ends_by_number, passes_any, passes_more, passes_nothing, passes_on, passes_on_to_error}
+use Rattle.translator.specs.Passing.{max_parts}
 use Rattle.translator.proofs.blocks.translate_others.Goals as goal
 
 pub loop-block-init : goal.loop-block-init
@@ -21,4 +22,6 @@ loop-block-preserved g c =
 -- after the last number the limit of blocks is reached
 pub returns-clause-passes : goal.returns-clause-passes
 returns-clause-passes g c =
-    inr (ends_by_number _ _ _ _ _ _ _ _ _ c.loop-block.invariant.0 (omega (arith, c.loop-block.invariant.1, c.loop-block-test.false)))
+    let passes = c.loop-block.invariant.0 in
+    let many : max_parts ≤ length passes.parts = omega (arith, c.loop-block.invariant.1, c.loop-block-test.false) in
+    inr (ends_by_number _ _ _ _ _ _ _ _ _ passes many)

@@ -1,6 +1,6 @@
 use Rattle.std.proofs.Common.{◌≤◌, length}
 use Rattle.translator.specs.Blocks.{blocks_of}
-use Rattle.translator.specs.Passing.{Passes}
+use Rattle.capture_copy.specs.Passing.{Passes}
 use Rattle.translator.proofs.blocks.translate_others.Given as goal
 
 -- the blocks read so far were passed, and each iteration passed a block

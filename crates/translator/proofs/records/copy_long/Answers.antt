@@ -1,7 +1,8 @@
 use Rattle.std.proofs.Common.{◌++◌, ap, arith, Err, Some, rules}
 use Rattle.std.proofs.KnownBytes.{Appends-trans, Consumes-trans}
-use Rattle.translator.proofs.PassingLemmas.{passes_part}
-use Rattle.translator.proofs.RecordLemmas.{after_record, cut_captured, ends_cut, next_copied, record_copied}
+use Rattle.capture_copy.proofs.PassingLemmas.{passes_part}
+use Rattle.capture_copy.proofs.RecordLemmas.{cut_captured}
+use Rattle.translator.proofs.RecordLemmas.{after_record, ends_cut, next_copied, record_copied}
 use Rattle.translator.specs.declared.reason.Reason.TheVariants.{TooLong}
 use Rattle.translator.proofs.records.copy_long.Goals as goal
 
@@ -21,7 +22,7 @@ returns-then-len-captured_len g c = record {
       let captured_len = ap (λ header. header.captured_len) is_header in
       ends_cut _ _ _ left _ held _ _ (first ++ copies.bytes) _ _ c.cut_off.ensures
       (Consumes-trans _ _ _ first copies.bytes consumed copies.consumed) (Appends-trans _ _ _ first copies.bytes appended copies.appended)
-      (cut_captured c.args.records.now.header first copies.bytes _ _ has_len
+      (cut_captured c.args.records.now.header.byte_order first copies.bytes _ _ has_len
       (omega (arith, copies.has_len, captured_len, c.if-len-captured_len.true))
       (omega (arith, captured_len))
       (omega (arith, copies.has_len)))

@@ -1,8 +1,9 @@
 use Rattle.std.proofs.Common.{◌++◌, Some, ap, arith, inr, length-take, length-take-le, rules, take}
 use Rattle.std.proofs.KnownBytes.{Appends-trans, Consumes-trans}
 use Rattle.capture_file.proofs.ReaderLemmas.{full}
-use Rattle.translator.proofs.PassingLemmas.{passes_part}
-use Rattle.translator.proofs.RecordLemmas.{after_record, cut_captured, ends_cut, next_front, record_translated}
+use Rattle.capture_copy.proofs.PassingLemmas.{passes_part}
+use Rattle.capture_copy.proofs.RecordLemmas.{cut_captured}
+use Rattle.translator.proofs.RecordLemmas.{after_record, ends_cut, next_front, record_translated}
 use Rattle.translator.proofs.records.translate_kept.Goals as goal
 
 pub returns-in_err-len : goal.returns-in_err-len
@@ -24,7 +25,7 @@ returns-then-len-frame g c = record {
       ends_cut _ _ _ left _ held _ _ (first ++ take len frame) _ _ c.cut_off.ensures
       (Consumes-trans _ _ _ first (take len frame) consumed c.in_ok-len.ensures.consumed)
       (Appends-trans _ _ _ first (take len frame) appended c.in_ok-write.ensures.appends)
-      (cut_captured c.args.records.now.header first (take len frame) _ _ has_len
+      (cut_captured c.args.records.now.header.byte_order first (take len frame) _ _ has_len
       (omega (arith, taken, captured_len, room, c.read_into.auto.buffer, c.requires.room, c.if-len-frame.true))
       (omega (arith, captured_len, room, c.read_into.auto.buffer, c.requires.room))
       (omega (arith, taken)))

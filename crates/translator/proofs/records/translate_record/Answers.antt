@@ -1,8 +1,9 @@
 use Rattle.std.proofs.Common.{[], Err, arith, inl, refl, rules, subst, take}
 use Rattle.std.proofs.KnownBytes.{Appends-nil, Consumes-nil}
 use Rattle.std.specs.Io.KnownBytes.{Consumes}
-use Rattle.translator.proofs.PassingLemmas.{any_to_end}
-use Rattle.translator.proofs.RecordLemmas.{cut_header, ends_cut, next_front}
+use Rattle.capture_copy.proofs.PassingLemmas.{any_to_end}
+use Rattle.capture_copy.proofs.RecordLemmas.{cut_header}
+use Rattle.translator.proofs.RecordLemmas.{ends_cut, next_front}
 use Rattle.translator.proofs.records.translate_record.Goals as goal
 
 pub returns-in_err-len-clause-passes : goal.returns-in_err-len-clause-passes
@@ -26,5 +27,5 @@ returns-then-len-lt-LEN-clause-passes g c =
     let first = c.read_into.new.buffer in
     let len = c.in_ok-len.len in
     ends_cut _ _ _ _ _ _ _ _ (take len first) _ _ c.cut_off.ensures c.in_ok-len.ensures.consumed c.in_ok-write.ensures.appends
-    (cut_header c.args.records.now.header first len (search rules) (λ none. search rules) (omega (arith, c.if-len-lt-LEN.true)))
+    (cut_header c.args.records.now.header.byte_order first len (search rules) (λ none. search rules) (omega (arith, c.if-len-lt-LEN.true)))
     (c.in_ok-len.ensures.end (search rules))

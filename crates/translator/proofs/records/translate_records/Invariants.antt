@@ -1,6 +1,6 @@
 use Rattle.std.proofs.Common.{◌≤◌, length}
 use Rattle.translator.specs.Records.{records_of}
-use Rattle.translator.specs.Passing.{Passes}
+use Rattle.capture_copy.specs.Passing.{Passes}
 use Rattle.translator.proofs.records.translate_records.Given as goal
 
 -- the records read so far were passed, and each iteration passed a record

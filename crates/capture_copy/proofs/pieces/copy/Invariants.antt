@@ -1,6 +1,6 @@
 use Rattle.std.proofs.Common.{◌-◌, ◌≤◌}
-use Rattle.translator.specs.Passing.{Copies}
-use Rattle.translator.proofs.transfer.copy.Given as goal
+use Rattle.capture_copy.specs.Copies.{Copies}
+use Rattle.capture_copy.proofs.pieces.copy.Given as goal
 
 -- no more bytes were copied than requested
 abbrev pub invariant-loop-copied : goal.invariant-loop-copied

@@ -1,0 +1,67 @@
+-- The beginning of a capture.
+use Rattle.std.proofs.Common.{◌≡◌, ◌≤◌, ◌<◌, ◌++◌, ◌∙◌, Bool, IfOk, IfSome, ℕ, List, Option, Result, Some, None, Ok, Err, [], ap, append-nil, arith, length, length-append, length-take-le, subst, sym, take, ⊎_elim}
+use Rattle.std.proofs.lemmas.List.{nil_from_length, take_all, take_at}
+use Rattle.std.proofs.lemmas.Bool.{cases_lt}
+use Rattle.std.proofs.KnownBytes.{Consumes-trans}
+use Rattle.std.specs.Io.KnownBytes.{Consumes, IsAtEnd}
+use Rattle.streams.specs.Streams.{FillsAfter}
+use Rattle.capture_file.specs.Classic.{header_refusal}
+use Rattle.capture_file.specs.Opening.{SaysHeader}
+use Rattle.capture_file.specs.Pcapng.{is_section_header}
+use Rattle.capture_file.specs.Reading.{ReadsHeader, RefusesHeader}
+use Rattle.capture_file.specs.declared.classic.capture_header.CaptureHeader.{CaptureHeader}
+use Rattle.capture_file.specs.declared.classic.capture_header_error.CaptureHeaderError.{CaptureHeaderError}
+
+-- what was read from bytes in memory, as many as a header has or fewer
+pub says_header : (bytes : List ℕ) (left : Option (List ℕ)) (read : Result CaptureHeader CaptureHeaderError) → length bytes ≤ 24
+    → ReadsHeader (Some bytes) left read → SaysHeader bytes read
+says_header bytes None (Ok header) within reads = absurd reads.consumed
+says_header bytes (Some rest) (Ok header) within reads =
+    let none : rest ≡ [] =
+    nil_from_length rest (omega (arith, within, reads.has_len, ap length reads.consumed, length-append reads.bytes rest)) in
+    let same : reads.bytes ≡ bytes = sym (append-nil reads.bytes) ∙ ap (λ more. reads.bytes ++ more) (sym none) ∙ sym reads.consumed in
+    subst (λ given. SaysHeader given (Ok header)) same (reads.has_len, reads.accepted, reads.is_header)
+says_header bytes left (Err error) within reads = ap header_refusal (sym (reads.first ∙ take_all 24 bytes within)) ∙ reads.refused
+
+-- the same of a read that may fail
+pub says_unless_failed : {E : Type 0} → (bytes : List ℕ) (left : Option (List ℕ)) (result : Result (Result CaptureHeader CaptureHeaderError) E)
+    → length bytes ≤ 24 → IfOk result (ReadsHeader (Some bytes) left) → IfOk result (SaysHeader bytes)
+says_unless_failed bytes left (Ok read) within reads = says_header bytes left read within reads
+says_unless_failed bytes left (Err error) within reads = tt
+
+-- whether the first bytes of an input are the type of a section header block
+pub begins_pcapng : (left : Option (List ℕ)) (bytes : List ℕ) (is_pcapng : Bool) → IfSome left (λ all. bytes ≡ take 12 all)
+    → is_section_header bytes ≡ is_pcapng → IfSome left (λ all. is_section_header (take 12 all) ≡ is_pcapng)
+begins_pcapng None bytes is_pcapng same is = tt
+begins_pcapng (Some all) bytes is_pcapng same is = subst (λ given. is_section_header given ≡ is_pcapng) same is
+
+-- the bytes that were read are the first 24 bytes: they are 24 bytes, or all bytes of the input
+first_bytes : (left still_left : Option (List ℕ)) (bytes : List ℕ) → Consumes left still_left bytes → length bytes ≤ 24
+    → (length bytes < 24 → IsAtEnd still_left) → IfSome left (λ all. bytes ≡ take 24 all)
+first_bytes None still_left bytes consumed within end = tt
+first_bytes (Some all) None bytes consumed within end = absurd consumed
+first_bytes (Some all) (Some more) bytes consumed within end =
+    ⊎_elim
+    (λ fewer. sym (ap (take 24) (consumed ∙ ap (λ l. bytes ++ l) (end fewer) ∙ append-nil bytes) ∙ take_all 24 bytes within))
+    (λ all_there. sym (ap (take 24) consumed ∙ take_at bytes more 24 (omega (arith, within, all_there))))
+    (cases_lt (length bytes) 24)
+
+-- the bytes that were read into a buffer after first bytes
+pub all_consumed : (left middle still_left : Option (List ℕ)) (begin buffer : List ℕ) (len : ℕ) → Consumes left middle begin
+    → FillsAfter begin middle still_left buffer len → Consumes left still_left (take len buffer)
+all_consumed left middle still_left begin buffer len consumed fills =
+    subst (Consumes left still_left) (sym fills.whole) (Consumes-trans left middle still_left begin fills.bytes consumed fills.consumed)
+
+-- the header of a classic capture is rejected
+pub refuses_header : (error : CaptureHeaderError) (left middle still_left : Option (List ℕ)) (begin buffer : List ℕ) (len : ℕ)
+    → length buffer ≡ 24 → Consumes left middle begin → FillsAfter begin middle still_left buffer len → SaysHeader (take len buffer) (Err error)
+    → RefusesHeader left still_left error
+refuses_header error left middle still_left begin buffer len room consumed fills refused =
+    let all = all_consumed left middle still_left begin buffer len consumed fills in
+    let taken = length-take-le len buffer fills.within in record {
+      bytes = take len buffer;
+      first = first_bytes left still_left (take len buffer) all (omega (arith, taken, fills.within, room))
+          (λ fewer. fills.end (omega (arith, taken, room, fewer)));
+      consumed = all;
+      refused = refused;
+    }

@@ -1,0 +1,4 @@
+pub mod Captures
+pub mod Copies
+pub mod Passing
+pub mod Records

@@ -1,0 +1,146 @@
+-- What a copier reads and writes, part by part. A part is a record of a classic capture or a block of a pcapng file.
+use Rattle.std.specs.Prelude.{◌≡◌, ◌+◌, ◌-◌, ◌^◌, ◌≤◌, ◌⊎◌, ℕ, Bool, true, false, List, [], ◌∷◌, flat_map, fold, length, min, Option, Result, Ok, Err}
+use Rattle.std.specs.Io.KnownBytes.{Appends, Consumes}
+use Rattle.std.specs.Option.{option_to_list}
+
+-- ---- parts
+
+-- the bytes of a part, what was written for them, and the outcome of the packet in it, if it contains a packet
+pub record Part (Outcome : Type 0) : Type 0 where
+  pub read : List ℕ
+  pub written : List ℕ
+  pub outcome : Option Outcome
+
+-- the bytes were written as they were read, with this outcome
+abbrev pub IsUnchanged : {Outcome : Type 0} → Part Outcome → Option Outcome → Type 0
+IsUnchanged part outcome = (part.written ≡ part.read) × (part.outcome ≡ outcome)
+
+-- all bytes that were read, all that were written, and all outcomes
+abbrev pub read_of : {Outcome : Type 0} → List (Part Outcome) → List ℕ
+read_of parts = flat_map (λ part. part.read) parts
+
+abbrev pub written_of : {Outcome : Type 0} → List (Part Outcome) → List ℕ
+written_of parts = flat_map (λ part. part.written) parts
+
+abbrev pub outcomes_of : {Outcome : Type 0} → List (Part Outcome) → List Outcome
+outcomes_of parts = flat_map (λ part. option_to_list part.outcome) parts
+
+-- the number of parts or packets with one more; it is at most 2^64 - 1
+abbrev pub one_more : ℕ → ℕ
+one_more count = min (count + 1) (2 ^ 64 - 1)
+
+-- ---- formats
+
+-- A format of captures, and what a copier does with its parts. A part leads from one state to the next: in a pcapng file a block can begin a
+-- section or describe an interface.
+pub record Format : Type 1 where
+  -- what the parts before determine about the next part
+  pub State : Type 0
+  -- what became of a packet
+  pub Outcome : Type 0
+  -- the numbers of packets by outcome
+  pub Counts : Type 0
+  -- why a capture is not copied to its end
+  pub Error : Type 0
+  -- the counts after a packet with this outcome
+  pub counted : Counts → Outcome → Counts
+  -- the part is a whole record or block, and what was written for it and its outcome are right
+  pub IsPart : State → Part Outcome → State → Type 0
+  -- the first bytes of a part were passed, before which the counts were these, and this error ends the capture within them
+  pub IsEnd : State → Counts → Part Outcome → Error → Type 0
+  -- what the input has left at an error, next to what it had left after the bytes that were passed
+  pub LeavesAt : Error → Option (List ℕ) → Option (List ℕ) → Type 0
+  -- writing failed
+  pub IsWriteError : Error → Type 0
+  -- the error after the greatest number of parts, and this number
+  pub too_many : Error
+  pub max_parts : ℕ
+
+-- the counts after an outcome, if there is one
+abbrev pub counted_if : (format : Format) → format.Counts → Option format.Outcome → format.Counts
+counted_if format counts outcome = fold format.counted counts (option_to_list outcome)
+
+-- parts, one after the other
+abbrev pub AreParts : (format : Format) → format.State → List (Part format.Outcome) → format.State → Type 0
+AreParts format before [] after = after ≡ before
+AreParts format before (part ∷ parts) after = (between : format.State) × format.IsPart before part between × AreParts format between parts after
+
+-- Parts were passed. The input lost exactly the bytes of the parts, in their order. The output grew by exactly what was written for them. Each
+-- outcome was counted.
+pub record Passes (format : Format) (before after : format.State) (left still_left held now_held : Option (List ℕ))
+    (counts now_counts : format.Counts) : Type 0 where
+  pub parts : List (Part format.Outcome)
+  pub each : AreParts format before parts after
+  pub consumed : Consumes left still_left (read_of parts)
+  pub appended : Appends held now_held (written_of parts)
+  pub counted : now_counts ≡ fold format.counted counts (outcomes_of parts)
+
+-- exactly one part was passed, and its outcome was counted
+pub record PassesOne (format : Format) (before after : format.State) (left still_left held now_held : Option (List ℕ))
+    (counts now_counts : format.Counts) : Type 0 where
+  pub part : Part format.Outcome
+  pub is_part : format.IsPart before part after
+  pub consumed : Consumes left still_left part.read
+  pub appended : Appends held now_held part.written
+  pub counted : now_counts ≡ counted_if format counts part.outcome
+
+-- ---- errors
+
+-- The first bytes of a part were passed, up to an error. A packet in them was counted.
+pub record StopsBy (format : Format) (error : format.Error) (state : format.State) (left still_left held now_held : Option (List ℕ))
+    (counts now_counts : format.Counts) : Type 0 where
+  pub then_left : Option (List ℕ)
+  pub front : Part format.Outcome
+  pub is_end : format.IsEnd state counts front error
+  pub consumed : Consumes left then_left front.read
+  pub appended : Appends held now_held front.written
+  pub counted : now_counts ≡ counted_if format counts front.outcome
+  pub leaves : format.LeavesAt error then_left still_left
+
+-- the number of these parts reached the greatest number, and nothing was read, written or counted after them
+pub record StopsByNumber (format : Format) (error : format.Error) (parts : List (Part format.Outcome))
+    (left still_left held now_held : Option (List ℕ)) (counts now_counts : format.Counts) : Type 0 where
+  pub is : error ≡ format.too_many
+  pub many : format.max_parts ≤ length parts
+  pub unread : still_left ≡ left
+  pub unwritten : now_held ≡ held
+  pub uncounted : now_counts ≡ counts
+
+-- parts were passed, and then the first bytes of another part up to an error, unless the number of parts reached the greatest number
+pub record EndsBy (format : Format) (error : format.Error) (before : format.State) (left still_left held now_held : Option (List ℕ))
+    (counts now_counts : format.Counts) : Type 0 where
+  pub after : format.State
+  pub middle : Option (List ℕ)
+  pub then_held : Option (List ℕ)
+  pub then_counts : format.Counts
+  pub passes : Passes format before after left middle held then_held counts then_counts
+  pub stops : StopsBy format error after middle still_left then_held now_held then_counts now_counts
+      ⊎ StopsByNumber format error passes.parts middle still_left then_held now_held then_counts now_counts
+
+-- ---- results
+
+-- What was passed up to this result. If a write failed, nothing is known.
+abbrev pub PassesTo : {A : Type 0} → (format : Format) → Result A format.Error → format.State → format.State → Option (List ℕ) → Option (List ℕ)
+    → Option (List ℕ) → Option (List ℕ) → format.Counts → format.Counts → Type 0
+PassesTo format (Ok given) before after left still_left held now_held counts now_counts =
+    Passes format before after left still_left held now_held counts now_counts
+PassesTo format (Err error) before after left still_left held now_held counts now_counts =
+    format.IsWriteError error ⊎ EndsBy format error before left still_left held now_held counts now_counts
+
+-- what a call passed that passes one part; after an error no part was passed
+abbrev pub PassesNext : {A : Type 0} → (format : Format) → Result A format.Error → format.State → format.State → Option (List ℕ) → Option (List ℕ)
+    → Option (List ℕ) → Option (List ℕ) → format.Counts → format.Counts → Type 0
+PassesNext format (Ok given) before after left still_left held now_held counts now_counts =
+    PassesOne format before after left still_left held now_held counts now_counts
+PassesNext format (Err error) before after left still_left held now_held counts now_counts =
+    format.IsWriteError error ⊎ StopsBy format error before left still_left held now_held counts now_counts
+
+-- the same for a call that returns whether there is a next part; if there is none, nothing was read, written or counted
+abbrev pub PassesAny : (format : Format) → Result Bool format.Error → format.State → format.State → Option (List ℕ) → Option (List ℕ)
+    → Option (List ℕ) → Option (List ℕ) → format.Counts → format.Counts → Type 0
+PassesAny format (Ok true) before after left still_left held now_held counts now_counts =
+    PassesOne format before after left still_left held now_held counts now_counts
+PassesAny format (Ok false) before after left still_left held now_held counts now_counts =
+    (after ≡ before) × Consumes left still_left [] × (now_held ≡ held) × (now_counts ≡ counts)
+PassesAny format (Err error) before after left still_left held now_held counts now_counts =
+    format.IsWriteError error ⊎ StopsBy format error before left still_left held now_held counts now_counts
