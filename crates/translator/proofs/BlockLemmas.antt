@@ -9,7 +9,7 @@ use Rattle.capture_file.proofs.PcapngLemmas.{block_header_front, block_len_front
 use Rattle.capture_file.proofs.PcapngReadingLemmas.{cut_off_after, cut_off_short, differs_after, passed_over, whole_block}
 use Rattle.capture_file.proofs.RecordLemmas.{be_number_front}
 use Rattle.capture_file.specs.Pcapng.{IsBlock, block_header, block_header_refusal, block_len, block_refusal}
-use Rattle.capture_file.specs.PcapngReading.{AreFirst, IsNextBlock, ReadsAfter}
+use Rattle.capture_file.specs.PcapngReading.{AreFirst, IsNextBlock}
 use Rattle.capture_file.specs.PcapngSteps.{offset_after}
 use Rattle.capture_file.specs.Sections.{TakesBlock, TakesBody, TakesUnless}
 use Rattle.capture_texts.specs.declared.byte_order.ByteOrder.{ByteOrder}
@@ -19,7 +19,6 @@ use Rattle.capture_file.specs.declared.pcapng.block_body.BlockBody.TheVariants a
 use Rattle.capture_file.specs.declared.pcapng.errors.BlockError.{BlockError}
 use Rattle.capture_file.specs.declared.pcapng.errors.BlockError.TheVariants.{CutOff, LastLength, Magic, SectionLength, TotalLength}
 use Rattle.capture_file.specs.declared.pcapng.errors.BodyError.{BodyError}
-use Rattle.capture_file.specs.declared.pcapng.read.NextBlock.{NextBlock}
 use Rattle.capture_file.specs.declared.pcapng.read.NextBlock.TheVariants.{Refused, TooLong}
 use Rattle.capture_file.specs.declared.reader.captured_packet.CapturedPacket.{CapturedPacket}
 use Rattle.capture_file.specs.declared.reader.packet_error.PacketError.{PacketError}

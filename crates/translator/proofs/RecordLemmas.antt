@@ -1,11 +1,10 @@
 -- The records of a classic capture as parts.
-use Rattle.std.proofs.Common.{◌≡◌, ◌≤◌, ◌<◌, ◌+◌, ◌++◌, ◌∙◌, ◌⊎◌, ℕ, Bool, List, Option, Result, Some, None, Err, ap, arith, inl, inr, length, length-append, length-take-le, refl, subst, sym, take}
+use Rattle.std.proofs.Common.{◌≡◌, ◌≤◌, ◌<◌, ◌+◌, ◌++◌, ◌∙◌, ◌⊎◌, ℕ, Bool, List, Option, Result, Some, None, Err, ap, arith, inl, inr, length, length-append, refl, subst, sym}
 use Rattle.std.proofs.KnownBytes.{Appends-trans, Consumes-trans}
-use Rattle.std.proofs.lemmas.Bool.Decides.{nat_tests}
 use Rattle.std.proofs.lemmas.List.{drop_at, take_at}
 use Rattle.std.specs.Io.KnownBytes.{Appends, Consumes, IsAtEnd}
 use Rattle.capture_file.proofs.RecordLemmas.{number_at_front, record_header_front, record_len_front}
-use Rattle.capture_file.specs.Classic.{IsRecord, record_header, record_len}
+use Rattle.capture_file.specs.Classic.{record_header, record_len}
 use Rattle.capture_texts.specs.Numbers.{number_at}
 use Rattle.capture_texts.specs.declared.byte_order.ByteOrder.{ByteOrder}
 use Rattle.capture_file.specs.declared.classic.capture_header.CaptureHeader.{CaptureHeader}
