@@ -54,8 +54,8 @@ attribute_order frame =
 abbrev pub payload_at : List ℕ → ℕ → FirstHeader
 payload_at frame place = with_family (place + attribute_fields_len) (slice_index frame 0) (is_linux_ip (slice_index frame 0))
 
--- The attribute at this place: its fields, and a value. Its length counts the fields, but not the padding up to a multiple of four. A header
--- with a shorter length is not read.
+-- The attribute at this place: its fields, and a value. Its length counts the fields, but not the padding up to a multiple of four. A
+-- header with a shorter length is not read.
 abbrev pub attribute_at : ByteOrder → List ℕ → ℕ → Result Attribute LinkHeaderCutOff
 attribute_at order frame place = with_bytes frame (place + attribute_fields_len) (
     if nat_lt (short_at order frame place) attribute_fields_len then Ok (Last (unread_log (place + attribute_fields_len)))

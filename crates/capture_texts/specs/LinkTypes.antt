@@ -36,9 +36,9 @@ pktap_number = 258
 abbrev pub link_types : List (ℕ × LinkType)
 link_types =
     (0, BsdLoopback) ∷ (1, Ethernet) ∷ (9, Ppp) ∷ (12, RawIp) ∷ (14, RawIp) ∷ (50, PppHdlc) ∷ (51, PppOverEthernet) ∷ (101, RawIp)
-    ∷ (104, CiscoHdlc) ∷ (105, Ieee80211) ∷ (107, FrameRelay) ∷ (108, OpenBsdLoopback) ∷ (113, LinuxCooked) ∷ (pflog_number, Pflog) ∷ (prism_number, Prism)
-    ∷ (127, Radiotap) ∷ (avs_number, Avs) ∷ (ppi_number, Ppi) ∷ (226, Ipnet) ∷ (228, RawIp) ∷ (229, RawIp) ∷ (nflog_number, Nflog)
-    ∷ (242, InfiniBand) ∷ (pktap_number, Pktap) ∷ (276, LinuxCooked2) ∷ []
+    ∷ (104, CiscoHdlc) ∷ (105, Ieee80211) ∷ (107, FrameRelay) ∷ (108, OpenBsdLoopback) ∷ (113, LinuxCooked) ∷ (pflog_number, Pflog)
+    ∷ (prism_number, Prism) ∷ (127, Radiotap) ∷ (avs_number, Avs) ∷ (ppi_number, Ppi) ∷ (226, Ipnet) ∷ (228, RawIp) ∷ (229, RawIp)
+    ∷ (nflog_number, Nflog) ∷ (242, InfiniBand) ∷ (pktap_number, Pktap) ∷ (276, LinuxCooked2) ∷ []
 
 -- the link type with this number
 abbrev pub link_type_with : ℕ → Option LinkType

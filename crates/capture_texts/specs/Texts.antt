@@ -106,8 +106,9 @@ interface_added order options before =
 -- 4.3)
 abbrev pub has_comment : ByteOrder → List ℕ → Bool
 has_comment order body =
+    let options_at = timed_captured_at + (number_at order body timed_captured_len_at + 3) / 4 * 4 in
     if nat_le (length body) timed_captured_at then false
-    else not (length (text_in order opt_comment (drop (timed_captured_at + (number_at order body timed_captured_len_at + 3) / 4 * 4) body)) == 0)
+    else not (length (text_in order opt_comment (drop options_at body)) == 0)
 
 -- one more packet
 abbrev pub packet_added : ByteOrder → List ℕ → FileTexts → FileTexts
