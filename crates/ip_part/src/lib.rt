@@ -22,6 +22,7 @@ mod ip_error;
 mod ip_header;
 mod ipv4_options;
 mod ipv6_options;
+#[doc(hidden)]
 pub mod laws;
 mod proto;
 mod transport;

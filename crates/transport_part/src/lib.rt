@@ -13,6 +13,7 @@
 mod checksum_verdict;
 mod expected;
 pub mod ip;
+#[doc(hidden)]
 pub mod laws;
 mod transport_slice;
 mod verdict;
