@@ -227,8 +227,9 @@ HaveSums protos.Tcp removed added before after = TurnsIntoBy removed added befor
 HaveSums protos.Icmpv4 removed added before after = (before ≡ 0) × (after ≡ 0)
 HaveSums protos.Icmpv6 removed added before after = TurnsIntoBy removed added before after × (before ≢ 0) × (after ≢ 0)
 
--- A message whose checksum is updated: it has a whole header, a UDP packet has a checksum, and an ICMP message is an echo message. RFC 1624
--- can't tell the two zeros apart in an echo reply over IPv4 that consists of zeros, the checksum included.
+-- A message whose checksum is updated: it contains its checksum and its ports or identifier, up to byte 7 in UDP, 17 in TCP, and 5 in ICMP.
+-- A UDP packet has a checksum, and an ICMP message is an echo message. RFC 1624 can't tell the two zeros apart in an echo reply over IPv4
+-- that consists of zeros, the checksum included.
 abbrev pub IsUpdated : Proto → List ℕ → Type 0
 IsUpdated protos.Udp packet = (8 ≤ length packet) × (number udp_checksum_place packet ≢ 0)
 IsUpdated protos.Tcp segment = 18 ≤ length segment

@@ -20,6 +20,7 @@
 mod canonical;
 pub mod err;
 pub mod ip;
+#[doc(hidden)]
 pub mod laws;
 mod transport_header;
 

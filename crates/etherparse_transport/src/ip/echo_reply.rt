@@ -166,7 +166,7 @@ pub fn answer_echo_ipv6(
 
 /// The place of what a reply repeats, in bytes from the start of the message: identifier, sequence number and payload (RFC 792; RFC 4443,
 /// section 4.2).
-const ECHOED_AT: usize = 4;
+const ECHOED_AT: usize = IcmpEchoHeader::ID_AT;
 
 /// Writes the IP header and the start of the ICMP header to the front of the packet.
 fn replace_front(packet: &mut [u8], ip_header: &[u8], start: [u8; ECHOED_AT])

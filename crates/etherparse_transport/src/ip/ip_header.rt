@@ -1,26 +1,26 @@
 ghost use Rattle.std.specs.Prelude.{◌≡◌};
 ghost use Rattle.etherparse_transport.specs.Packets as specs;
 
-use crate::IpNumber;
 use crate::checksum::Sum16BitWords;
+use crate::{IpNumber, Ipv4Header, Ipv6Header};
 use arrayvec::ArrayVec;
 
 /// The length of an IPv4 header without options, in bytes (RFC 791, section 3.1).
-pub(crate) const IPV4_LEN: usize = 20;
+pub(crate) const IPV4_LEN: usize = Ipv4Header::MIN_LEN;
 
 /// The places of time to live, protocol, checksum and both addresses in an IPv4 header, in bytes from its start (RFC 791, section 3.1).
-pub(crate) const IPV4_TIME_TO_LIVE_AT: usize = 8;
+pub(crate) const IPV4_TIME_TO_LIVE_AT: usize = Ipv4Header::TIME_TO_LIVE_AT;
 
-pub(crate) const IPV4_PROTOCOL_AT: usize = 9;
+pub(crate) const IPV4_PROTOCOL_AT: usize = Ipv4Header::PROTOCOL_AT;
 
-pub(crate) const IPV4_CHECKSUM_AT: usize = 10;
+pub(crate) const IPV4_CHECKSUM_AT: usize = Ipv4Header::CHECKSUM_AT;
 
-pub(crate) const IPV4_SOURCE_AT: usize = 12;
+pub(crate) const IPV4_SOURCE_AT: usize = Ipv4Header::SOURCE_AT;
 
-pub(crate) const IPV4_DESTINATION_AT: usize = 16;
+pub(crate) const IPV4_DESTINATION_AT: usize = Ipv4Header::DESTINATION_AT;
 
 /// The length of an IPv6 header, in bytes (RFC 8200, section 3).
-pub(crate) const IPV6_LEN: usize = 40;
+pub(crate) const IPV6_LEN: usize = Ipv6Header::LEN;
 
 /// An IPv4 header without options, with its checksum (RFC 791, section 3.1). It starts with these eight bytes, which contain version and
 /// lengths, identification, flags and fragment offset.

@@ -18,7 +18,7 @@ use crate::{
 };
 
 /// The length of an ICMP header, in bytes (RFC 792; RFC 4443, section 2.1).
-pub(crate) const ICMP_LEN: usize = 8;
+pub(crate) const ICMP_LEN: usize = Icmpv4Header::MIN_LEN;
 
 /// The message of a packet: where it begins and ends, and what it is.
 #[derive(Clone, Copy)]

@@ -69,9 +69,9 @@ pub fn translate_ipv6(packet: &mut [u8], new: &Ipv6Translation) -> Result<(), Tr
 }
 
 /// The places of both addresses in an IPv6 header (RFC 8200, section 3).
-const SOURCE_AT: usize = 8;
+const SOURCE_AT: usize = Ipv6Header::SOURCE_AT;
 
-const DESTINATION_AT: usize = 24;
+const DESTINATION_AT: usize = Ipv6Header::DESTINATION_AT;
 
 /// The message of an IPv6 packet, which begins after the IPv6 header or after a fragment header that follows it.
 // perf: this looks for the IPv6 header first, so that nothing of IPv4 is compiled into the rest. All steps of the translation are compiled

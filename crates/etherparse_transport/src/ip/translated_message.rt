@@ -7,24 +7,24 @@ ghost use Rattle.etherparse_transport.specs.Translations as specs;
 ghost use Rattle.etherparse_transport.specs.Translations.{HaveSums, IsAcceptedAlike, IsUpdated};
 
 use crate::checksum_change::ChecksumChange;
-use crate::{Proto, icmpv4, icmpv6};
+use crate::{IcmpEchoHeader, Icmpv4Header, Proto, TcpHeader, UdpHeader, icmpv4, icmpv6};
 
 /// The places of the ports, in bytes from the start of a UDP or TCP header (RFC 768; RFC 9293, section 3.1).
-const SOURCE_PORT_AT: usize = 0;
+const SOURCE_PORT_AT: usize = UdpHeader::SOURCE_PORT_AT;
 
-const DESTINATION_PORT_AT: usize = 2;
+const DESTINATION_PORT_AT: usize = UdpHeader::DESTINATION_PORT_AT;
 
 /// The place of the checksum in UDP (RFC 768).
-const UDP_CHECKSUM_AT: usize = 6;
+const UDP_CHECKSUM_AT: usize = UdpHeader::CHECKSUM_AT;
 
 /// The place of the checksum in TCP (RFC 9293, section 3.1).
-pub(crate) const TCP_CHECKSUM_AT: usize = 16;
+pub(crate) const TCP_CHECKSUM_AT: usize = TcpHeader::CHECKSUM_AT;
 
 /// The place of the checksum in ICMP (RFC 792; RFC 4443, section 2.1).
-const ICMP_CHECKSUM_AT: usize = 2;
+const ICMP_CHECKSUM_AT: usize = Icmpv4Header::CHECKSUM_AT;
 
 /// The place of the identifier of an echo message (RFC 792; RFC 4443, section 4).
-const IDENTIFIER_AT: usize = 4;
+const IDENTIFIER_AT: usize = IcmpEchoHeader::ID_AT;
 
 /// Translates the message of a packet, as far as it is there: ports or the identifier of an echo message, and the checksum. The passed
 /// change replaces the addresses in the pseudo header. The returned change replaces the words of the message too.

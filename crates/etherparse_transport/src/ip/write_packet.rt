@@ -17,6 +17,7 @@ ghost use Rattle.transport_part.specs.Verdicts.{max_length_field};
 
 use crate::err::Layer;
 use crate::err::packet::BuildSliceWriteError;
+use crate::icmpv4::{TYPE_TIMESTAMP, TYPE_TIMESTAMP_REPLY, TimestampMessage};
 use crate::ip::ip_header::{IPV4_LEN, IPV6_LEN, ipv4_header, ipv6_header};
 use crate::ip::translated_message::{TCP_CHECKSUM_AT, store_number};
 use crate::{IpNumber, Ipv4Header, Ipv6Header, TcpHeader, TransportHeader, UdpHeader, ip_number};
@@ -27,9 +28,6 @@ const MAX_MESSAGE_LEN_IPV4: usize = u16::MAX as usize - IPV4_LEN;
 
 /// The longest transport header and payload that the payload length of an IPv6 header can count, in bytes.
 const MAX_MESSAGE_LEN_IPV6: usize = u16::MAX as usize;
-
-/// The length of an ICMPv4 timestamp message or reply, in bytes (RFC 792).
-const TIMESTAMP_LEN: usize = 20;
 
 /// Writes an IPv4 packet without options (RFC 791, section 3.1) to the front of the slice, and returns its length in
 /// bytes. The packet consists of the IP header, the transport header and the payload. The rest of the slice is not
@@ -226,15 +224,15 @@ fn check_timestamp(header: &[u8], payload: &[u8]) -> Result<(), BuildSliceWriteE
     ensures refused { RefusesExactly result (option_map TimestampLen (icmpv4.refusal (header.now ++ payload.now))) }
 {
     let layer = match (header[0], header[1]) {
-        (13, 0) => Layer::Icmpv4Timestamp,
-        (14, 0) => Layer::Icmpv4TimestampReply,
+        (TYPE_TIMESTAMP, 0) => Layer::Icmpv4Timestamp,
+        (TYPE_TIMESTAMP_REPLY, 0) => Layer::Icmpv4TimestampReply,
         _ => return Ok(()),
     };
     let len = header.len() + payload.len();
-    if len == TIMESTAMP_LEN {
+    if len == TimestampMessage::LEN {
         return Ok(());
     }
-    Err(BuildSliceWriteError::TimestampLen(wrong_length(layer, TIMESTAMP_LEN, len)))
+    Err(BuildSliceWriteError::TimestampLen(wrong_length(layer, TimestampMessage::LEN, len)))
 }
 
 // ---- the transport header
