@@ -84,7 +84,7 @@ ipv4_by table packet = ipv4_translation table (ipv4_header_of packet) (ports_of 
 abbrev pub ipv4_by_quoted : Table → List ℕ → Ipv4Translation
 ipv4_by_quoted table quoted = ipv4_translation table (ipv4_opposite (ipv4_header_of quoted)) (exchanged (ports_of quoted))
 
--- the same by the packet that is quoted, if one is
+-- what the table gives for a packet with this quoted packet, which decides; without a quoted packet the packet itself decides
 abbrev pub ipv4_with : Table → List ℕ → Option (List ℕ) → Ipv4Translation
 ipv4_with table packet None = ipv4_by table packet
 ipv4_with table packet (Some quoted) = ipv4_by_quoted table quoted
@@ -107,7 +107,7 @@ ipv6_by table packet = ipv6_translation table (ipv6_header_of packet) (ports_of 
 abbrev pub ipv6_by_quoted : Table → List ℕ → Ipv6Translation
 ipv6_by_quoted table quoted = ipv6_translation table (ipv6_opposite (ipv6_header_of quoted)) (exchanged (ports_of quoted))
 
--- the same by the packet that is quoted, if one is
+-- what the table gives for a packet with this quoted packet, which decides; without a quoted packet the packet itself decides
 abbrev pub ipv6_with : Table → List ℕ → Option (List ℕ) → Ipv6Translation
 ipv6_with table packet None = ipv6_by table packet
 ipv6_with table packet (Some quoted) = ipv6_by_quoted table quoted
