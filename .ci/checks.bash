@@ -37,7 +37,8 @@ same() {
 writes() {
     local name=$1 expected=$2
     shift 2
-    if timeout "$limit" "$@" > "$room/output" 2> "$room/said" && [ ! -s "$room/said" ] && diff "$expected" "$room/output" > "$room/said"; then
+    if timeout "$limit" "$@" > "$room/output" 2> "$room/said" && [ ! -s "$room/said" ] &&
+        diff "$expected" "$room/output" > "$room/said"; then
         pass
     else
         fail "$name: what differs, < expected and > found, or the error:"

@@ -1,6 +1,6 @@
-# What c_library/release and programs/release share: the version, the times, an archive, and packages for Debian. They source this file after
-# they have set `top`, the top of the repository, `made`, the folder of the release, `room`, a folder for all else, and `processor` and
-# `tools` by `read_processor`.
+# What c_library/release and programs/release share: the version, the times, an archive, and packages for Debian. They source this file
+# after they have set `top`, the top of the repository, `made`, the folder of the release, `room`, a folder for all else, and `processor`
+# and `tools` by `read_processor`.
 
 # Modes in archives and packages don't depend on who packs them.
 umask 022
