@@ -1,4 +1,5 @@
-# The parts of .ci/c_library and .ci/packages: how they are tried, named and counted. These scripts source this file after they have set
+# The parts of .ci/c_library, .ci/javascript and .ci/packages: how they are tried, named and counted. These scripts source this file after
+# they have set
 # `room`, a folder for what a part writes.
 
 passed=0

@@ -478,7 +478,7 @@ function callOverAddresses({ ipv4, ipv6 }, message, source, destination, ...more
  */
 
 /**
- * @typedef {object} Lax
+ * @typedef {object} Lax  How strict a function is.
  * @property {boolean} [lax]  whether a packet that is cut off, or that states no length, is accepted too. By default it is not.
  */
 
@@ -1145,7 +1145,7 @@ export function quotedByIcmpv6(message) {
 const DEFAULT_HOP_LIMIT = 64;
 
 /**
- * @typedef {object} EchoOptions
+ * @typedef {object} EchoOptions  What a reply has that its request does not determine.
  * @property {number} [hopLimit]  of the reply, which is the time to live of IPv4. By default it is 64.
  * @property {string | Uint8Array} [source]  the source of the reply. By default it is the destination of the request. For a request to a
  *     multicast or broadcast address, pass an address of the host.
@@ -1328,9 +1328,9 @@ export class ChecksumChange {
     /** @param {{ removed: number, added: number }} [sums]  By default the change replaces nothing. */
     constructor(sums) {
         makeRoom(0);
-        const { removed, added } = sums ?? takeChange(calls.etherparse_checksum_change_new());
-        this.removed = integer(removed, 0xffff, "removed");
-        this.added = integer(added, 0xffff, "added");
+        if (sums === undefined) calls.etherparse_checksum_change_new(result);
+        else setChecksumChange(base + RESULT_PLACE, sums);
+        Object.assign(this, getChecksumChange(base + RESULT_PLACE));
         Object.freeze(this);
     }
 
@@ -1345,8 +1345,9 @@ export class ChecksumChange {
     replace(oldBytes, newBytes) {
         const oldLen = setInput(oldBytes, "oldBytes");
         const newLen = setInput(newBytes, "newBytes", oldBytes.length);
-        const changed = calls.etherparse_checksum_change_replace(passChange(this), input, oldLen, input + oldLen, newLen);
-        return new ChecksumChange(takeChange(changed));
+        setChecksumChange(base + STRUCT_PLACE, this);
+        calls.etherparse_checksum_change_replace(result, struct, input, oldLen, input + oldLen, newLen);
+        return new ChecksumChange(getChecksumChange(base + RESULT_PLACE));
     }
 
     /**
@@ -1355,7 +1356,9 @@ export class ChecksumChange {
      * @returns {ChecksumChange}
      */
     reversed() {
-        return new ChecksumChange(takeChange(calls.etherparse_checksum_change_reversed(passChange(this))));
+        setChecksumChange(base + STRUCT_PLACE, this);
+        calls.etherparse_checksum_change_reversed(result, struct);
+        return new ChecksumChange(getChecksumChange(base + RESULT_PLACE));
     }
 
     /**
@@ -1368,7 +1371,8 @@ export class ChecksumChange {
      */
     apply(checksum) {
         const before = integer(checksum, 0xffff, "checksum");
-        return unsigned16(calls.etherparse_checksum_change_apply(passChange(this), before));
+        setChecksumChange(base + STRUCT_PLACE, this);
+        return unsigned16(calls.etherparse_checksum_change_apply(struct, before));
     }
 
     /**
@@ -1380,15 +1384,7 @@ export class ChecksumChange {
      */
     applyUdp(checksum) {
         const before = integer(checksum, 0xffff, "checksum");
-        return unsigned16(calls.etherparse_checksum_change_apply_udp(passChange(this), before));
+        setChecksumChange(base + STRUCT_PLACE, this);
+        return unsigned16(calls.etherparse_checksum_change_apply_udp(struct, before));
     }
-}
-
-/** A struct of two numbers of 16 bits, as the module returns and takes it: in one number, the first in the low half. */
-function takeChange(number) {
-    return { removed: unsigned16(number), added: unsigned16(number >>> 16) };
-}
-
-function passChange({ removed, added }) {
-    return removed + added * 0x10000;
 }

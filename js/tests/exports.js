@@ -15,7 +15,7 @@ function expectEqual(found, expected, what) {
 const module = await WebAssembly.compile(await readFile(new URL("etherparse_transport.wasm", folder)));
 const calls = JSON.parse(await readFile(new URL("signatures.json", import.meta.url))).map(({ name }) => name);
 expectEqual(WebAssembly.Module.imports(module), [], "imports of WebAssembly");
-expectEqual(WebAssembly.Module.exports(module).map(({ name }) => name), ["memory", ...calls], "exports of WebAssembly");
+expectEqual(WebAssembly.Module.exports(module).map(({ name }) => name), ["__heap_base", "memory", ...calls], "exports of WebAssembly");
 
 const types = await readFile(new URL("etherparse_transport.d.ts", folder), "utf8");
 const declared = [...types.matchAll(/^export (?:function|class|enum) (\w+)/gm)].map(([, name]) => name);

@@ -208,10 +208,10 @@ function textCall(value, { buffer_len: bufferLen }) {
 function optionCalls(read, structOf) {
     let before = { place: -1 };
     return ({ options, place }, expected) => {
+        const start = place < options.length ? place : options.length;
         const goesOn = before.place === place && isEqual(before.options, options);
-        const generator = goesOn ? before.generator : read(options.subarray(Math.min(place, options.length)));
-        const start = goesOn ? before.start : Math.min(place, options.length);
-        before = { options, place: expected.returned.place, generator, start };
+        const generator = goesOn ? before.generator : read(options.subarray(start));
+        before = { options, place: expected.returned.place, generator };
         const { done, value } = generator.next();
         if (done) return { result: Status.OPTIONS_END, error: onlyStatus(Status.OPTIONS_END), place: options.length };
         return { option: structOf(value, expected.returned.option, options), place: expected.returned.place };
@@ -248,14 +248,15 @@ function quoted(packet, bytes, { returned: { offset } }) {
 
 // ---- the calls
 
-/** The calls of a checksum over addresses: compute, store and test. */
-function overAddresses(name, compute, store, test) {
+/** The calls of a checksum: compute, store and test. Some are over addresses, which are passed as bytes and as texts. */
+function checksumCalls(name, compute, store, test) {
+    const asText = (address) => (address ? library.addressText(address) : undefined);
     return {
         [name.replace("*", "")]: ({ bytes, source, destination }) => ({ checksum: compute(bytes, source, destination) }),
         [name.replace("*", "_store")]: ({ bytes, source, destination }) => ({
-            bytes: changed(bytes, (copy) => store(copy, library.addressText(source), destination)),
+            bytes: changed(bytes, (copy) => store(copy, asText(source), destination)),
         }),
-        [name.replace("*", "_test")]: ({ bytes, source, destination }) => tested(test(bytes, source, library.addressText(destination))),
+        [name.replace("*", "_test")]: ({ bytes, source, destination }) => tested(test(bytes, source, asText(destination))),
     };
 }
 
@@ -278,17 +279,17 @@ const CALLS = {
     },
     packet_verdict: ({ bytes }) => ipPacket(library.verdict(bytes), bytes),
     packet_verdict_lax: ({ bytes }) => ipPacket(library.verdict(bytes, { lax: true }), bytes),
-    ...overAddresses("ipv4_header_checksum*", ipv4HeaderChecksum, storeIpv4HeaderChecksum, checkIpv4Header),
+    ...checksumCalls("ipv4_header_checksum*", ipv4HeaderChecksum, storeIpv4HeaderChecksum, checkIpv4Header),
     udp_packet_read: ({ bytes }) => ({ packet: messageOf(library.readUdp(bytes), bytes, UDP, ["payload_len_source"]) }),
     udp_packet_read_lax: ({ bytes }) => ({ packet: messageOf(library.readUdp(bytes, { lax: true }), bytes, UDP, ["payload_len_source"]) }),
     udp_header_write: ({ header }) => ({ buffer: library.writeUdpHeader(headerOf(header)) }),
-    ...overAddresses("udp_checksum*_ipv4", udpChecksum, storeUdpChecksum, checkUdp),
-    ...overAddresses("udp_checksum*_ipv6", udpChecksum, storeUdpChecksum, checkUdp),
+    ...checksumCalls("udp_checksum*_ipv4", udpChecksum, storeUdpChecksum, checkUdp),
+    ...checksumCalls("udp_checksum*_ipv6", udpChecksum, storeUdpChecksum, checkUdp),
     tcp_packet_read: ({ bytes }) => tcpPacket(bytes),
     tcp_header_write: ({ header, options }) => ({ buffer: library.writeTcpHeader({ ...headerOf(header), options }) }),
     tcp_header_store: ({ header, bytes }) => ({ bytes: changed(bytes, (copy) => library.storeTcpHeader(copy, headerOf(header))) }),
-    ...overAddresses("tcp_checksum*_ipv4", tcpChecksum, storeTcpChecksum, checkTcp),
-    ...overAddresses("tcp_checksum*_ipv6", tcpChecksum, storeTcpChecksum, checkTcp),
+    ...checksumCalls("tcp_checksum*_ipv4", tcpChecksum, storeTcpChecksum, checkTcp),
+    ...checksumCalls("tcp_checksum*_ipv6", tcpChecksum, storeTcpChecksum, checkTcp),
     tcp_option_next: optionCalls(library.tcpOptionValues, typedOption),
     tcp_raw_option_next: optionCalls(library.tcpOptions, rawOption),
     tcp_options_write: ({ options }) => {
@@ -297,10 +298,10 @@ const CALLS = {
     },
     icmpv4_packet_read: ({ bytes }) => ({ packet: messageOf(library.readIcmpv4(bytes), bytes, ICMPV4) }),
     icmpv4_header_write: ({ header }) => ({ buffer: library.writeIcmpv4Header(headerOf(header)) }),
-    ...overAddresses("icmpv4_checksum*", icmpv4Checksum, storeIcmpv4Checksum, checkIcmpv4),
+    ...checksumCalls("icmpv4_checksum*", icmpv4Checksum, storeIcmpv4Checksum, checkIcmpv4),
     icmpv6_packet_read: ({ bytes }) => ({ packet: messageOf(library.readIcmpv6(bytes), bytes, ICMPV6) }),
     icmpv6_header_write: ({ header }) => ({ buffer: library.writeIcmpv6Header(headerOf(header)) }),
-    ...overAddresses("icmpv6_checksum*", icmpv6Checksum, storeIcmpv6Checksum, checkIcmpv6),
+    ...checksumCalls("icmpv6_checksum*", icmpv6Checksum, storeIcmpv6Checksum, checkIcmpv6),
     echo_answer: ({ packet, hop_limit: hopLimit }) => answered(packet, { hopLimit }),
     echo_answer_ipv4: ({ packet, source, time_to_live: hopLimit }) => answered(packet, { hopLimit, source }),
     echo_answer_ipv6: ({ packet, source, hop_limit: hopLimit }) => answered(packet, { hopLimit, source: library.addressText(source) }),
