@@ -11,7 +11,7 @@ use Rattle.capture_arguments.specs.CommandLine.{AreMatchesOf, IsCommandLine, bar
 use Rattle.capture_arguments.specs.Conflicts.{conflict_in}
 use Rattle.capture_arguments.specs.Rejections.{AreRejectedBy, HasKindUnless, HaveConflict, HaveNoChoice, HaveNoOutput}
 
--- clap says what the matches of the command line are, and why it rejects words
+-- clap says what the matches of the command line are, and why it refuses words
 pub is_simple_command_line : (app : App) → IsCommandLine app → is_simple app ≡ true
 is_simple_command_line app is_line = ap is_simple is_line.2 ∙ refl
 
@@ -62,7 +62,7 @@ decided : (test : Bool) → (test ≡ true) ⊎ (test ≡ false)
 decided true = inl refl
 decided false = inr refl
 
--- clap rejects the words, unless an allocation failed
+-- clap refuses the words, unless an allocation failed
 not_taken : (RanOut : Type 0) (app : App) (words : List Text) (error : Error) → IsCommandLine app
     → (takes app words ≡ true → kind_of error ≡ OutOfMemory) → (kind_of error ≡ OutOfMemory → RanOut)
     → HasKind (faults_of app words) error → AreRejectedBy RanOut words error

@@ -1,4 +1,4 @@
--- Why the words of a command line are rejected. The first word is the name of the program.
+-- Why the words of a command line are refused. The first word is the name of the program.
 use Rattle.std.specs.Prelude.{◌≡◌, ◌≢◌, ◌⊎◌, ℕ, false, List, [], None}
 use Rattle.clap.specs.Words.{App, IsAmong, Text, fault_of as faults_of, kind_of, matches_of, takes}
 use Rattle.clap.specs.declared.error.Error.{Error}
@@ -34,7 +34,7 @@ HaveNoOutput words = (options : Options) × AreRequestedBy words options × (fau
 abbrev pub HasKindUnless : Type 0 → ErrorKind → Error → Type 0
 HasKindUnless RanOut kind error = (kind_of error ≡ kind) ⊎ ((kind_of error ≡ OutOfMemory) × RanOut)
 
--- these words are rejected by an error for one of these reasons, or an allocation failed
+-- these words are refused by an error for one of these reasons, or an allocation failed
 abbrev pub AreRejectedBy : Type 0 → List Text → Error → Type 0
 AreRejectedBy RanOut words error =
     ((kind_of error ≡ OutOfMemory) × RanOut)

@@ -1,6 +1,6 @@
 //! The arguments of the program `capture_report`.
 //!
-//! `words_of` returns the words of the command line, and `requested_options` the options in them. A rejected word is named in the text of the
+//! `words_of` returns the words of the command line, and `requested_options` the options in them. A refused word is named in the text of the
 //! error, whose kind decides the exit status.
 //!
 //! ```

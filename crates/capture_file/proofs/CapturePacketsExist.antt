@@ -136,7 +136,7 @@ no_byte_ends room before =
       texts = refl;
     }) refl
 
--- rejected bytes are the end
+-- refused bytes are the end
 pub refusal_ends : (room : ℕ) (before : PcapngReader) (all : List ℕ) (error : BlockError) → all ≢ []
     → block_refusal before.section.byte_order all ≡ Some error
     → EndsWith room (Pcapng before) (Some all) (next_by_refusal before.offset error)

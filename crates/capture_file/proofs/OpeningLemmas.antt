@@ -43,7 +43,7 @@ header_read left middle still_left first (Err error) consumed reads =
       refused = reads.says;
     }
 
--- bytes that are not the type of a section header block are rejected with an error of a classic capture
+-- bytes that are not the type of a section header block are refused with an error of a classic capture
 pub refused_classic : (left middle still_left : Option (List ℕ)) (first buffer : List ℕ) (error : CaptureHeaderError)
     → is_section_header first ≡ false → Consumes left middle first → ReadsRestOfHeader first middle still_left (Err error)
     → ReadsBeginning left still_left buffer (Err (refusals.Classic error))

@@ -255,7 +255,7 @@ has_block (Ok (Some packet)) room before expected all rest others block has =
     record { buffer = block.buffer; has_room = block.has_room; next = item; reads = first; gives = is_packet } in
     (left, last, (Pcapng block.after, Some rest, one, read), ends)
 
--- a rest that is rejected as a block
+-- a rest that is refused as a block
 rest_has : (refusal : Option BlockError) (rest : List ℕ) (room : ℕ) (reader : PcapngReader) → refusal ≢ None
     → block_refusal reader.section.byte_order rest ≡ refusal
     → HasPackets room (Pcapng reader) rest [] (item_after reader.offset rest refusal)

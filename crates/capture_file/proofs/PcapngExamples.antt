@@ -157,7 +157,7 @@ no_room : packets_of_blocks 32 BigEndian [] 0 (section ∷ interface ∷ enhance
 unfolding options_within
 no_room = refl
 
--- a second section has no interface so far, so its packet is rejected, at byte 88 of the file
+-- a second section has no interface so far, so its packet is refused, at byte 88 of the file
 other_section : packets_of_blocks 64 BigEndian [] 0 (section ∷ interface ∷ section ∷ simple ∷ enhanced ∷ []) []
     ≡ ([], refused_at 88 (errors.Body (Interface 0 0)))
 unfolding options_within

@@ -8,7 +8,7 @@ use Rattle.capture_file.specs.Pcapng.{AreBlocks, IsBlock, IsBlockReading, block_
 use Rattle.capture_texts.specs.declared.byte_order.ByteOrder.{ByteOrder}
 use Rattle.capture_file.specs.declared.pcapng.errors.BlockError.{BlockError}
 
--- bytes are rejected, or begin with a block
+-- bytes are refused, or begin with a block
 refused_or_block : (refusal : Option BlockError) (section : ByteOrder) (bytes : List ℕ) → block_refusal section bytes ≡ refusal
     → (Unit {0} × (block_refusal section bytes ≢ None))
     ⊎ ((len : ℕ) × (0 < len) × (len ≤ length bytes) × IsBlock section (take len bytes))

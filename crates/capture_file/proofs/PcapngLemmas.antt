@@ -48,7 +48,7 @@ pub last_len_front : (section : ByteOrder) (first more : List ℕ) (len : ℕ) �
     → last_len section (first ++ more) len ≡ last_len section first len
 last_len_front section first more len shortest within = grind (arith, nat_tests, order_of_front, number_at_front)
 
--- ---- rejected and accepted bytes
+-- ---- refused and accepted bytes
 
 -- bytes that begin with a block are accepted
 pub accepted : (section : ByteOrder) (block more : List ℕ) → IsBlock section block → block_refusal section (block ++ more) ≡ None

@@ -104,7 +104,7 @@ pub last_by : (still_left : Option (List ℕ)) (error : BlockError) → ((requir
     → IsLastBlock (Refused error) still_left
 last_by still_left error at_end = grind arith
 
--- rejected bytes
+-- refused bytes
 abbrev pub refused_after : (section : ByteOrder) (first bytes : List ℕ) (left still_left : Option (List ℕ)) (buffer : List ℕ)
     (error : BlockError)
     → Consumes left still_left bytes → 1 ≤ length (first ++ bytes) → block_refusal section (first ++ bytes) ≡ Some error
@@ -117,7 +117,7 @@ refused_after section first bytes left still_left buffer error consumed some ref
   is_last = last_by still_left error at_end;
 }
 
--- rejected first bytes
+-- refused first bytes
 pub refused_first : (section : ByteOrder) (first : List ℕ) (left : Option (List ℕ)) (buffer : List ℕ) (error : BlockError)
     → AreFirst first left → 1 ≤ length first → block_header_refusal section first ≡ Some error
     → ReadsAfter section first left left buffer (Refused error)
@@ -173,7 +173,7 @@ whole_after section first left still_left part after header len within is room f
     let front : take len (part ++ after) ≡ first ++ fills.bytes = take-append-le len part after fills.within ∙ fills.whole in
     grind (arith, nat_tests, front, length-append, whole_block, block_header_front)
 
--- the bytes at the front of the buffer are rejected
+-- the bytes at the front of the buffer are refused
 pub refused_fill : (section : ByteOrder) (first : List ℕ) (left still_left : Option (List ℕ)) (part after : List ℕ) (header : BlockHeader)
     (len : ℕ)
     (error : BlockError) → 12 ≤ length first → block_header_refusal section first ≡ None → header ≡ block_header section first

@@ -146,7 +146,7 @@ within_taken before header body (Description said) after packet is takes = absur
 within_taken before header body (Packet said) after packet is takes = grind (arith, within_body header before.interfaces.items body said is)
 within_taken before header body Other after packet is takes = absurd (cc takes.0)
 
--- the same for accepted and rejected bodies
+-- the same for accepted and refused bodies
 within_unless : (refusal : Option BodyError) (before : Section) (header : BlockHeader) (body : List ℕ) (after : Section)
     (packet : CapturedPacket) → TakesUnless refusal before header body after (Ok (Some packet))
     → packet.captured_len ≤ 8 + length body - packet.start
@@ -209,7 +209,7 @@ timed_packet order interface body = record {
 is_timed : (order : ByteOrder) (interface : ℕ) (body : List ℕ) → IsTimedPacket order interface body (timed_packet order interface body)
 is_timed order interface body = record { of_interface = refl; timestamp = refl; original_len = refl; captured = refl }
 
--- the interface exists if the packet is not rejected
+-- the interface exists if the packet is not refused
 timed_there : (order : ByteOrder) (interface count : ℕ) (body : List ℕ) → timed_refusal order interface count body ≡ None
     → interface < count
 timed_there order interface count body none = grind (arith, nat_tests)
@@ -263,7 +263,7 @@ accepted_taken before header body none =
     packet_taken before header body packet (inr (inr (simple, is))) there)
     (λ no_simple. (before, Ok None, (Other, (no_section, no_description, no_enhanced, no_obsolete, no_simple), (refl, refl))))))))
 
--- any other body is rejected
+-- any other body is refused
 taken_unless : (refusal : Option BodyError) (before : Section) (header : BlockHeader) (body : List ℕ)
     → body_refusal header before.interfaces.items body ≡ refusal → TakenUnless refusal before header body
 taken_unless (Some error) before header body is = (before, Err (Body error), (refl, refl))

@@ -252,7 +252,7 @@ module _ (before : PcapngReader) (first more : List ℕ) (left first_left : Opti
       → Consumes (Some first) first_left b → header.total_len ≡ first_header.total_len
   one_len a b header first_header is first_is says first_says consumed first_consumed = grind (arith, same_front)
 
-  -- a file whose beginning contains a block has no end and no rejected bytes at its front
+  -- a file whose beginning contains a block has no end and no refused bytes at its front
   no_end : (block : List ℕ) → IsBlock before.section.byte_order block → Consumes (Some first) first_left block → ReadsWhole End → ⊥
   no_end block is consumed reads =
       let section = before.section.byte_order in
@@ -306,7 +306,7 @@ module _ (before : PcapngReader) (first more : List ℕ) (left first_left : Opti
   goes_beyond End refused reads step goes = absurd (grind (arith, step.1))
   goes_beyond (Refused error) refused reads step goes = absurd (grind (arith, step.1, said_refused before.offset buffer error))
 
-  -- the item of a whole file without bytes is the end, and the item of a whole file with rejected bytes is their error
+  -- the item of a whole file without bytes is the end, and the item of a whole file with refused bytes is their error
   same_end : (block : NextBlock) → first ++ more ≡ [] → ReadsWhole block → IsStep before buffer block after next
       → said_of buffer next ≡ last packets.End
   same_end (Whole header) none reads step = grind (arith, none_read)
@@ -357,7 +357,7 @@ module _ (before : PcapngReader) (first more : List ℕ) (left first_left : Opti
       compared_blocks step.block first_step.block room step.reads first_step.reads step.is_step first_step.is_step step.texts
       first_step.texts
 
-  -- a block that is read from bytes that end or are rejected here
+  -- a block that is read from bytes that end or are refused here
   no_block : (block : List ℕ) → IsBlock before.section.byte_order block → more ≡ [] → Consumes (Some (first ++ more)) left block
       → (block_refusal before.section.byte_order first ≡ None → ⊥) → ⊥
   no_block block is no_more consumed refused =

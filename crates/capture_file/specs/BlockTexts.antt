@@ -13,7 +13,7 @@ use Rattle.capture_texts.specs.declared.file_texts.FileTexts.{FileTexts}
 abbrev pub texts_with : BlockHeader → List ℕ → FileTexts → FileTexts
 texts_with header body before = texts_after header.byte_order header.block_type body before
 
--- a rejected block changes no text
+-- a refused block changes no text
 abbrev pub unless_refused : Option NextPacket → FileTexts → FileTexts → FileTexts
 unless_refused (Some (Refused error)) before after = before
 unless_refused next before after = after

@@ -76,7 +76,7 @@ version_refusal (Some form) bytes =
     refused_if (not (is_version_read (short_at form.0 bytes 4) (short_at form.0 bytes 6)))
     (Version (short_at form.0 bytes 4) (short_at form.0 bytes 6))
 
--- Why the header of a capture is rejected, if it is. If several errors apply, the first one counts. A pcapng file begins with
+-- Why the header of a capture is refused, if it is. If several errors apply, the first one counts. A pcapng file begins with
 -- the type of its first block.
 abbrev pub header_refusal : List ℕ → Option CaptureHeaderError
 header_refusal bytes = first_of (

@@ -38,7 +38,7 @@ pub record BeginsFile (header : BlockHeader) (body : List ℕ) (reader : PcapngR
   pub offset : reader.offset ≡ header.total_len
   pub texts : reader.texts ≡ texts_with header body no_texts
 
--- the same, or the error that rejects the body of the block
+-- the same, or the error that refuses the body of the block
 abbrev pub BeginsUnless : Option BodyError → BlockHeader → List ℕ → Result PcapngReader PacketError → Type 0
 BeginsUnless None header body result = (reader : PcapngReader) × (result ≡ Ok reader) × BeginsFile header body reader
 BeginsUnless (Some error) header body result = result ≡ Err (errors.Body error)
@@ -68,7 +68,7 @@ pub record ReadsFirstBlock (left still_left : Option (List ℕ)) (buffer : List 
 
 -- ---- a classic capture
 
--- the header in 24 bytes, or the error that rejects the bytes; there may be fewer bytes at the end of the input
+-- the header in 24 bytes, or the error that refuses the bytes; there may be fewer bytes at the end of the input
 abbrev pub SaysHeader : List ℕ → Result CaptureHeader CaptureHeaderError → Type 0
 SaysHeader bytes (Ok header) = (length bytes ≡ capture_header_len) × (header_refusal bytes ≡ None) × IsHeaderOf bytes header
 SaysHeader bytes (Err error) = header_refusal bytes ≡ Some error

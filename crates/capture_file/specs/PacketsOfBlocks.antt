@@ -66,7 +66,7 @@ interfaces_after header interfaces body =
     else if header.block_type == interface_description_type then interfaces ++ interface_description header.byte_order body ∷ []
     else interfaces
 
--- the error that rejects the block: its body is rejected, or it describes more interfaces than are kept
+-- the error that refuses the block: its body is refused, or it describes more interfaces than are kept
 abbrev pub block_error : BlockHeader → List InterfaceDescription → List ℕ → Option PacketError
 block_error header interfaces body = first_of (
     option_map errors.Body (body_refusal header interfaces body)
@@ -108,7 +108,7 @@ before_others offset (Err error) others = ([], refused_at offset error)
 before_others offset (Ok None) others = others
 before_others offset (Ok (Some packet)) others = (packet ∷ others.0, others.1)
 
--- the item after the last block: the end of the file, or the error that rejects the bytes at this place as a block
+-- the item after the last block: the end of the file, or the error that refuses the bytes at this place as a block
 abbrev pub item_after : ℕ → List ℕ → Option BlockError → NextPacket
 item_after offset (byte ∷ bytes) (Some error) = next_by_refusal offset error
 item_after offset bytes refusal = packets.End
@@ -125,7 +125,7 @@ packets_of_blocks room section interfaces offset (block ∷ blocks) rest =
 
 -- ---- the laws
 
--- If bytes consist of blocks and a rest that is rejected as a block, a reader reads the packets of the fold from them. The fold begins with
+-- If bytes consist of blocks and a rest that is refused as a block, a reader reads the packets of the fold from them. The fold begins with
 -- the byte order, the interfaces and the place of the reader.
 abbrev pub ReadPacketsOfBlocks : ℕ → Type 0
 ReadPacketsOfBlocks room =

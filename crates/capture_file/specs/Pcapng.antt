@@ -63,7 +63,7 @@ block_header section bytes = record {
 abbrev pub is_short_section : ByteOrder → List ℕ → Bool
 is_short_section section bytes = is_section_header bytes && nat_lt (block_len section bytes) (min_block_len + section_header_len)
 
--- Why the header of a block is rejected, if it is. If several errors apply, the first one counts. The header is the first 12 bytes of the
+-- Why the header of a block is refused, if it is. If several errors apply, the first one counts. The header is the first 12 bytes of the
 -- block.
 abbrev pub block_header_refusal : ByteOrder → List ℕ → Option BlockError
 block_header_refusal section bytes = first_of (
@@ -73,7 +73,7 @@ block_header_refusal section bytes = first_of (
     ∷ refused_if (is_short_section section bytes) (SectionLength (block_len section bytes))
     ∷ [])
 
--- Why a block is rejected, if it is. If several errors apply, the first one counts. The two total lengths of a block are equal.
+-- Why a block is refused, if it is. If several errors apply, the first one counts. The two total lengths of a block are equal.
 abbrev pub block_refusal : ByteOrder → List ℕ → Option BlockError
 block_refusal section bytes =
     let len = block_len section bytes in
@@ -110,7 +110,7 @@ abbrev pub order_after : ByteOrder → List (List ℕ) → ByteOrder
 order_after section [] = section
 order_after section (block ∷ blocks) = order_after (order_of section block) blocks
 
--- The bytes consist of these blocks, one after the other, and a rest that is rejected as a block.
+-- The bytes consist of these blocks, one after the other, and a rest that is refused as a block.
 pub record IsBlockReading (section : ByteOrder) (bytes : List ℕ) (blocks : List (List ℕ)) (rest : List ℕ) : Type 0 where
   pub whole : bytes ≡ concat blocks ++ rest
   pub each : AreBlocks section blocks

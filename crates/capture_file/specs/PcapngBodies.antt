@@ -27,7 +27,7 @@ section_header order body = record { major_version = short_at order body 4; mino
 abbrev pub read_major_version : ℕ
 read_major_version = 1
 
--- why the body is rejected, if it is: it is too short, or else its major version is not read
+-- why the body is refused, if it is: it is too short, or else its major version is not read
 abbrev pub section_header_refusal : ByteOrder → List ℕ → Option BodyError
 section_header_refusal order body = first_of (
     below section_header_len body

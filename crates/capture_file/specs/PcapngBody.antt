@@ -10,7 +10,7 @@ use Rattle.capture_file.specs.declared.pcapng.block.BlockHeader.{BlockHeader}
 use Rattle.capture_file.specs.declared.pcapng.errors.BodyError.{BodyError}
 use Rattle.capture_file.specs.declared.pcapng.interface_description.InterfaceDescription.{InterfaceDescription}
 
--- the error that rejects a body, by the type of its block; the body of a block of another type is not checked
+-- the error that refuses a body, by the type of its block; the body of a block of another type is not checked
 abbrev pub body_refusal : BlockHeader → List InterfaceDescription → List ℕ → Option BodyError
 body_refusal header interfaces body =
     let order = header.byte_order in

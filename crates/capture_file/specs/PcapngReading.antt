@@ -10,7 +10,7 @@ use Rattle.capture_file.specs.declared.pcapng.read.NextBlock.{NextBlock}
 use Rattle.capture_file.specs.declared.pcapng.read.NextBlock.TheVariants.{End, Refused, TooLong, Whole}
 
 -- the next item according to the bytes that were read: one block, at the front of the buffer or without room in it; no byte; or bytes that
--- are rejected as a block
+-- are refused as a block
 abbrev pub IsNextBlock : ByteOrder → List ℕ → List ℕ → NextBlock → Type 0
 IsNextBlock section bytes buffer (Whole header) =
     IsBlock section bytes × (header ≡ block_header section bytes) × (header.total_len ≤ length buffer)

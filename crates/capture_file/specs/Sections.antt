@@ -35,7 +35,7 @@ TakesBody before header (bodies.Packet packet) after result =
     × (result ≡ Ok (Some (packet_of_block header interface packet))) × (after ≡ before)
 TakesBody before header bodies.Other after result = (result ≡ Ok None) × (after ≡ before)
 
--- the same, unless the body of the block is rejected, which changes nothing
+-- the same, unless the body of the block is refused, which changes nothing
 abbrev pub TakesUnless : Option BodyError → Section → BlockHeader → List ℕ → Section → Result (Option CapturedPacket) PacketError → Type 0
 TakesUnless (Some error) before header body after result = (result ≡ Err (errors.Body error)) × (after ≡ before)
 TakesUnless None before header body after result =

@@ -145,7 +145,7 @@ is_read = inl (record {
   is_in = (refl, is_ip_packet);
 })
 
--- ---- a packet that is rejected
+-- ---- a packet that is refused
 
 -- the packet in a frame with one byte, with IP version 5
 abbrev pub rejected : Packet

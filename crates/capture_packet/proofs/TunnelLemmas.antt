@@ -67,7 +67,7 @@ stops zero is_cut packet closed = refl
 stops (suc more) is_cut packet closed =
     ap (λ tunnel. inside tunnel (λ tunnel. nested_in more tunnel.is_cut tunnel.bytes) (alone is_cut packet)) (closed (omega arith))
 
--- a packet with rejected headers contains no other packet
+-- a packet with refused headers contains no other packet
 pub refused_is_alone : (left : ℕ) (is_cut : Bool) (packet : List ℕ) (error : IpError) → lax_refusal packet ≡ Some error
     → nested_in left is_cut packet ≡ alone is_cut packet
 refused_is_alone left is_cut packet error refused =

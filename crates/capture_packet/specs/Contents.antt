@@ -18,7 +18,7 @@ use Rattle.capture_packet.specs.declared.content.Content.TheVariants.{Ip, IpHead
 use Rattle.capture_packet.specs.declared.transport.Transport.{Transport}
 use Rattle.capture_packet.specs.declared.transport.Transport.TheVariants as transports
 
--- the transport, or none if there is an error that rejects it
+-- the transport, or none if there is an error that refuses it
 abbrev pub unless_refused : Option HeaderSliceError → Option TransportSlice → Option TransportSlice
 unless_refused None transport = transport
 unless_refused (Some error) transport = None
@@ -82,7 +82,7 @@ addresses_in (fixed.Ipv6 source destination hop_limit next_header) = Ipv6 source
 abbrev pub fixed_addresses : List ℕ → Option Addresses
 fixed_addresses packet = option_map addresses_in (fixed_header packet)
 
--- the content of an IP packet with rejected headers: the addresses of its fixed header, if it is complete
+-- the content of an IP packet with refused headers: the addresses of its fixed header, if it is complete
 abbrev pub ShowsRefused : List ℕ → Content → Type 0
 ShowsRefused packet Unread = fixed_addresses packet ≡ None
 ShowsRefused packet (IpHeader addresses) = fixed_addresses packet ≡ Some (by_value addresses)

@@ -39,11 +39,11 @@ pub record IsCarried (is_cut : Bool) (bytes : List ℕ) (packet : Packet) : Type
   pub after : IsAfterHeaders bytes found
   pub is_in : IsInPacket is_cut bytes found packet
 
--- the IP headers of the packet are rejected with this error
+-- the IP headers of the packet are refused with this error
 abbrev pub IsUnread : Bool → List ℕ → IpError → Packet → Type 0
 IsUnread is_cut_off bytes error packet = ShowsRefused bytes packet.content × (packet.verdict ≡ unread_verdict is_cut_off error)
 
--- An IP packet, with accepted or rejected headers. Neither a missing end nor a missing length rejects them.
+-- An IP packet, with accepted or refused headers. Neither a missing end nor a missing length refuses them.
 abbrev pub IsIpPacket : Bool → List ℕ → Packet → Type 0
 IsIpPacket is_cut bytes packet = (packet.hop_limit ≡ hop_limit_of bytes)
     × MatchOption (lax_refusal bytes) (IsCarried is_cut bytes packet)
@@ -71,7 +71,7 @@ pub record IsAfterHeader (link_type : LinkType) (order : ByteOrder) (frame : Lis
   pub after_header : IsFoundAfter (HasLinkHeader link_type order frame) frame found
   pub is_in : IsInFrame is_cut found packet
 
--- the verdict on a frame that ends within its link header: it is rejected, unless the capture cut the frame
+-- the verdict on a frame that ends within its link header: it is refused, unless the capture cut the frame
 abbrev pub link_verdict : Bool → LinkHeaderCutOff → Verdict
 link_verdict true error = untested CutOff
 link_verdict false error = Refused (refusals.Link error)

@@ -74,18 +74,18 @@ opened_with outer is_fragment is_cut payload =
 abbrev pub is_end_missing : Bool → List ℕ → Bool
 is_end_missing is_cut packet = is_cut_off (lacks_len packet) packet || (is_cut && lacks_len packet)
 
--- the tunnel in an outer packet, according to its IP headers; an error rejects them, so there is no tunnel
+-- the tunnel in an outer packet, according to its IP headers; an error refuses them, so there is no tunnel
 abbrev pub opened_after : Bool → List ℕ → Result Headers IpError → Option Opened
 opened_after is_cut packet (Err error) = None
 opened_after is_cut packet (Ok headers) = opened_with (record { addresses = headers.addresses; protocol = headers.protocol.0 })
     headers.is_fragment (is_end_missing is_cut packet) (drop headers.len (counted (lacks_len packet) packet))
 
--- the tunnel in an outer packet, if no error rejects the outer packet
+-- the tunnel in an outer packet, if no error refuses the outer packet
 abbrev pub opened_unless : Option IpError → Bool → List ℕ → Option Opened
 opened_unless (Some error) is_cut packet = None
 opened_unless None is_cut packet = opened_after is_cut packet (headers_of (lacks_len packet) packet)
 
--- The tunnel in an IP packet. None if the packet contains no other IP packet, if it is a fragment, or if its IP headers are rejected.
+-- The tunnel in an IP packet. None if the packet contains no other IP packet, if it is a fragment, or if its IP headers are refused.
 abbrev pub opened : Bool → List ℕ → Option Opened
 opened is_cut packet = opened_unless (lax_refusal packet) is_cut packet
 

@@ -36,7 +36,7 @@ zero_length = refusals.Transport Udp (Len (record {
   layer_start_offset = 0;
 }))
 
--- the error that rejects a packet with a checksum that is not tested for this reason, if there is one
+-- the error that refuses a packet with a checksum that is not tested for this reason, if there is one
 abbrev pub refusal_if_untested : Untested → Option Refusal
 refusal_if_untested ZeroLength = Some zero_length
 refusal_if_untested Fragment = None
@@ -45,7 +45,7 @@ refusal_if_untested UnknownDestination = None
 refusal_if_untested OtherProtocol = None
 refusal_if_untested TooLongToTest = None
 
--- the error that rejects a packet with this verdict, if there is one
+-- the error that refuses a packet with this verdict, if there is one
 abbrev pub refusal_of : Verdict → Option Refusal
 refusal_of (Checksum checksums.Right) = None
 refusal_of (Checksum checksums.Absent) = None
@@ -82,13 +82,13 @@ JudgesAccepted found verdict =
 abbrev pub is_transport_cut_off : Bool → TransportInIp → Bool
 is_transport_cut_off is_cut found = found.is_cut_off || (is_cut && found.is_length_missing)
 
--- the verdict on a rejected transport: if the packet is cut off, an incomplete header does not reject it
+-- the verdict on a refused transport: if the packet is cut off, an incomplete header does not refuse it
 abbrev pub refused : Bool → Proto → HeaderSliceError → Verdict
 refused true proto (Len error) = untested CutOff
 refused true proto (Content error) = Refused (refusals.Transport proto (Content error))
 refused false proto error = Refused (refusals.Transport proto error)
 
--- the verdict on the transport of an IP packet; a rejected transport is one of the four protocols
+-- the verdict on the transport of an IP packet; a refused transport is one of the four protocols
 abbrev pub JudgesTransport : Bool → TransportInIp → Verdict → Type 0
 JudgesTransport is_cut found verdict = MatchOption (transports.refusal found) (JudgesAccepted found verdict)
     (λ error. IfSome (transports.proto_in found) (λ proto. verdict ≡ refused (is_transport_cut_off is_cut found) proto error))
@@ -99,7 +99,7 @@ JudgesTransport is_cut found verdict = MatchOption (transports.refusal found) (J
 abbrev pub counts_no_payload : List ℕ → ℕ → ℕ → Bool
 counts_no_payload packet offset len = version packet == 6 && (offset == 40 && len == 0)
 
--- Only the first bytes of a packet are present, by the error that rejects its headers. Either its header counts more bytes than there are,
+-- Only the first bytes of a packet are present, by the error that refuses its headers. Either its header counts more bytes than there are,
 -- whatever the capture states about its frame. Or the capture cut its frame, and its header is incomplete or states no length. If only the
 -- bytes after the packet were cut, the packet is whole.
 abbrev pub is_cut_off : Bool → List ℕ → Option IpError → Bool
@@ -115,7 +115,7 @@ is_cut_off is_cut packet (Some (JumboPayloadUnexpected payload_len)) = false
 is_cut_off is_cut packet (Some (JumboPayloadFragment offset)) = false
 is_cut_off is_cut packet None = false
 
--- the verdict on a packet with rejected IP headers: if the packet is cut off, an incomplete header does not reject it
+-- the verdict on a packet with refused IP headers: if the packet is cut off, an incomplete header does not refuse it
 abbrev pub unread_verdict : Bool → IpError → Verdict
 unread_verdict true (HeaderCutOff required_len len) = untested CutOff
 unread_verdict true (ExtensionHeaderCutOff protocol offset required_len len) = untested CutOff

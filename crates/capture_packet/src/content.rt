@@ -9,7 +9,7 @@ pub enum Content<'a> {
     /// Nothing is read. The record is too long, or its link header is cut off. Or the packet contains neither 20 bytes of version 4 nor 40
     /// bytes of version 6.
     Unread,
-    /// The IP headers of a packet are rejected or cut off. But its first 20 bytes of version 4 or 40 bytes of version 6 are present, and
+    /// The IP headers of a packet are refused or cut off. But its first 20 bytes of version 4 or 40 bytes of version 6 are present, and
     /// contain these addresses.
     IpHeader(IpAddresses<'a>),
     /// The frame contains no IP packet.

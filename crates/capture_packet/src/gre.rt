@@ -33,7 +33,7 @@ const IPV4: u16 = ether_type::IPV4;
 const IPV6: u16 = ether_type::IPV6;
 
 /// The IP packet after the GRE header at the front of these bytes. None if the header is cut off, is of another version, or has a reserved
-/// bit that a receiver rejects, and if another protocol follows.
+/// bit that a receiver refuses, and if another protocol follows.
 pub(crate) fn packet_after_gre(bytes: &[u8]) -> Option<&[u8]>
     ensures { option_map (λ packet. packet.now) result ≡ packet_after_gre bytes.now }
 {

@@ -22,7 +22,7 @@ pub struct QuotedPacket<'a> {
 }
 
 /// Reads the quoted packet at the front of these bytes. Like a packet of a capture, it may be cut off or state no length. None if its IP
-/// headers are rejected or cut off.
+/// headers are refused or cut off.
 pub(crate) fn read_quoted_packet(bytes: &[u8]) -> Option<QuotedPacket<'_>>
     ensures { option_map by_value result ≡ quoted_at bytes.now }
 {

@@ -26,7 +26,7 @@ pub const MAX_PACKET_LEN: usize = 524_288;
 /// numbers in the capture. If `is_cut` is true, the capture contains only the first bytes of the frame.
 ///
 /// A packet is cut off if its IP header counts more bytes than are present, whatever the capture states about its frame. It is also cut off
-/// if its IP header is incomplete in a frame with `is_cut`. A packet that is cut off is not rejected for an incomplete header. Its checksum
+/// if its IP header is incomplete in a frame with `is_cut`. A packet that is cut off is not refused for an incomplete header. Its checksum
 /// is not tested. A frame may contain padding after its packet. If only the padding was cut, the packet is whole. Bytes after the payload
 /// of PPPoE do not count as present. If the frame contains that payload, the packet is read as in a frame without `is_cut`.
 ///
@@ -36,7 +36,7 @@ pub const MAX_PACKET_LEN: usize = 524_288;
 /// GRE is not checked. The inner packet is not read, and the payload of the outer packet is of another protocol, if one of these is true:
 /// - The outer packet is a fragment.
 /// - The fixed part of the inner IP header, 20 bytes of version 4 or 40 bytes of version 6, is not present.
-/// - A GRE header has another version, another protocol, or one of the reserved bits that a receiver rejects (RFC 2784, section 2.3).
+/// - A GRE header has another version, another protocol, or one of the reserved bits that a receiver refuses (RFC 2784, section 2.3).
 /// - `MAX_TUNNELS` tunnels are around the outer packet.
 ///
 /// If the outer packet is cut off, the inner packet is cut off if its own IP header counts more bytes than are present.
@@ -68,7 +68,7 @@ fn are_bytes_cut(is_cut: bool, is_end_stated: bool) -> bool
     is_cut && !is_end_stated
 }
 
-/// The verdict on a frame that ends within its link header. The packet is rejected, unless the capture cut the frame.
+/// The verdict on a frame that ends within its link header. The packet is refused, unless the capture cut the frame.
 fn link_verdict(error: LinkHeaderCutOff, is_cut: bool) -> Verdict
     ensures { result ≡ link_verdict is_cut error }
 {
@@ -116,7 +116,7 @@ fn next_packet<'a>(tunnels: &Tunnels<'_>, outer: &TransportInIp<'a>) -> Option<&
     packet_in_payload(outer)
 }
 
-/// Whether a packet with rejected headers is cut off. Its header counts more bytes than are present. Or it is incomplete or states no
+/// Whether a packet with refused headers is cut off. Its header counts more bytes than are present. Or it is incomplete or states no
 /// length, in a frame that the capture cut.
 fn is_cut_off(packet: &[u8], is_cut: bool) -> bool
     ensures { result ≡ specs.is_cut_off is_cut packet.now (refusal packet.now) }
@@ -176,7 +176,7 @@ fn carried<'a>(
     }
 }
 
-/// An IP packet in these tunnels, with rejected headers.
+/// An IP packet in these tunnels, with refused headers.
 fn unread<'a>(
     tunnels: Tunnels<'a>,
     packet: &'a [u8],
@@ -202,7 +202,7 @@ fn unread<'a>(
     }
 }
 
-/// The verdict on an IP packet with rejected headers. If the packet is cut off, an incomplete header does not reject it.
+/// The verdict on an IP packet with refused headers. If the packet is cut off, an incomplete header does not refuse it.
 fn unread_verdict(error: IpError, is_cut_off: bool) -> Verdict
     ensures { result ≡ specs.unread_verdict is_cut_off error }
 {

@@ -2,13 +2,13 @@ use capture_link::LinkHeaderCutOff;
 use ip_part::{IpError, Proto};
 use net_base::err::tcp::HeaderSliceError;
 
-/// Why a packet is rejected.
+/// Why a packet is refused.
 #[derive(Clone, Debug, PartialEq, Eq, Drop)]
 pub enum Refusal {
     /// The frame ends within its link header.
     Link(LinkHeaderCutOff),
-    /// The IP headers are rejected.
+    /// The IP headers are refused.
     Ip(IpError),
-    /// The transport is rejected, with the error of its slice.
+    /// The transport is refused, with the error of its slice.
     Transport(Proto, HeaderSliceError),
 }

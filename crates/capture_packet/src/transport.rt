@@ -19,7 +19,7 @@ use transport_part::{TransportSlice, Untested};
 pub enum Transport<'a> {
     /// A transport with a header that is read.
     Read(TransportSlice<'a>),
-    /// No header is read: it is rejected or incomplete, or the packet is the first fragment. But the first four bytes are present, and
+    /// No header is read: it is refused or incomplete, or the packet is the first fragment. But the first four bytes are present, and
     /// contain the ports of UDP or TCP (RFC 768; RFC 9293, section 3.1).
     Ports {
         /// The port of the sender: bytes 0 and 1.
@@ -52,7 +52,7 @@ impl<'a> Transport<'a> {
     }
 
     /// The packet that an ICMP error quotes, as `QuotedPacket` describes it. None for any other transport, and if the IP headers of the
-    /// quoted packet are rejected or cut off.
+    /// quoted packet are refused or cut off.
     pub fn quoted_packet(&self) -> Option<QuotedPacket<'a>>
         ensures { option_map quoted_by_value result ≡ quoted_in self.now }
     {
@@ -147,7 +147,7 @@ fn has_ports(found: &TransportInIp<'_>) -> bool
     matches!(found.proto(), Some(Proto::Udp | Proto::Tcp))
 }
 
-/// The verdict on a rejected transport. If the packet is cut off, an incomplete header does not reject it.
+/// The verdict on a refused transport. If the packet is cut off, an incomplete header does not refuse it.
 fn refused(found: &TransportInIp<'_>, error: HeaderSliceError, is_cut: bool) -> Verdict
     requires { refusal found.now ≡ Some error }
     ensures { JudgesTransport is_cut found.now result }
@@ -156,7 +156,7 @@ fn refused(found: &TransportInIp<'_>, error: HeaderSliceError, is_cut: bool) -> 
     match (proto_in_ip(found), error) {
         (_, HeaderSliceError::Len(_)) if is_cut_off => Verdict::untested(Untested::CutOff),
         (Some(proto), error) => Verdict::Refused(Refusal::Transport(proto, error)),
-        // A transport of another protocol is never rejected.
+        // A transport of another protocol is never refused.
         (None, _) => Verdict::untested(Untested::OtherProtocol),
     }
 }

@@ -7,7 +7,7 @@ use transport_part::{ChecksumVerdict, Untested};
 /// The verdict on the checksum of a packet.
 ///
 /// A UDP packet with a length field of 0 is `Untested` with `ZeroLength`. The field counts less than a header (RFC 768), so that the packet
-/// is malformed. A report counts this packet as rejected.
+/// is malformed. A report counts this packet as refused.
 #[derive(Clone, Debug, PartialEq, Eq, Drop)]
 pub enum Verdict {
     /// The verdict on the checksum. It is `Untested` with the first of these reasons that applies:
@@ -24,7 +24,7 @@ pub enum Verdict {
         /// The number of bytes that the packet needs in the buffer.
         required_len: u32,
     },
-    /// The packet is rejected, because it is malformed.
+    /// The packet is refused, because it is malformed.
     Refused(Refusal),
 }
 

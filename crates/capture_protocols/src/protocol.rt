@@ -111,7 +111,7 @@ pub enum Protocol {
     Stp,
     /// Another frame without an IP packet, whose protocol has no name here.
     OtherWithoutIp,
-    /// Unknown: the record is too long, or its link header or IP header is rejected or cut off.
+    /// Unknown: the record is too long, or its link header or IP header is refused or cut off.
     Unknown,
 }
 
@@ -179,7 +179,7 @@ impl Protocol {
         }
     }
 
-    /// The protocol of a packet, according to the numbers in its headers. A fragment and a rejected packet also have a protocol.
+    /// The protocol of a packet, according to the numbers in its headers. A fragment and a refused packet also have a protocol.
     pub fn of(content: &Content<'_>) -> Protocol
         ensures { result ≡ content_protocol content.now }
     {

@@ -77,7 +77,7 @@ unknown_message : icmpv4_text.message_text (icmpv4.icmp_type_of (42 ∷ 7 ∷ 0 
 unfolding char_count digits encode_utf8 icmpv4.format_of padded_integral
 unknown_message = refl
 
--- ---- rejections
+-- ---- refusals
 
 -- packet 44
 extension_header : refusal_text (refusals.Ip (ExtensionHeaderCutOff (record { 0 = 0 }) 40 32 8))

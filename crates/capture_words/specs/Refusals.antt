@@ -1,4 +1,4 @@
--- Why a packet is rejected, in the terms of the RFCs. A text states the number of bytes needed and the number of bytes present. Or it
+-- Why a packet is refused, in the terms of the RFCs. A text states the number of bytes needed and the number of bytes present. Or it
 -- states a field with its value and the bound that it violates. Each text begins with the protocol and contains every field of the error.
 use Rattle.std.specs.Prelude.{ℕ, ◌==◌, if◌then◌else◌, List, [], ◌++◌, codes, decimal}
 use Rattle.ip_part.specs.declared.ip_error.IpError.{IpError}
@@ -41,17 +41,17 @@ len_source_word UdpHeaderLen = codes "the UDP length is"
 abbrev pub place_text : ℕ → List ℕ
 place_text offset = if offset == 0 then [] else codes " at byte " ++ decimal offset
 
--- a rejected length
+-- a refused length
 abbrev pub len_error_text : LenError → List ℕ
 len_error_text error =
     layer_word error.layer ++ (place_text error.layer_start_offset ++ (codes " needs " ++ (decimal error.required_len
     ++ (codes " bytes, " ++ (len_source_word error.len_source ++ (codes " " ++ decimal error.len))))))
 
--- a rejected TCP data offset
+-- a refused TCP data offset
 abbrev pub data_offset_text : ℕ → List ℕ
 data_offset_text data_offset = codes "TCP data offset " ++ (decimal data_offset ++ codes ", below 5")
 
--- rejected IP headers
+-- refused IP headers
 abbrev pub ip_error_text : IpError → List ℕ
 ip_error_text (ip_errors.HeaderCutOff required_len len) = needs_text (codes "IP header") required_len len
 ip_error_text (ip_errors.Version version) = codes "IP version " ++ decimal version
@@ -70,7 +70,7 @@ ip_error_text (ip_errors.JumboPayloadUnexpected payload_len) =
 ip_error_text (ip_errors.JumboPayloadFragment offset) =
     codes "IPv6 fragment header at byte " ++ (decimal offset ++ codes " with a jumbo payload option")
 
--- why a packet is rejected
+-- why a packet is refused
 abbrev pub refusal_text : Refusal → List ℕ
 refusal_text (refusals.Link error) = needs_text (codes "link header") error.required_len error.len
 refusal_text (refusals.Ip error) = ip_error_text error

@@ -1,7 +1,7 @@
 //! The words and numbers of a packet that text and JSON have in common. Nothing is allocated.
 //!
 //! `write_time` and the calls next to it write times, `icmpv4` and `icmpv6` what a message means, `tcp` the fields of a TCP header,
-//! `write_option` an option, and `write_refusal` the reason why a packet is rejected.
+//! `write_option` an option, and `write_refusal` the reason why a packet is refused.
 #![tactic(auto)]
 
 mod absolute_time;

@@ -1,4 +1,4 @@
-//! The reason why a packet is rejected.
+//! The reason why a packet is refused.
 
 ghost use Rattle.std.specs.Prelude.{◌≡◌, OnOk};
 ghost use Rattle.std.specs.Io.KnownBytes.{Appends};
@@ -13,7 +13,7 @@ use std::io;
 use std::io::Write;
 use udp_part::UdpHeader;
 
-/// Writes the reason why a UDP packet with a length field of 0 is rejected.
+/// Writes the reason why a UDP packet with a length field of 0 is refused.
 ///
 /// # Errors
 ///
@@ -31,7 +31,7 @@ pub fn write_zero_length<W: Write>(output: &mut W) -> io::Result<()>
     write_len_error(output, &error)
 }
 
-/// Writes the reason why a packet is rejected, with all fields of the error.
+/// Writes the reason why a packet is refused, with all fields of the error.
 ///
 /// # Errors
 ///
@@ -72,14 +72,14 @@ fn unit_word(bytes: usize) -> &'static str
     if bytes == 1 { "byte" } else { "bytes" }
 }
 
-/// Writes the reason why a TCP data offset is rejected.
+/// Writes the reason why a TCP data offset is refused.
 fn write_data_offset<W: Write>(output: &mut W, data_offset: u8) -> io::Result<()>
     ensures { OnOk result (Appends (W.contents output.old) (W.contents output.new) (data_offset_text data_offset)) }
 {
     write!(output, "TCP data offset {data_offset}, below 5")
 }
 
-/// Writes the reason why IP headers are rejected.
+/// Writes the reason why IP headers are refused.
 fn write_ip_error<W: Write>(output: &mut W, error: &IpError) -> io::Result<()>
     ensures { OnOk result (Appends (W.contents output.old) (W.contents output.new) (ip_error_text error.now)) }
 {
@@ -130,7 +130,7 @@ fn write_ip_error<W: Write>(output: &mut W, error: &IpError) -> io::Result<()>
     }
 }
 
-/// Writes the reason why a length is rejected. The place of the layer is included, unless it starts at the first byte.
+/// Writes the reason why a length is refused. The place of the layer is included, unless it starts at the first byte.
 fn write_len_error<W: Write>(output: &mut W, error: &LenError) -> io::Result<()>
     ensures { OnOk result (Appends (W.contents output.old) (W.contents output.new) (len_error_text error.now)) }
 {

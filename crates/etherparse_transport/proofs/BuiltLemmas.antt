@@ -251,7 +251,7 @@ unfolding required_len
 long_by true n rules error tested refused is = absurd (omega (arith, ap required_len refused, is))
 long_by false n rules error tested refused is = grind (arith, nat_tests)
 
--- the message is read, or is rejected for a length other than the length of the shortest header
+-- the message is read, or is refused for a length other than the length of the shortest header
 whole_by : (bytes : List ℕ) (result : Result (Icmpv4Header × List ℕ) LenError) → icmpv4_back.IsReadAs bytes result
     → IfErr result (λ error. error.required_len ≡ 20) → 8 ≤ length bytes
 whole_by bytes (Ok found) reads is = (accepted-whole bytes reads.accepted).shortest
@@ -266,7 +266,7 @@ either P true b x y z is_x is_y is_z = is_x
 either P false true x y z is_x is_y is_z = is_y
 either P false false x y z is_x is_y is_z = is_z
 
--- without a payload only a timestamp is rejected
+-- without a payload only a timestamp is refused
 refused_alone : (message : Icmpv4Type) (checksum : ℕ) → IfErr (icmpv4_back.reads_back message checksum []) (λ error. error.required_len ≡ 20)
 refused_alone (messages.Unknown type code bytes5to8) checksum =
     either (λ error. error.required_len ≡ 20) ((type == 13) && (code == 0)) ((type == 14) && (code == 0))
@@ -454,7 +454,7 @@ no_extension (headers.Tcp header) = refl
 no_extension (headers.Icmpv4 header) = refl
 no_extension (headers.Icmpv6 header) = refl
 
--- ICMP of the other version is rejected for any values of its fields
+-- ICMP of the other version is refused for any values of its fields
 same_version : (source destination payload : List ℕ) (header : TransportHeader) → other_version_ipv6 header ≡ None
     → other_version_ipv6 (sent_over_ipv6 source destination header payload) ≡ None
 same_version source destination payload (headers.Udp header) none = refl

@@ -40,7 +40,7 @@ by_rules packet headers rules accepted read =
     ∙ ap (λ read. first_of (refusal_by_headers rules read ∷ [])) read
     ∙ only_rule (rules headers)
 
--- a rule that doesn't reject leaves the rules after it
+-- a rule that doesn't refuse leaves the rules after it
 pub skipped : (rule : Option AnswerEchoError) (rules : List (Option AnswerEchoError)) → rule ≡ None → first_of (rule ∷ rules) ≡ first_of rules
 skipped rule rules none = ap (λ rule. first_of (rule ∷ rules)) none
 

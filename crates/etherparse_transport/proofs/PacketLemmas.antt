@@ -60,7 +60,7 @@ message_between k n header message padding len whole =
 
 -- ---- an accepted packet
 
--- a header that states a length is not rejected for a missing length
+-- a header that states a length is not refused for a missing length
 strictly_accepted : (packet : List ℕ) → header_refusal packet ≡ None → lacks_len packet ≡ false → strict_header_refusal packet ≡ None
 strictly_accepted packet accepted states =
     ap (λ refusal. first_of (refusal ∷ (if lacks_len packet then missing_len_refusal (first_headers packet) else None) ∷ [])) accepted

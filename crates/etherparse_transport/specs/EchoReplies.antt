@@ -213,7 +213,7 @@ ipv6_reply source hop_limit packet =
 
 -- ---- either version
 
--- an IPv6 packet, or an IPv4 packet; `transport_in_ip` rejects any other version
+-- an IPv6 packet, or an IPv4 packet; `transport_in_ip` refuses any other version
 abbrev pub answer_refusal : List ℕ → Option AnswerEchoError
 answer_refusal packet = if version packet == 6 then ipv6_answer_refusal None packet else ipv4_answer_refusal None packet
 

@@ -120,7 +120,7 @@ payload_above max_message_len header_len payload_len =
     let max_allowed : ℕ = max_message_len - header_len in
     refused_if (nat_lt max_allowed payload_len) (PayloadLen payload_len max_allowed)
 
--- a message that `Icmpv4Slice` rejects: a timestamp message or reply that is not 20 bytes long
+-- a message that `Icmpv4Slice` refuses: a timestamp message or reply that is not 20 bytes long
 abbrev pub timestamp_refusal : TransportHeader → List ℕ → Option BuildSliceWriteError
 timestamp_refusal (Icmpv4 header) payload = option_map TimestampLen (icmpv4.refusal (icmpv4.wire header ++ payload))
 timestamp_refusal other payload = None

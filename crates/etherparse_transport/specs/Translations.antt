@@ -179,7 +179,7 @@ min_header_len protos.Tcp = 20
 min_header_len protos.Icmpv4 = 8
 min_header_len protos.Icmpv6 = 8
 
--- an ICMP message that is no echo message, and that its slice rejects or that is no error
+-- an ICMP message that is no echo message, and that its slice refuses or that is no error
 abbrev pub icmp_refusal : Proto → List ℕ → Option TranslateError
 icmp_refusal protos.Udp message = None
 icmp_refusal protos.Tcp message = None

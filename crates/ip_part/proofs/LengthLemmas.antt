@@ -139,7 +139,7 @@ accepted_too packet none =
 pub no_error : (packet : List ℕ) (error : IpError) → headers_of (lacks_len packet) packet ≡ Err error → refusal packet ≡ None → ⊥
 no_error packet error is none = some_is_none error (sym (ap error_of is) ∙ (accepted_too packet none).1)
 
--- ---- which packets the lax call rejects, and the bytes that it counts
+-- ---- which packets the lax call refuses, and the bytes that it counts
 
 pub turned : (a b : Bool) → b ≡ not a → a ≡ not b
 turned true b is = sym (ap not is)

@@ -1,4 +1,4 @@
--- Laws of how a packet is rejected after its IP header: whole extension headers come first, and then the header that is rejected.
+-- Laws of how a packet is refused after its IP header: whole extension headers come first, and then the header that is refused.
 use Rattle.std.proofs.Common.{◌≡◌, ◌≢◌, ℕ, zero, suc, ◌+◌, ◌<◌, ◌≤◌, inl, inr, ◌==◌, nat_lt, Bool, true, false, not, ◌&&◌, ◌||◌, if◌then◌else◌, List, [], ◌∷◌, ◌++◌, length, slice_index, take, drop, length-append, length-take, Option, Some, None, is_some, Ok, Err, refl, sym, ◌∙◌, ap, subst, arith}
 use Rattle.std.proofs.lemmas.List.{append_assoc, drop-drop, take-append-drop, take-take}
 use Rattle.std.proofs.lemmas.Bool.{ltb-false}
@@ -14,7 +14,7 @@ use Rattle.ip_part.specs.Options.{jumbo_payload_len}
 use Rattle.ip_part.specs.declared.ip_error.IpError.{IpError}
 use Rattle.ip_part.specs.declared.ip_error.IpError.TheVariants.{ExtensionHeaderCutOff, JumboPayloadFragment, JumboPayloadUnexpected}
 
--- ---- the extension header that is rejected
+-- ---- the extension header that is refused
 
 is_below : (a b : ℕ) → nat_lt a b ≡ true → a < b
 is_below a b is = grind (arith, nat_tests)
@@ -80,7 +80,7 @@ refused_by false false headers rest error is is_too known refuses =
 
 -- ---- the extension headers before it
 
--- extension headers come between these headers and the header that is rejected
+-- extension headers come between these headers and the header that is refused
 record IsRefused (headers : Headers) (bytes : List ℕ) (error : IpError) : Type 0 where
   pub extensions : List ExtensionHeader
   pub number : ℕ
@@ -117,7 +117,7 @@ refused_here headers bytes error is refuses =
           (refused_by _ _ headers rest error refl refl known.1 refuses);
     }
 
--- a header that is not rejected complies with the rules
+-- a header that is not refused complies with the rules
 neither : (unexpected fragments : Bool) (a b : IpError) → first_of (refused_if unexpected a ∷ refused_if fragments b ∷ []) ≡ None
     → (unexpected ≡ false) × (fragments ≡ false)
 neither true fragments a b none = absurd (cc none)

@@ -29,7 +29,7 @@ over_ipv4 : headers_of false (ipv4_packet 21 0x40 0 (7 ∷ 8 ∷ [])) ≡ Ok (re
 unfolding ipv4_packet headers_to_transport options_within
 over_ipv4 = refl
 
--- the fixed part of the header, also if the packet is rejected because its six words are cut off
+-- the fixed part of the header, also if the packet is refused because its six words are cut off
 fixed_over_ipv4 : fixed_header (ipv4_packet 21 0x40 0 (7 ∷ 8 ∷ [])) ≡ Some (fixed.Ipv4 (10 ∷ 0 ∷ 0 ∷ 1 ∷ []) (10 ∷ 0 ∷ 0 ∷ 2 ∷ []) 64 17)
 unfolding ipv4_packet
 fixed_over_ipv4 = refl

@@ -146,7 +146,7 @@ IsChain is_ipv6 may_be_extended number (header ∷ headers) protocol =
     (may_be_extended ≡ true) × (header.number ≡ number) × IsWhole header
     × IsChain is_ipv6 (is_ipv6 && not (is_later_fragment header.number header.bytes)) (next_number header.bytes) headers protocol
 
--- The same up to one more extension header, of this number, which may come there: the rejected header, if there is one.
+-- The same up to one more extension header, of this number, which may come there: the refused header, if there is one.
 abbrev pub LeadsTo : Bool → Bool → ℕ → List ExtensionHeader → ℕ → Type 0
 LeadsTo is_ipv6 may_be_extended number [] next = (number ≡ next) × (may_be_extended ≡ true) × (is_extension next ≡ true)
 LeadsTo is_ipv6 may_be_extended number (header ∷ headers) next =
@@ -174,7 +174,7 @@ abbrev pub begins_with_jumbo_payload : List ExtensionHeader → Bool
 begins_with_jumbo_payload [] = false
 begins_with_jumbo_payload (header ∷ headers) = header.number == hop_by_hop_options && is_some (jumbo_payload_len header.bytes)
 
--- ---- what is rejected
+-- ---- what is refused
 
 -- an extension header of this number at the front of the rest
 abbrev pub front_of : ℕ → List ℕ → ExtensionHeader
@@ -187,7 +187,7 @@ LacksBytes number rest required_len =
     ((length rest < 8) × (required_len ≡ 8))
     ⊎ ((8 ≤ length rest) × (length rest < extension_len number rest) × (required_len ≡ extension_len number rest))
 
--- This error rejects the extension header of this number at the front of the rest. The header begins at this offset. The IP header
+-- This error refuses the extension header of this number at the front of the rest. The header begins at this offset. The IP header
 -- contains this payload length, or the packet is a jumbogram. The extension header is cut off, or breaks RFC 2675, section 3: first
 -- hop-by-hop options contain a jumbo payload option although the payload length is not 0, or a jumbogram contains a fragment header.
 abbrev pub RefusesNext : ℕ → Bool → ℕ → ℕ → List ℕ → IpError → Type 0

@@ -1,5 +1,5 @@
 -- From an IP packet to its transport (RFC 791, section 3.1; RFC 8200, sections 3 and 4; RFC 2675): which packets are
--- rejected, which bytes the IP header counts, where the headers end, and what they contain.
+-- refused, which bytes the IP header counts, where the headers end, and what they contain.
 use Rattle.std.specs.Prelude.{◌≡◌, ◌≢◌, ◌≤◌, ℕ, zero, suc, ◌+◌, ◌==◌, Bool, true, false, not, ◌&&◌, ◌||◌, nat_lt, nat_le, if◌then◌else◌, List, [], ◌∷◌, ◌++◌, length, take, drop, slice_index, slice_range, Option, Some, None, is_some, is_none, unwrap_or, Result, Ok, Err}
 use Rattle.net_base.specs.Bytes.{be_number}
 use Rattle.net_base.specs.IpHeaders.{ipv4_fragment_offset, ipv4_header_len, ipv4_is_fragment, version}
@@ -404,8 +404,8 @@ pub record IsAfterHeaders (packet : List ℕ) (transport : TransportInIp) : Type
       → Reads transport.is_length_missing packet others protocol payload
       → (others ≡ extensions) × (protocol ≡ transport.protocol.0) × (payload ≡ transport.payload.now)
 
--- This error rejects the packet after its IP header. The packet consists of the IP header, whole extension headers, the
--- rest of the counted bytes, and the padding. The extension header at the front of the rest is the first that is rejected.
+-- This error refuses the packet after its IP header. The packet consists of the IP header, whole extension headers, the
+-- rest of the counted bytes, and the padding. The extension header at the front of the rest is the first that is refused.
 pub record IsRefusedAfterHeaders (is_length_missing : Bool) (packet : List ℕ) (error : IpError) : Type 0 where
   pub extensions : List ExtensionHeader
   pub number : ℕ

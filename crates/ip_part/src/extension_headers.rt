@@ -96,7 +96,7 @@ fn extension_header<'a>(headers: &Headers<'_>, rest: &'a [u8]) -> Result<&'a [u8
     Ok(header)
 }
 
-/// Rejects an extension header that can't be in one packet with a jumbo payload option (RFC 2675, section 3).
+/// Refuses an extension header that can't be in one packet with a jumbo payload option (RFC 2675, section 3).
 #[inline(always)]
 fn check_jumbo_payload(headers: &Headers<'_>, header: &[u8]) -> Result<(), IpError>
     requires { 8 ≤ length header.now }

@@ -64,7 +64,7 @@ pub enum FixedHeader<'a> {
 }
 
 /// The fixed part of the IP header at the front of a packet. None if the version is neither 4 nor 6, or if the slice contains fewer than 20
-/// bytes of version 4 or 40 bytes of version 6. No length is checked, so that the fixed part of a rejected packet can be read too.
+/// bytes of version 4 or 40 bytes of version 6. No length is checked, so that the fixed part of a refused packet can be read too.
 pub fn fixed_header(packet: &[u8]) -> Option<FixedHeader<'_>>
     ensures { option_map fixed_by_value result ≡ specs.fixed_header packet.now }
 {

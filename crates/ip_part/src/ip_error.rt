@@ -40,7 +40,7 @@ pub enum IpError {
         /// The stated header length, in bytes.
         header_len: usize,
     },
-    /// The total length of an IPv4 packet is below its header length (RFC 791, section 3.1). `transport_in_ip_lax` does not reject 0.
+    /// The total length of an IPv4 packet is below its header length (RFC 791, section 3.1). `transport_in_ip_lax` does not refuse 0.
     TotalLength {
         /// The total length, in bytes.
         total_len: usize,
@@ -48,7 +48,7 @@ pub enum IpError {
         header_len: usize,
     },
     /// The payload length of an IPv6 packet is 0, and the hop-by-hop options directly after its header contain no
-    /// jumbo payload option (RFC 2675, section 3). `transport_in_ip_lax` does not reject it.
+    /// jumbo payload option (RFC 2675, section 3). `transport_in_ip_lax` does not refuse it.
     JumboPayloadMissing,
     /// A jumbo payload length that is not above 65,535 (RFC 2675, section 3).
     JumboPayloadLength {

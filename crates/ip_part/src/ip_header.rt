@@ -27,7 +27,7 @@ pub(crate) const IPV6_LEN: usize = Ipv6Header::LEN;
 /// The longest payload that the payload length of IPv6 can count (RFC 2675, section 2).
 const MAX_PAYLOAD_LEN: usize = 65_535;
 
-/// Reads the IP header and the number of bytes that it counts, header included. A header without a length is rejected
+/// Reads the IP header and the number of bytes that it counts, header included. A header without a length is refused
 /// if it must state one, and otherwise counts its own bytes.
 #[inline(always)]
 pub(crate) fn read_ip_header_with_len(packet: &[u8]) -> Result<(Headers<'_>, usize), IpError>

@@ -148,7 +148,7 @@ pub fn transport_in_ip(packet: &[u8]) -> Result<TransportInIp<'_>, IpError>
 }
 
 /// Finds the transport in an IP packet that may be cut off or state no length. Captures often keep only the first bytes of each packet,
-/// and a host may leave the length to its network card. The call differs from `transport_in_ip` only for these packets, and rejects
+/// and a host may leave the length to its network card. The call differs from `transport_in_ip` only for these packets, and refuses
 /// neither kind:
 /// - If the slice contains fewer bytes than the header counts, `payload` contains the bytes that are there, and `is_cut_off` is true.
 /// - For IPv4 with total length 0, and for IPv6 with payload length 0 and no jumbo payload length, all bytes of the slice are counted,

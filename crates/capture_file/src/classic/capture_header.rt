@@ -47,7 +47,7 @@ impl CaptureHeader {
         CaptureHeader::from_slice(bytes)
     }
 
-    /// Reads a header as `from_bytes` does, or the first bytes of a header that is cut off, which are rejected with `CutOff` or `Pcapng`.
+    /// Reads a header as `from_bytes` does, or the first bytes of a header that is cut off, which are refused with `CutOff` or `Pcapng`.
     pub(crate) fn from_slice(bytes: &[u8]) -> Result<CaptureHeader, CaptureHeaderError>
         ensures refused { RefusesExactly result (header_refusal bytes.now) }
         ensures read { IfOk result (IsHeaderOf bytes.now) }

@@ -1,6 +1,6 @@
 use thiserror::Error;
 
-/// Why the header of a capture is rejected.
+/// Why the header of a capture is refused.
 #[derive(Clone, Copy, Debug, PartialEq, Eq, Error)]
 pub enum CaptureHeaderError {
     /// The file is a pcapng file (draft-ietf-opsawg-pcapng, section 4.1). The reader of classic captures does not read this newer format.

@@ -31,7 +31,7 @@ pub enum NextRecord {
     },
 }
 
-/// Reads the header of a capture. The inner result is the header, or the error that rejects it. Then at most 24 bytes were read.
+/// Reads the header of a capture. The inner result is the header, or the error that refuses it. Then at most 24 bytes were read.
 ///
 /// # Errors
 ///

@@ -140,11 +140,11 @@ pub(crate) fn is_section_header(bytes: &[u8]) -> bool
 pub struct PlacedBlockError {
     /// The start of the block, in bytes from the start of the file.
     pub offset: usize,
-    /// Why the block is rejected.
+    /// Why the block is refused.
     pub error: BlockError,
 }
 
-/// The blocks of a pcapng file in memory, one after the other, up to the end of the file or the first rejected block.
+/// The blocks of a pcapng file in memory, one after the other, up to the end of the file or the first refused block.
 ///
 /// After `None` or an error no bytes are left, and `next` returns `None`.
 #[derive(Clone, Drop)]

@@ -31,7 +31,7 @@ impl<'a> BlockBody<'a> {
     ///
     /// # Errors
     ///
-    /// The errors of the call that reads a body of this type, such as `SectionHeader::from_body`. A block of another type is not rejected.
+    /// The errors of the call that reads a body of this type, such as `SectionHeader::from_body`. A block of another type is not refused.
     pub fn from_block(
         block: &Block<'a>,
         interfaces: &[InterfaceDescription],

@@ -4,7 +4,7 @@ ghost use Rattle.capture_file.specs.PcapngBodies.{below};
 
 use thiserror::Error;
 
-/// Why bytes are rejected as a block.
+/// Why bytes are refused as a block.
 #[derive(Clone, Copy, Debug, PartialEq, Eq, Error)]
 pub enum BlockError {
     /// The bytes end within the block.
@@ -43,7 +43,7 @@ pub enum BlockError {
     },
 }
 
-/// Why the body of a block is rejected. Places are counted from the start of the body, which follows the first 8 bytes of the block.
+/// Why the body of a block is refused. Places are counted from the start of the body, which follows the first 8 bytes of the block.
 #[derive(Clone, Copy, Debug, PartialEq, Eq, Error)]
 pub enum BodyError {
     /// The body ends within its fields, or within the captured bytes of a packet.
@@ -73,7 +73,7 @@ pub enum BodyError {
 }
 
 impl BodyError {
-    /// Rejects a body with fewer bytes.
+    /// Refuses a body with fewer bytes.
     pub(crate) fn check_len(body: &[u8], required_len: usize) -> Result<(), BodyError>
         ensures refused { RefusesExactly result (below required_len body.now) }
         ensures len { IfOk result (λ checked. required_len ≤ length body.now) }

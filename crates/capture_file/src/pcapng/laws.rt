@@ -13,7 +13,7 @@ pub fn accepted_blocks()
         → block_refusal section (block ++ more) ≡ None }
 {}
 
-/// Any bytes consist of blocks, one after the other, and a rest that is rejected as a block. There is only one such division.
+/// Any bytes consist of blocks, one after the other, and a rest that is refused as a block. There is only one such division.
 pub fn one_reading()
     ensures exists { (section : ByteOrder) (bytes : List ℕ) → Exist (IsBlockReading section bytes) }
     ensures unique { (section : ByteOrder) (bytes : List ℕ) → AreUnique (IsBlockReading section bytes) }

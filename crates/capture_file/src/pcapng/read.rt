@@ -16,7 +16,7 @@ pub enum NextBlock {
     TooLong(BlockHeader),
     /// The end of the file. No byte is left.
     End,
-    /// Bytes that are rejected as a block. If the block is cut off, the file was read to its end.
+    /// Bytes that are refused as a block. If the block is cut off, the file was read to its end.
     Refused(BlockError),
 }
 

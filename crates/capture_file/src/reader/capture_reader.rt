@@ -22,7 +22,7 @@ pub enum CaptureReader {
 }
 
 impl CaptureReader {
-    /// Reads the header of a classic capture, or the first block of a pcapng file into the buffer. The inner error rejects the input.
+    /// Reads the header of a classic capture, or the first block of a pcapng file into the buffer. The inner error refuses the input.
     ///
     /// # Errors
     ///

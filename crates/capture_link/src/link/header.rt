@@ -51,7 +51,7 @@ impl FirstHeader {
     }
 }
 
-/// Rejects a frame that is shorter than its link header.
+/// Refuses a frame that is shorter than its link header.
 pub(super) fn expect_len(frame: &[u8], required_len: usize) -> Result<(), LinkHeaderCutOff>
     ensures { MatchResult result (λ _. required_len ≤ length frame.now)
         (λ error. (length frame.now < required_len) × (error ≡ cut_off frame.now required_len)) }

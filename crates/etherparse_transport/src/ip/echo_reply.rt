@@ -68,10 +68,10 @@ pub fn answer_echo(packet: &mut [u8], hop_limit: u8) -> Result<usize, AnswerEcho
 /// # Errors
 ///
 /// The call checks these cases, in this order, and changes nothing after an error:
-/// - `Ip` if `transport_in_ip` rejects the packet.
+/// - `Ip` if `transport_in_ip` refuses the packet.
 /// - `NoEchoRequest` for an IPv6 packet.
 /// - `Fragment`, `NoEchoRequest` for another protocol, and `Options` if the message does not begin after 20 bytes.
-/// - `Len` if `Icmpv4Slice::from_slice` rejects the message, `NoEchoRequest` for another message, and `Checksum` if its checksum is wrong.
+/// - `Len` if `Icmpv4Slice::from_slice` refuses the message, `NoEchoRequest` for another message, and `Checksum` if its checksum is wrong.
 /// - `HeaderChecksum` if the checksum of the IPv4 header is wrong (RFC 1122, section 3.2.1.2).
 /// - `RequestSource` if the source of the request is 0.0.0.0, 255.255.255.255 or a multicast address.
 /// - `ReplySource` if the source of the reply is such an address.
@@ -123,10 +123,10 @@ pub fn answer_echo_ipv4(
 /// # Errors
 ///
 /// The call checks these cases, in this order, and changes nothing after an error:
-/// - `Ip` if `transport_in_ip` rejects the packet.
+/// - `Ip` if `transport_in_ip` refuses the packet.
 /// - `NoEchoRequest` for an IPv4 packet.
 /// - `Fragment`, `NoEchoRequest` for another protocol, and `Options` if the message does not begin after 40 bytes.
-/// - `Len` if `Icmpv6Slice::from_slice` rejects the message, `NoEchoRequest` for another message, and `Checksum` if its checksum is wrong.
+/// - `Len` if `Icmpv6Slice::from_slice` refuses the message, `NoEchoRequest` for another message, and `Checksum` if its checksum is wrong.
 /// - `RequestSource` if the source of the request is the unspecified address or a multicast address.
 /// - `ReplySource` if the source of the reply is such an address.
 pub fn answer_echo_ipv6(
@@ -258,7 +258,7 @@ fn find_transport(packet: &[u8]) -> Result<TransportInIp<'_>, AnswerEchoError>
     }
 }
 
-/// Rejects a transport that is no whole message of this protocol directly after an IP header of this length.
+/// Refuses a transport that is no whole message of this protocol directly after an IP header of this length.
 fn check_transport(
     found: &TransportInIp<'_>,
     protocol: IpNumber,
@@ -279,7 +279,7 @@ fn check_transport(
     Ok(())
 }
 
-/// Rejects an ICMPv4 message that is no echo request with a right checksum.
+/// Refuses an ICMPv4 message that is no echo request with a right checksum.
 fn check_icmpv4(message: &[u8]) -> Result<(), AnswerEchoError>
     ensures { RefusesExactly result (icmpv4_refusal message.now) }
 {
@@ -296,7 +296,7 @@ fn check_icmpv4(message: &[u8]) -> Result<(), AnswerEchoError>
     Ok(())
 }
 
-/// Rejects an ICMPv6 message that is no echo request with a right checksum.
+/// Refuses an ICMPv6 message that is no echo request with a right checksum.
 fn check_icmpv6(addresses: &Ipv6Header, message: &[u8]) -> Result<(), AnswerEchoError>
     ensures { RefusesExactly result (icmpv6_refusal addresses.now.source addresses.now.destination message.now) }
 {

@@ -36,7 +36,7 @@ use ip_part::has_source_route;
 /// # Errors
 ///
 /// The call checks these cases, in this order, and changes nothing after an error:
-/// - `Ip` if `transport_in_ip_lax` rejects the packet.
+/// - `Ip` if `transport_in_ip_lax` refuses the packet.
 /// - `OtherVersion` for an IPv6 packet.
 /// - `SourceRoute` if the options contain a loose or strict source route, option 131 or 137, of any form. It would contain other addresses
 ///   of the packet (RFC 791, section 3.1). Any other option stays as it is.

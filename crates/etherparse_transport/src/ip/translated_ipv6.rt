@@ -34,10 +34,10 @@ use crate::{IpNumber, Ipv6Header, Ipv6HeaderSlice, ip_number};
 /// # Errors
 ///
 /// The call checks these cases, in this order, and changes nothing after an error:
-/// - `Ip` if `transport_in_ip_lax` rejects the packet.
+/// - `Ip` if `transport_in_ip_lax` refuses the packet.
 /// - `OtherVersion` for an IPv4 packet.
 /// - `Protocol` if the next header, or the next header of a fragment header after the IPv6 header, is not UDP, TCP or ICMPv6. So a packet
-///   with another extension header is rejected: a routing header or a home address would contain another address that a checksum covers
+///   with another extension header is refused: a routing header or a home address would contain another address that a checksum covers
 ///   (RFC 8200, section 8.1; RFC 6275, section 6.3).
 /// - `HeaderCutOff` if the transport header is cut off: 8 bytes of UDP and ICMP, and 20 bytes of TCP.
 /// - `IcmpMessage` for an ICMP message that is no echo message and no error.

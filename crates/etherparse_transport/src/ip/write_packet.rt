@@ -166,7 +166,7 @@ fn counted_header_len(header: &TransportHeader) -> usize
 
 // ---- errors
 
-/// Rejects a header and a payload that can't form an IPv4 packet, for any slice.
+/// Refuses a header and a payload that can't form an IPv4 packet, for any slice.
 fn check_ipv4(
     header: &TransportHeader,
     header_len: usize,
@@ -185,7 +185,7 @@ fn check_ipv4(
     Ok(())
 }
 
-/// Rejects a header and a payload that can't form an IPv6 packet, for any slice.
+/// Refuses a header and a payload that can't form an IPv6 packet, for any slice.
 fn check_ipv6(
     header: &TransportHeader,
     header_len: usize,
@@ -200,7 +200,7 @@ fn check_ipv6(
     check_counted(MAX_MESSAGE_LEN_IPV6, header_len, payload.len())
 }
 
-/// Rejects a payload that an IP header can't count in addition to a transport header of this length.
+/// Refuses a payload that an IP header can't count in addition to a transport header of this length.
 fn check_counted(
     max_message_len: usize,
     header_len: usize,
@@ -218,7 +218,7 @@ fn check_counted(
     Ok(())
 }
 
-/// Rejects a timestamp message or reply that does not have the length of the whole message.
+/// Refuses a timestamp message or reply that does not have the length of the whole message.
 fn check_timestamp(header: &[u8], payload: &[u8]) -> Result<(), BuildSliceWriteError>
     requires whole { 8 ≤ length header.now }
     ensures refused { RefusesExactly result (option_map TimestampLen (icmpv4.refusal (header.now ++ payload.now))) }

@@ -12,7 +12,7 @@ returns-in-Ok-clause-options g c =
     let found = matches_of_command_line (app_of c.in_ok-command.command) words _ line c.in_ok-matches.ensures.matches c.in_ok-matches.ensures.kinds in
     (c.in_ok-matches.matches, found, c.in-Ok.ensures.options)
 
--- clap rejects the words
+-- clap refuses the words
 pub returns-in_err-matches-clause-rejected : goal.returns-in_err-matches-clause-rejected
 returns-in_err-matches-clause-rejected g c =
     no_match _ (app_of c.in_ok-command.command) (map (λ word. string_bytes word) c.args.words.now) c.in_err-matches.field-0.0 _

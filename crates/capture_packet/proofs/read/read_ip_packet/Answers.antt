@@ -5,7 +5,7 @@ use Rattle.capture_packet.specs.Verdicts.{is_transport_cut_off}
 use Rattle.capture_packet.proofs.TunnelLemmas.{around, closed_is, continues, in_these, open_is, outer_of, refused_is_alone, stops}
 use Rattle.capture_packet.proofs.read.read_ip_packet.Goals as goal
 
--- a packet with rejected headers
+-- a packet with refused headers
 pub returns-in-Err : goal.returns-in-Err
 returns-in-Err c =
     let outers = map by_value c.loop-found.tunnels.items in

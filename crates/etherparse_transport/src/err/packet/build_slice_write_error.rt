@@ -36,7 +36,7 @@ pub enum BuildSliceWriteError {
         max_allowed: usize,
     },
     /// An ICMPv4 timestamp message or reply is not exactly 20 bytes long with header and payload (RFC 792).
-    /// `Icmpv4Slice::from_slice` rejects it with the same error.
+    /// `Icmpv4Slice::from_slice` refuses it with the same error.
     TimestampLen(LenError),
     /// The header is an ICMPv6 header, which is not sent over IPv4 (RFC 4443, section 1).
     Icmpv6InIpv4,
