@@ -1,5 +1,5 @@
 -- The blocks of a pcapng file as parts.
-use Rattle.std.proofs.Common.{◌≡◌, ◌≢◌, ◌<◌, ◌++◌, ◌∙◌, ◌⊎◌, ℕ, Bool, true, false, if◌then◌else◌, List, Option, OnErr, Result, Some, None, Ok, Err, [], append_assoc, arith, inl, inr, length, refl, subst, sym, append-nil}
+use Rattle.std.proofs.Common.{◌≡◌, ◌≢◌, ◌<◌, ◌++◌, ◌∙◌, ◌⊎◌, ℕ, Bool, true, false, if◌then◌else◌, List, Option, OnErr, Result, Some, None, Ok, Err, [], append_assoc, arith, inl, inr, length, refl, subst, sym}
 use Rattle.std.proofs.KnownBytes.{Appends-nil, Consumes-trans}
 use Rattle.std.specs.Io.KnownBytes.{Appends, Consumes}
 use Rattle.capture_file.proofs.PcapngLemmas.{block_header_front}
@@ -7,7 +7,6 @@ use Rattle.capture_file.specs.Pcapng.{block_header, block_refusal}
 use Rattle.capture_file.specs.Packets.{long_block}
 use Rattle.capture_file.specs.PcapngReading.{IsLastBlock, IsNextBlock, ReadsAfter}
 use Rattle.capture_file.specs.PcapngSteps.{is_description, is_packet, refused_at}
-use Rattle.capture_texts.specs.declared.byte_order.ByteOrder.{ByteOrder}
 use Rattle.capture_file.specs.declared.pcapng.block.BlockHeader.{BlockHeader}
 use Rattle.capture_file.specs.declared.pcapng.errors.BlockError.{BlockError}
 use Rattle.capture_file.specs.declared.pcapng.errors.BlockError.TheVariants.{CutOff, LastLength, Magic, SectionLength, TotalLength}

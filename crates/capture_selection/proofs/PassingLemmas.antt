@@ -1,5 +1,5 @@
 -- What is read and written by a selection, part by part.
-use Rattle.std.proofs.Common.{◌≡◌, ◌≤◌, ◌+◌, ◌++◌, ◌∙◌, ◌⊎◌, ℕ, List, Option, Result, IfErr, IfOk, Some, None, Ok, Err, [], Bool, true, false, if◌then◌else◌, ap, arith, fold, inl, inr, ⊎_elim, length, refl, subst, sym, append-nil}
+use Rattle.std.proofs.Common.{◌≡◌, ◌≤◌, ◌+◌, ◌++◌, ◌∙◌, ◌⊎◌, ℕ, List, Option, Result, IfErr, IfOk, Some, None, Ok, Err, [], Bool, true, false, if◌then◌else◌, ap, arith, fold, inl, inr, ⊎_elim, refl, subst, sym, append-nil}
 use Rattle.std.proofs.KnownBytes.{Appends-nil, Appends-trans, Consumes-nil, Consumes-trans}
 use Rattle.std.proofs.lemmas.Bool.Decides.{nat_tests}
 use Rattle.std.specs.Io.KnownBytes.{Appends, Consumes, IsAtEnd}
