@@ -22,9 +22,6 @@ use etherparse_transport::icmpv4::{
 };
 use etherparse_transport::{IcmpEchoHeader, Icmpv4Header, Icmpv4Slice, Icmpv4Type};
 
-/// The place of the checksum, in bytes from the first of the message (RFC 792).
-const CHECKSUM_AT: usize = 2;
-
 /// An ICMPv4 header (RFC 792). A field that the kind of the message does not have is 0. A time is a number of
 /// milliseconds since midnight UT, or any other time if the highest bit is set.
 #[repr(C)]
@@ -382,7 +379,7 @@ pub extern "C" fn etherparse_icmpv4_checksum_store(bytes: &mut [u8], error: Erro
 {
     match checksum_of_packet(bytes) {
         Ok(checksum) => {
-            store(bytes, CHECKSUM_AT, checksum);
+            store(bytes, Icmpv4Header::CHECKSUM_AT, checksum);
             accept(error)
         }
         Err(refused) => refuse(error, refused),

@@ -22,9 +22,6 @@ use etherparse_transport::icmpv6::{
 };
 use etherparse_transport::{IcmpEchoHeader, Icmpv6Header, Icmpv6Slice, Icmpv6Type};
 
-/// The place of the checksum, in bytes from the first of the message (RFC 4443, section 2.1).
-const CHECKSUM_AT: usize = 2;
-
 /// An ICMPv6 header (RFC 4443, RFC 4861). A field that the kind of the message does not have is 0.
 #[repr(C)]
 #[derive(Clone, Copy)]
@@ -391,7 +388,7 @@ pub extern "C" fn etherparse_icmpv6_checksum_store(
 {
     match checksum_of_packet(bytes, source, destination) {
         Ok(checksum) => {
-            store(bytes, CHECKSUM_AT, checksum);
+            store(bytes, Icmpv6Header::CHECKSUM_AT, checksum);
             accept(error)
         }
         Err(refused) => refuse(error, refused),

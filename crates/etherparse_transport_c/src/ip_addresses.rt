@@ -9,10 +9,7 @@ use crate::error::{EtherparseError, of_ip};
 use crate::ip::ipv4_address;
 use crate::ipv4_header::header;
 use etherparse_transport::ip::IpError;
-use etherparse_transport::{Ipv4HeaderSlice, Ipv6HeaderSlice};
-
-/// The length of an IPv6 header, in bytes (RFC 8200, section 3).
-const IPV6_LEN: usize = 40;
+use etherparse_transport::{Ipv4HeaderSlice, Ipv6Header, Ipv6HeaderSlice};
 
 /// The addresses of an IP header (RFC 791, section 3.1; RFC 8200, section 3).
 #[repr(C)]
@@ -62,7 +59,7 @@ fn addresses(bytes: &[u8]) -> Result<EtherparseIpAddresses, EtherparseError>
     match Ipv6HeaderSlice::from_slice(bytes) {
         Some(header) => Ok(of_ipv6(&header)),
         None => Err(of_ip(&IpError::HeaderCutOff {
-            required_len: IPV6_LEN,
+            required_len: Ipv6Header::LEN,
             len: bytes.len(),
         })),
     }

@@ -13,15 +13,9 @@ use crate::answer::{Answer, ErrorPlace, accept, refuse};
 use crate::error::{EtherparseError, of_ip};
 use crate::store::store;
 use crate::verdict::verdict;
-use etherparse_transport::Ipv4HeaderSlice;
 use etherparse_transport::checksum::Sum16BitWords;
 use etherparse_transport::ip::IpError;
-
-/// The place of the checksum, in bytes from the first of the header (RFC 791, section 3.1).
-const CHECKSUM_AT: usize = 10;
-
-/// The shortest header, in bytes (RFC 791, section 3.1).
-const MIN_LEN: usize = 20;
+use etherparse_transport::{Ipv4Header, Ipv4HeaderSlice};
 
 /// Why `Ipv4HeaderSlice` finds no header at the front of these bytes.
 fn missing_header(bytes: &[u8]) -> IpError
@@ -39,14 +33,14 @@ fn missing_header(bytes: &[u8]) -> IpError
     if version != 4 {
         return IpError::Version { version };
     }
-    if len < MIN_LEN {
+    if len < Ipv4Header::MIN_LEN {
         return IpError::HeaderCutOff {
-            required_len: MIN_LEN,
+            required_len: Ipv4Header::MIN_LEN,
             len,
         };
     }
     let header_len = usize::from(bytes[0] & 0xf) * 4;
-    if header_len < MIN_LEN {
+    if header_len < Ipv4Header::MIN_LEN {
         return IpError::HeaderLength { header_len };
     }
     IpError::HeaderCutOff {
@@ -73,8 +67,8 @@ fn checksum_of_header(header: &[u8]) -> u16
     ensures valid { Verifies [] (with_checksum 10 header.now result) }
 {
     Sum16BitWords::new()
-        .add_slice(&header[..CHECKSUM_AT])
-        .add_slice(&header[CHECKSUM_AT + 2..])
+        .add_slice(&header[..Ipv4Header::CHECKSUM_AT])
+        .add_slice(&header[Ipv4Header::CHECKSUM_AT + 2..])
         .ones_complement()
 }
 
@@ -144,7 +138,7 @@ pub extern "C" fn etherparse_ipv4_header_checksum_store(
 {
     match computed(bytes) {
         Ok(checksum) => {
-            store(bytes, CHECKSUM_AT, checksum);
+            store(bytes, Ipv4Header::CHECKSUM_AT, checksum);
             accept(error)
         }
         Err(refused) => refuse(error, refused),

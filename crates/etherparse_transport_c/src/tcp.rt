@@ -21,9 +21,6 @@ use etherparse_transport::err::ValueType;
 use etherparse_transport::{TcpHeader, TcpHeaderSlice, TcpSlice};
 use net_base::check_payload_len;
 
-/// The place of the checksum, in bytes from the first of the header (RFC 9293, section 3.1).
-const CHECKSUM_AT: usize = 16;
-
 /// A TCP header without its options (RFC 9293, section 3.1).
 #[repr(C)]
 #[derive(Clone, Copy)]
@@ -328,7 +325,7 @@ pub extern "C" fn etherparse_tcp_checksum_store_ipv4(
 {
     match checksum_ipv4(bytes, source, destination) {
         Ok(ipv4_checksum) => {
-            store(bytes, CHECKSUM_AT, ipv4_checksum);
+            store(bytes, TcpHeader::CHECKSUM_AT, ipv4_checksum);
             accept(error)
         }
         Err(refused) => refuse(error, refused),
@@ -420,7 +417,7 @@ pub extern "C" fn etherparse_tcp_checksum_store_ipv6(
 {
     match checksum_ipv6(bytes, source, destination) {
         Ok(ipv6_checksum) => {
-            store(bytes, CHECKSUM_AT, ipv6_checksum);
+            store(bytes, TcpHeader::CHECKSUM_AT, ipv6_checksum);
             accept(error)
         }
         Err(refused) => refuse(error, refused),

@@ -23,9 +23,6 @@ use etherparse_transport::err::ValueType;
 use etherparse_transport::{UdpHeader, UdpSlice, ip_number};
 use net_base::{check_payload_len, pseudo_header_ipv4, pseudo_header_ipv6};
 
-/// The place of the checksum, in bytes from the first of the header (RFC 768).
-const CHECKSUM_AT: usize = 6;
-
 /// A UDP header (RFC 768).
 #[repr(C)]
 #[derive(Clone, Copy)]
@@ -188,7 +185,7 @@ fn computed_ipv4(source: [u8; 4], destination: [u8; 4], packet: &[u8]) -> u16
     ensures bytes { IsBytes packet.now }
 {
     pseudo_header_ipv4(source, destination, ip_number::UDP, packet.len() as u16)
-        .add_slice(&packet[..CHECKSUM_AT])
+        .add_slice(&packet[..UdpHeader::CHECKSUM_AT])
         .add_slice(&packet[UdpHeader::LEN..])
         .to_ones_complement_with_no_zero()
 }
@@ -213,7 +210,7 @@ fn computed_ipv6(source: [u8; 16], destination: [u8; 16], packet: &[u8]) -> u16
     ensures bytes { IsBytes packet.now }
 {
     pseudo_header_ipv6(source, destination, ip_number::UDP, packet.len() as u32)
-        .add_slice(&packet[..CHECKSUM_AT])
+        .add_slice(&packet[..UdpHeader::CHECKSUM_AT])
         .add_slice(&packet[UdpHeader::LEN..])
         .to_ones_complement_with_no_zero()
 }
@@ -314,7 +311,7 @@ pub extern "C" fn etherparse_udp_checksum_store_ipv4(
 {
     match checksum_ipv4(bytes, source, destination) {
         Ok(ipv4_checksum) => {
-            store(bytes, CHECKSUM_AT, ipv4_checksum);
+            store(bytes, UdpHeader::CHECKSUM_AT, ipv4_checksum);
             accept(error)
         }
         Err(refused) => refuse(error, refused),
@@ -405,7 +402,7 @@ pub extern "C" fn etherparse_udp_checksum_store_ipv6(
 {
     match checksum_ipv6(bytes, source, destination) {
         Ok(ipv6_checksum) => {
-            store(bytes, CHECKSUM_AT, ipv6_checksum);
+            store(bytes, UdpHeader::CHECKSUM_AT, ipv6_checksum);
             accept(error)
         }
         Err(refused) => refuse(error, refused),
