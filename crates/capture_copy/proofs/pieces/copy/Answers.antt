@@ -1,4 +1,4 @@
-use Rattle.std.proofs.Common.{arith, length-take, rules}
+use Rattle.std.proofs.Common.{arith, length-take}
 use Rattle.capture_copy.proofs.CopyLemmas.{copies_end, copies_more, copies_nothing}
 use Rattle.capture_copy.proofs.pieces.copy.Goals as goal
 
