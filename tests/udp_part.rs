@@ -141,6 +141,15 @@ fn headers_are_read_and_written(rt: HostRuntime) {
         ),
         &(8, 8, 8),
     );
+    expect_equal(
+        &rt,
+        &(
+            UdpHeader::SOURCE_PORT_AT,
+            UdpHeader::DESTINATION_PORT_AT,
+            UdpHeader::CHECKSUM_AT,
+        ),
+        &(0, 2, 6),
+    );
     expect_equal(&rt, &UdpHeader::default().to_bytes(), &[0; 8]);
 }
 

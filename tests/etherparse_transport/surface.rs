@@ -305,6 +305,12 @@ fn tcp_constants(rt: HostRuntime) {
         TcpHeader::MAX_LEN,
     ];
     expect_equal(&rt, &lengths, &[20, 20, 60]);
+    let places = [
+        TcpHeader::SOURCE_PORT_AT,
+        TcpHeader::DESTINATION_PORT_AT,
+        TcpHeader::CHECKSUM_AT,
+    ];
+    expect_equal(&rt, &places, &[0, 2, 16]);
     for (constant, value) in &TCP_CONSTANTS {
         expect_equal(&rt, constant, value);
     }

@@ -755,6 +755,7 @@ fn constants_have_their_values(rt: HostRuntime) {
         expect_equal(&rt, constant, value);
     }
     expect_equal(&rt, &MAX_ICMPV6_BYTE_LEN, &4294967295);
+    expect_equal(&rt, &Icmpv6Header::CHECKSUM_AT, &2);
     expect_equal(
         &rt,
         &(Icmpv6Header::MIN_LEN, Icmpv6Header::MIN_SERIALIZED_SIZE),

@@ -281,6 +281,15 @@ fn ipv4_fields_are_read(rt: HostRuntime) {
     for row in &FRAGMENT_FIELDS {
         expect_fragment_fields(&rt, row);
     }
+    let places = [
+        Ipv4Header::MIN_LEN,
+        Ipv4Header::TIME_TO_LIVE_AT,
+        Ipv4Header::PROTOCOL_AT,
+        Ipv4Header::CHECKSUM_AT,
+        Ipv4Header::SOURCE_AT,
+        Ipv4Header::DESTINATION_AT,
+    ];
+    expect_equal(&rt, &places, &[20, 8, 9, 10, 12, 16]);
 }
 
 #[test]
@@ -308,4 +317,10 @@ fn ipv6_fields_are_read(rt: HostRuntime) {
     );
     expect_equal(&rt, &header.slice(), &bytes_to(&rt, &bytes, 40));
     expect_equal(&rt, &header.to_header(), &Ipv6Header::from(&header));
+    let places = [
+        Ipv6Header::LEN,
+        Ipv6Header::SOURCE_AT,
+        Ipv6Header::DESTINATION_AT,
+    ];
+    expect_equal(&rt, &places, &[40, 8, 24]);
 }

@@ -13,6 +13,7 @@ mod facts;
 mod file_name;
 mod flows;
 mod icmp;
+#[doc(hidden)]
 pub mod laws;
 mod line;
 mod network;

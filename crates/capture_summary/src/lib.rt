@@ -10,6 +10,7 @@ mod conversation_count;
 mod count;
 mod flow;
 mod flows;
+#[doc(hidden)]
 pub mod laws;
 mod link_kind;
 mod network;

@@ -6,6 +6,7 @@
 #![tactic(auto)]
 
 mod addresses;
+#[doc(hidden)]
 pub mod laws;
 mod packet_line;
 mod tables;
