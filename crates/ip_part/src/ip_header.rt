@@ -1,7 +1,8 @@
-ghost use Rattle.std.specs.Prelude.{◌≡◌, ◌≤◌, ◌<◌, ◌^◌, ◌==◌, ◌&&◌, IfOk, IfSome, Some, false, length};
+ghost use Rattle.std.specs.Prelude.{◌≡◌, ◌≤◌, ◌<◌, ◌^◌, ◌==◌, ◌&&◌, IfOk, IfSome, Some, false, length, true};
 ghost use Rattle.net_base.specs.Bytes.{be_number};
 ghost use Rattle.net_base.specs.IpHeaders.{ipv4_fragment_offset, ipv4_header_len, ipv4_is_fragment, version};
 ghost use Rattle.net_base.specs.Refusals.{RefusesExactly};
+ghost use Rattle.ip_part.specs.Addresses.{by_value, is_ipv6};
 ghost use Rattle.ip_part.specs.FixedHeaders.{fixed_by_value, fixed_header, fixed_ipv4};
 ghost use Rattle.ip_part.specs.Headers.{headers_by_value};
 ghost use Rattle.ip_part.specs.Ip as specs;
@@ -47,17 +48,12 @@ pub(crate) fn read_ip_header_with_len(packet: &[u8]) -> Result<(Headers<'_>, usi
     }
 }
 
-/// The number of bytes that a header counts if it states no length.
+/// The number of bytes that an IPv6 header counts if it states no length: its own.
 fn len_of_header(headers: &Headers<'_>) -> Result<usize, IpError>
+    requires { is_ipv6 (by_value headers.now.addresses) ≡ true }
     ensures refused { RefusesExactly result (missing_len_refusal (headers_by_value headers.now)) }
     ensures len { IfOk result (λ len. len ≡ headers.now.len) }
 {
-    if matches!(headers.addresses, IpAddresses::Ipv4 { .. }) {
-        return Err(IpError::TotalLength {
-            total_len: 0,
-            header_len: headers.len,
-        });
-    }
     if headers.protocol == ip_number::IPV6_HEADER_HOP_BY_HOP {
         return Err(IpError::JumboPayloadMissing);
     }
