@@ -41,9 +41,6 @@
 #ifndef ETHERPARSE_TRANSPORT_H
 #define ETHERPARSE_TRANSPORT_H
 
-#include <stddef.h>
-#include <stdint.h>
-
 /*
  * The library is built for Linux on x86-64 processors of level x86-64-v2, and on 64-bit ARM processors (AArch64) in little-endian mode.
  * The structs have the same layout on both. Compilers for Windows and macOS define __x86_64__ or __aarch64__ too, but use another calling
@@ -59,6 +56,9 @@
 #if defined(_WIN32) || defined(__CYGWIN__) || defined(__APPLE__)
 #error "etherparse_transport is built for Linux, not for Windows or macOS"
 #endif
+
+#include <stddef.h>
+#include <stdint.h>
 
 /*
  * The compiler warns of a NULL that is not allowed, and of an unused result. To ignore a result on purpose, compare it: (void)(call == 0).
