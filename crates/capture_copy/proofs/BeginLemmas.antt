@@ -52,7 +52,7 @@ pub all_consumed : (left middle still_left : Option (List ℕ)) (begin buffer : 
 all_consumed left middle still_left begin buffer len consumed fills =
     subst (Consumes left still_left) (sym fills.whole) (Consumes-trans left middle still_left begin fills.bytes consumed fills.consumed)
 
--- the header of a classic capture is rejected
+-- the header of a classic capture is refused
 pub refuses_header : (error : CaptureHeaderError) (left middle still_left : Option (List ℕ)) (begin buffer : List ℕ) (len : ℕ)
     → length buffer ≡ 24 → Consumes left middle begin → FillsAfter begin middle still_left buffer len → SaysHeader (take len buffer) (Err error)
     → RefusesHeader left still_left error

@@ -18,7 +18,7 @@ pub fn is_pcapng(bytes: &[u8]) -> bool
     }
 }
 
-/// The header of a classic capture in its first 24 bytes, or the error that rejects them. There are fewer bytes at the end of the input.
+/// The header of a classic capture in its first 24 bytes, or the error that refuses them. There are fewer bytes at the end of the input.
 ///
 /// # Errors
 ///

@@ -41,7 +41,7 @@ block_part options before after bytes buffer block outcome has_room is_next step
   has_outcome = steps.2;
 }
 
--- a block that is rejected
+-- a block that is refused
 pub refused_block : (options : Parts) (before after : PcapngReader) (bytes buffer : List ℕ) (block : NextBlock) (error : PlacedPacketError)
     → length buffer ≡ max_packet_len → IsNextBlock before.section.byte_order bytes buffer block
     → StepsTo options before buffer block after (Err error) → IsRefusedBlock before bytes error
@@ -128,7 +128,7 @@ long_block_front state first more header has_len is beyond other =
       subst (λ given. is_description given.block_type ≡ false) same other,
     )
 
--- a rejected block has no outcome
+-- a refused block has no outcome
 outcome_by : (options : Parts) (buffer : List ℕ) (description packet : Bool) (offset : ℕ) (header : BlockHeader) (next : Option NextPacket)
     (outcome : Option Outcome)
     → next
@@ -143,7 +143,7 @@ outcome_by options buffer true packet offset header (Some (packets.CutOff requir
 outcome_by options buffer true packet offset header (Some packets.End) outcome is has = absurd (cc is)
 outcome_by options buffer true packet offset header None outcome is has = absurd (cc is)
 
--- nothing is written for a block for which the buffer has no room, or the block is not rejected
+-- nothing is written for a block for which the buffer has no room, or the block is not refused
 pub long_front : (options : Parts) (state after : PcapngReader) (first more buffer written : List ℕ) (header : BlockHeader)
     (stepped : Result (Option Outcome) PlacedPacketError) (outcome : Option Outcome)
     → length first ≡ 12 → header ≡ block_header state.section.byte_order first → max_packet_len < header.total_len

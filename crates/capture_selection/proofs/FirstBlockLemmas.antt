@@ -69,7 +69,7 @@ too_long_offset : (offset : ℕ) (header : BlockHeader) (error : PlacedPacketErr
     → error.offset ≡ offset
 too_long_offset offset header error is = too_long_by (is_description header.block_type) (is_packet header.block_type) offset header error is
 
--- the offset of a rejected block
+-- the offset of a refused block
 refused_offset : (before after : PcapngReader) (buffer : List ℕ) (block : NextBlock) (error : PlacedPacketError)
     → IsStep before buffer block after (Some (packets.Refused error)) → error.offset ≡ before.offset
 refused_offset before after buffer (blocks.Whole header) error (at, (Ok None, takes, is)) = absurd (cc is)
@@ -112,7 +112,7 @@ stops_past options result error state left still_left held now_held counts now_c
 stops_past options result error state left still_left held now_held counts now_counts past (inr stops) fails =
     subst (λ given. IsPastFirst given) (sym fails) (error_past options error state left still_left held now_held counts now_counts past stops)
 
--- a file whose first block is not rejected
+-- a file whose first block is not refused
 pub file_passes : (options : Parts) (result : Result (Unit {0}) SelectionError) (start after : Blocks)
     (left still_left held now_held : Option (List ℕ)) (counts now_counts : Counts)
     → PassesTo (blocks_of options) result start after left still_left held now_held counts now_counts → IsPastFirst result

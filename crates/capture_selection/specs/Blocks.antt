@@ -52,7 +52,7 @@ pub record IsBlockPart (options : Parts) (before : PcapngReader) (bytes : List �
   pub has_outcome : HasBlockOutcome options buffer next outcome
 
 -- The buffer has no room for the block that begins with these bytes. The block is neither a section header block nor an interface
--- description block: the reader rejects such a long block of these two types.
+-- description block: the reader refuses such a long block of these two types.
 abbrev pub IsLongBlock : PcapngReader → List ℕ → Type 0
 IsLongBlock state bytes =
     let header = block_header state.section.byte_order bytes in
@@ -62,7 +62,7 @@ IsLongBlock state bytes =
 abbrev pub IsCutBlock : PcapngReader → List ℕ → ℕ → ℕ → Type 0
 IsCutBlock state bytes required len = (bytes ≢ []) × (block_refusal state.section.byte_order bytes ≡ Some (CutOff required len))
 
--- the reader rejects the block
+-- the reader refuses the block
 abbrev pub IsRefusedBlock : PcapngReader → List ℕ → PlacedPacketError → Type 0
 IsRefusedBlock state bytes error =
     (after : PcapngReader) × (buffer : List ℕ) × StepsOver state bytes after buffer (Some (packets.Refused error))
@@ -107,20 +107,20 @@ at_beginning (Capture (RecordCutOff number offset required len)) = Capture (Head
 at_beginning (Capture (Refused error)) = Capture (Header (Pcapng error.error))
 at_beginning error = error
 
--- The first block of a file is rejected. `error` is the error in the form of the report. No packet is counted.
+-- The first block of a file is refused. `error` is the error in the form of the report. No packet is counted.
 pub record RefusesFirst (options : Parts) (start : Blocks) (error : PacketError) (left still_left held now_held : Option (List ℕ))
     (counts now_counts : Counts) : Type 0 where
   pub given : SelectionError
   pub is : at_beginning given ≡ Capture (Header (Pcapng error))
   pub stops : StopsBy (blocks_of options) given start left still_left held now_held counts now_counts
 
--- if the error rejects a block, this block is not the first block of the file
+-- if the error refuses a block, this block is not the first block of the file
 abbrev pub IsPastFirst : {A : Type 0} → Result A SelectionError → Type 0
 IsPastFirst (Err (Capture (RecordCutOff number offset required len))) = 1 ≤ offset
 IsPastFirst (Err (Capture (Refused error))) = 1 ≤ error.offset
 IsPastFirst other = Unit {0}
 
--- What was read and written of a file, from its start up to this result. If its first block is rejected, the error is an error of the
+-- What was read and written of a file, from its start up to this result. If its first block is refused, the error is an error of the
 -- header.
 abbrev pub PassesFile : Parts → Result (Unit {0}) SelectionError → Blocks → Blocks → Option (List ℕ) → Option (List ℕ) → Option (List ℕ)
     → Option (List ℕ) → Counts → Counts → Type 0
@@ -131,12 +131,12 @@ PassesFile options result start after left still_left held now_held counts now_c
 
 -- ---- results
 
--- the error of the selection if this error rejects the bytes at this place as a block
+-- the error of the selection if this error refuses the bytes at this place as a block
 abbrev pub refused_by : Place → BlockError → SelectionError
 refused_by place (CutOff required len) = Capture (RecordCutOff place.number place.offset required len)
 refused_by place error = Capture (Refused (record { offset = place.offset; error = errors.Block error }))
 
--- The result of reading a block: its outcome, or the error that rejects it. The block is at the front of the buffer, or has no room there.
+-- The result of reading a block: its outcome, or the error that refuses it. The block is at the front of the buffer, or has no room there.
 abbrev pub StepsTo : Parts → PcapngReader → List ℕ → NextBlock → PcapngReader → Result (Option Outcome) PlacedPacketError → Type 0
 StepsTo options before buffer block after (Ok outcome) =
     (next : Option NextPacket) × IsStep before buffer block after next × HasBlockOutcome options buffer next outcome

@@ -45,8 +45,8 @@ SelectsBlocks options result left still_left held now_held counts now_counts =
     × PassesFile options result start after left still_left held now_held counts now_counts)
     ⊎ ((is_full options.limit counts.chosen ≡ true) × SelectsNothing held now_held counts now_counts × (result ≡ Err (Capture Enough))))
 
--- The selection of a capture. If the header of a classic capture is rejected or can't be read, nothing was written. The header of a pcapng
--- file is not rejected as the header of a classic capture. If a write failed, nothing is known.
+-- The selection of a capture. If the header of a classic capture is refused or can't be read, nothing was written. The header of a pcapng
+-- file is not refused as the header of a classic capture. If a write failed, nothing is known.
 abbrev pub SelectsCapture : Parts → Result (Unit {0}) SelectionError → Option (List ℕ) → Option (List ℕ) → Option (List ℕ) → Option (List ℕ)
     → Counts → Counts → Type 0
 SelectsCapture options (Err (Capture (Header (Classic error)))) left still_left held now_held counts now_counts =

@@ -42,7 +42,7 @@ pub record Selection : Type 1 where
   pub IsLong : State → List ℕ → Type 0
   -- the capture ends with these bytes, within a part: the length of the part as far as it is known, and the length of the bytes
   pub IsCut : State → List ℕ → ℕ → ℕ → Type 0
-  -- the part that begins with these bytes is rejected
+  -- the part that begins with these bytes is refused
   pub IsRefused : State → List ℕ → PlacedPacketError → Type 0
   -- the requested number of packets
   pub limit : Option ℕ
@@ -118,7 +118,7 @@ format_of selection = record {
 }
 
 -- A selection ended early exactly if as many packets were chosen as are requested. Nothing is stated of a capture whose beginning is
--- rejected, of a write that failed, or of too many packets.
+-- refused, of a write that failed, or of too many packets.
 abbrev pub EndsAtLimit : Option ℕ → ℕ → Result (Unit {0}) SelectionError → Type 0
 EndsAtLimit limit chosen (Ok done) = EndsByLimit limit chosen (Ok done)
 EndsAtLimit limit chosen (Err (Capture error)) = EndsByLimit limit chosen (Err error)

@@ -36,7 +36,7 @@ records_after records len = record { header = records.header; place = place_afte
 abbrev pub first_records : CaptureHeader → Records
 first_records header = record { header = header; place = record { number = 1; offset = 24 } }
 
--- classic captures, with these options; no record is rejected
+-- classic captures, with these options; no record is refused
 abbrev pub record_selection : Parts → Selection
 record_selection options = record {
   State = Records;

@@ -219,7 +219,7 @@ fn select_kept_block<R: Read, W: Write>(
     Ok(())
 }
 
-/// The outcome of the block with this header at the front of the buffer, or why the block is rejected. The file is then after the block.
+/// The outcome of the block with this header at the front of the buffer, or why the block is refused. The file is then after the block.
 fn taken_outcome(
     buffer: &Buffer,
     header: &BlockHeader,
@@ -245,7 +245,7 @@ fn taken_outcome(
     }
 }
 
-/// The outcome of a block for which the buffer has no room, or why the block is rejected. The file is then after the block.
+/// The outcome of a block for which the buffer has no room, or why the block is refused. The file is then after the block.
 fn long_outcome(
     header: &BlockHeader,
     file: &mut PcapngReader,
@@ -271,7 +271,7 @@ fn long_outcome(
     }
 }
 
-/// The outcome of a block. Nothing of a rejected block is written.
+/// The outcome of a block. Nothing of a refused block is written.
 fn kept_outcome(stepped: &Result<Option<Outcome>, PlacedPacketError>) -> Option<Outcome>
     ensures kept { (outcome : Option Outcome) → stepped.now ≡ Ok outcome → result ≡ outcome }
     ensures refused { OnErr stepped.now (result ≡ Some Excluded) }
@@ -283,7 +283,7 @@ fn kept_outcome(stepped: &Result<Option<Outcome>, PlacedPacketError>) -> Option<
 }
 
 /// Reads the bytes of a block after its first bytes, for which the buffer has no room, and writes the block unless its packet has no line.
-/// If the block is rejected, its first bytes may have been written.
+/// If the block is refused, its first bytes may have been written.
 fn select_long_block<R: Read, W: Write>(
     input: &mut R,
     output: &mut W,

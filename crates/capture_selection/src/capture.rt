@@ -30,10 +30,10 @@ use streams::{fill, fill_after};
 ///
 /// # Errors
 ///
-/// `Capture` states why the capture is rejected, or where it can't be read further, and `Enough` if the requested number of packets is
+/// `Capture` states why the capture is refused, or where it can't be read further, and `Enough` if the requested number of packets is
 /// reached. `TooManyPackets` is returned only after 2^64 - 2 records or blocks. What was written before is a whole capture, unless the
-/// buffer has no room for the last record or block. If the header of a classic capture is rejected, nothing is written. If the first block
-/// of a pcapng file is rejected, the error is `Header`, as in the report. An error within a later record or block contains its place.
+/// buffer has no room for the last record or block. If the header of a classic capture is refused, nothing is written. If the first block
+/// of a pcapng file is refused, the error is `Header`, as in the report. An error within a later record or block contains its place.
 /// `Write` is the error of the first write that fails.
 pub fn write_selected<R: Read, W: Write>(
     input: &mut R,

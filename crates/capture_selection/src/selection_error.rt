@@ -13,7 +13,7 @@ use thiserror::Error;
 /// Why a capture is not read to its end.
 #[derive(Debug, Error, Drop)]
 pub enum SelectionError {
-    /// The capture is rejected, can't be read further, or contains as many packets as are requested.
+    /// The capture is refused, can't be read further, or contains as many packets as are requested.
     #[error(transparent)]
     Capture(CaptureError),
     /// Writing failed.
@@ -40,7 +40,7 @@ impl SelectionError {
     }
 }
 
-/// The error of a pcapng file whose first block is rejected.
+/// The error of a pcapng file whose first block is refused.
 fn rejected(error: PacketError) -> SelectionError
     ensures { result ≡ Capture (Header (Pcapng error)) }
 {

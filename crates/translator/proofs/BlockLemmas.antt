@@ -166,7 +166,7 @@ cut_statement (TotalLength total_len) Statement holds = tt
 cut_statement (SectionLength total_len) Statement holds = tt
 cut_statement (LastLength total_len last_len) Statement holds = tt
 
--- a rejected block
+-- a refused block
 abbrev rejected : ℕ → List ℕ → Part
 rejected offset bytes = record { read = bytes; written = written_at offset bytes; outcome = None }
 
@@ -189,7 +189,7 @@ ends_refused table result state left still_left held now_held counts bytes error
       leaves = (refl, cut_statement error (IsAtEnd still_left) at_end);
     }))
 
--- the header of a block is rejected
+-- the header of a block is refused
 pub ends_header : (table : Table) (result : CaptureError) (state : Blocks) (left still_left held now_held : Option (List ℕ)) (counts : Counts)
     (first : List ℕ) (error : BlockError)
     → result ≡ capture_errors.Block (record { offset = state.offset; error = errors.Block error }) → Consumes left still_left first
@@ -214,7 +214,7 @@ ends_cut table result state left still_left held now_held counts first rest head
     ends_refused table result state left still_left held now_held counts (first ++ rest) (CutOff header.total_len len) is consumed appended
     next.0 next.1 (λ filled. omega (arith, filled.1, has_len, short)) (λ required cut_len cut. at_end)
 
--- a whole block is rejected by its last total length
+-- a whole block is refused by its last total length
 pub ends_differs : (table : Table) (result : CaptureError) (state : Blocks) (left still_left held now_held : Option (List ℕ)) (counts : Counts)
     (first rest : List ℕ) (header : BlockHeader) (error : BlockError)
     → result ≡ capture_errors.Block (record { offset = state.offset; error = errors.Block error }) → Consumes left still_left (first ++ rest)
@@ -231,7 +231,7 @@ ends_differs table result state left still_left held now_held counts first rest 
     (λ required len cut.
     absurd (omega (arith, cut_off_short section first rest required len within accepted (refused ∙ ap Some cut), whole, total)))
 
--- ---- blocks that the section rejects
+-- ---- blocks that the section refuses
 
 no_block_in_body : (before after : Section) (header : BlockHeader) (body : BlockBody) (error : BlockError)
     → TakesBody before header body after (Err (errors.Block error)) → ⊥
@@ -245,7 +245,7 @@ no_block_unless : (refusal : Option BodyError) (before after : Section) (header 
 no_block_unless (Some refused) before after header body error takes = cc takes.0
 no_block_unless None before after header body error takes = no_block_in_body before after header takes.0 error takes.2
 
--- a section does not reject a block as cut off
+-- a section does not refuse a block as cut off
 leaves_rejected : (before after : Section) (header : BlockHeader) (body : List ℕ) (error : PacketError) (Statement : Type 0)
     → TakesBlock before header body after (Err error) → IfBlockCutOff error Statement
 leaves_rejected before after header body (errors.Block error) Statement takes = absurd (no_block_unless _ before after header body error takes)
@@ -263,7 +263,7 @@ is_kept section header read within is accepted kept whole =
     (λ short. inl (short_block section header read within is kept short (whole short), omega (arith, short, kept)))
     (cases_lt max_packet_len header.total_len)
 
--- the section rejects the block that begins with these bytes, which were copied
+-- the section refuses the block that begins with these bytes, which were copied
 pub ends_rejected : (table : Table) (result : CaptureError) (state : Blocks) (after : Section) (left still_left held now_held : Option (List ℕ)) (counts : Counts)
     (header : BlockHeader) (first bytes read written : List ℕ) (error : PacketError)
     → result ≡ capture_errors.Block (record { offset = state.offset; error = error }) → read ≡ first ++ bytes → Consumes left still_left read

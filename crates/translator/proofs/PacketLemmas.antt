@@ -143,7 +143,7 @@ pub is_read_by : (expected : ℕ) (packet : List ℕ) → lax_refusal packet ≡
 is_read_by expected packet accepted is =
     ap (λ refusal. is_none refusal && version packet == expected) accepted ∙ ap (λ number. number == expected) is ∙ grind (arith, nat_tests)
 
--- a rejected packet
+-- a refused packet
 pub not_read : (expected : ℕ) (packet : List ℕ) (error : IpError) → lax_refusal packet ≡ Some error → is_read expected packet ≡ false
 not_read expected packet error rejected = ap (λ refusal. is_none refusal && version packet == expected) rejected
 
@@ -189,7 +189,7 @@ last_rule : {E : Type 0} → (rule : Option E) → first_of (rule ∷ []) ≡ ru
 last_rule None = refl
 last_rule (Some error) = refl
 
--- a packet with rejected headers
+-- a packet with refused headers
 pub unknown_rejected : (expected : ℕ) (packet : List ℕ) (quoting : Option Reason) → is_read expected packet ≡ false
     → unknown_reason expected packet quoting ≡ Some reasons.IpHeaders
 unknown_rejected expected packet quoting rejected =
@@ -366,7 +366,7 @@ other_translates table packet after (Err reason) other translates = (
   translates.1,
 )
 
--- a packet of version 6 that does not begin with its header is rejected
+-- a packet of version 6 that does not begin with its header is refused
 unread : (packet : List ℕ) (refusal : Option IpError) (expected : ℕ) → lax_refusal packet ≡ refusal → version packet ≡ 6
     → (BeginsWithIpv6Header packet → ⊥) → is_read expected packet ≡ false
 unread packet None expected accepted is none = absurd (none (ipv6_begins packet (header_accepted packet accepted) is))

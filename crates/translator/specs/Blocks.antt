@@ -91,11 +91,11 @@ IsLongFront table before part =
     IsFilled before.byte_order part.read × (length part.read ≤ block_len before.byte_order part.read)
     × (after : Section) × TranslatesBlock table before part after
 
--- what is written for a rejected block at this place: the bytes that were read, but nothing if it is the first block of the file
+-- what is written for a refused block at this place: the bytes that were read, but nothing if it is the first block of the file
 abbrev pub written_at : ℕ → List ℕ → List ℕ
 written_at offset bytes = if offset == 0 then [] else bytes
 
--- a rejected block at this place was written, and no packet was counted
+-- a refused block at this place was written, and no packet was counted
 abbrev pub IsCopiedAt : ℕ → Part → Type 0
 IsCopiedAt offset part = (part.written ≡ written_at offset part.read) × (part.outcome ≡ None)
 
@@ -112,7 +112,7 @@ abbrev pub IsKept : ByteOrder → List ℕ → Type 0
 IsKept section bytes =
     (IsBlock section bytes × (length bytes ≤ max_packet_len)) ⊎ (BeginsLongBlock section bytes × (length bytes ≡ max_packet_len))
 
--- the section rejects the block that begins with these bytes, which are copied
+-- the section refuses the block that begins with these bytes, which are copied
 pub record IsRejected (blocks : Blocks) (part : Part) (error : PacketError) : Type 0 where
   pub is_kept : IsKept blocks.section.byte_order part.read
   pub after : Section
@@ -120,7 +120,7 @@ pub record IsRejected (blocks : Blocks) (part : Part) (error : PacketError) : Ty
   pub not_beyond : IsBeyond (block_len blocks.section.byte_order part.read) error → ⊥
   pub copied : IsCopiedAt blocks.offset part
 
--- the block that begins with these bytes is rejected
+-- the block that begins with these bytes is refused
 abbrev pub IsRefusedBlock : Table → Blocks → Part → PacketError → Type 0
 IsRefusedBlock table blocks part error = IsNoBlock table blocks part error ⊎ IsRejected blocks part error
 
@@ -156,7 +156,7 @@ pub record IsFileStart (blocks : Blocks) : Type 0 where
 
 -- ---- results
 
--- the block at the front of a buffer, or the first bytes of a long block, were translated, or the section rejects them
+-- the block at the front of a buffer, or the first bytes of a long block, were translated, or the section refuses them
 abbrev pub TranslatesKept : Table → Section → BlockHeader → List ℕ → List ℕ → Section → Result (Option (Result Bool Reason)) PacketError → Type 0
 TranslatesKept table before header read written after (Ok outcome) =
     (taken : Result (Option CapturedPacket) PacketError) × TakesBlock before header (kept_body header read) after taken
@@ -197,7 +197,7 @@ pub record CopiesToEnd (header : BlockHeader) (last_len : ℕ) (left still_left 
   pub consumed : Consumes left still_left (middle ++ last)
   pub appended : Appends held now_held (middle ++ last)
 
--- the rest of a block at this place was copied to its end, and the block is rejected by its last total length
+-- the rest of a block at this place was copied to its end, and the block is refused by its last total length
 pub record DiffersAtEnd (header : BlockHeader) (place : ℕ) (error : CaptureError) (left still_left held now_held : Option (List ℕ)) : Type 0 where
   pub last_len : ℕ
   pub copies : CopiesToEnd header last_len left still_left held now_held

@@ -49,7 +49,7 @@ TranslatesEither table result left still_left held now_held counts now_counts =
 abbrev pub TranslatesNothing : Option (List ℕ) → Option (List ℕ) → Counts → Counts → Type 0
 TranslatesNothing held now_held counts now_counts = (now_held ≡ held) × (now_counts ≡ counts)
 
--- The translation of a capture. If the header of a classic capture is rejected, or can't be read, nothing was written. After a write that
+-- The translation of a capture. If the header of a classic capture is refused, or can't be read, nothing was written. After a write that
 -- failed nothing is known.
 abbrev pub TranslatesCapture : Table → Result (Unit {0}) CaptureError → Option (List ℕ) → Option (List ℕ) → Option (List ℕ) → Option (List ℕ) → Counts
     → Counts → Type 0

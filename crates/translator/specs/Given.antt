@@ -34,7 +34,7 @@ proto_after headers = proto_over headers.addresses headers.protocol.0
 abbrev pub message_after : Headers → List ℕ → List ℕ
 message_after headers packet = drop headers.len (counted (lacks_len packet) packet)
 
--- the ports after the headers of a packet, unless they are rejected
+-- the ports after the headers of a packet, unless they are refused
 abbrev pub ports_after : List ℕ → Result Headers IpError → Option (ℕ × ℕ)
 ports_after packet (Ok headers) = ports_at headers.is_later_fragment (proto_after headers) (message_after headers packet)
 ports_after packet (Err error) = None
@@ -61,7 +61,7 @@ quoted_at is_later_fragment proto message = if is_later_fragment then None else 
 abbrev pub quoted_in : TransportInIp → Option (List ℕ)
 quoted_in found = quoted_at found.is_later_fragment (proto_over (by_value found.addresses) found.protocol.0) found.payload.now
 
--- the same by the headers of the IP packet, unless they are rejected
+-- the same by the headers of the IP packet, unless they are refused
 abbrev pub quoted_after : List ℕ → Result Headers IpError → Option (List ℕ)
 quoted_after packet (Ok headers) = quoted_at headers.is_later_fragment (proto_after headers) (message_after headers packet)
 quoted_after packet (Err error) = None

@@ -36,14 +36,14 @@ is_same address other = option_eq (pointwise ◌==◌) address other
 
 -- ---- rules in their order
 
--- an ICMP error quotes a packet of this version with rejected headers, or needs other new addresses than this packet (RFC 5508, section 4)
+-- an ICMP error quotes a packet of this version with refused headers, or needs other new addresses than this packet (RFC 5508, section 4)
 abbrev pub quoted_reason : ℕ → List ℕ → Bool → Option Reason
 quoted_reason expected quoted are_same = first_of (
     refused_if (not (is_read expected quoted)) reasons.QuotedPacket
     ∷ refused_if (not are_same) reasons.QuotedAddresses
     ∷ [])
 
--- the headers of a packet of this version are rejected, or there is a reason due to the packet that it quotes
+-- the headers of a packet of this version are refused, or there is a reason due to the packet that it quotes
 abbrev pub unknown_reason : ℕ → List ℕ → Option Reason → Option Reason
 unknown_reason expected packet quoting = first_of (
     refused_if (not (is_read expected packet)) reasons.IpHeaders

@@ -172,7 +172,7 @@ fn translate_headed<R: Read, W: Write>(
     Ok(())
 }
 
-/// Writes the bytes of a rejected block. Nothing is written if it is the first block of the file.
+/// Writes the bytes of a refused block. Nothing is written if it is the first block of the file.
 fn write_rejected<W: Write>(output: &mut W, offset: u64, bytes: &[u8]) -> Result<(), CaptureError>
     ensures appends { OnOk result (Appends (W.contents output.old) (W.contents output.new) (written_at offset bytes.now)) }
     ensures failed { IfErr result IsWriteError }

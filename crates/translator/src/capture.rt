@@ -23,8 +23,8 @@ use std::io::{Read, Write};
 ///
 /// # Errors
 ///
-/// Why the capture is not translated to its end. If the header is rejected, or a first block that fits the buffer, nothing is written. If
-/// the capture ends within a record or another block, or another block is rejected, all bytes that were read are written. If reading fails,
+/// Why the capture is not translated to its end. If the header is refused, or a first block that fits the buffer, nothing is written. If
+/// the capture ends within a record or another block, or another block is refused, all bytes that were read are written. If reading fails,
 /// a front of the capture is written. `TooManyParts` is returned only after 2^64 - 1 records or blocks.
 pub fn translate_capture<R: Read, W: Write>(
     input: &mut R,

@@ -15,7 +15,7 @@ pub enum Reason {
     LinkHeader,
     /// The frame contains no IP packet.
     NotIp,
-    /// The headers of IP are rejected or cut off.
+    /// The headers of IP are refused or cut off.
     IpHeaders,
     /// The IPv4 options contain a source route.
     SourceRoute,
