@@ -12,7 +12,7 @@
 #include <string.h>
 #include <time.h>
 
-enum { SAMPLES = 200, CALLS = 2000, LONG_LEN = 1480 };
+enum { SAMPLES = 40, CALLS = 2000, LONG_LEN = 1480 };
 
 static const uint8_t source[4] = {192, 168, 1, 1}, destination[4] = {192, 168, 1, 2};
 static const uint8_t over_ipv4[31] = {0x45, 0, 0, 31, 0, 7, 0, 0, 64, 17, 0, 0, 192, 168, 1, 1,

@@ -6,7 +6,7 @@
 import { readFile } from "node:fs/promises";
 import * as library from "etherparse_transport";
 
-const SAMPLES = 200;
+const SAMPLES = 40;
 const CALLS = 2000;
 
 await library.load();

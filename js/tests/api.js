@@ -190,6 +190,10 @@ export const TESTS = {
         const text = library.errorText({ status: Status.IP_PACKET_CUT_OFF, requiredLen: 2n ** 64n - 1n, len: Number.MAX_SAFE_INTEGER });
         expect(text, "IP Error: the header counts 18446744073709551615 bytes, and 9007199254740991 are there.");
         expect(library.errorText({}).length > 0, true);
+        const start = [0x60, 0, 0, 0, 0, 0, 0, 64, ...new Array(32).fill(1)];
+        const jumbogram = Uint8Array.of(...start, 17, 0, 0xc2, 4, 0xff, 0xff, 0xff, 0xff, ...new Array(8).fill(0));
+        const error = thrown(() => library.transport(jumbogram), library.EtherparseError);
+        expect([error.status, error.requiredLen, error.len], [Status.IP_PACKET_CUT_OFF, 40 + 0xffffffff, 56]);
         expect(new Sum().addAt(2n ** 64n - 1n, Uint8Array.of(1)).value, 1);
         expect(new Sum().addAt(2 ** 53 - 1, Uint8Array.of(1)).value, 1);
     },
