@@ -168,6 +168,7 @@ export function libraryVersion() {
 
 /** A `Uint8Array`, also from another realm, such as a frame of a page. */
 function isBytes(value) {
+    if (value instanceof Uint8Array) return true;
     return ArrayBuffer.isView(value) && Object.prototype.toString.call(value) === "[object Uint8Array]";
 }
 
@@ -187,6 +188,13 @@ function setInput(value, name, offset = 0) {
 /** A copy of a part of the input. */
 function inputPart(offset, length) {
     return bytes.slice(base + INPUT_PLACE + offset, base + INPUT_PLACE + offset + length);
+}
+
+/** Adds the payload, which is a part of the input, and more fields to a header. Adding them takes less time than a new object. */
+function withPayload(header, payloadOffset, payloadLen, more) {
+    header.payload = inputPart(payloadOffset, payloadLen);
+    header.payloadOffset = payloadOffset;
+    return Object.assign(header, more);
 }
 
 /** Copies the input back over the argument that it came from, after a call that changes its packet. */
@@ -630,7 +638,7 @@ export function checkIpv4Header(packet) {
 export function readUdp(message, { lax = false } = {}) {
     read(lax ? "etherparse_udp_packet_read_lax" : "etherparse_udp_packet_read", message, "message");
     const { header, payloadOffset, payloadLen, payloadLenSource } = getUdpPacket(base + RESULT_PLACE);
-    return { ...header, payload: inputPart(payloadOffset, payloadLen), payloadOffset, payloadLenSource };
+    return withPayload(header, payloadOffset, payloadLen, { payloadLenSource });
 }
 
 /** A copy of what a call wrote to the buffer. */
@@ -750,8 +758,7 @@ export function checkUdp(message, source, destination) {
 export function readTcp(message) {
     read("etherparse_tcp_packet_read", message, "message");
     const { header, optionsOffset, optionsLen, payloadOffset, payloadLen } = getTcpPacket(base + RESULT_PLACE);
-    const options = inputPart(optionsOffset, optionsLen);
-    return { ...header, options, payload: inputPart(payloadOffset, payloadLen), payloadOffset };
+    return withPayload(header, payloadOffset, payloadLen, { options: inputPart(optionsOffset, optionsLen) });
 }
 
 /**
@@ -936,11 +943,6 @@ export function writeTcpOptions(options) {
  * @property {number} payloadOffset  the place of the payload in the message, in bytes
  */
 
-/** Of the input and a struct that describes it. */
-function icmpOf({ header, payloadOffset, payloadLen }) {
-    return { ...header, payload: inputPart(payloadOffset, payloadLen), payloadOffset };
-}
-
 /**
  * Reads the ICMPv4 packet that a message is.
  *
@@ -950,7 +952,8 @@ function icmpOf({ header, payloadOffset, payloadLen }) {
  */
 export function readIcmpv4(message) {
     read("etherparse_icmpv4_packet_read", message, "message");
-    return icmpOf(getIcmpv4Packet(base + RESULT_PLACE));
+    const { header, payloadOffset, payloadLen } = getIcmpv4Packet(base + RESULT_PLACE);
+    return withPayload(header, payloadOffset, payloadLen);
 }
 
 /**
@@ -1051,7 +1054,8 @@ export function checkIcmpv4(message) {
  */
 export function readIcmpv6(message) {
     read("etherparse_icmpv6_packet_read", message, "message");
-    return icmpOf(getIcmpv6Packet(base + RESULT_PLACE));
+    const { header, payloadOffset, payloadLen } = getIcmpv6Packet(base + RESULT_PLACE);
+    return withPayload(header, payloadOffset, payloadLen);
 }
 
 /**
