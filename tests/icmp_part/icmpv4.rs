@@ -758,11 +758,7 @@ fn constants_have_their_values(rt: HostRuntime) {
     for (constant, value) in &CODES {
         expect_equal(&rt, constant, value);
     }
-    expect_equal(
-        &rt,
-        &(IcmpEchoHeader::LEN, IcmpEchoHeader::ID_AT),
-        &(4, 4),
-    );
+    expect_equal(&rt, &(IcmpEchoHeader::LEN, IcmpEchoHeader::ID_AT), &(4, 4));
     expect_equal(&rt, &Icmpv4Header::CHECKSUM_AT, &2);
     expect_equal(
         &rt,
