@@ -155,7 +155,7 @@ function versionText(number) {
 }
 
 /**
- * Returns the version of the library, such as "0.4.0".
+ * Returns the version of the library, such as "0.5.0".
  *
  * @returns {string}
  */
@@ -1199,8 +1199,8 @@ export function isReplyTo(request, reply) {
  * @typedef {object} Translation  What is replaced. A missing part stays.
  * @property {string | Uint8Array} [source]  the new source address
  * @property {string | Uint8Array} [destination]  the new destination address
- * @property {number} [sourcePort]  the new source port of UDP and TCP, and identifier of an echo request
- * @property {number} [destinationPort]  the new destination port of UDP and TCP, and identifier of an echo reply
+ * @property {number} [sourcePort]  the new source port of UDP and TCP, and identifier of an ICMP request
+ * @property {number} [destinationPort]  the new destination port of UDP and TCP, and identifier of an ICMP reply
  */
 
 /** The length of the addresses, or, without an address, of the addresses of the packet. */
@@ -1217,7 +1217,7 @@ function flag(part) {
 }
 
 /**
- * Translates an IP packet, as an address translator does: replaces addresses, and ports or the identifier of an echo message.
+ * Translates an IP packet, as an address translator does: replaces addresses, and ports or the identifier of an ICMP query.
  *
  * The checksums are updated by what is replaced, so a receiver accepts the packet if it accepted it before. The packet that an ICMP error
  * is about is translated with source and destination exchanged. In a later fragment only the addresses are replaced.
@@ -1368,7 +1368,8 @@ export class ChecksumChange {
     /**
      * Returns the checksum of the changed packet, from the checksum of the packet before, as TCP, ICMP and the IPv4 header store it (RFC
      * 1624, section 3, equation 3). A right checksum becomes the right checksum, except that it is 0 and should be 65535 if all bytes that
-     * it covers become zeros. With a pseudo header this cannot happen.
+     * it covers become zeros. A wrong checksum stays wrong, except that 0 becomes right if all these bytes were zeros. With a pseudo header
+     * neither can happen.
      *
      * @param {number} checksum
      * @returns {number}

@@ -27,8 +27,27 @@ GROUPS = {
     ],
     "TCP_FIN": [("TcpFlags", "TCP_", "The flags of a TCP header.")],
     "TCP_OPTION_NOOP": [("TcpOptionKind", "TCP_OPTION_", "The kinds of TCP options whose values the library knows.")],
-    "ICMPV4_UNKNOWN": [("Icmpv4Kind", "ICMPV4_", "How the library reads an ICMPv4 message. It is not the type of the packet.")],
-    "ICMPV6_UNKNOWN": [("Icmpv6Kind", "ICMPV6_", "How the library reads an ICMPv6 message. It is not the type of the packet.")],
+    "ICMPV4_KIND_UNKNOWN": [("Icmpv4Kind", "ICMPV4_KIND_", "How the library reads an ICMPv4 message. It is not the type of the packet.")],
+    "ICMPV6_KIND_UNKNOWN": [("Icmpv6Kind", "ICMPV6_KIND_", "How the library reads an ICMPv6 message. It is not the type of the packet.")],
+    "ICMPV4_TYPE_ECHO_REPLY": [("Icmpv4Type", "ICMPV4_TYPE_", "The types of ICMPv4 messages (RFC 792): byte 0.")],
+    "ICMPV4_CODE_NETWORK_UNREACHABLE": [
+        ("Icmpv4UnreachableCode", "ICMPV4_CODE_", "The codes of ICMPv4 destination unreachable (RFC 792; RFC 1122; RFC 1812).")
+    ],
+    "ICMPV4_CODE_REDIRECT_NETWORK": [("Icmpv4RedirectCode", "ICMPV4_CODE_REDIRECT_", "The codes of ICMPv4 redirect (RFC 792).")],
+    "ICMPV4_CODE_TIME_TO_LIVE_EXCEEDED": [("Icmpv4TimeExceededCode", "ICMPV4_CODE_", "The codes of ICMPv4 time exceeded (RFC 792).")],
+    "ICMPV4_CODE_POINTER_INDICATES_ERROR": [
+        ("Icmpv4ParameterProblemCode", "ICMPV4_CODE_", "The codes of an ICMPv4 parameter problem (RFC 792; RFC 1122).")
+    ],
+    "ICMPV6_TYPE_DESTINATION_UNREACHABLE": [
+        ("Icmpv6Type", "ICMPV6_TYPE_", "The types of ICMPv6 messages (RFC 4443; RFC 4861): byte 0.")
+    ],
+    "ICMPV6_CODE_NO_ROUTE": [
+        ("Icmpv6UnreachableCode", "ICMPV6_CODE_", "The codes of ICMPv6 destination unreachable (RFC 4443).")
+    ],
+    "ICMPV6_CODE_HOP_LIMIT_EXCEEDED": [("Icmpv6TimeExceededCode", "ICMPV6_CODE_", "The codes of ICMPv6 time exceeded (RFC 4443).")],
+    "ICMPV6_CODE_ERRONEOUS_HEADER_FIELD": [
+        ("Icmpv6ParameterProblemCode", "ICMPV6_CODE_", "The codes of an ICMPv6 parameter problem (RFC 4443; RFC 7112; RFC 8754; RFC 8883).")
+    ],
     "ICMPV6_ROUTER_MANAGED": [
         ("RouterFlags", "ICMPV6_ROUTER_", "The flags of a router advertisement."),
         ("NeighborFlags", "ICMPV6_NEIGHBOR_", "The flags of a neighbor advertisement."),
@@ -85,10 +104,11 @@ def calls():
     """Each call of the library: its name, the type of its result, and its parameters as pairs of type and name, both as in C."""
     found = []
     for prototype in prototypes():
+        if prototype.startswith("static"):
+            continue
         result, name, parameters = re.fullmatch(r"([\w ]+) (\w+)\((.*)\)", prototype).groups()
         pairs = [re.fullmatch(r"(.*?)(\w+)(\[\d+\])?", text).groups() for text in parameters.split(", ") if text != "void"]
-        if not result.startswith("static"):
-            found.append((name, result, [(kind.strip() + (length or ""), parameter) for kind, parameter, length in pairs]))
+        found.append((name, result, [(kind.strip() + (length or ""), parameter) for kind, parameter, length in pairs]))
     return found
 
 

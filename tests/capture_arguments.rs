@@ -38,7 +38,7 @@ const NAME: &[u8] = b"capture_report";
 const TOO_LONG: &[u8] = &[b'a'; 131073];
 
 /// Arguments that are accepted: the number of captures, the file for the packets, and whether lines are written out at once.
-static ACCEPTED: [(&[&[u8]], usize, Option<&str>, bool); 6] = [
+static ACCEPTED: [(&[&[u8]], usize, Option<&str>, bool); 8] = [
     (&[b"capture_report"], 0, None, false),
     (&[b"capture_report", b"a.pcap", b"-l"], 1, None, true),
     (
@@ -54,17 +54,22 @@ static ACCEPTED: [(&[&[u8]], usize, Option<&str>, bool); 6] = [
         false,
     ),
     (&[b"capture_report", b"\xFF.pcap"], 1, None, false),
+    (&[b"capture_report", b"--", b"-\xFF.pcap"], 1, None, false),
+    (&[b"-\xFF", b"a.pcap"], 1, None, false),
     (&[NAME; 150], 149, None, false),
 ];
 
-/// Arguments that are rejected, or request a text, with the exit status.
-static REJECTED: [(&[&[u8]], i32); 6] = [
+/// Arguments that are refused, or request a text, with the exit status.
+static REJECTED: [(&[&[u8]], i32); 9] = [
     (&[b"capture_report", b"--help"], 0),
     (&[b"capture_report", b"--version"], 0),
     (&[b"capture_report", b"--unknown"], 2),
     (&[b"capture_report", b"--summary", b"--packets"], 2),
     (&[b"capture_report", b"--port", b"65536"], 2),
     (&[b"capture_report", b"-w", b"a.pcap", b"a.pcap"], 2),
+    (&[b"capture_report", b"--host=10.0.0.1\xFF", b"a.pcap"], 2),
+    (&[b"capture_report", b"a.pcap", b"-\xFF"], 2),
+    (&[b"capture_report", b"--help", b"-\xFF"], 0),
 ];
 
 /// The words of these arguments.

@@ -2,7 +2,7 @@
 
 use crate::expect::{expect_all_written, expect_ok, expect_some, expect_written, joined};
 use crate::packets::OVER_IPV4;
-use crate::summaries::{flow_of_ipv4, judge, new_summary, refuse};
+use crate::summaries::{first_info, flow_of_ipv4, judge, new_summary, refuse};
 use capture_file::pcapng::TimeResolution;
 use capture_file::{LinkType, PacketTime};
 use capture_json::{write_packet, write_summary};
@@ -61,7 +61,8 @@ fn line_of(
 ) -> Vec<u8> {
     let times = Times::SinceFirst;
     let mut line = Vec::new(rt.alloc());
-    let written = write_packet(&mut line, rt.alloc(), times, 1, time, time, None, packet);
+    let info = first_info(time, None);
+    let written = write_packet(&mut line, rt.alloc(), times, &info, packet);
     expect_ok(rt, written);
     line
 }

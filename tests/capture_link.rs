@@ -2,7 +2,7 @@
 
 use crate::expect::{bytes_to, expect_at, joined};
 use crate::packets::{IPV4_UDP, UDP_OVER_IPV4};
-use capture_link::{Frame, LinkHeaderCutOff, NetworkProtocol, network_packet};
+use capture_link::{Frame, IpBytes, LinkHeaderCutOff, NetworkProtocol, network_packet};
 use capture_texts::{ByteOrder, LinkType};
 use std::process::Abort;
 
@@ -194,7 +194,7 @@ fn headers_of_serial_lines_are_passed_over(rt: HostRuntime) {
 type SerialRow = (LinkType, &'static [u8], Result<NetworkProtocol, usize>);
 
 #[rattlefmt::skip]
-static OTHER_SERIAL: [SerialRow; 25] = [
+static OTHER_SERIAL: [SerialRow; 32] = [
     (LinkType::Ppp, &[0xFF, 3, 0xC0, 0x21], Ok(NetworkProtocol::PppProtocol(0xC021))),
     (LinkType::Ppp, &[0x80, 0x21], Ok(NetworkProtocol::PppProtocol(0x8021))),
     (LinkType::Ppp, &[0xFD, 0x21], Ok(NetworkProtocol::PppProtocol(0xFD))),
@@ -209,7 +209,14 @@ static OTHER_SERIAL: [SerialRow; 25] = [
     (LinkType::Ppp, &[0xFF, 3, 2, 0x83, 0, 1, 1], Err(8)),
     (LinkType::PppHdlc, &[], Err(1)),
     (LinkType::PppHdlc, &[0x8F, 0, 0x80], Err(4)),
-    (LinkType::PppHdlc, &[0x8F, 0, 0x80, 0x35], Ok(NetworkProtocol::EtherType(0x8035))),
+    (LinkType::PppHdlc, &[0x8F, 0, 0x80, 0x35], Ok(NetworkProtocol::LinkType(104))),
+    (LinkType::PppHdlc, &[0x0F, 0, 0x20, 0], Ok(NetworkProtocol::LinkType(104))),
+    (LinkType::CiscoHdlc, &[0x0F, 0, 0x80, 0x35], Ok(NetworkProtocol::LinkType(104))),
+    (LinkType::CiscoHdlc, &[0x8F, 0, 0x20, 0], Ok(NetworkProtocol::LinkType(104))),
+    (LinkType::CiscoHdlc, &[0x8F, 0, 0x80, 0x36], Ok(NetworkProtocol::EtherType(0x8036))),
+    (LinkType::CiscoHdlc, &[0x8F, 0, 0x20, 1], Ok(NetworkProtocol::EtherType(0x2001))),
+    (LinkType::CiscoHdlc, &[0x8F, 0, 0x81, 0, 0, 5, 0x80, 0x35], Ok(NetworkProtocol::EtherType(0x8035))),
+    (LinkType::CiscoHdlc, &[0x8F, 0, 0x20], Err(4)),
     (LinkType::FrameRelay, &[0, 1, 3], Err(4)),
     (LinkType::FrameRelay, &[0, 1, 3, 0], Err(5)),
     (LinkType::FrameRelay, &[0, 1, 3, 0x80, 0, 0, 0, 8], Err(9)),
@@ -231,7 +238,11 @@ fn other_frames_of_serial_lines(rt: HostRuntime) {
 
 /// What comes after the addresses of an Ethernet frame, in front of an IPv4 packet.
 #[rattlefmt::skip]
-static ETHER_TYPES: [&[u8]; 8] = [
+static ETHER_TYPES: [&[u8]; 12] = [
+    &[0, 36, 6, 6, 3],
+    &[0x81, 0, 0, 5, 0, 36, 6, 6, 3],
+    &[0, 41, 0xAA, 0xAA, 3, 0, 0, 0xF8, 8, 0],
+    &[0, 45, 0xAA, 0xAA, 3, 0, 0, 0xF8, 0x81, 0, 0, 5, 0x86, 0xDD],
     &[0x88, 0x64, 0x11, 0, 0, 1, 0, 33, 0, 0x21],
     &[0x81, 0, 0, 5, 0x88, 0x64, 0x11, 0, 0xFF, 0xFF, 0, 33, 0, 0x57],
     &[0x88, 0x47, 0, 1, 1, 64],
@@ -258,7 +269,7 @@ fn headers_after_an_ether_type_are_passed_over(rt: HostRuntime) {
 type EthernetRow = (&'static [u8], Result<NetworkProtocol, usize>);
 
 #[rattlefmt::skip]
-static OTHER_ETHER_TYPES: [EthernetRow; 31] = [
+static OTHER_ETHER_TYPES: [EthernetRow; 37] = [
     (&[0x88, 0x64, 0x11, 0, 0, 1, 0], Err(20)),
     (&[0x88, 0x64, 0x11, 0, 0, 1, 0, 2], Err(21)),
     (&[0x88, 0x64, 0x11, 0, 0, 1, 0, 2, 0], Err(22)),
@@ -286,6 +297,12 @@ static OTHER_ETHER_TYPES: [EthernetRow; 31] = [
     (&[0, 8, 0xAA, 0xAA, 3, 0, 0, 0, 8, 6], Ok(NetworkProtocol::EtherType(0x0806))),
     (&[0, 4, 0xFE, 0xFE, 3, 0x83], Ok(NetworkProtocol::Nlpid(0x83))),
     (&[0, 3, 0xFE, 0xFE, 3], Err(18)),
+    (&[0, 3, 6, 6, 0xF3], Ok(NetworkProtocol::Llc { dsap: 6, ssap: 6 })),
+    (&[0, 3, 6, 0x42, 3], Ok(NetworkProtocol::Llc { dsap: 6, ssap: 0x42 })),
+    (&[0, 2, 6, 6], Err(17)),
+    (&[0, 8, 0xAA, 0xAA, 3, 0, 0, 0xF8, 8, 6], Ok(NetworkProtocol::EtherType(0x0806))),
+    (&[0, 8, 0xAA, 0xAA, 3, 0, 0, 0xF9, 8, 0], Ok(NetworkProtocol::Snap { organization_code: 0xF9, protocol: 0x0800 })),
+    (&[0, 7, 0xAA, 0xAA, 3, 0, 0, 0xF8, 8], Err(22)),
     (&[0, 2, 0x42, 0x42], Err(17)),
     (&[0, 7, 0xAA, 0xAA, 3, 0, 0, 0, 8], Err(22)),
     (&[6, 0, 0x42, 0x42, 3], Ok(NetworkProtocol::EtherType(0x0600))),
@@ -303,5 +320,77 @@ fn expect_other_ether_type(rt: &(impl Abort + AllocGlobal), row: &EthernetRow) {
 fn other_headers_after_an_ether_type(rt: HostRuntime) {
     for row in &OTHER_ETHER_TYPES {
         expect_other_ether_type(&rt, row);
+    }
+}
+
+/// The front of a Linux cooked frame of each version, up to its protocol or after it: a device type, and the bytes around it.
+#[rattlefmt::skip]
+static COOKED: [(LinkType, &[u8], Result<NetworkProtocol, usize>); 7] = [
+    (LinkType::LinuxCooked, &[0, 4, 3, 0x38, 0, 0, 0, 0, 0, 0, 0, 0, 0, 0, 0, 16], Ok(NetworkProtocol::LinkType(253))),
+    (LinkType::LinuxCooked, &[0, 4, 3, 0x38, 0, 0, 0, 0, 0, 0, 0, 0, 0, 0, 0, 4], Ok(NetworkProtocol::LinkType(253))),
+    (LinkType::LinuxCooked, &[0, 4, 3, 0x38, 0, 0, 0, 0, 0, 0, 0, 0, 0, 0, 0], Err(16)),
+    (LinkType::LinuxCooked, &[0, 4, 3, 0x39, 0, 0, 0, 0, 0, 0, 0, 0, 0, 0, 0, 16], Ok(NetworkProtocol::EtherType(16))),
+    (LinkType::LinuxCooked2, &[0, 4, 0, 0, 0, 0, 0, 1, 3, 0x38, 4, 0, 0, 0, 0, 0, 0, 0, 0, 0], Ok(NetworkProtocol::LinkType(253))),
+    (LinkType::LinuxCooked2, &[8, 0, 0, 0, 0, 0, 0, 1, 3, 0x38, 4, 0, 0, 0, 0, 0, 0, 0, 0], Err(20)),
+    (LinkType::LinuxCooked2, &[0, 16, 3, 0x38, 0, 0, 0, 1, 0, 1, 4, 0, 0, 0, 0, 0, 0, 0, 0, 0], Ok(NetworkProtocol::EtherType(16))),
+];
+
+#[test]
+fn frames_of_netlink(rt: HostRuntime) {
+    for (link_type, frame, expected) in &COOKED {
+        expect_other(&rt, *link_type, frame, *expected);
+    }
+}
+
+/// The front of a PPPoE frame without the header of Ethernet, and its protocol, or the length of the header that is cut off.
+#[rattlefmt::skip]
+static PPPOE: [(&[u8], Result<NetworkProtocol, usize>); 9] = [
+    (&[0x11, 9, 0, 0, 0, 0], Ok(NetworkProtocol::EtherType(0x8863))),
+    (&[0x11, 7, 0, 0, 0, 4, 1, 1, 0, 0], Ok(NetworkProtocol::EtherType(0x8863))),
+    (&[0x11, 0x19, 0, 0, 0, 4, 1, 1, 0, 0], Ok(NetworkProtocol::EtherType(0x8863))),
+    (&[0x11, 0x65, 0, 1, 0, 0], Ok(NetworkProtocol::EtherType(0x8863))),
+    (&[0x11, 0xA7, 0, 1, 0, 0], Ok(NetworkProtocol::EtherType(0x8863))),
+    (&[0x11, 9, 0, 0, 0], Err(6)),
+    (&[0x21, 9, 0, 0, 0, 0], Ok(NetworkProtocol::EtherType(0x8864))),
+    (&[0x11, 0, 0, 1, 0, 0], Ok(NetworkProtocol::EtherType(0x8864))),
+    (&[0x11, 0, 0, 1, 0, 2, 0xC0, 0x21], Ok(NetworkProtocol::PppProtocol(0xC021))),
+];
+
+#[test]
+fn discovery_of_pppoe_is_no_session(rt: HostRuntime) {
+    for (frame, expected) in &PPPOE {
+        expect_other(&rt, LinkType::PppOverEthernet, frame, *expected);
+    }
+}
+
+/// The length of an NFLOG attribute with 4 bytes of a packet, the bytes after the packet, and how many bytes of the frame are the packet,
+/// if the header states it.
+#[rattlefmt::skip]
+static LOGGED: [(u8, &[u8], usize, bool); 6] = [
+    (8, &[], 4, true),
+    (8, &[8, 0, 10, 0, 1, 2, 3, 4], 4, true),
+    (7, &[0], 3, true),
+    (4, &[1, 2], 0, true),
+    (9, &[], 4, false),
+    (12, &[1, 2, 3], 7, false),
+];
+
+/// Stops the test unless the packet of a logged frame ends with its attribute, or with the frame if this is shorter.
+fn expect_logged(rt: &(impl Abort + AllocGlobal), row: &(u8, &[u8], usize, bool)) {
+    let (len, after, packet_len, is_end_stated) = *row;
+    let frame = joined(rt, &[&[2, 0, 0, 5, len, 0, 9, 0, 0x45, 0, 0, 4], after]);
+    let expected = IpBytes {
+        bytes: &frame[8..8 + packet_len],
+        start: 8,
+        is_end_stated,
+    };
+    let found = network_packet(LinkType::Nflog, ByteOrder::BigEndian, &frame);
+    expect_at(rt, &frame, &found, &Ok(Frame::Ip(expected)));
+}
+
+#[test]
+fn logged_packets_end_with_their_attribute(rt: HostRuntime) {
+    for row in &LOGGED {
+        expect_logged(&rt, row);
     }
 }

@@ -10,7 +10,10 @@ use crate::captures::{
 use crate::expect::{
     expect_all_written, expect_at, expect_equal, expect_ok, expect_written, joined, joined_texts,
 };
-use capture_run::{Choice, ExitStatus, Format, Lines, Open, Parts, STANDARD_INPUT, run};
+use capture_run::{
+    Choice, ExitStatus, Format, Lines, MAX_PACKET_LEN, Open, Outputs, Parts, STANDARD_INPUT,
+    Sources, WriteError, run,
+};
 use capture_summary::MAX_CHOSEN;
 use std::hash::RandomState;
 use std::io;
@@ -66,21 +69,24 @@ impl<'a> Open for Captures<'a> {
     }
 }
 
-/// Runs a report into this output, and returns the exit status and what it wrote to standard error.
-fn run_into<O: Open, W: Write>(
-    rt: &(impl Abort + AllocGlobal + RandomSource),
+/// Runs a report. The buffer is an array, since a checked build fills and drops a vector byte by byte.
+fn run_into<O: Open, W: Write, E: Write>(
+    rt: &(impl Abort + RandomSource),
     parts: Parts,
-    names: &[&str],
-    opener: &O,
-    output: &mut W,
-) -> (u8, Vec<u8>) {
+    sources: &Sources<'_, O>,
+    outputs: &mut Outputs<W, E>,
+) -> Result<ExitStatus, WriteError> {
     let state = expect_ok(rt, RandomState::new(rt));
-    let mut errors = Vec::new(rt.alloc());
-    let status = match run(rt.alloc(), state, parts, names, opener, output, &mut errors) {
-        Ok(status) => status,
-        Err(_) => ExitStatus::Failed,
-    };
-    (status.number(), errors)
+    let mut buffer = [0; MAX_PACKET_LEN];
+    run(sources, parts, state, &mut buffer, outputs)
+}
+
+/// The exit status of a run. If nothing more could be reported, it is the status of the program then.
+fn status_of(outcome: Result<ExitStatus, WriteError>) -> u8 {
+    match outcome {
+        Ok(status) => status.number(),
+        Err(_) => ExitStatus::Failed.number(),
+    }
 }
 
 /// What a run wrote, and its status.
@@ -91,17 +97,22 @@ struct Ran {
     errors: Vec<u8>,
 }
 
-fn run_over<O: Open>(
+fn run_over<O: Open + Drop>(
     rt: &(impl Abort + AllocGlobal + RandomSource),
     parts: Parts,
     names: &[&str],
     opener: &O,
 ) -> Ran {
-    let mut output = Vec::new(rt.alloc());
-    let (status, errors) = run_into(rt, parts, names, opener, &mut output);
+    let mut outputs = Outputs {
+        alloc: rt.alloc(),
+        report: Vec::new(rt.alloc()),
+        errors: Vec::new(rt.alloc()),
+    };
+    let outcome = run_into(rt, parts, &Sources { names, opener }, &mut outputs);
+    let Outputs { report, errors, .. } = outputs;
     Ran {
-        status,
-        output,
+        status: status_of(outcome),
+        output: report,
         errors,
     }
 }
@@ -392,34 +403,39 @@ fn read_faults_leave_the_report_before_them(rt: HostRuntime) {
 fn expect_beginning<O: Open>(
     rt: &(impl Abort + AllocGlobal + RandomSource),
     parts: Parts,
-    names: &[&str],
-    opener: &O,
+    sources: &Sources<'_, O>,
     whole: &[u8],
     calls: usize,
     takes_nothing: bool,
 ) {
-    let mut output = FaultyWriter {
+    let output = FaultyWriter {
         written: Vec::new(rt.alloc()),
         calls,
         takes_nothing,
     };
-    let (status, _) = run_into(rt, parts, names, opener, &mut output);
+    let mut outputs = Outputs {
+        alloc: rt.alloc(),
+        report: output,
+        errors: Vec::new(rt.alloc()),
+    };
+    let outcome = run_into(rt, parts, sources, &mut outputs);
     // Each byte takes a write, and the flush is one call more.
     let expected = if calls <= whole.len() { 3 } else { 0 };
-    expect_at(rt, &calls, &status, &expected);
-    let written = output.written.as_slice();
+    expect_at(rt, &calls, &status_of(outcome), &expected);
+    let written = outputs.report.written.as_slice();
     expect_at(rt, &calls, &written, &first_bytes(whole, calls));
 }
 
 /// Stops the test unless a run over this capture whose writer fails, or takes nothing, has written the beginning of the lines.
 fn expect_beginnings(
     rt: &(impl Abort + AllocGlobal + RandomSource),
-    captures: &Captures<'_>,
+    opener: &Captures<'_>,
     whole: &[u8],
     takes_nothing: bool,
 ) {
+    let sources = Sources { names: &[], opener };
     for calls in 0..whole.len().saturating_add(2) {
-        expect_beginning(rt, ONLY_LINES, &[], captures, whole, calls, takes_nothing);
+        expect_beginning(rt, ONLY_LINES, &sources, whole, calls, takes_nothing);
     }
 }
 
@@ -443,8 +459,12 @@ fn write_faults_within_the_summary(rt: HostRuntime) {
     expect_equal(&rt, &whole.status, &0);
     let output = whole.output.as_slice();
     let len = output.len();
+    let sources = Sources {
+        names: &[],
+        opener: &captures,
+    };
     for calls in [len / 2, len.saturating_sub(1), len, len.saturating_add(1)] {
-        expect_beginning(&rt, ALL, &[], &captures, output, calls, false);
+        expect_beginning(&rt, ALL, &sources, output, calls, false);
     }
 }
 

@@ -7,6 +7,7 @@ mod summary;
 mod tcp;
 
 use crate::expect::{expect_all_written, expect_ok};
+use crate::summaries::first_info;
 use capture_file::PacketTime;
 use capture_file::pcapng::TimeResolution;
 use capture_packet::{Content, Packet, Transport, Verdict};
@@ -39,7 +40,8 @@ fn line_of(rt: &(impl Abort + AllocGlobal), len: Option<FrameLen>, packet: &Pack
     let time = Some(FIRST);
     let times = Times::SinceFirst;
     let mut line = Vec::new(rt.alloc());
-    let written = write_packet_line(&mut line, times, false, 1, time, time, len, packet);
+    let info = first_info(time, len);
+    let written = write_packet_line(&mut line, times, false, &info, packet);
     expect_ok(rt, written);
     line
 }

@@ -11,6 +11,7 @@ mod sweeps;
 mod translations;
 mod transport_header;
 mod validity;
+mod written_checksums;
 
 use crate::expect::{bytes_from, expect_at, expect_bytes, expect_ok, expect_some};
 use etherparse_transport::err::tcp::{HeaderError, HeaderSliceError};

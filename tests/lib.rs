@@ -1,5 +1,6 @@
-//! Tests of the libraries, over public names alone. They are run and not proved, by `.ci/tests`. A module of tests has the name of the crate
-//! that it tests. The modules `captures`, `expect`, `packets` and `summaries` contain what several of these use.
+//! Tests of the libraries, only over their public names. `.ci/tests` runs them, and no proof covers them. A module of tests has the name of
+//! the crate that it tests. The modules `captures`, `expect`, `packets` and `summaries` contain functions that several of these modules
+//! use.
 #![tactic(auto)]
 
 #[cfg(test)]

@@ -1,8 +1,10 @@
 //! Summaries that tests of several crates fill.
 
 use crate::expect::expect_ok;
+use capture_file::PacketTime;
 use capture_summary::{
-    CaptureInfo, Flow, FlowProtocol, Protocol, RefusalKind, Summary, VerdictKind,
+    CaptureInfo, Flow, FlowProtocol, FrameLen, PacketInfo, Protocol, RefusalKind, Summary,
+    VerdictKind,
 };
 use std::hash::RandomState;
 use std::net::{IpAddr, SocketAddr};
@@ -67,6 +69,20 @@ fn try_judge(
     }
     let added = summary.add(protocol, verdict, None, flow, &info);
     added.ok().ok_or("no memory is left")
+}
+
+/// The data about the first packet of a capture.
+pub fn first_info(time: Option<PacketTime>, len: Option<FrameLen>) -> PacketInfo {
+    let capture = CaptureInfo {
+        link_type: None,
+        time,
+        len,
+    };
+    PacketInfo {
+        number: 1,
+        first: time,
+        capture,
+    }
 }
 
 /// The flow of UDP from 192.0.2.1, port 49152, to 192.0.2.2, port 53.

@@ -60,8 +60,14 @@ changelog() {
     done
 }
 
-# needed_libc FILE ..: the first version of the C library that has all that the files need, which has its number in their names.
-needed_libc() { "${OBJDUMP:-${tools}objdump}" -p "$@" | grep -oE 'GLIBC_[0-9.]+' | sort -uV | tail -n 1 | cut -d _ -f 2; }
+# needed_libc FILE ..: the first version of the C library that has all that the files need, which has its number in their names. If a note
+# states a level of x86-64, it is also the first version whose loader reads such a note.
+needed_libc() {
+    {
+        "${OBJDUMP:-${tools}objdump}" -p "$@" | grep -oE 'GLIBC_[0-9.]+' || exit
+        if "${READELF:-readelf}" -n "$@" | grep -q 'x86 ISA needed: .*x86-64-v'; then echo GLIBC_2.33; fi
+    } | sort -uV | tail -n 1 | cut -d _ -f 2
+}
 
 # installed_size TREE: an estimate in KiB that does not depend on the file system, as the tools of Debian make it (policy, section 5.6.20):
 # each file or link is rounded up, and each folder counts as one.

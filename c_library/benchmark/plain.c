@@ -281,29 +281,29 @@ etherparse_status plain_icmpv4_packet_read(const uint8_t *bytes, size_t len, eth
     case 8:
         if (bytes[1] != 0)
             break;
-        header->kind = bytes[0] == 0 ? ETHERPARSE_ICMPV4_ECHO_REPLY : ETHERPARSE_ICMPV4_ECHO_REQUEST;
+        header->kind = bytes[0] == 0 ? ETHERPARSE_ICMPV4_KIND_ECHO_REPLY : ETHERPARSE_ICMPV4_KIND_ECHO_REQUEST;
         header->id = big_endian_16(bytes + 4);
         header->sequence_number = big_endian_16(bytes + 6);
         break;
     case 3:
         if (bytes[1] > 15)
             break;
-        header->kind = ETHERPARSE_ICMPV4_DESTINATION_UNREACHABLE;
+        header->kind = ETHERPARSE_ICMPV4_KIND_DESTINATION_UNREACHABLE;
         if (bytes[1] == 4)
             header->next_hop_mtu = big_endian_16(bytes + 6);
         break;
     case 5:
         if (bytes[1] <= 3)
-            header->kind = ETHERPARSE_ICMPV4_REDIRECT;
+            header->kind = ETHERPARSE_ICMPV4_KIND_REDIRECT;
         break;
     case 11:
         if (bytes[1] <= 1)
-            header->kind = ETHERPARSE_ICMPV4_TIME_EXCEEDED;
+            header->kind = ETHERPARSE_ICMPV4_KIND_TIME_EXCEEDED;
         break;
     case 12:
         if (bytes[1] > 2)
             break;
-        header->kind = ETHERPARSE_ICMPV4_PARAMETER_PROBLEM;
+        header->kind = ETHERPARSE_ICMPV4_KIND_PARAMETER_PROBLEM;
         if (bytes[1] == 0)
             header->pointer = bytes[4];
         break;
@@ -311,7 +311,7 @@ etherparse_status plain_icmpv4_packet_read(const uint8_t *bytes, size_t len, eth
     case 14:
         if (bytes[1] != 0)
             break;
-        header->kind = bytes[0] == 13 ? ETHERPARSE_ICMPV4_TIMESTAMP_REQUEST : ETHERPARSE_ICMPV4_TIMESTAMP_REPLY;
+        header->kind = bytes[0] == 13 ? ETHERPARSE_ICMPV4_KIND_TIMESTAMP_REQUEST : ETHERPARSE_ICMPV4_KIND_TIMESTAMP_REPLY;
         header->id = big_endian_16(bytes + 4);
         header->sequence_number = big_endian_16(bytes + 6);
         header->originate_timestamp = big_endian_32(bytes + 8);
@@ -330,34 +330,34 @@ etherparse_status plain_icmpv4_packet_read(const uint8_t *bytes, size_t len, eth
 static void set_icmpv6_message(const uint8_t *bytes, etherparse_icmpv6_header *header)
 {
     static const uint32_t kinds[] = {
-        ETHERPARSE_ICMPV6_ROUTER_SOLICITATION, ETHERPARSE_ICMPV6_ROUTER_ADVERTISEMENT, ETHERPARSE_ICMPV6_NEIGHBOR_SOLICITATION,
-        ETHERPARSE_ICMPV6_NEIGHBOR_ADVERTISEMENT, ETHERPARSE_ICMPV6_REDIRECT};
+        ETHERPARSE_ICMPV6_KIND_ROUTER_SOLICITATION, ETHERPARSE_ICMPV6_KIND_ROUTER_ADVERTISEMENT,
+        ETHERPARSE_ICMPV6_KIND_NEIGHBOR_SOLICITATION, ETHERPARSE_ICMPV6_KIND_NEIGHBOR_ADVERTISEMENT, ETHERPARSE_ICMPV6_KIND_REDIRECT};
     switch (bytes[0]) {
     case 1:
         if (bytes[1] <= 6)
-            header->kind = ETHERPARSE_ICMPV6_DESTINATION_UNREACHABLE;
+            header->kind = ETHERPARSE_ICMPV6_KIND_DESTINATION_UNREACHABLE;
         break;
     case 2:
         if (bytes[1] != 0)
             break;
-        header->kind = ETHERPARSE_ICMPV6_PACKET_TOO_BIG;
+        header->kind = ETHERPARSE_ICMPV6_KIND_PACKET_TOO_BIG;
         header->mtu = big_endian_32(bytes + 4);
         break;
     case 3:
         if (bytes[1] <= 1)
-            header->kind = ETHERPARSE_ICMPV6_TIME_EXCEEDED;
+            header->kind = ETHERPARSE_ICMPV6_KIND_TIME_EXCEEDED;
         break;
     case 4:
         if (bytes[1] > 10)
             break;
-        header->kind = ETHERPARSE_ICMPV6_PARAMETER_PROBLEM;
+        header->kind = ETHERPARSE_ICMPV6_KIND_PARAMETER_PROBLEM;
         header->pointer = big_endian_32(bytes + 4);
         break;
     case 128:
     case 129:
         if (bytes[1] != 0)
             break;
-        header->kind = bytes[0] == 128 ? ETHERPARSE_ICMPV6_ECHO_REQUEST : ETHERPARSE_ICMPV6_ECHO_REPLY;
+        header->kind = bytes[0] == 128 ? ETHERPARSE_ICMPV6_KIND_ECHO_REQUEST : ETHERPARSE_ICMPV6_KIND_ECHO_REPLY;
         header->id = big_endian_16(bytes + 4);
         header->sequence_number = big_endian_16(bytes + 6);
         break;

@@ -68,12 +68,12 @@ static int find_identifier(const etherparse_ip_transport *ip, const uint8_t *pay
         if (etherparse_icmpv4_packet_read(payload, ip->payload_len, &icmpv4, NULL) != ETHERPARSE_OK)
             return 0;
         *identifier = icmpv4.header.id;
-        return icmpv4.header.kind == (is_source ? ETHERPARSE_ICMPV4_ECHO_REQUEST : ETHERPARSE_ICMPV4_ECHO_REPLY);
+        return icmpv4.header.kind == (is_source ? ETHERPARSE_ICMPV4_KIND_ECHO_REQUEST : ETHERPARSE_ICMPV4_KIND_ECHO_REPLY);
     }
     if (etherparse_icmpv6_packet_read(payload, ip->payload_len, &icmpv6, NULL) != ETHERPARSE_OK)
         return 0;
     *identifier = icmpv6.header.id;
-    return icmpv6.header.kind == (is_source ? ETHERPARSE_ICMPV6_ECHO_REQUEST : ETHERPARSE_ICMPV6_ECHO_REPLY);
+    return icmpv6.header.kind == (is_source ? ETHERPARSE_ICMPV6_KIND_ECHO_REQUEST : ETHERPARSE_ICMPV6_KIND_ECHO_REPLY);
 }
 
 /* Finds the source or the destination of a packet. Returns 0 for a fragment, and if there is no port and no identifier. */

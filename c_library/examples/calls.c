@@ -504,7 +504,8 @@ static void icmpv4(void)
     uint8_t changed[12];
     clear();
     OK(etherparse_icmpv4_packet_read(ping4, 12, &packet, &error));
-    EXPECT(packet.header.kind == ETHERPARSE_ICMPV4_ECHO_REQUEST && packet.header.type == 8 && packet.header.code == 0);
+    EXPECT(packet.header.kind == ETHERPARSE_ICMPV4_KIND_ECHO_REQUEST && packet.header.code == 0);
+    EXPECT(packet.header.type == ETHERPARSE_ICMPV4_TYPE_ECHO_REQUEST && ETHERPARSE_ICMPV4_TYPE_ECHO_REQUEST == 8);
     EXPECT(packet.header.id == 1 && packet.header.sequence_number == 2 && packet.header.checksum == 0x192c);
     EXPECT(packet.payload_offset == ETHERPARSE_ICMPV4_HEADER_LEN && packet.payload_len == 4 && packet.header.bytes4to7[3] == 2);
     EXPECT(packet.header.next_hop_mtu == 0 && packet.header.pointer == 0 && packet.header.transmit_timestamp == 0);
@@ -512,7 +513,7 @@ static void icmpv4(void)
     EXPECT(holds(ping4, 8, 8));
     clear();
     OK(etherparse_icmpv4_packet_read(timestamp, 20, &packet, &error));
-    EXPECT(packet.header.kind == ETHERPARSE_ICMPV4_TIMESTAMP_REQUEST && packet.header.originate_timestamp == 5);
+    EXPECT(packet.header.kind == ETHERPARSE_ICMPV4_KIND_TIMESTAMP_REQUEST && packet.header.originate_timestamp == 5);
     EXPECT(packet.header.receive_timestamp == 6 && packet.header.transmit_timestamp == 7 && packet.payload_len == 0);
     OK(etherparse_icmpv4_header_write(&packet.header, buffer, sizeof buffer, &written, &error));
     EXPECT(holds(timestamp, 20, ETHERPARSE_ICMPV4_TIMESTAMP_LEN));
@@ -522,22 +523,22 @@ static void icmpv4(void)
     EXPECT(error.layer == ETHERPARSE_LAYER_ICMPV4 && error.required_len == 8 && error.len == 7);
     clear();
     OK(etherparse_icmpv4_packet_read(other, 8, &packet, &error));
-    EXPECT(packet.header.kind == ETHERPARSE_ICMPV4_UNKNOWN);
+    EXPECT(packet.header.kind == ETHERPARSE_ICMPV4_KIND_UNKNOWN);
     OK(etherparse_icmpv4_header_write(&packet.header, buffer, sizeof buffer, &written, &error));
     EXPECT(holds(other, 8, 8));
     memset(&header, 0, sizeof header);
-    header.kind = ETHERPARSE_ICMPV4_DESTINATION_UNREACHABLE;
-    header.code = 4;
+    header.kind = ETHERPARSE_ICMPV4_KIND_DESTINATION_UNREACHABLE;
+    header.code = ETHERPARSE_ICMPV4_CODE_FRAGMENTATION_NEEDED;
     header.next_hop_mtu = 1400;
     OK(etherparse_icmpv4_header_write(&header, buffer, sizeof buffer, &written, &error));
     EXPECT(holds(needed, 8, 8));
-    header.kind = ETHERPARSE_ICMPV4_REDIRECT;
-    header.code = 1;
+    header.kind = ETHERPARSE_ICMPV4_KIND_REDIRECT;
+    header.code = ETHERPARSE_ICMPV4_CODE_REDIRECT_HOST;
     memcpy(header.bytes4to7, redirect + 4, 4);
     OK(etherparse_icmpv4_header_write(&header, buffer, sizeof buffer, &written, &error));
     EXPECT(holds(redirect, 8, 8));
-    header.kind = ETHERPARSE_ICMPV4_PARAMETER_PROBLEM;
-    header.code = 0;
+    header.kind = ETHERPARSE_ICMPV4_KIND_PARAMETER_PROBLEM;
+    header.code = ETHERPARSE_ICMPV4_CODE_POINTER_INDICATES_ERROR;
     header.pointer = 9;
     OK(etherparse_icmpv4_header_write(&header, buffer, sizeof buffer, &written, &error));
     EXPECT(holds(problem, 8, 8));
@@ -567,12 +568,13 @@ static void icmpv6(void)
     uint8_t changed[12];
     clear();
     OK(etherparse_icmpv6_packet_read(ping6, 12, &packet, &error));
-    EXPECT(packet.header.kind == ETHERPARSE_ICMPV6_ECHO_REQUEST && packet.header.type == 128 && packet.header.id == 1);
+    EXPECT(packet.header.kind == ETHERPARSE_ICMPV6_KIND_ECHO_REQUEST && packet.header.id == 1);
+    EXPECT(packet.header.type == ETHERPARSE_ICMPV6_TYPE_ECHO_REQUEST && ETHERPARSE_ICMPV6_TYPE_ECHO_REQUEST == 128);
     EXPECT(packet.header.sequence_number == 2 && packet.payload_offset == ETHERPARSE_ICMPV6_HEADER_LEN && packet.payload_len == 4);
     OK(etherparse_icmpv6_header_write(&packet.header, buffer, sizeof buffer, &written, &error));
     EXPECT(holds(ping6, 8, 8));
     OK(etherparse_icmpv6_packet_read(router, 16, &packet, &error));
-    EXPECT(packet.header.kind == ETHERPARSE_ICMPV6_ROUTER_ADVERTISEMENT && packet.header.cur_hop_limit == 64);
+    EXPECT(packet.header.kind == ETHERPARSE_ICMPV6_KIND_ROUTER_ADVERTISEMENT && packet.header.cur_hop_limit == 64);
     EXPECT(packet.header.flags == ETHERPARSE_ICMPV6_ROUTER_MANAGED && packet.header.router_lifetime == 1800);
     clear();
     OK(etherparse_icmpv6_header_write(&packet.header, buffer, sizeof buffer, &written, &error));
@@ -580,15 +582,15 @@ static void icmpv6(void)
     REFUSED(etherparse_icmpv6_packet_read(ping6, 7, &packet, &error), ETHERPARSE_STATUS_LENGTH);
     EXPECT(error.layer == ETHERPARSE_LAYER_ICMPV6 && error.required_len == 8 && error.len == 7);
     memset(&header, 0, sizeof header);
-    header.kind = ETHERPARSE_ICMPV6_NEIGHBOR_ADVERTISEMENT;
+    header.kind = ETHERPARSE_ICMPV6_KIND_NEIGHBOR_ADVERTISEMENT;
     header.flags = ETHERPARSE_ICMPV6_NEIGHBOR_ROUTER | ETHERPARSE_ICMPV6_NEIGHBOR_SOLICITED | ETHERPARSE_ICMPV6_NEIGHBOR_OVERRIDE;
     OK(etherparse_icmpv6_header_write(&header, buffer, sizeof buffer, &written, &error));
     EXPECT(holds(neighbor, 8, 8));
-    header.kind = ETHERPARSE_ICMPV6_PACKET_TOO_BIG;
+    header.kind = ETHERPARSE_ICMPV6_KIND_PACKET_TOO_BIG;
     header.mtu = 1280;
     OK(etherparse_icmpv6_header_write(&header, buffer, sizeof buffer, &written, &error));
     EXPECT(holds(too_big, 8, 8));
-    header.kind = ETHERPARSE_ICMPV6_DESTINATION_UNREACHABLE;
+    header.kind = ETHERPARSE_ICMPV6_KIND_DESTINATION_UNREACHABLE;
     header.code = 7;
     REFUSED(etherparse_icmpv6_header_write(&header, buffer, 64, &written, &error), ETHERPARSE_STATUS_MESSAGE_UNKNOWN);
     header.kind = 12;
@@ -607,31 +609,85 @@ static void icmpv6(void)
     EXPECT(stores(changed, ping6, 12, 2, 0x4570));
 }
 
-/* The packet that an ICMP error is about, with and without the length field of RFC 4884, which counts units of 4 and of 8 bytes. */
+/* The packet that an ICMP error is about, with and without the length field of RFC 4884, which counts at least 128 bytes, in units of 4 and
+ * of 8 bytes. */
 static void quoted(void)
 {
     static const uint8_t unused[14] = {11, 0, 0, 0, 0, 0, 0, 0, 0x45, 0, 0, 32, 0, 7};
-    static const uint8_t counted[14] = {3, 1, 0, 0, 0, 1, 0, 0, 0x45, 0, 0, 32, 0xee, 0xee};
-    static const uint8_t counted6[18] = {1, 0, 0, 0, 1, 0, 0, 0, 0x60, 0, 0, 0, 0, 12, 58, 9, 0xee, 0xee};
+    static const uint8_t below[14] = {3, 1, 0, 0, 0, 1, 0, 0, 0x45, 0, 0, 32, 0xee, 0xee};
+    static const uint8_t counted[140] = {3, 1, 0, 0, 0, 32, 0, 0, 0x45, 0, 0, 32};
+    static const uint8_t counted6[140] = {1, 0, 0, 0, 16, 0, 0, 0, 0x60, 0, 0, 0, 0, 12, 58, 9};
+    static const uint8_t ping[8] = {128};
     size_t offset = 0;
     clear();
     OK(etherparse_icmpv4_quoted_packet(unused, 14, &offset, &written, &error));
     EXPECT(offset == 8 && written == 6);
-    OK(etherparse_icmpv4_quoted_packet(counted, 14, &offset, &written, &error));
-    EXPECT(offset == 8 && written == 4);
+    OK(etherparse_icmpv4_quoted_packet(below, 14, &offset, &written, &error));
+    EXPECT(offset == 8 && written == 6);
+    OK(etherparse_icmpv4_quoted_packet(counted, 140, &offset, &written, &error));
+    EXPECT(offset == 8 && written == 128);
     OK(etherparse_icmpv4_quoted_packet(unused, 8, &offset, &written, &error));
     EXPECT(offset == 8 && written == 0);
-    OK(etherparse_icmpv6_quoted_packet(counted6, 18, &offset, &written, &error));
-    EXPECT(offset == 8 && written == 8);
+    OK(etherparse_icmpv6_quoted_packet(counted6, 140, &offset, &written, &error));
+    EXPECT(offset == 8 && written == 128);
+    OK(etherparse_icmpv6_quoted_packet(unused, 14, &offset, &written, &error));
+    EXPECT(offset == 8 && written == 6);
     OK(etherparse_icmpv6_quoted_packet(counted, 14, &offset, &written, &error));
     EXPECT(offset == 8 && written == 6 && error_is_untouched());
     offset = written = 77;
     REFUSED(etherparse_icmpv4_quoted_packet(counted6, 18, &offset, &written, &error), ETHERPARSE_STATUS_NO_ICMP_ERROR);
-    REFUSED(etherparse_icmpv6_quoted_packet(unused, 14, &offset, &written, &error), ETHERPARSE_STATUS_NO_ICMP_ERROR);
+    REFUSED(etherparse_icmpv6_quoted_packet(ping, 8, &offset, &written, &error), ETHERPARSE_STATUS_NO_ICMP_ERROR);
     REFUSED(etherparse_icmpv4_quoted_packet(unused, 7, &offset, &written, &error), ETHERPARSE_STATUS_LENGTH);
     REFUSED(etherparse_icmpv6_quoted_packet(counted6, 7, &offset, &written, &error), ETHERPARSE_STATUS_LENGTH);
     EXPECT(error.layer == ETHERPARSE_LAYER_ICMPV6 && error.required_len == 8 && error.len == 7);
     EXPECT(offset == 77 && written == 77);
+}
+
+/* The last code of each type with a kind. A message with the code after it has the kind 0. */
+static void kinds_of_types(void)
+{
+    static const uint32_t icmpv4_rows[][3] = {
+        {ETHERPARSE_ICMPV4_KIND_ECHO_REPLY, ETHERPARSE_ICMPV4_TYPE_ECHO_REPLY, 0},
+        {ETHERPARSE_ICMPV4_KIND_DESTINATION_UNREACHABLE, ETHERPARSE_ICMPV4_TYPE_DESTINATION_UNREACHABLE,
+         ETHERPARSE_ICMPV4_CODE_PRECEDENCE_CUTOFF},
+        {ETHERPARSE_ICMPV4_KIND_REDIRECT, ETHERPARSE_ICMPV4_TYPE_REDIRECT, ETHERPARSE_ICMPV4_CODE_REDIRECT_HOST_FOR_SERVICE},
+        {ETHERPARSE_ICMPV4_KIND_ECHO_REQUEST, ETHERPARSE_ICMPV4_TYPE_ECHO_REQUEST, 0},
+        {ETHERPARSE_ICMPV4_KIND_TIME_EXCEEDED, ETHERPARSE_ICMPV4_TYPE_TIME_EXCEEDED, ETHERPARSE_ICMPV4_CODE_REASSEMBLY_TIME_EXCEEDED},
+        {ETHERPARSE_ICMPV4_KIND_PARAMETER_PROBLEM, ETHERPARSE_ICMPV4_TYPE_PARAMETER_PROBLEM, ETHERPARSE_ICMPV4_CODE_BAD_LENGTH},
+        {ETHERPARSE_ICMPV4_KIND_TIMESTAMP_REQUEST, ETHERPARSE_ICMPV4_TYPE_TIMESTAMP_REQUEST, 0},
+        {ETHERPARSE_ICMPV4_KIND_TIMESTAMP_REPLY, ETHERPARSE_ICMPV4_TYPE_TIMESTAMP_REPLY, 0}};
+    static const uint32_t icmpv6_rows[][3] = {
+        {ETHERPARSE_ICMPV6_KIND_DESTINATION_UNREACHABLE, ETHERPARSE_ICMPV6_TYPE_DESTINATION_UNREACHABLE,
+         ETHERPARSE_ICMPV6_CODE_REJECT_ROUTE},
+        {ETHERPARSE_ICMPV6_KIND_PACKET_TOO_BIG, ETHERPARSE_ICMPV6_TYPE_PACKET_TOO_BIG, 0},
+        {ETHERPARSE_ICMPV6_KIND_TIME_EXCEEDED, ETHERPARSE_ICMPV6_TYPE_TIME_EXCEEDED, ETHERPARSE_ICMPV6_CODE_REASSEMBLY_TIME_EXCEEDED},
+        {ETHERPARSE_ICMPV6_KIND_PARAMETER_PROBLEM, ETHERPARSE_ICMPV6_TYPE_PARAMETER_PROBLEM, ETHERPARSE_ICMPV6_CODE_OPTION_TOO_BIG},
+        {ETHERPARSE_ICMPV6_KIND_ECHO_REQUEST, ETHERPARSE_ICMPV6_TYPE_ECHO_REQUEST, 0},
+        {ETHERPARSE_ICMPV6_KIND_ECHO_REPLY, ETHERPARSE_ICMPV6_TYPE_ECHO_REPLY, 0},
+        {ETHERPARSE_ICMPV6_KIND_ROUTER_SOLICITATION, ETHERPARSE_ICMPV6_TYPE_ROUTER_SOLICITATION, 0},
+        {ETHERPARSE_ICMPV6_KIND_ROUTER_ADVERTISEMENT, ETHERPARSE_ICMPV6_TYPE_ROUTER_ADVERTISEMENT, 0},
+        {ETHERPARSE_ICMPV6_KIND_NEIGHBOR_SOLICITATION, ETHERPARSE_ICMPV6_TYPE_NEIGHBOR_SOLICITATION, 0},
+        {ETHERPARSE_ICMPV6_KIND_NEIGHBOR_ADVERTISEMENT, ETHERPARSE_ICMPV6_TYPE_NEIGHBOR_ADVERTISEMENT, 0},
+        {ETHERPARSE_ICMPV6_KIND_REDIRECT, ETHERPARSE_ICMPV6_TYPE_REDIRECT, 0}};
+    etherparse_icmpv4_packet icmpv4_packet;
+    etherparse_icmpv6_packet icmpv6_packet;
+    uint8_t message[ETHERPARSE_ICMPV4_TIMESTAMP_LEN] = {0};
+    size_t row;
+    uint32_t code;
+    for (row = 0; row < sizeof icmpv4_rows / sizeof icmpv4_rows[0]; row++)
+        for (code = 0; code <= icmpv4_rows[row][2] + 1; code++) {
+            message[0] = (uint8_t)icmpv4_rows[row][1];
+            message[1] = (uint8_t)code;
+            OK(etherparse_icmpv4_packet_read(message, sizeof message, &icmpv4_packet, NULL));
+            EXPECT(icmpv4_packet.header.kind == (code <= icmpv4_rows[row][2] ? icmpv4_rows[row][0] : ETHERPARSE_ICMPV4_KIND_UNKNOWN));
+        }
+    for (row = 0; row < sizeof icmpv6_rows / sizeof icmpv6_rows[0]; row++)
+        for (code = 0; code <= icmpv6_rows[row][2] + 1; code++) {
+            message[0] = (uint8_t)icmpv6_rows[row][1];
+            message[1] = (uint8_t)code;
+            OK(etherparse_icmpv6_packet_read(message, sizeof message, &icmpv6_packet, NULL));
+            EXPECT(icmpv6_packet.header.kind == (code <= icmpv6_rows[row][2] ? icmpv6_rows[row][0] : ETHERPARSE_ICMPV6_KIND_UNKNOWN));
+        }
 }
 
 /* The addresses of a header itself: a source route leads to 10.0.0.3, and a routing header of IPv6 leads to another address too. */
@@ -822,6 +878,11 @@ static const uint8_t tcp_inside_ipv6[61] = {0x60, 0, 0, 0, 0, 0x15, 6, 0x40, 0x2
 static const uint8_t tcp_outside_ipv6[61] = {0x60, 0, 0, 0, 0, 0x15, 6, 0x40, 0x20, 1, 0x0d, 0xb8, 0xff, 0xff, 0, 0, 0, 0, 0, 0,
     0, 0, 0, 7, 0x20, 1, 0x0d, 0xb8, 0, 0, 0, 0, 0, 0, 0, 0, 0, 0, 0, 2, 0x9c, 0x41, 0, 0x50, 1, 2, 3, 4, 5, 6, 7, 8, 0x50,
     0x18, 4, 0, 0x2b, 0xab, 0, 0, 0x78};
+/* An echo reply of zeros, its checksum included, which is wrong; and with another identifier, with the right checksum. */
+static const uint8_t zeros_outside[28] = {0x45, 0, 0, 28, 0, 7, 0, 0, 64, 1, 0xf7, 0x86, 192, 168, 1, 2, 192, 168, 1, 1,
+    0, 0, 0, 0, 0, 0, 0, 0};
+static const uint8_t zeros_inside[28] = {0x45, 0, 0, 28, 0, 7, 0, 0, 64, 1, 0xf7, 0x86, 192, 168, 1, 2, 192, 168, 1, 1,
+    0, 0, 0xff, 0xea, 0, 21, 0, 0};
 static const uint8_t icmp_error_outside[59] = {0x45, 0, 0, 0x3b, 0, 7, 0, 0, 0x40, 1, 0x14, 0x7f, 0xc6, 0x33, 0x64, 1, 0xcb, 0,
     0x71, 7, 3, 3, 0xfa, 0xcb, 0, 0, 0, 0, 0x45, 0, 0, 0x1f, 0, 7, 0, 0, 0x40, 0x11, 0x7d, 0x15, 0xcb, 0, 0x71, 7, 0xc0, 0xa8,
     1, 2, 0x9c, 0x41, 4, 0xd2, 0, 0x0b, 0x9c, 0xaf, 0x61, 0x62, 0x63};
@@ -890,6 +951,9 @@ static void translations(void)
     EXPECT(becomes_ipv6(tcp_outside_ipv6, tcp_inside_ipv6, 61, translation_ipv6(1, 0)));
     EXPECT(becomes_ipv6(icmp_error_outside_ipv6, icmp_error_inside_ipv6, 100, translation_ipv6(0, 0)));
     EXPECT(becomes_ipv6(icmp_error_inside_ipv6, icmp_error_outside_ipv6, 100, translation_ipv6(0, 1)));
+    EXPECT(becomes(zeros_outside, zeros_inside, 28, &to_inside));
+    EXPECT(etherparse_icmpv4_checksum_test(zeros_outside + 20, 8, NULL) == ETHERPARSE_STATUS_CHECKSUM_WRONG);
+    OK(etherparse_icmpv4_checksum_test(zeros_inside + 20, 8, NULL));
     /* In a later fragment the first bytes of the payload are no ports. */
     memcpy(fragment, udp_inside, 31);
     fragment[7] = 1;
@@ -930,8 +994,8 @@ static void translations_refused(void)
     EXPECT(is_not_translated(udp_inside, 27, 9, 17, ETHERPARSE_STATUS_TRANSLATE_HEADER_CUT_OFF));
     EXPECT(error.required_len == 8 && error.len == 7);
     EXPECT(error_has_text("Translation Error: the transport header has at least 8 bytes, and the packet contains 7."));
-    EXPECT(is_not_translated(echo_inside, 32, 20, 15, ETHERPARSE_STATUS_TRANSLATE_ICMP_MESSAGE));
-    EXPECT(error_is_only(error.status) && error_has_text("Translation Error: the ICMP message is no echo message and no error."));
+    EXPECT(is_not_translated(echo_inside, 32, 20, 9, ETHERPARSE_STATUS_TRANSLATE_ICMP_MESSAGE));
+    EXPECT(error_is_only(error.status) && error_has_text("Translation Error: the ICMP message is no query and no error, or a redirect."));
     EXPECT(is_not_translated(icmp_error_inside, 59, 28, 0x55, ETHERPARSE_STATUS_TRANSLATE_QUOTED_PACKET));
     EXPECT(error_is_only(error.status));
     EXPECT(error_has_text("Translation Error: the packet that the ICMP error is about can't be translated."));
@@ -939,8 +1003,8 @@ static void translations_refused(void)
     REFUSED(etherparse_translate_ipv6(packet, 31, &new_parts, &error), ETHERPARSE_STATUS_IP_VERSION);
     EXPECT(error.actual == 4 && memcmp(packet, udp_inside, 31) == 0);
     memcpy(packet, tcp_inside_ipv6, 61);
-    REFUSED(etherparse_translate_ipv6(packet, 59, &new_parts, &error), ETHERPARSE_STATUS_TRANSLATE_HEADER_CUT_OFF);
-    EXPECT(error.required_len == 20 && error.len == 19 && memcmp(packet, tcp_inside_ipv6, 61) == 0);
+    REFUSED(etherparse_translate_ipv6(packet, 47, &new_parts, &error), ETHERPARSE_STATUS_TRANSLATE_HEADER_CUT_OFF);
+    EXPECT(error.required_len == 8 && error.len == 7 && memcmp(packet, tcp_inside_ipv6, 61) == 0);
 }
 
 static void canonical(void)
@@ -999,6 +1063,10 @@ static void changes(void)
     back = etherparse_checksum_change_reversed(change);
     EXPECT(back.removed == change.added && back.added == change.removed);
     EXPECT(etherparse_checksum_change_apply(back, 0x9caf) == 0xb33a);
+    /* Of bytes that were all zeros the wrong checksum becomes right. */
+    change.removed = 0;
+    change.added = 0x0015;
+    EXPECT(etherparse_checksum_change_apply(change, 0) == 0xffea && etherparse_checksum_change_apply(change, 0xffff) == 0xffea);
     /* Equation 4 of RFC 1624, section 4, gives 0000 and not ffff. */
     change.removed = 0x5555;
     change.added = 0x3285;
@@ -1090,6 +1158,33 @@ static void verdict_names(void)
     verdict_named(UINT32_MAX, "unknown verdict", __LINE__);
 }
 
+/* The constant words of a number are those that the calls write. A verdict has a text of its own if it has a name. */
+static void words_of(uint32_t number, int line)
+{
+    char name[64];
+    int is_verdict;
+    expect(etherparse_status_name(number, name, sizeof name) < sizeof name && strcmp(name, etherparse_name_of_status(number)) == 0, line);
+    expect(etherparse_verdict_name(number, name, sizeof name) < sizeof name && strcmp(name, etherparse_name_of_verdict(number)) == 0, line);
+    is_verdict = strcmp(name, "unknown verdict") != 0;
+    expect((strcmp(etherparse_text_of_verdict(number), "unknown verdict") != 0) == is_verdict, line);
+}
+
+static void words(void)
+{
+    uint32_t number, other;
+    int bit;
+    for (number = 0; number < 128; number++)
+        words_of(number, __LINE__);
+    for (bit = 7; bit < 32; bit++)
+        words_of((uint32_t)1 << bit, __LINE__);
+    words_of(UINT32_MAX, __LINE__);
+    for (number = 0; number < 32; number++)
+        for (other = 0; other < number; other++)
+            EXPECT(strcmp(etherparse_text_of_verdict(number), etherparse_text_of_verdict(other)) != 0 ||
+                   strcmp(etherparse_text_of_verdict(number), "unknown verdict") == 0);
+    EXPECT(strcmp(etherparse_text_of_verdict(ETHERPARSE_VERDICT_PARTIAL), "the checksum is partial") == 0);
+}
+
 /* What a status means, and that its length is answered, also where the buffer is too small for it. */
 static void means(etherparse_status status, const char *meaning, int line)
 {
@@ -1140,7 +1235,7 @@ static void meanings(void)
     MEANS(ETHERPARSE_STATUS_TRANSLATE_HAS_OPTIONS, "the packet has IPv4 options, and is not translated");
     MEANS(ETHERPARSE_STATUS_TRANSLATE_PROTOCOL, "the protocol is not translated");
     MEANS(ETHERPARSE_STATUS_TRANSLATE_HEADER_CUT_OFF, "the packet ends within a transport header that would be translated");
-    MEANS(ETHERPARSE_STATUS_TRANSLATE_ICMP_MESSAGE, "the ICMP message is no echo message and no error, and is not translated");
+    MEANS(ETHERPARSE_STATUS_TRANSLATE_ICMP_MESSAGE, "the ICMP message is no query and no error, or a redirect, and is not translated");
     MEANS(ETHERPARSE_STATUS_TRANSLATE_QUOTED_PACKET, "the packet that the ICMP error is about cannot be translated");
     MEANS(ETHERPARSE_STATUS_ECHO_NO_REPLY, "the packet is not the reply to the echo request");
     MEANS(ETHERPARSE_STATUS_TRANSLATE_SOURCE_ROUTE, "the packet has a source route, and is not translated");
@@ -1188,8 +1283,8 @@ static void nulls(etherparse_error *told)
 {
     static const etherparse_udp_header udp_header;
     static const etherparse_tcp_header tcp_header;
-    static const etherparse_icmpv4_header echo4 = {ETHERPARSE_ICMPV4_ECHO_REPLY, 0, 0, 0, 0, 0, 0, 0, 0, 0, 0, {0, 0, 0, 0}};
-    static const etherparse_icmpv6_header echo6 = {ETHERPARSE_ICMPV6_ECHO_REPLY, 0, 0, 0, 0, 0, 0, 0, 0, 0, 0, {0, 0, 0, 0}};
+    static const etherparse_icmpv4_header echo4 = {ETHERPARSE_ICMPV4_KIND_ECHO_REPLY, 0, 0, 0, 0, 0, 0, 0, 0, 0, 0, {0, 0, 0, 0}};
+    static const etherparse_icmpv6_header echo6 = {ETHERPARSE_ICMPV6_KIND_ECHO_REPLY, 0, 0, 0, 0, 0, 0, 0, 0, 0, 0, {0, 0, 0, 0}};
     etherparse_ip_transport transport;
     etherparse_ip_addresses addresses_found;
     etherparse_ip_packet packet;
@@ -1269,6 +1364,7 @@ int main(void)
     tcp_raw_options();
     icmpv4();
     icmpv6();
+    kinds_of_types();
     quoted();
     addresses();
     ipv4_header();
@@ -1283,6 +1379,7 @@ int main(void)
     texts();
     names();
     verdict_names();
+    words();
     meanings();
     nulls(&error);
     nulls(NULL);

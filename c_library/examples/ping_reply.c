@@ -36,11 +36,11 @@ static const char *reply_icmpv4(const struct ip_packet *ip)
     size_t written;
     if (etherparse_icmpv4_packet_read(ip->bytes, ip->len, &packet, &error) != ETHERPARSE_OK)
         return "refused";
-    if (packet.header.kind != ETHERPARSE_ICMPV4_ECHO_REQUEST)
+    if (packet.header.kind != ETHERPARSE_ICMPV4_KIND_ECHO_REQUEST)
         return "no echo request";
     if (etherparse_icmpv4_checksum_test(ip->bytes, ip->len, &error) != ETHERPARSE_OK)
         return "checksum wrong";
-    packet.header.kind = ETHERPARSE_ICMPV4_ECHO_REPLY;
+    packet.header.kind = ETHERPARSE_ICMPV4_KIND_ECHO_REPLY;
     if (etherparse_icmpv4_header_write(&packet.header, ip->bytes, ip->len, &written, &error) != ETHERPARSE_OK ||
         etherparse_icmpv4_checksum_store(ip->bytes, ip->len, &error) != ETHERPARSE_OK)
         return "not written";
@@ -57,11 +57,11 @@ static const char *reply_icmpv6(const struct ip_packet *ip)
     size_t written;
     if (etherparse_icmpv6_packet_read(ip->bytes, ip->len, &packet, &error) != ETHERPARSE_OK)
         return "refused";
-    if (packet.header.kind != ETHERPARSE_ICMPV6_ECHO_REQUEST)
+    if (packet.header.kind != ETHERPARSE_ICMPV6_KIND_ECHO_REQUEST)
         return "no echo request";
     if (etherparse_icmpv6_checksum_test(ip->bytes, ip->len, source, destination, &error) != ETHERPARSE_OK)
         return "checksum wrong";
-    packet.header.kind = ETHERPARSE_ICMPV6_ECHO_REPLY;
+    packet.header.kind = ETHERPARSE_ICMPV6_KIND_ECHO_REPLY;
     if (etherparse_icmpv6_header_write(&packet.header, ip->bytes, ip->len, &written, &error) != ETHERPARSE_OK ||
         etherparse_icmpv6_checksum_store(ip->bytes, ip->len, destination, source, &error) != ETHERPARSE_OK)
         return "not written";

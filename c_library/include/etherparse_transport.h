@@ -5,6 +5,30 @@
  * The transport layer for C and C++: UDP (RFC 768), TCP (RFC 9293), ICMPv4 (RFC 792), ICMPv6 (RFC 4443, RFC 4861), the Internet
  * checksum (RFC 1071), and its update where bytes change (RFC 1624). C99, and C++11.
  *
+ * An example. It prints the ports, the length of the payload and the verdict on the checksum of the UDP packet in an IP packet.
+ *
+ *     void print_udp(const uint8_t *bytes, size_t len)
+ *     {
+ *         etherparse_ip_packet ip;
+ *         etherparse_udp_packet udp;
+ *         etherparse_error error;
+ *         char text[ETHERPARSE_ERROR_TEXT_MAX_LEN + 1];
+ *         const uint8_t *message;
+ *
+ *         if (etherparse_packet_verdict(bytes, len, &ip, &error) != ETHERPARSE_OK) {
+ *             etherparse_error_text(&error, text, sizeof text);
+ *             printf("refused: %s\n", text);
+ *             return;
+ *         }
+ *         message = bytes + ip.transport.payload_offset;
+ *         if (ip.header_protocol == ETHERPARSE_PROTOCOL_UDP &&
+ *             etherparse_udp_packet_read(message, ip.transport.payload_len, &udp, &error) == ETHERPARSE_OK)
+ *             printf("%u to %u, %zu bytes, %s\n", udp.header.source_port, udp.header.destination_port, udp.payload_len,
+ *                    etherparse_text_of_verdict(ip.verdict));
+ *     }
+ *
+ * A program links with -letherparse_transport, or names libetherparse_transport.a after its own files. It needs nothing else.
+ *
  * What holds of every call
  *
  *  - A call that can refuse its input returns a status. ETHERPARSE_OK, which is 0, means that the call did what it is for, and then
@@ -12,9 +36,11 @@
  *    else is written: results, buffers and lengths are unchanged. Only the two calls that read the next option also move `*place`, as
  *    their comments state.
  *  - `error` may be NULL if it is not wanted, in C, in C++ and in every language that calls the library. The status is the same.
- *  - Bytes are passed as a pointer and a number of bytes. A call reads and writes no byte beyond that number. The number may be 0.
- *  - A pointer that is followed by a number may be NULL if the number is 0. Except for `error`, no other pointer may be NULL. gcc and clang
+ *  - Bytes are passed as a pointer and a length. A call reads and writes no byte beyond that length. The length may be 0.
+ *  - A pointer that is followed by a length may be NULL if the length is 0. Except for `error`, no other pointer may be NULL. gcc and clang
  *    warn of a NULL that they see.
+ *  - A length is a number of bytes. In parameters and structs its name is `len`. `length` and `size` in a name are for numbers that a
+ *    packet contains: the length of a UDP header, the window size of TCP, the length byte of a TCP option (option_size).
  *  - What a pointer without `const` points to must not overlap what another argument of the same call points to. Arguments with
  *    `const` may overlap each other.
  *  - To change a packet in place, read its header into a struct, write the struct to the front of the packet's bytes, and store the
@@ -31,19 +57,15 @@
  * The interface stays compatible while ETHERPARSE_VERSION_MAJOR stays the same, and in version 0 while ETHERPARSE_VERSION_MINOR stays the
  * same too: no number gets another meaning, no struct gets another size or another offset of a field, and no call gets another type.
  * Later versions may add numbers, so a `switch` needs a `default`. A change that needs another struct gets a call and a struct with
- * other names. Version 0.4 has everything that version 0.3 has, but statuses 5, 6 and 10 fill the error too.
- *
- * A program links with -letherparse_transport, or names libetherparse_transport.a after its own files. It needs nothing else.
- *
- * To read the UDP packet in an IP packet and test its checksum, call etherparse_packet_verdict. If `header_protocol` is
- * ETHERPARSE_PROTOCOL_UDP, pass bytes + transport.payload_offset and transport.payload_len to etherparse_udp_packet_read.
+ * other names. Version 0.5 has everything that version 0.4 has, except that the names of kinds of ICMP messages have KIND in them, as in
+ * ETHERPARSE_ICMPV4_KIND_ECHO_REQUEST.
  */
 #ifndef ETHERPARSE_TRANSPORT_H
 #define ETHERPARSE_TRANSPORT_H
 
 /*
- * The library is built for Linux on x86-64 processors of level x86-64-v2, and on 64-bit ARM processors (AArch64) in little-endian mode.
- * The structs have the same layout on both. Compilers for Windows and macOS define __x86_64__ or __aarch64__ too, but use another calling
+ * The library is built for Linux on x86-64 processors of ETHERPARSE_PROCESSOR_LEVEL, and on 64-bit ARM processors (AArch64) in little-endian
+ * mode. The structs have the same layout on both. Compilers for Windows and macOS define __x86_64__ or __aarch64__ too, but use another calling
  * convention or another object format.
  */
 #if !defined(__x86_64__) && !defined(__aarch64__)
@@ -84,9 +106,9 @@ extern "C" {
 
 /* The version of the interface that this file declares. */
 #define ETHERPARSE_VERSION_MAJOR 0
-#define ETHERPARSE_VERSION_MINOR 4
+#define ETHERPARSE_VERSION_MINOR 5
 #define ETHERPARSE_VERSION_PATCH 0
-#define ETHERPARSE_VERSION_STRING "0.4.0"
+#define ETHERPARSE_VERSION_STRING "0.5.0"
 
 /* The version as one number, as etherparse_version returns it. The preprocessor can compare it. */
 #define ETHERPARSE_VERSION (ETHERPARSE_VERSION_MAJOR * 65536 + ETHERPARSE_VERSION_MINOR * 256 + ETHERPARSE_VERSION_PATCH)
@@ -97,20 +119,23 @@ uint32_t etherparse_version(void);
 
 /* ---- processor ----------------------------------------------------------------------------------------------------------- */
 
+/* The processors that the library is for: with 1 every x86-64 processor, with 2 those of the level x86-64-v2; and every 64-bit ARM processor. */
+#define ETHERPARSE_PROCESSOR_LEVEL 2
+
 #if defined(__GNUC__) || defined(__clang__)
 /*
- * Returns 1 if the library supports the processor, otherwise 0. On ARM it returns 1.
+ * Returns 1 if the library supports the processor, otherwise 0. On ARM, and if ETHERPARSE_PROCESSOR_LEVEL is 1, it returns 1.
  *
- * On x86-64 the processor needs the level x86-64-v2. Below this level, a call of the library can end the program by SIGILL. glibc from 2.33
- * refuses to load the shared library there, and to start a program that GNU ld or gold linked with the installed static library. A program
- * that is linked with -static or by another linker has to check the level before its first call.
+ * If ETHERPARSE_PROCESSOR_LEVEL is 2, the processor needs the level x86-64-v2. Below this level, a call of the library can end the program
+ * by SIGILL. glibc from 2.33 refuses to load the shared library there, and to start a program that GNU ld or gold linked with the installed
+ * static library. A program that is linked with -static or by another linker has to check the level before its first call.
  *
  * The compiler puts this function into the program. It is not in the library, and compilers other than gcc and clang do not have it.
  */
 ETHERPARSE_CHECK_RESULT __attribute__((unused))
 static inline int etherparse_processor_is_supported(void)
 {
-#if defined(__x86_64__)
+#if defined(__x86_64__) && ETHERPARSE_PROCESSOR_LEVEL > 1
     /* The level is SSE4.2, POPCNT and older instructions that every processor with these two has. */
     __builtin_cpu_init();
     return __builtin_cpu_supports("sse4.2") && __builtin_cpu_supports("popcnt");
@@ -124,6 +149,53 @@ static inline int etherparse_processor_is_supported(void)
 
 /* What a call returns: one of the numbers below. */
 typedef uint32_t etherparse_status;
+
+/*
+ * The statuses as a table. For a `switch` over (enum etherparse_status_number)status, gcc and clang warn of a status without a case if
+ * -Wswitch-enum is given. The macros after the table have the same names and numbers, for the preprocessor.
+ */
+enum etherparse_status_number {
+    ETHERPARSE_OK = 0,
+    ETHERPARSE_STATUS_LENGTH = 1,
+    ETHERPARSE_STATUS_DATA_OFFSET = 2,
+    ETHERPARSE_STATUS_VALUE_TOO_BIG = 3,
+    ETHERPARSE_STATUS_BUFFER_TOO_SMALL = 4,
+    ETHERPARSE_STATUS_CHECKSUM_WRONG = 5,
+    ETHERPARSE_STATUS_CHECKSUM_ABSENT = 6,
+    ETHERPARSE_STATUS_OPTIONS_TOO_LONG = 7,
+    ETHERPARSE_STATUS_FLAGS_UNKNOWN = 8,
+    ETHERPARSE_STATUS_PROTOCOL_UNKNOWN = 9,
+    ETHERPARSE_STATUS_OPTIONS_END = 10,
+    ETHERPARSE_STATUS_OPTION_CUT_OFF = 11,
+    ETHERPARSE_STATUS_OPTION_SIZE = 12,
+    ETHERPARSE_STATUS_OPTION_UNKNOWN = 13,
+    ETHERPARSE_STATUS_MESSAGE_UNKNOWN = 14,
+    ETHERPARSE_STATUS_IP_HEADER_CUT_OFF = 15,
+    ETHERPARSE_STATUS_IP_VERSION = 16,
+    ETHERPARSE_STATUS_IP_HEADER_LENGTH = 17,
+    ETHERPARSE_STATUS_IP_TOTAL_LENGTH = 18,
+    ETHERPARSE_STATUS_IP_PACKET_CUT_OFF = 19,
+    ETHERPARSE_STATUS_IP_EXTENSION_CUT_OFF = 20,
+    ETHERPARSE_STATUS_IP_JUMBO_PAYLOAD_MISSING = 21,
+    ETHERPARSE_STATUS_IP_JUMBO_PAYLOAD_LENGTH = 22,
+    ETHERPARSE_STATUS_IP_JUMBO_PAYLOAD_UNEXPECTED = 23,
+    ETHERPARSE_STATUS_IP_JUMBO_PAYLOAD_FRAGMENT = 24,
+    ETHERPARSE_STATUS_OPTION_VALUES = 31,
+    ETHERPARSE_STATUS_ECHO_FRAGMENT = 32,
+    ETHERPARSE_STATUS_ECHO_NO_REQUEST = 33,
+    ETHERPARSE_STATUS_ECHO_HAS_OPTIONS = 34,
+    ETHERPARSE_STATUS_ECHO_HEADER_CHECKSUM_WRONG = 35,
+    ETHERPARSE_STATUS_ECHO_REQUEST_SOURCE = 36,
+    ETHERPARSE_STATUS_ECHO_REPLY_SOURCE = 37,
+    ETHERPARSE_STATUS_NO_ICMP_ERROR = 38,
+    ETHERPARSE_STATUS_TRANSLATE_HAS_OPTIONS = 39,
+    ETHERPARSE_STATUS_TRANSLATE_PROTOCOL = 40,
+    ETHERPARSE_STATUS_TRANSLATE_HEADER_CUT_OFF = 41,
+    ETHERPARSE_STATUS_TRANSLATE_ICMP_MESSAGE = 42,
+    ETHERPARSE_STATUS_TRANSLATE_QUOTED_PACKET = 43,
+    ETHERPARSE_STATUS_ECHO_NO_REPLY = 44,
+    ETHERPARSE_STATUS_TRANSLATE_SOURCE_ROUTE = 45
+};
 
 /*
  * The comment of a status names the fields of etherparse_error that it fills in addition to `status`. The numbers 25 to 30 are
@@ -144,7 +216,7 @@ typedef uint32_t etherparse_status;
 #define ETHERPARSE_STATUS_CHECKSUM_WRONG 5
 /* The checksum field of a UDP packet is 0, which means that the packet has no checksum: no other field. */
 #define ETHERPARSE_STATUS_CHECKSUM_ABSENT 6
-/* More than 40 bytes of TCP options: required_len, which is 40, and len, the number of bytes of all options. */
+/* More than 40 bytes of TCP options: required_len, which is 40, and len, the length of all options. */
 #define ETHERPARSE_STATUS_OPTIONS_TOO_LONG 7
 /* Flags of a TCP header above ETHERPARSE_TCP_FLAGS: actual, max_allowed. */
 #define ETHERPARSE_STATUS_FLAGS_UNKNOWN 8
@@ -175,8 +247,8 @@ typedef uint32_t etherparse_status;
 #define ETHERPARSE_STATUS_IP_PACKET_CUT_OFF 19
 /*
  * A packet ends within an extension header of IPv6, or within the authentication header of IPv4: actual, which is its number,
- * layer_start_offset, required_len, which is its length, or 8 if fewer than 8 bytes are left, and len, which is the number of bytes left
- * in the packet.
+ * layer_start_offset, required_len, which is its length, or 8 if fewer than 8 bytes are left, and len, which is the length of what is left
+ * of the packet.
  */
 #define ETHERPARSE_STATUS_IP_EXTENSION_CUT_OFF 20
 /* The payload length of an IPv6 packet is 0, and the hop-by-hop options after its header have no jumbo payload option (RFC 2675): no
@@ -202,21 +274,24 @@ typedef uint32_t etherparse_status;
 /* The checksum of the IPv4 header of an echo request is wrong: no other field. */
 #define ETHERPARSE_STATUS_ECHO_HEADER_CHECKSUM_WRONG 35
 /*
- * The source of an echo request is not the address of one host. It is the unspecified address, a multicast address, or 255.255.255.255: no
- * other field.
+ * The source of an echo request is not the address of one host. It is the unspecified address, a loopback address, a multicast address, or
+ * 255.255.255.255: no other field.
  */
 #define ETHERPARSE_STATUS_ECHO_REQUEST_SOURCE 36
-/* The source of the reply to an echo request is such an address: no other field. */
+/* The source of the reply to an echo request is not the address of one host either: no other field. */
 #define ETHERPARSE_STATUS_ECHO_REPLY_SOURCE 37
 /* The ICMP message is not an error, so it quotes no packet: no other field. */
 #define ETHERPARSE_STATUS_NO_ICMP_ERROR 38
 /* Reserved for a packet to be translated with IPv4 options. No call returns it. */
 #define ETHERPARSE_STATUS_TRANSLATE_HAS_OPTIONS 39
-/* The protocol is not UDP, TCP or ICMP of the IP version of the call, so the packet is not translated: actual, which is its number. */
+/*
+ * The protocol is not UDP, TCP or ICMP of the IP version of the call, and a port is passed, or the protocol covers the addresses, as AH and
+ * DCCP do. So the packet is not translated: actual, which is the number of the protocol.
+ */
 #define ETHERPARSE_STATUS_TRANSLATE_PROTOCOL 40
-/* The packet ends within the transport header, which a translation would change: required_len, which is 8 or 20, and len. */
+/* The packet contains fewer than 8 bytes of UDP, TCP or ICMP: required_len, which is 8, and len. */
 #define ETHERPARSE_STATUS_TRANSLATE_HEADER_CUT_OFF 41
-/* The ICMP message is no echo message and no error, so the packet is not translated: no other field. */
+/* The ICMP message is no query and no error, or a redirect, so the packet is not translated: no other field. */
 #define ETHERPARSE_STATUS_TRANSLATE_ICMP_MESSAGE 42
 /* The packet that the ICMP error is about cannot be translated, so neither is the error: no other field. */
 #define ETHERPARSE_STATUS_TRANSLATE_QUOTED_PACKET 43
@@ -238,7 +313,7 @@ enum {
 
 /* The source of a length. 0 means no source. */
 enum {
-    ETHERPARSE_LEN_SOURCE_SLICE = 1,         /* the number of bytes passed to the call */
+    ETHERPARSE_LEN_SOURCE_SLICE = 1,         /* the length that was passed to the call */
     ETHERPARSE_LEN_SOURCE_UDP_HEADER_LEN = 2 /* the length field of a UDP header */
 };
 
@@ -278,13 +353,17 @@ typedef struct etherparse_error {
  * snprintf does. If the result is buffer_len or more, the buffer contains the beginning of the text, with a zero byte at its end. If
  * buffer_len is 0, nothing is written. Every struct has a text, even with numbers that no call fills in. A buffer of
  * ETHERPARSE_ERROR_TEXT_MAX_LEN + 1 bytes is long enough for every text. The texts may change in later versions.
+ *
+ * If the Rust crate etherparse reports an error too, the text is its text. So some texts contain the name of a type in Rust, such as
+ * TcpOptionReadError. The texts of etherparse_status_text contain none.
  */
 ETHERPARSE_NOT_NULL(1)
 size_t etherparse_error_text(const etherparse_error *error, char *buffer, size_t buffer_len);
 
 /*
  * Writes the name of a status in this file, such as ETHERPARSE_OK or ETHERPARSE_STATUS_LENGTH, and returns its length, both as
- * etherparse_error_text does. For a number that is no status the name is "unknown status". No name has more than 63 bytes.
+ * etherparse_error_text does. For a number that is no status the name is "unknown status". No name has more than 63 bytes. In C and C++
+ * etherparse_name_of_status returns the name without a buffer.
  */
 size_t etherparse_status_name(etherparse_status status, char *buffer, size_t buffer_len);
 
@@ -305,7 +384,13 @@ enum {
     ETHERPARSE_PROTOCOL_ICMPV6 = 58
 };
 
-/* What an IP packet carries. */
+/*
+ * What an IP packet carries.
+ *
+ * `protocol` is the protocol of the payload. The payload begins with the header of that protocol if is_fragment is 0. A fragment has to be
+ * reassembled first. ICMPv4 in a packet of IPv6 and ICMPv6 in a packet of IPv4 are no messages of ICMP. etherparse_packet_verdict tests all
+ * of this: its header_protocol is the protocol whose calls read the payload.
+ */
 typedef struct etherparse_ip_transport {
     uint32_t version;           /* 4 or 6 */
     uint32_t protocol;          /* ETHERPARSE_PROTOCOL_.., or the number of another protocol in IP */
@@ -413,7 +498,7 @@ enum {
     ETHERPARSE_VERDICT_RIGHT = 1,
     ETHERPARSE_VERDICT_ABSENT = 2,                        /* over IPv4 a UDP checksum of 0 means no checksum (RFC 768) */
     ETHERPARSE_VERDICT_WRONG = 3,                         /* expected_checksum would be right */
-    ETHERPARSE_VERDICT_PARTIAL = 4,                       /* wrong, and the sum of the pseudo header alone, which a host leaves
+    ETHERPARSE_VERDICT_PARTIAL = 4,                       /* wrong, and only the sum of the pseudo header, which a host leaves
                                                              for its network card to complete */
     ETHERPARSE_VERDICT_UNTESTED_FRAGMENT = 16,            /* the checksum covers all fragments */
     ETHERPARSE_VERDICT_UNTESTED_CUT_OFF = 17,             /* bytes of the packet are missing */
@@ -424,7 +509,13 @@ enum {
     ETHERPARSE_VERDICT_UNTESTED_TOO_LONG = 21             /* too many bytes for a pseudo header, as in a packet without a length */
 };
 
-/* An IP packet that was read, and the verdict on its checksum. */
+/*
+ * An IP packet that was read, and the verdict on its checksum.
+ *
+ * To choose the call that reads the payload, look at header_protocol. If it is 0, no call reads the payload. Then the packet is a fragment
+ * if transport.is_fragment is 1, and otherwise no call is for transport.protocol over this version of IP. The verdict does not matter here:
+ * a packet with a wrong checksum is read too. If transport.is_cut_off is 1, read UDP by etherparse_udp_packet_read_lax.
+ */
 typedef struct etherparse_ip_packet {
     etherparse_ip_transport transport;
     uint32_t header_protocol;   /* ETHERPARSE_PROTOCOL_.. whose calls read the payload, or 0: of a fragment, of another protocol, and of
@@ -452,7 +543,8 @@ etherparse_status etherparse_packet_verdict_lax(const uint8_t *bytes, size_t len
 
 /*
  * Writes the name of a verdict in this file, such as ETHERPARSE_VERDICT_RIGHT, and returns its length, both as etherparse_error_text
- * does. For a number that is no verdict the name is "unknown verdict". No name of a verdict has more than 63 bytes.
+ * does. For a number that is no verdict the name is "unknown verdict". No name of a verdict has more than 63 bytes. In C and C++
+ * etherparse_name_of_verdict returns the name without a buffer, and etherparse_text_of_verdict a text.
  */
 size_t etherparse_verdict_name(uint32_t verdict, char *buffer, size_t buffer_len);
 
@@ -557,7 +649,7 @@ etherparse_status etherparse_udp_checksum_test_ipv6(const uint8_t *bytes, size_t
 #define ETHERPARSE_TCP_MAX_HEADER_LEN 60
 #define ETHERPARSE_TCP_MAX_OPTIONS_LEN 40
 
-/* The flags of a TCP header: those of byte 13 at their bits there, and NS, which is bit 0 of byte 12, above them. */
+/* The flags of a TCP header. The bits of byte 13 keep their places. NS, bit 0 of byte 12, is the bit above them. */
 enum {
     ETHERPARSE_TCP_FIN = 0x001,
     ETHERPARSE_TCP_SYN = 0x002,
@@ -680,8 +772,8 @@ typedef struct etherparse_tcp_option {
 } etherparse_tcp_option;
 
 /*
- * Reads the option at *place, a number of bytes from the first option byte, and moves *place to the end of the option. Begin with 0, and
- * call until the status is not ETHERPARSE_OK. A *place above options_len is the end.
+ * Reads the option at options[*place], and moves *place to the end of the option. Begin with 0, and call until the status is not
+ * ETHERPARSE_OK. A *place above options_len is the end.
  *
  * ETHERPARSE_STATUS_OPTIONS_END: the end of the list (kind 0), or of the bytes. The faults are ETHERPARSE_STATUS_OPTION_UNKNOWN,
  * ETHERPARSE_STATUS_OPTION_SIZE and ETHERPARSE_STATUS_OPTION_CUT_OFF. After the end and after a fault *place is options_len, so
@@ -700,7 +792,7 @@ typedef struct etherparse_tcp_raw_option {
 
 /*
  * Reads the option of any kind at *place, and moves *place to the end of the option. The length byte gives the end of an unknown option
- * (RFC 1122, section 4.2.2.5). *place, the end, and *place after a fault are those of etherparse_tcp_option_next.
+ * (RFC 1122, section 4.2.2.5). *place, the end and a fault work as in etherparse_tcp_option_next.
  *
  * The faults are ETHERPARSE_STATUS_OPTION_SIZE: a length byte below 2; and ETHERPARSE_STATUS_OPTION_CUT_OFF: no length byte is
  * left, or fewer bytes than it counts.
@@ -715,8 +807,8 @@ etherparse_status etherparse_tcp_raw_option_next(const uint8_t *options, size_t 
  * first value_count are ignored.
  *
  * In this order: ETHERPARSE_STATUS_OPTION_UNKNOWN or ETHERPARSE_STATUS_OPTION_VALUES: an unknown kind, or values that an option of this
- * kind cannot have, of the first such option; ETHERPARSE_STATUS_OPTIONS_TOO_LONG: more than 40 bytes; `len` is the number of bytes
- * that all options need, without padding; ETHERPARSE_STATUS_BUFFER_TOO_SMALL.
+ * kind cannot have, of the first such option; ETHERPARSE_STATUS_OPTIONS_TOO_LONG: more than 40 bytes; `len` is the length of all
+ * options, without padding; ETHERPARSE_STATUS_BUFFER_TOO_SMALL.
  */
 ETHERPARSE_CHECK_RESULT ETHERPARSE_NOT_NULL(5)
 etherparse_status etherparse_tcp_options_write(const etherparse_tcp_option *options, size_t option_count, uint8_t *buffer,
@@ -728,22 +820,83 @@ etherparse_status etherparse_tcp_options_write(const etherparse_tcp_option *opti
 #define ETHERPARSE_ICMPV4_HEADER_LEN 8
 #define ETHERPARSE_ICMPV4_TIMESTAMP_LEN 20
 
-/* What an ICMPv4 message is. Within a kind `code` says which, by the numbers of its RFC. */
+/* The kinds of ICMPv4 messages, by numbers of this library. They are no types: an echo request has kind 4 and type 8. */
 enum {
-    ETHERPARSE_ICMPV4_UNKNOWN = 0, /* any other type and code */
-    ETHERPARSE_ICMPV4_ECHO_REPLY = 1,
-    ETHERPARSE_ICMPV4_DESTINATION_UNREACHABLE = 2, /* codes 0 to 15 */
-    ETHERPARSE_ICMPV4_REDIRECT = 3,                /* codes 0 to 3 */
-    ETHERPARSE_ICMPV4_ECHO_REQUEST = 4,
-    ETHERPARSE_ICMPV4_TIME_EXCEEDED = 5,     /* codes 0 and 1 */
-    ETHERPARSE_ICMPV4_PARAMETER_PROBLEM = 6, /* codes 0 to 2 */
-    ETHERPARSE_ICMPV4_TIMESTAMP_REQUEST = 7,
-    ETHERPARSE_ICMPV4_TIMESTAMP_REPLY = 8
+    ETHERPARSE_ICMPV4_KIND_UNKNOWN = 0, /* any other type and code */
+    ETHERPARSE_ICMPV4_KIND_ECHO_REPLY = 1,
+    ETHERPARSE_ICMPV4_KIND_DESTINATION_UNREACHABLE = 2, /* codes 0 to 15 */
+    ETHERPARSE_ICMPV4_KIND_REDIRECT = 3,                /* codes 0 to 3 */
+    ETHERPARSE_ICMPV4_KIND_ECHO_REQUEST = 4,
+    ETHERPARSE_ICMPV4_KIND_TIME_EXCEEDED = 5,     /* codes 0 and 1 */
+    ETHERPARSE_ICMPV4_KIND_PARAMETER_PROBLEM = 6, /* codes 0 to 2 */
+    ETHERPARSE_ICMPV4_KIND_TIMESTAMP_REQUEST = 7,
+    ETHERPARSE_ICMPV4_KIND_TIMESTAMP_REPLY = 8
 };
 
-/* An ICMPv4 header. When read, a field that its kind does not have is 0, but for type, code, checksum and bytes4to7. */
+/* The types of ICMPv4 messages (RFC 792): byte 0. */
+enum {
+    ETHERPARSE_ICMPV4_TYPE_ECHO_REPLY = 0,
+    ETHERPARSE_ICMPV4_TYPE_DESTINATION_UNREACHABLE = 3,
+    ETHERPARSE_ICMPV4_TYPE_SOURCE_QUENCH = 4, /* deprecated (RFC 6633) */
+    ETHERPARSE_ICMPV4_TYPE_REDIRECT = 5,
+    ETHERPARSE_ICMPV4_TYPE_ALTERNATE_HOST_ADDRESS = 6, /* deprecated (RFC 6918) */
+    ETHERPARSE_ICMPV4_TYPE_ECHO_REQUEST = 8,
+    ETHERPARSE_ICMPV4_TYPE_ROUTER_ADVERTISEMENT = 9, /* RFC 1256 */
+    ETHERPARSE_ICMPV4_TYPE_ROUTER_SOLICITATION = 10, /* RFC 1256 */
+    ETHERPARSE_ICMPV4_TYPE_TIME_EXCEEDED = 11,
+    ETHERPARSE_ICMPV4_TYPE_PARAMETER_PROBLEM = 12,
+    ETHERPARSE_ICMPV4_TYPE_TIMESTAMP_REQUEST = 13,
+    ETHERPARSE_ICMPV4_TYPE_TIMESTAMP_REPLY = 14,
+    ETHERPARSE_ICMPV4_TYPE_INFORMATION_REQUEST = 15,  /* deprecated (RFC 6918) */
+    ETHERPARSE_ICMPV4_TYPE_INFORMATION_REPLY = 16,    /* deprecated (RFC 6918) */
+    ETHERPARSE_ICMPV4_TYPE_ADDRESS_MASK_REQUEST = 17, /* deprecated (RFC 6918) */
+    ETHERPARSE_ICMPV4_TYPE_ADDRESS_MASK_REPLY = 18    /* deprecated (RFC 6918) */
+};
+
+/* The codes of destination unreachable: 0 to 5 (RFC 792), 6 to 12 (RFC 1122, section 3.2.2.1), 13 to 15 (RFC 1812, section 5.2.7.1). */
+enum {
+    ETHERPARSE_ICMPV4_CODE_NETWORK_UNREACHABLE = 0,
+    ETHERPARSE_ICMPV4_CODE_HOST_UNREACHABLE = 1,
+    ETHERPARSE_ICMPV4_CODE_PROTOCOL_UNREACHABLE = 2,
+    ETHERPARSE_ICMPV4_CODE_PORT_UNREACHABLE = 3,
+    ETHERPARSE_ICMPV4_CODE_FRAGMENTATION_NEEDED = 4, /* but the packet forbids it; next_hop_mtu is the limit (RFC 1191) */
+    ETHERPARSE_ICMPV4_CODE_SOURCE_ROUTE_FAILED = 5,
+    ETHERPARSE_ICMPV4_CODE_NETWORK_UNKNOWN = 6,
+    ETHERPARSE_ICMPV4_CODE_HOST_UNKNOWN = 7,
+    ETHERPARSE_ICMPV4_CODE_SOURCE_HOST_ISOLATED = 8,
+    ETHERPARSE_ICMPV4_CODE_NETWORK_PROHIBITED = 9,
+    ETHERPARSE_ICMPV4_CODE_HOST_PROHIBITED = 10,
+    ETHERPARSE_ICMPV4_CODE_NETWORK_UNREACHABLE_FOR_SERVICE = 11, /* for this type of service */
+    ETHERPARSE_ICMPV4_CODE_HOST_UNREACHABLE_FOR_SERVICE = 12,    /* for this type of service */
+    ETHERPARSE_ICMPV4_CODE_COMMUNICATION_PROHIBITED = 13,        /* by a filter */
+    ETHERPARSE_ICMPV4_CODE_HOST_PRECEDENCE_VIOLATION = 14,
+    ETHERPARSE_ICMPV4_CODE_PRECEDENCE_CUTOFF = 15
+};
+
+/* The codes of redirect (RFC 792). */
+enum {
+    ETHERPARSE_ICMPV4_CODE_REDIRECT_NETWORK = 0,
+    ETHERPARSE_ICMPV4_CODE_REDIRECT_HOST = 1,
+    ETHERPARSE_ICMPV4_CODE_REDIRECT_NETWORK_FOR_SERVICE = 2, /* for the network and the type of service */
+    ETHERPARSE_ICMPV4_CODE_REDIRECT_HOST_FOR_SERVICE = 3     /* for the host and the type of service */
+};
+
+/* The codes of time exceeded (RFC 792). */
+enum {
+    ETHERPARSE_ICMPV4_CODE_TIME_TO_LIVE_EXCEEDED = 0,
+    ETHERPARSE_ICMPV4_CODE_REASSEMBLY_TIME_EXCEEDED = 1
+};
+
+/* The codes of parameter problem: 0 (RFC 792), 1 (RFC 1122, section 3.2.2.5), 2 (no RFC). */
+enum {
+    ETHERPARSE_ICMPV4_CODE_POINTER_INDICATES_ERROR = 0, /* the byte at `pointer` is wrong */
+    ETHERPARSE_ICMPV4_CODE_REQUIRED_OPTION_MISSING = 1,
+    ETHERPARSE_ICMPV4_CODE_BAD_LENGTH = 2
+};
+
+/* An ICMPv4 header. When read, a field that its kind does not have is 0, except type, code, checksum and bytes4to7. */
 typedef struct etherparse_icmpv4_header {
-    uint32_t kind;                /* ETHERPARSE_ICMPV4_.. */
+    uint32_t kind;                /* ETHERPARSE_ICMPV4_KIND_.. */
     uint32_t originate_timestamp; /* of timestamp messages: bytes 8 to 11 */
     uint32_t receive_timestamp;   /* of timestamp messages: bytes 12 to 15 */
     uint32_t transmit_timestamp;  /* of timestamp messages: bytes 16 to 19 */
@@ -751,8 +904,8 @@ typedef struct etherparse_icmpv4_header {
     uint16_t id;                  /* of echo and timestamp messages: bytes 4 and 5 */
     uint16_t sequence_number;     /* of echo and timestamp messages: bytes 6 and 7 */
     uint16_t next_hop_mtu;        /* of an unreachable destination with code 4, in bytes: bytes 6 and 7 (RFC 1191, section 4) */
-    uint8_t type;                 /* byte 0 */
-    uint8_t code;                 /* byte 1 */
+    uint8_t type;                 /* byte 0: ETHERPARSE_ICMPV4_TYPE_.. */
+    uint8_t code;                 /* byte 1: ETHERPARSE_ICMPV4_CODE_.. */
     uint8_t pointer;              /* of a parameter problem with code 0: byte 4 */
     uint8_t bytes4to7[4];         /* bytes 4 to 7 as they are; of a redirect message the gateway's address */
 } etherparse_icmpv4_header;
@@ -777,10 +930,10 @@ etherparse_status etherparse_icmpv4_packet_read(const uint8_t *bytes, size_t len
 /*
  * Writes the header at the front of the buffer, and its length in bytes to *written: 20 for a timestamp message, otherwise 8. The header
  * is made from kind, code, checksum and the fields of the kind. Other fields are ignored, and bytes that the kind does not use are
- * zero. The kind determines the type, and also the code if the kind has only one. For ETHERPARSE_ICMPV4_UNKNOWN, type, code and
+ * zero. The kind determines the type, and also the code if the kind has only one. For ETHERPARSE_ICMPV4_KIND_UNKNOWN, type, code and
  * bytes4to7 are written as they are. The bytes of the buffer after the header are unchanged. Kind, checksum and the fields of the kind
- * are read back as they were written. For ETHERPARSE_ICMPV4_UNKNOWN, type, code, checksum and bytes4to7 are read back, with the kind of
- * this type and code.
+ * are read back as they were written. For ETHERPARSE_ICMPV4_KIND_UNKNOWN, type, code, checksum and bytes4to7 are read back, with the kind
+ * of this type and code.
  *
  * In this order: ETHERPARSE_STATUS_MESSAGE_UNKNOWN, ETHERPARSE_STATUS_BUFFER_TOO_SMALL.
  */
@@ -818,20 +971,75 @@ etherparse_status etherparse_icmpv4_checksum_test(const uint8_t *bytes, size_t l
 /* The length of an ICMPv6 header, in bytes. */
 #define ETHERPARSE_ICMPV6_HEADER_LEN 8
 
-/* What an ICMPv6 message is. Within a kind `code` says which, by the numbers of its RFC. */
+/* The kinds of ICMPv6 messages, by numbers of this library. They are no types: an echo request has kind 5 and type 128. */
 enum {
-    ETHERPARSE_ICMPV6_UNKNOWN = 0,                 /* any other type and code */
-    ETHERPARSE_ICMPV6_DESTINATION_UNREACHABLE = 1, /* codes 0 to 6 */
-    ETHERPARSE_ICMPV6_PACKET_TOO_BIG = 2,
-    ETHERPARSE_ICMPV6_TIME_EXCEEDED = 3,     /* codes 0 and 1 */
-    ETHERPARSE_ICMPV6_PARAMETER_PROBLEM = 4, /* codes 0 to 10 */
-    ETHERPARSE_ICMPV6_ECHO_REQUEST = 5,
-    ETHERPARSE_ICMPV6_ECHO_REPLY = 6,
-    ETHERPARSE_ICMPV6_ROUTER_SOLICITATION = 7,
-    ETHERPARSE_ICMPV6_ROUTER_ADVERTISEMENT = 8,
-    ETHERPARSE_ICMPV6_NEIGHBOR_SOLICITATION = 9,
-    ETHERPARSE_ICMPV6_NEIGHBOR_ADVERTISEMENT = 10,
-    ETHERPARSE_ICMPV6_REDIRECT = 11
+    ETHERPARSE_ICMPV6_KIND_UNKNOWN = 0,                 /* any other type and code */
+    ETHERPARSE_ICMPV6_KIND_DESTINATION_UNREACHABLE = 1, /* codes 0 to 6 */
+    ETHERPARSE_ICMPV6_KIND_PACKET_TOO_BIG = 2,
+    ETHERPARSE_ICMPV6_KIND_TIME_EXCEEDED = 3,     /* codes 0 and 1 */
+    ETHERPARSE_ICMPV6_KIND_PARAMETER_PROBLEM = 4, /* codes 0 to 10 */
+    ETHERPARSE_ICMPV6_KIND_ECHO_REQUEST = 5,
+    ETHERPARSE_ICMPV6_KIND_ECHO_REPLY = 6,
+    ETHERPARSE_ICMPV6_KIND_ROUTER_SOLICITATION = 7,
+    ETHERPARSE_ICMPV6_KIND_ROUTER_ADVERTISEMENT = 8,
+    ETHERPARSE_ICMPV6_KIND_NEIGHBOR_SOLICITATION = 9,
+    ETHERPARSE_ICMPV6_KIND_NEIGHBOR_ADVERTISEMENT = 10,
+    ETHERPARSE_ICMPV6_KIND_REDIRECT = 11
+};
+
+/* The types of ICMPv6 messages: 1 to 129 (RFC 4443), 133 to 137 (RFC 4861). It is byte 0. */
+enum {
+    ETHERPARSE_ICMPV6_TYPE_DESTINATION_UNREACHABLE = 1,
+    ETHERPARSE_ICMPV6_TYPE_PACKET_TOO_BIG = 2,
+    ETHERPARSE_ICMPV6_TYPE_TIME_EXCEEDED = 3,
+    ETHERPARSE_ICMPV6_TYPE_PARAMETER_PROBLEM = 4,
+    ETHERPARSE_ICMPV6_TYPE_ECHO_REQUEST = 128,
+    ETHERPARSE_ICMPV6_TYPE_ECHO_REPLY = 129,
+    ETHERPARSE_ICMPV6_TYPE_MULTICAST_LISTENER_QUERY = 130,  /* RFC 2710 */
+    ETHERPARSE_ICMPV6_TYPE_MULTICAST_LISTENER_REPORT = 131, /* RFC 2710 */
+    ETHERPARSE_ICMPV6_TYPE_MULTICAST_LISTENER_DONE = 132,   /* RFC 2710 */
+    ETHERPARSE_ICMPV6_TYPE_ROUTER_SOLICITATION = 133,
+    ETHERPARSE_ICMPV6_TYPE_ROUTER_ADVERTISEMENT = 134,
+    ETHERPARSE_ICMPV6_TYPE_NEIGHBOR_SOLICITATION = 135,
+    ETHERPARSE_ICMPV6_TYPE_NEIGHBOR_ADVERTISEMENT = 136,
+    ETHERPARSE_ICMPV6_TYPE_REDIRECT = 137,
+    ETHERPARSE_ICMPV6_TYPE_ROUTER_RENUMBERING = 138,             /* RFC 2894 */
+    ETHERPARSE_ICMPV6_TYPE_INVERSE_NEIGHBOR_SOLICITATION = 141,  /* RFC 3122 */
+    ETHERPARSE_ICMPV6_TYPE_INVERSE_NEIGHBOR_ADVERTISEMENT = 142, /* RFC 3122 */
+    ETHERPARSE_ICMPV6_TYPE_EXTENDED_ECHO_REQUEST = 160,          /* RFC 8335 */
+    ETHERPARSE_ICMPV6_TYPE_EXTENDED_ECHO_REPLY = 161             /* RFC 8335 */
+};
+
+/* The codes of destination unreachable (RFC 4443, section 3.1). */
+enum {
+    ETHERPARSE_ICMPV6_CODE_NO_ROUTE = 0,
+    ETHERPARSE_ICMPV6_CODE_COMMUNICATION_PROHIBITED = 1,
+    ETHERPARSE_ICMPV6_CODE_BEYOND_SCOPE = 2, /* of the source address */
+    ETHERPARSE_ICMPV6_CODE_ADDRESS_UNREACHABLE = 3,
+    ETHERPARSE_ICMPV6_CODE_PORT_UNREACHABLE = 4,
+    ETHERPARSE_ICMPV6_CODE_SOURCE_ADDRESS_FAILED_POLICY = 5,
+    ETHERPARSE_ICMPV6_CODE_REJECT_ROUTE = 6
+};
+
+/* The codes of time exceeded (RFC 4443, section 3.3). */
+enum {
+    ETHERPARSE_ICMPV6_CODE_HOP_LIMIT_EXCEEDED = 0,
+    ETHERPARSE_ICMPV6_CODE_REASSEMBLY_TIME_EXCEEDED = 1
+};
+
+/* The codes of parameter problem: 0 to 2 (RFC 4443, section 3.4), 3 (RFC 7112), 4 (RFC 8754), 5 to 10 (RFC 8883). */
+enum {
+    ETHERPARSE_ICMPV6_CODE_ERRONEOUS_HEADER_FIELD = 0,
+    ETHERPARSE_ICMPV6_CODE_UNRECOGNIZED_NEXT_HEADER = 1,
+    ETHERPARSE_ICMPV6_CODE_UNRECOGNIZED_OPTION = 2,
+    ETHERPARSE_ICMPV6_CODE_INCOMPLETE_HEADER_CHAIN = 3,  /* in the first fragment */
+    ETHERPARSE_ICMPV6_CODE_UPPER_LAYER_HEADER_ERROR = 4, /* with a segment routing header */
+    ETHERPARSE_ICMPV6_CODE_NEXT_HEADER_UNRECOGNIZED_BY_ROUTER = 5,
+    ETHERPARSE_ICMPV6_CODE_EXTENSION_HEADER_TOO_BIG = 6,
+    ETHERPARSE_ICMPV6_CODE_EXTENSION_HEADER_CHAIN_TOO_LONG = 7,
+    ETHERPARSE_ICMPV6_CODE_TOO_MANY_EXTENSION_HEADERS = 8,
+    ETHERPARSE_ICMPV6_CODE_TOO_MANY_OPTIONS = 9, /* in an extension header */
+    ETHERPARSE_ICMPV6_CODE_OPTION_TOO_BIG = 10
 };
 
 /* The flags of advertisements, at their bits in the packet (RFC 4861, sections 4.2 and 4.4). */
@@ -843,9 +1051,9 @@ enum {
     ETHERPARSE_ICMPV6_NEIGHBOR_OVERRIDE = 0x20
 };
 
-/* An ICMPv6 header. When read, a field that its kind does not have is 0, but for type, code, checksum and bytes4to7. */
+/* An ICMPv6 header. When read, a field that its kind does not have is 0, except type, code, checksum and bytes4to7. */
 typedef struct etherparse_icmpv6_header {
-    uint32_t kind;            /* ETHERPARSE_ICMPV6_.. */
+    uint32_t kind;            /* ETHERPARSE_ICMPV6_KIND_.. */
     uint32_t mtu;             /* of a packet that was too big, in bytes: bytes 4 to 7 */
     uint32_t pointer;         /* of a parameter problem: bytes 4 to 7 */
     uint16_t checksum;        /* bytes 2 and 3 */
@@ -854,8 +1062,8 @@ typedef struct etherparse_icmpv6_header {
     uint16_t router_lifetime; /* of a router advertisement, in seconds: bytes 6 and 7 */
     uint8_t cur_hop_limit;    /* of a router advertisement: byte 4 */
     uint8_t flags;            /* of a router advertisement byte 5, of a neighbor advertisement byte 4, without other bits */
-    uint8_t type;             /* byte 0 */
-    uint8_t code;             /* byte 1 */
+    uint8_t type;             /* byte 0: ETHERPARSE_ICMPV6_TYPE_.. */
+    uint8_t code;             /* byte 1: ETHERPARSE_ICMPV6_CODE_.. */
     uint8_t bytes4to7[4];     /* bytes 4 to 7 as they are */
 } etherparse_icmpv6_header;
 
@@ -878,9 +1086,9 @@ etherparse_status etherparse_icmpv6_packet_read(const uint8_t *bytes, size_t len
 /*
  * Writes the header, 8 bytes, at the front of the buffer, and 8 to *written. The header is made from kind, code, checksum and the fields
  * of the kind. Other fields and other flags are ignored, and bits that the kind does not use are zero. The kind determines the type, and
- * also the code if the kind has only one. For ETHERPARSE_ICMPV6_UNKNOWN, type, code and bytes4to7 are written as they are. The bytes of
- * the buffer after the header are unchanged. Kind, checksum and the fields of the kind are read back as they were written. For
- * ETHERPARSE_ICMPV6_UNKNOWN, type, code, checksum and bytes4to7 are read back, with the kind of this type and code.
+ * also the code if the kind has only one. For ETHERPARSE_ICMPV6_KIND_UNKNOWN, type, code and bytes4to7 are written as they are. The bytes
+ * of the buffer after the header are unchanged. Kind, checksum and the fields of the kind are read back as they were written. For
+ * ETHERPARSE_ICMPV6_KIND_UNKNOWN, type, code, checksum and bytes4to7 are read back, with the kind of this type and code.
  *
  * In this order: ETHERPARSE_STATUS_MESSAGE_UNKNOWN, ETHERPARSE_STATUS_BUFFER_TOO_SMALL.
  */
@@ -928,8 +1136,8 @@ etherparse_status etherparse_icmpv6_checksum_test(const uint8_t *bytes, size_t l
  * etherparse_echo_answer accepts a packet of either IP version. Its reply comes from the destination of the request. The reply of
  * the other two calls comes from `source`. For a request to a multicast or broadcast address, pass an address of the host.
  *
- * In this order: refused as by etherparse_transport_in_ip. ETHERPARSE_STATUS_ECHO_NO_REQUEST: another IP version than that of the
- * call. ETHERPARSE_STATUS_ECHO_FRAGMENT. ETHERPARSE_STATUS_ECHO_NO_REQUEST: another protocol. ETHERPARSE_STATUS_ECHO_HAS_OPTIONS.
+ * In this order: refused as by etherparse_transport_in_ip. ETHERPARSE_STATUS_ECHO_NO_REQUEST: the call does not accept this version
+ * of IP. ETHERPARSE_STATUS_ECHO_FRAGMENT. ETHERPARSE_STATUS_ECHO_NO_REQUEST: another protocol. ETHERPARSE_STATUS_ECHO_HAS_OPTIONS.
  * Refused as by etherparse_icmpv4_packet_read or etherparse_icmpv6_packet_read, where layer_start_offset counts from the first byte
  * of the message. ETHERPARSE_STATUS_ECHO_NO_REQUEST: another message. ETHERPARSE_STATUS_CHECKSUM_WRONG. Over IPv4
  * ETHERPARSE_STATUS_ECHO_HEADER_CHECKSUM_WRONG. ETHERPARSE_STATUS_ECHO_REQUEST_SOURCE. ETHERPARSE_STATUS_ECHO_REPLY_SOURCE. The
@@ -952,11 +1160,11 @@ etherparse_status etherparse_echo_answer_ipv6(uint8_t *packet, size_t packet_len
  *
  * It is the reply exactly if all of this holds:
  *  - etherparse_transport_in_ip accepts both packets, which have the same version of IP, and neither is a fragment.
- *  - The ICMP message of `request` is an echo request, and that of `reply` an echo reply. Both codes are 0.
+ *  - The ICMP message of `request` is an echo request, and the message of `reply` is an echo reply. Both codes are 0.
  *  - Identifier, sequence number and payload of both messages are equal.
  *  - The reply goes to the source of the request, and comes from its destination. It comes from any address of one host if the request was
- *    sent to a multicast address or to 255.255.255.255. The addresses are those of etherparse_ip_transport.
- *  - The checksum of the reply is right, and over IPv4 also that of its IP header.
+ *    sent to a multicast address or to 255.255.255.255. These are the addresses of etherparse_ip_transport.
+ *  - The checksum of the reply is right, and over IPv4 also the checksum of its IP header.
  *
  * The checksums of the request are not tested.
  */
@@ -969,12 +1177,11 @@ etherparse_status etherparse_echo_is_reply(const uint8_t *request, size_t reques
 /*
  * Writes where the packet that an ICMP error is about lies in the bytes, which are the ICMP message. The packet begins with its IP
  * header at bytes[*offset], and *len bytes of it are there, possibly 0. *offset is 8. The length field of RFC 4884 ends the packet
- * if the sender uses it. Otherwise the packet extends to the end of the bytes. The packet is often truncated, which
+ * if it counts at least 128 bytes. Otherwise the packet extends to the end of the bytes. The packet is often truncated, which
  * etherparse_transport_in_ip_lax accepts.
  *
  * The errors of ICMPv4 are destination unreachable (3), source quench (4), redirect (5), time exceeded (11) and parameter
- * problem (12). The errors of ICMPv6 are destination unreachable (1), packet too big (2), time exceeded (3) and parameter problem
- * (4). No checksum is tested.
+ * problem (12). The errors of ICMPv6 are all types below 128 (RFC 4443, section 2.1). No checksum is tested.
  *
  * In this order: refused as by etherparse_icmpv4_packet_read or etherparse_icmpv6_packet_read. ETHERPARSE_STATUS_NO_ICMP_ERROR.
  * *offset and *len are unchanged.
@@ -990,14 +1197,14 @@ etherparse_status etherparse_icmpv6_quoted_packet(const uint8_t *bytes, size_t b
 
 /*
  * What a translation replaces. A part is replaced if its flag is not 0, and otherwise stays as the packet has it. Ports are in the order of
- * the host, and addresses in network order. source_port is also the new identifier of an echo request, and destination_port the new
- * identifier of an echo reply.
+ * the host, and addresses in network order. source_port is also the new identifier of an ICMP request, and destination_port the new
+ * identifier of an ICMP reply: of echo, timestamp, information and address mask messages.
  */
 typedef struct etherparse_ipv4_translation {
     uint8_t source[4];            /* the new source address */
     uint8_t destination[4];       /* the new destination address */
-    uint16_t source_port;         /* the new source port of UDP and TCP, or identifier of an echo request */
-    uint16_t destination_port;    /* the new destination port of UDP and TCP, or identifier of an echo reply */
+    uint16_t source_port;         /* the new source port of UDP and TCP, or identifier of an ICMP request */
+    uint16_t destination_port;    /* the new destination port of UDP and TCP, or identifier of an ICMP reply */
     uint8_t has_source;           /* whether the source address is replaced */
     uint8_t has_destination;      /* whether the destination address is replaced */
     uint8_t has_source_port;      /* whether the source port is replaced */
@@ -1005,7 +1212,7 @@ typedef struct etherparse_ipv4_translation {
 } etherparse_ipv4_translation;
 
 typedef struct etherparse_ipv6_translation {
-    uint8_t source[16];           /* the fields are those of etherparse_ipv4_translation */
+    uint8_t source[16];           /* the fields of etherparse_ipv4_translation, with longer addresses */
     uint8_t destination[16];
     uint16_t source_port;
     uint16_t destination_port;
@@ -1017,9 +1224,10 @@ typedef struct etherparse_ipv6_translation {
 
 /*
  * Translates the IP packet at the front of the bytes, in place, as an address translator does. It replaces addresses, and ports or the
- * identifier of an echo message. The checksums of the IPv4 header, of UDP, TCP and ICMP are updated by what is replaced (RFC 1624), so that
- * a receiver accepts the packet if it accepted it before. A wrong checksum stays wrong, and a UDP packet without a checksum stays without
- * one. All other bytes stay, and no length changes.
+ * identifier of an ICMP query. The checksums of the IPv4 header, of UDP, TCP and ICMP are updated by what is replaced (RFC 1624), so that
+ * a receiver accepts the packet if it accepted it before. A UDP packet without a checksum stays without one. A wrong checksum stays wrong,
+ * except in an ICMPv4 echo reply whose bytes are all zeros, checksum included: its checksum becomes right. All other bytes stay, and no
+ * length changes.
  *
  * The packet that an ICMP error is about went in the other direction. It is translated with source and destination exchanged, as far as the
  * error contains it: a program passes the translation of the flow in the direction of the error. A first fragment has ports, and in a later
@@ -1028,9 +1236,10 @@ typedef struct etherparse_ipv6_translation {
  *
  * In this order: refused as by etherparse_transport_in_ip_lax. ETHERPARSE_STATUS_IP_VERSION: the other version of IP.
  * ETHERPARSE_STATUS_TRANSLATE_SOURCE_ROUTE: a loose or strict source route among the IPv4 options (RFC 791, section 3.1), with or without
- * an address left. Other options stay. ETHERPARSE_STATUS_TRANSLATE_PROTOCOL: neither UDP nor TCP nor ICMP of the version of the call, so
- * also an authentication header or an IPv6 extension header, except one fragment header directly after the IPv6 header.
- * ETHERPARSE_STATUS_TRANSLATE_HEADER_CUT_OFF: fewer than 8 bytes of UDP or ICMP, or 20 of TCP. ETHERPARSE_STATUS_TRANSLATE_ICMP_MESSAGE.
+ * an address left. Other options stay. ETHERPARSE_STATUS_TRANSLATE_PROTOCOL: neither UDP nor TCP nor ICMP of the version of the call, if
+ * a port is passed, or if the protocol covers the addresses: an authentication header, DCCP, UDP-Lite and others, and an IPv6 extension
+ * header, except one fragment header directly after the IPv6 header. ETHERPARSE_STATUS_TRANSLATE_HEADER_CUT_OFF: fewer than 8 bytes of UDP,
+ * TCP or ICMP. ETHERPARSE_STATUS_TRANSLATE_ICMP_MESSAGE: no query and no error, or a redirect.
  * ETHERPARSE_STATUS_TRANSLATE_QUOTED_PACKET: the packet that an ICMP error is about is refused up to its protocol. The bytes are
  * unchanged.
  */
@@ -1115,8 +1324,9 @@ etherparse_checksum_change etherparse_checksum_change_reversed(etherparse_checks
 
 /*
  * Returns the checksum of the changed packet, from the checksum of the packet before, as TCP, ICMP and the IPv4 header store it (RFC 1624,
- * section 3, equation 3). A right checksum becomes the right checksum, with one exception: if all bytes that it covers become zeros, it is
- * 0 and should be 65535. With a pseudo header this can't happen.
+ * section 3, equation 3). A right checksum becomes the right checksum, and a wrong checksum stays wrong, with two exceptions. If all bytes
+ * that the checksum covers become zeros, it is 0 and should be 65535. If all these bytes were zeros, the wrong checksum 0 becomes right.
+ * With a pseudo header neither can happen.
  */
 ETHERPARSE_CHECK_RESULT
 uint16_t etherparse_checksum_change_apply(etherparse_checksum_change change, uint16_t checksum);
@@ -1127,6 +1337,108 @@ uint16_t etherparse_checksum_change_apply(etherparse_checksum_change change, uin
  */
 ETHERPARSE_CHECK_RESULT
 uint16_t etherparse_checksum_change_apply_udp(etherparse_checksum_change change, uint16_t checksum);
+
+/* ---- constant words ------------------------------------------------------------------------------------------------------- */
+
+/*
+ * The compiler puts these functions and the words into the program. They are not in the library. The words are in static memory and end
+ * with a zero byte.
+ */
+#if defined(__GNUC__) || defined(__clang__)
+#define ETHERPARSE_UNUSED __attribute__((unused))
+#else
+#define ETHERPARSE_UNUSED
+#endif
+#define ETHERPARSE_CASE(number) case number: return #number;
+
+/* Returns the name of a status, as etherparse_status_name writes it. */
+ETHERPARSE_CHECK_RESULT ETHERPARSE_UNUSED
+static inline const char *etherparse_name_of_status(etherparse_status status)
+{
+    switch (status) {
+    ETHERPARSE_CASE(ETHERPARSE_OK)
+    ETHERPARSE_CASE(ETHERPARSE_STATUS_LENGTH)
+    ETHERPARSE_CASE(ETHERPARSE_STATUS_DATA_OFFSET)
+    ETHERPARSE_CASE(ETHERPARSE_STATUS_VALUE_TOO_BIG)
+    ETHERPARSE_CASE(ETHERPARSE_STATUS_BUFFER_TOO_SMALL)
+    ETHERPARSE_CASE(ETHERPARSE_STATUS_CHECKSUM_WRONG)
+    ETHERPARSE_CASE(ETHERPARSE_STATUS_CHECKSUM_ABSENT)
+    ETHERPARSE_CASE(ETHERPARSE_STATUS_OPTIONS_TOO_LONG)
+    ETHERPARSE_CASE(ETHERPARSE_STATUS_FLAGS_UNKNOWN)
+    ETHERPARSE_CASE(ETHERPARSE_STATUS_PROTOCOL_UNKNOWN)
+    ETHERPARSE_CASE(ETHERPARSE_STATUS_OPTIONS_END)
+    ETHERPARSE_CASE(ETHERPARSE_STATUS_OPTION_CUT_OFF)
+    ETHERPARSE_CASE(ETHERPARSE_STATUS_OPTION_SIZE)
+    ETHERPARSE_CASE(ETHERPARSE_STATUS_OPTION_UNKNOWN)
+    ETHERPARSE_CASE(ETHERPARSE_STATUS_MESSAGE_UNKNOWN)
+    ETHERPARSE_CASE(ETHERPARSE_STATUS_IP_HEADER_CUT_OFF)
+    ETHERPARSE_CASE(ETHERPARSE_STATUS_IP_VERSION)
+    ETHERPARSE_CASE(ETHERPARSE_STATUS_IP_HEADER_LENGTH)
+    ETHERPARSE_CASE(ETHERPARSE_STATUS_IP_TOTAL_LENGTH)
+    ETHERPARSE_CASE(ETHERPARSE_STATUS_IP_PACKET_CUT_OFF)
+    ETHERPARSE_CASE(ETHERPARSE_STATUS_IP_EXTENSION_CUT_OFF)
+    ETHERPARSE_CASE(ETHERPARSE_STATUS_IP_JUMBO_PAYLOAD_MISSING)
+    ETHERPARSE_CASE(ETHERPARSE_STATUS_IP_JUMBO_PAYLOAD_LENGTH)
+    ETHERPARSE_CASE(ETHERPARSE_STATUS_IP_JUMBO_PAYLOAD_UNEXPECTED)
+    ETHERPARSE_CASE(ETHERPARSE_STATUS_IP_JUMBO_PAYLOAD_FRAGMENT)
+    ETHERPARSE_CASE(ETHERPARSE_STATUS_OPTION_VALUES)
+    ETHERPARSE_CASE(ETHERPARSE_STATUS_ECHO_FRAGMENT)
+    ETHERPARSE_CASE(ETHERPARSE_STATUS_ECHO_NO_REQUEST)
+    ETHERPARSE_CASE(ETHERPARSE_STATUS_ECHO_HAS_OPTIONS)
+    ETHERPARSE_CASE(ETHERPARSE_STATUS_ECHO_HEADER_CHECKSUM_WRONG)
+    ETHERPARSE_CASE(ETHERPARSE_STATUS_ECHO_REQUEST_SOURCE)
+    ETHERPARSE_CASE(ETHERPARSE_STATUS_ECHO_REPLY_SOURCE)
+    ETHERPARSE_CASE(ETHERPARSE_STATUS_NO_ICMP_ERROR)
+    ETHERPARSE_CASE(ETHERPARSE_STATUS_TRANSLATE_HAS_OPTIONS)
+    ETHERPARSE_CASE(ETHERPARSE_STATUS_TRANSLATE_PROTOCOL)
+    ETHERPARSE_CASE(ETHERPARSE_STATUS_TRANSLATE_HEADER_CUT_OFF)
+    ETHERPARSE_CASE(ETHERPARSE_STATUS_TRANSLATE_ICMP_MESSAGE)
+    ETHERPARSE_CASE(ETHERPARSE_STATUS_TRANSLATE_QUOTED_PACKET)
+    ETHERPARSE_CASE(ETHERPARSE_STATUS_ECHO_NO_REPLY)
+    ETHERPARSE_CASE(ETHERPARSE_STATUS_TRANSLATE_SOURCE_ROUTE)
+    default: return "unknown status";
+    }
+}
+
+/* Returns the name of a verdict, as etherparse_verdict_name writes it. */
+ETHERPARSE_CHECK_RESULT ETHERPARSE_UNUSED
+static inline const char *etherparse_name_of_verdict(uint32_t verdict)
+{
+    switch (verdict) {
+    ETHERPARSE_CASE(ETHERPARSE_VERDICT_RIGHT)
+    ETHERPARSE_CASE(ETHERPARSE_VERDICT_ABSENT)
+    ETHERPARSE_CASE(ETHERPARSE_VERDICT_WRONG)
+    ETHERPARSE_CASE(ETHERPARSE_VERDICT_PARTIAL)
+    ETHERPARSE_CASE(ETHERPARSE_VERDICT_UNTESTED_FRAGMENT)
+    ETHERPARSE_CASE(ETHERPARSE_VERDICT_UNTESTED_CUT_OFF)
+    ETHERPARSE_CASE(ETHERPARSE_VERDICT_UNTESTED_UNKNOWN_DESTINATION)
+    ETHERPARSE_CASE(ETHERPARSE_VERDICT_UNTESTED_OTHER_PROTOCOL)
+    ETHERPARSE_CASE(ETHERPARSE_VERDICT_UNTESTED_ZERO_LENGTH)
+    ETHERPARSE_CASE(ETHERPARSE_VERDICT_UNTESTED_TOO_LONG)
+    default: return "unknown verdict";
+    }
+}
+
+/* Returns what a verdict means, in a few words of ASCII. The texts may change in later versions. */
+ETHERPARSE_CHECK_RESULT ETHERPARSE_UNUSED
+static inline const char *etherparse_text_of_verdict(uint32_t verdict)
+{
+    switch (verdict) {
+    case ETHERPARSE_VERDICT_RIGHT: return "the checksum is right";
+    case ETHERPARSE_VERDICT_ABSENT: return "there is no checksum";
+    case ETHERPARSE_VERDICT_WRONG: return "the checksum is wrong";
+    case ETHERPARSE_VERDICT_PARTIAL: return "the checksum is partial";
+    case ETHERPARSE_VERDICT_UNTESTED_FRAGMENT: return "not tested: a fragment";
+    case ETHERPARSE_VERDICT_UNTESTED_CUT_OFF: return "not tested: the packet is cut off";
+    case ETHERPARSE_VERDICT_UNTESTED_UNKNOWN_DESTINATION: return "not tested: the final destination is not known";
+    case ETHERPARSE_VERDICT_UNTESTED_OTHER_PROTOCOL: return "not tested: another protocol";
+    case ETHERPARSE_VERDICT_UNTESTED_ZERO_LENGTH: return "not tested: the length field of UDP is 0";
+    case ETHERPARSE_VERDICT_UNTESTED_TOO_LONG: return "not tested: the packet is too long";
+    default: return "unknown verdict";
+    }
+}
+
+#undef ETHERPARSE_CASE
 
 #ifdef __cplusplus
 }

@@ -1,9 +1,11 @@
 # SPDX-FileCopyrightText: 2026 The etherparse_transport developers
 # SPDX-License-Identifier: MIT OR Apache-2.0
-"""Reads UDP, TCP, ICMPv4 and ICMPv6 in IP packets, tests their checksums, answers echo requests, and translates addresses.
+"""Reads and writes UDP, TCP, ICMPv4 and ICMPv6, finds them in IP packets, tests and computes their checksums, answers echo requests, and
+translates addresses.
 
 This module is one file. It calls the shared library of etherparse_transport by ctypes, so there is nothing to build. The environment
-variable ETHERPARSE_TRANSPORT_LIBRARY contains the path of the library. If it is not set, the system looks for the library by its name.
+variable ETHERPARSE_TRANSPORT_LIBRARY contains the path of the library. If it is not set, the library is the file next to this module, which
+a wheel contains, or the system looks for the library by its name.
 
     import etherparse_transport
 
@@ -15,7 +17,8 @@ variable ETHERPARSE_TRANSPORT_LIBRARY contains the path of the library. If it is
         print(found.transport.source, found.transport.destination, found.kind.name)
 
 A packet is an IP packet in `bytes`, or in another object that `bytes()` accepts, such as a `bytearray`. It begins at the IP header: remove
-the header of Ethernet before. A message is the transport in the packet, header and payload: `found.transport.payload`.
+the header of Ethernet before. A message is the transport in the packet, header and payload: `found.transport.payload`. To send a message,
+write its header in front of the payload, and store its checksum: functions whose names begin with `store` change a `bytearray` in place.
 
 Calls can be made from several threads at the same time. What the functions return or raise can be pickled. Python 3.8 is needed.
 """
@@ -26,16 +29,22 @@ import ctypes
 import enum
 import functools
 import ipaddress
+import operator
 import os
-from dataclasses import dataclass
-from typing import Any, Collection, Iterator, Union
+from dataclasses import dataclass, field
+from typing import Any, Collection, Iterable, Iterator, Union
 
 __all__ = [
-    "Error", "HeaderAddresses", "Icmpv4Kind", "Icmpv4Packet", "Icmpv6Kind", "Icmpv6Packet", "Layer", "LenSource", "NeighborFlags",
-    "Protocol", "RouterFlags", "Status", "TcpFlags", "TcpOption", "TcpOptionKind", "TcpPacket", "Transport", "UdpPacket", "ValueType",
-    "Verdict", "VerdictKind", "answer_echo", "check_icmpv4", "check_icmpv6", "check_ipv4_header", "check_tcp", "check_udp",
-    "header_addresses", "is_reply_to", "library_version", "quoted_by_icmpv4", "quoted_by_icmpv6", "read_icmpv4", "read_icmpv6", "read_tcp",
-    "read_udp", "tcp_options", "translate", "transport", "verdict",
+    "ChecksumChange", "Error", "HeaderAddresses", "Icmpv4Kind", "Icmpv4Packet", "Icmpv4ParameterProblemCode", "Icmpv4RedirectCode",
+    "Icmpv4TimeExceededCode", "Icmpv4Type", "Icmpv4UnreachableCode", "Icmpv6Kind", "Icmpv6Packet", "Icmpv6ParameterProblemCode",
+    "Icmpv6TimeExceededCode", "Icmpv6Type", "Icmpv6UnreachableCode", "Layer", "LenSource", "NeighborFlags", "Protocol", "RouterFlags",
+    "Status", "Sum", "TcpFlags", "TcpOption", "TcpOptionKind", "TcpOptionValues", "TcpPacket", "Transport", "UdpPacket", "ValueType",
+    "Verdict", "VerdictKind", "answer_echo", "canonical_header", "check_icmpv4", "check_icmpv6", "check_ipv4_header", "check_tcp",
+    "check_udp", "header_addresses", "icmpv4_checksum", "icmpv6_checksum", "ipv4_header_checksum", "is_reply_to", "library_version",
+    "quoted_by_icmpv4", "quoted_by_icmpv6", "read_icmpv4", "read_icmpv6", "read_tcp", "read_udp", "status_name", "store_icmpv4_checksum",
+    "store_icmpv6_checksum", "store_ipv4_header_checksum", "store_tcp_checksum", "store_tcp_header", "store_udp_checksum", "tcp_checksum",
+    "tcp_option_values", "tcp_options", "translate", "transport", "udp_checksum", "verdict", "verdict_name", "write_icmpv4_header",
+    "write_icmpv6_header", "write_tcp_header", "write_tcp_options", "write_udp_header",
 ]
 
 Bytes = Union[bytes, bytearray, memoryview]
@@ -43,7 +52,7 @@ Address = Union[ipaddress.IPv4Address, ipaddress.IPv6Address]
 AnyAddress = Union[ipaddress.IPv4Address, ipaddress.IPv6Address, str, bytes]
 
 # The part of the library's version that has to match, in this form part of its name.
-_INTERFACE = "0.4"
+_INTERFACE = "0.5"
 
 
 # ---- numbers
@@ -112,9 +121,7 @@ class Status(_Number):
     @property
     def text(self) -> str:
         """What the status means, in a few words. The text of an `Error` says more."""
-        buffer = ctypes.create_string_buffer(_STATUS_TEXT_MAX_LEN + 1)
-        _library().etherparse_status_text(self, buffer, len(buffer))
-        return buffer.value.decode("ascii")
+        return _words("status_text", self)
 
 
 class Layer(_Number):
@@ -209,6 +216,72 @@ class Icmpv4Kind(_Number):
     TIMESTAMP_REPLY = 8
 
 
+class Icmpv4Type(_Number):
+    """The types of ICMPv4 messages (RFC 792): byte 0."""
+
+    ECHO_REPLY = 0
+    DESTINATION_UNREACHABLE = 3
+    SOURCE_QUENCH = 4
+    REDIRECT = 5
+    ALTERNATE_HOST_ADDRESS = 6
+    ECHO_REQUEST = 8
+    ROUTER_ADVERTISEMENT = 9
+    ROUTER_SOLICITATION = 10
+    TIME_EXCEEDED = 11
+    PARAMETER_PROBLEM = 12
+    TIMESTAMP_REQUEST = 13
+    TIMESTAMP_REPLY = 14
+    INFORMATION_REQUEST = 15
+    INFORMATION_REPLY = 16
+    ADDRESS_MASK_REQUEST = 17
+    ADDRESS_MASK_REPLY = 18
+
+
+class Icmpv4UnreachableCode(_Number):
+    """The codes of destination unreachable: 0 to 5 (RFC 792), 6 to 12 (RFC 1122, section 3.2.2.1), 13 to 15 (RFC 1812, section 5.2.7.1)."""
+
+    NETWORK_UNREACHABLE = 0
+    HOST_UNREACHABLE = 1
+    PROTOCOL_UNREACHABLE = 2
+    PORT_UNREACHABLE = 3
+    FRAGMENTATION_NEEDED = 4
+    SOURCE_ROUTE_FAILED = 5
+    NETWORK_UNKNOWN = 6
+    HOST_UNKNOWN = 7
+    SOURCE_HOST_ISOLATED = 8
+    NETWORK_PROHIBITED = 9
+    HOST_PROHIBITED = 10
+    NETWORK_UNREACHABLE_FOR_SERVICE = 11
+    HOST_UNREACHABLE_FOR_SERVICE = 12
+    COMMUNICATION_PROHIBITED = 13
+    HOST_PRECEDENCE_VIOLATION = 14
+    PRECEDENCE_CUTOFF = 15
+
+
+class Icmpv4RedirectCode(_Number):
+    """The codes of redirect (RFC 792)."""
+
+    NETWORK = 0
+    HOST = 1
+    NETWORK_FOR_SERVICE = 2
+    HOST_FOR_SERVICE = 3
+
+
+class Icmpv4TimeExceededCode(_Number):
+    """The codes of time exceeded (RFC 792)."""
+
+    TIME_TO_LIVE_EXCEEDED = 0
+    REASSEMBLY_TIME_EXCEEDED = 1
+
+
+class Icmpv4ParameterProblemCode(_Number):
+    """The codes of parameter problem: 0 (RFC 792), 1 (RFC 1122, section 3.2.2.5), 2 (no RFC)."""
+
+    POINTER_INDICATES_ERROR = 0
+    REQUIRED_OPTION_MISSING = 1
+    BAD_LENGTH = 2
+
+
 class Icmpv6Kind(_Number):
     """How the library reads an ICMPv6 message. It is not the type of the packet."""
 
@@ -224,6 +297,65 @@ class Icmpv6Kind(_Number):
     NEIGHBOR_SOLICITATION = 9
     NEIGHBOR_ADVERTISEMENT = 10
     REDIRECT = 11
+
+
+class Icmpv6Type(_Number):
+    """The types of ICMPv6 messages: 1 to 129 (RFC 4443), 133 to 137 (RFC 4861). It is byte 0."""
+
+    DESTINATION_UNREACHABLE = 1
+    PACKET_TOO_BIG = 2
+    TIME_EXCEEDED = 3
+    PARAMETER_PROBLEM = 4
+    ECHO_REQUEST = 128
+    ECHO_REPLY = 129
+    MULTICAST_LISTENER_QUERY = 130
+    MULTICAST_LISTENER_REPORT = 131
+    MULTICAST_LISTENER_DONE = 132
+    ROUTER_SOLICITATION = 133
+    ROUTER_ADVERTISEMENT = 134
+    NEIGHBOR_SOLICITATION = 135
+    NEIGHBOR_ADVERTISEMENT = 136
+    REDIRECT = 137
+    ROUTER_RENUMBERING = 138
+    INVERSE_NEIGHBOR_SOLICITATION = 141
+    INVERSE_NEIGHBOR_ADVERTISEMENT = 142
+    EXTENDED_ECHO_REQUEST = 160
+    EXTENDED_ECHO_REPLY = 161
+
+
+class Icmpv6UnreachableCode(_Number):
+    """The codes of destination unreachable (RFC 4443, section 3.1)."""
+
+    NO_ROUTE = 0
+    COMMUNICATION_PROHIBITED = 1
+    BEYOND_SCOPE = 2
+    ADDRESS_UNREACHABLE = 3
+    PORT_UNREACHABLE = 4
+    SOURCE_ADDRESS_FAILED_POLICY = 5
+    REJECT_ROUTE = 6
+
+
+class Icmpv6TimeExceededCode(_Number):
+    """The codes of time exceeded (RFC 4443, section 3.3)."""
+
+    HOP_LIMIT_EXCEEDED = 0
+    REASSEMBLY_TIME_EXCEEDED = 1
+
+
+class Icmpv6ParameterProblemCode(_Number):
+    """The codes of parameter problem: 0 to 2 (RFC 4443, section 3.4), 3 (RFC 7112), 4 (RFC 8754), 5 to 10 (RFC 8883)."""
+
+    ERRONEOUS_HEADER_FIELD = 0
+    UNRECOGNIZED_NEXT_HEADER = 1
+    UNRECOGNIZED_OPTION = 2
+    INCOMPLETE_HEADER_CHAIN = 3
+    UPPER_LAYER_HEADER_ERROR = 4
+    NEXT_HEADER_UNRECOGNIZED_BY_ROUTER = 5
+    EXTENSION_HEADER_TOO_BIG = 6
+    EXTENSION_HEADER_CHAIN_TOO_LONG = 7
+    TOO_MANY_EXTENSION_HEADERS = 8
+    TOO_MANY_OPTIONS = 9
+    OPTION_TOO_BIG = 10
 
 
 class RouterFlags(enum.IntFlag):
@@ -356,6 +488,10 @@ class _TcpPacket(ctypes.Structure):
     ]
 
 
+class _TcpOption(ctypes.Structure):
+    _fields_ = [("kind", ctypes.c_uint32), ("value_count", ctypes.c_uint32), ("values", ctypes.c_uint32 * 8)]
+
+
 class _TcpRawOption(ctypes.Structure):
     _fields_ = [
         ("kind", ctypes.c_uint32),
@@ -414,24 +550,45 @@ class _Icmpv6Packet(ctypes.Structure):
     ]
 
 
+class _Sum(ctypes.Structure):
+    _fields_ = [("value", ctypes.c_uint16)]
+
+
+class _ChecksumChange(ctypes.Structure):
+    _fields_ = [("removed", ctypes.c_uint16), ("added", ctypes.c_uint16)]
+
+
+# The parameters of calls: bytes with their length, the addresses of a pseudo header, an error, and the length of a result with an error.
+_PACKET = (ctypes.c_char_p, ctypes.c_size_t)
+_ADDRESSES = (ctypes.c_char_p, ctypes.c_char_p)
+_ERROR = (ctypes.POINTER(_Error),)
+_REPLY = (ctypes.POINTER(ctypes.c_size_t), *_ERROR)
+_BYTES_AND_ADDRESSES = (*_PACKET, *_ADDRESSES, *_ERROR)
+_CHECKSUM = (ctypes.POINTER(ctypes.c_uint16), *_ERROR)
+_TEXT = (ctypes.c_char_p, ctypes.c_size_t)
+
+
 def _reader(packet: Any) -> tuple:
     """The parameters of a call that reads bytes into a struct."""
-    return ctypes.c_char_p, ctypes.c_size_t, ctypes.POINTER(packet), ctypes.POINTER(_Error)
+    return *_PACKET, ctypes.POINTER(packet), *_ERROR
 
 
-_BYTES_AND_ADDRESSES = (ctypes.c_char_p, ctypes.c_size_t, ctypes.c_char_p, ctypes.c_char_p, ctypes.POINTER(_Error))
+def _writer(header: Any) -> tuple:
+    """The parameters of a call that writes a header."""
+    return ctypes.POINTER(header), *_PACKET, *_REPLY
 
-# The parameters around the source and the hop limit of a call that answers an echo request.
-_PACKET = (ctypes.c_char_p, ctypes.c_size_t)
-_REPLY = (ctypes.POINTER(ctypes.c_size_t), ctypes.POINTER(_Error))
 
 # The result and the parameters of each call.
 _CALLS = {
     "version": (ctypes.c_uint32,),
     "error_text": (ctypes.c_size_t, ctypes.POINTER(_Error), ctypes.c_char_p, ctypes.c_size_t),
-    "status_text": (ctypes.c_size_t, ctypes.c_uint32, ctypes.c_char_p, ctypes.c_size_t),
+    "status_text": (ctypes.c_size_t, ctypes.c_uint32, *_TEXT),
+    "status_name": (ctypes.c_size_t, ctypes.c_uint32, *_TEXT),
+    "verdict_name": (ctypes.c_size_t, ctypes.c_uint32, *_TEXT),
     "ip_header_addresses": (ctypes.c_uint32, *_reader(_IpAddresses)),
-    "ipv4_header_checksum_test": (ctypes.c_uint32, ctypes.c_char_p, ctypes.c_size_t, ctypes.POINTER(_Error)),
+    "ipv4_header_checksum": (ctypes.c_uint32, *_PACKET, *_CHECKSUM),
+    "ipv4_header_checksum_store": (ctypes.c_uint32, *_PACKET, *_ERROR),
+    "ipv4_header_checksum_test": (ctypes.c_uint32, *_PACKET, *_ERROR),
     "transport_in_ip": (ctypes.c_uint32, *_reader(_IpTransport)),
     "transport_in_ip_lax": (ctypes.c_uint32, *_reader(_IpTransport)),
     "packet_verdict": (ctypes.c_uint32, *_reader(_IpPacket)),
@@ -441,29 +598,58 @@ _CALLS = {
     "tcp_packet_read": (ctypes.c_uint32, *_reader(_TcpPacket)),
     "icmpv4_packet_read": (ctypes.c_uint32, *_reader(_Icmpv4Packet)),
     "icmpv6_packet_read": (ctypes.c_uint32, *_reader(_Icmpv6Packet)),
+    "udp_header_write": (ctypes.c_uint32, *_writer(_UdpHeader)),
+    "tcp_header_write": (ctypes.c_uint32, ctypes.POINTER(_TcpHeader), *_PACKET, *_PACKET, *_REPLY),
+    "tcp_header_store": (ctypes.c_uint32, ctypes.POINTER(_TcpHeader), *_PACKET, *_ERROR),
+    "icmpv4_header_write": (ctypes.c_uint32, *_writer(_Icmpv4Header)),
+    "icmpv6_header_write": (ctypes.c_uint32, *_writer(_Icmpv6Header)),
+    "udp_checksum_ipv4": (ctypes.c_uint32, *_PACKET, *_ADDRESSES, *_CHECKSUM),
+    "udp_checksum_ipv6": (ctypes.c_uint32, *_PACKET, *_ADDRESSES, *_CHECKSUM),
+    "tcp_checksum_ipv4": (ctypes.c_uint32, *_PACKET, *_ADDRESSES, *_CHECKSUM),
+    "tcp_checksum_ipv6": (ctypes.c_uint32, *_PACKET, *_ADDRESSES, *_CHECKSUM),
+    "icmpv4_checksum": (ctypes.c_uint32, *_PACKET, *_CHECKSUM),
+    "icmpv6_checksum": (ctypes.c_uint32, *_PACKET, *_ADDRESSES, *_CHECKSUM),
+    "udp_checksum_store_ipv4": (ctypes.c_uint32, *_BYTES_AND_ADDRESSES),
+    "udp_checksum_store_ipv6": (ctypes.c_uint32, *_BYTES_AND_ADDRESSES),
+    "tcp_checksum_store_ipv4": (ctypes.c_uint32, *_BYTES_AND_ADDRESSES),
+    "tcp_checksum_store_ipv6": (ctypes.c_uint32, *_BYTES_AND_ADDRESSES),
+    "icmpv4_checksum_store": (ctypes.c_uint32, *_PACKET, *_ERROR),
+    "icmpv6_checksum_store": (ctypes.c_uint32, *_BYTES_AND_ADDRESSES),
     "udp_checksum_test_ipv4": (ctypes.c_uint32, *_BYTES_AND_ADDRESSES),
     "udp_checksum_test_ipv6": (ctypes.c_uint32, *_BYTES_AND_ADDRESSES),
     "tcp_checksum_test_ipv4": (ctypes.c_uint32, *_BYTES_AND_ADDRESSES),
     "tcp_checksum_test_ipv6": (ctypes.c_uint32, *_BYTES_AND_ADDRESSES),
-    "icmpv4_checksum_test": (ctypes.c_uint32, ctypes.c_char_p, ctypes.c_size_t, ctypes.POINTER(_Error)),
+    "icmpv4_checksum_test": (ctypes.c_uint32, *_PACKET, *_ERROR),
     "icmpv6_checksum_test": (ctypes.c_uint32, *_BYTES_AND_ADDRESSES),
-    "tcp_raw_option_next": (
-        ctypes.c_uint32, ctypes.c_char_p, ctypes.c_size_t, ctypes.POINTER(ctypes.c_size_t), ctypes.POINTER(_TcpRawOption),
-        ctypes.POINTER(_Error),
-    ),
+    "tcp_option_next": (ctypes.c_uint32, *_PACKET, ctypes.POINTER(ctypes.c_size_t), ctypes.POINTER(_TcpOption), *_ERROR),
+    "tcp_raw_option_next": (ctypes.c_uint32, *_PACKET, ctypes.POINTER(ctypes.c_size_t), ctypes.POINTER(_TcpRawOption), *_ERROR),
+    "tcp_options_write": (ctypes.c_uint32, ctypes.POINTER(_TcpOption), ctypes.c_size_t, *_PACKET, *_REPLY),
     "icmpv4_quoted_packet": (ctypes.c_uint32, *_PACKET, ctypes.POINTER(ctypes.c_size_t), *_REPLY),
     "icmpv6_quoted_packet": (ctypes.c_uint32, *_PACKET, ctypes.POINTER(ctypes.c_size_t), *_REPLY),
     "echo_answer": (ctypes.c_uint32, *_PACKET, ctypes.c_uint8, *_REPLY),
     "echo_answer_ipv4": (ctypes.c_uint32, *_PACKET, ctypes.c_char_p, ctypes.c_uint8, *_REPLY),
     "echo_answer_ipv6": (ctypes.c_uint32, *_PACKET, ctypes.c_char_p, ctypes.c_uint8, *_REPLY),
-    "echo_is_reply": (ctypes.c_uint32, *_PACKET, *_PACKET, ctypes.POINTER(_Error)),
+    "echo_is_reply": (ctypes.c_uint32, *_PACKET, *_PACKET, *_ERROR),
     "translate_ipv4": (ctypes.c_uint32, *_reader(_Ipv4Translation)),
     "translate_ipv6": (ctypes.c_uint32, *_reader(_Ipv6Translation)),
+    "canonical_header": (ctypes.c_uint32, ctypes.c_uint32, *_PACKET, *_PACKET, *_REPLY),
+    "sum_new": (_Sum,),
+    "sum_add": (_Sum, _Sum, *_PACKET),
+    "sum_add_at": (_Sum, _Sum, ctypes.c_size_t, *_PACKET),
+    "sum_checksum": (ctypes.c_uint16, _Sum),
+    "sum_udp_checksum": (ctypes.c_uint16, _Sum),
+    "checksum_change_new": (_ChecksumChange,),
+    "checksum_change_replace": (_ChecksumChange, _ChecksumChange, *_PACKET, *_PACKET),
+    "checksum_change_reversed": (_ChecksumChange, _ChecksumChange),
+    "checksum_change_apply": (ctypes.c_uint16, _ChecksumChange, ctypes.c_uint16),
+    "checksum_change_apply_udp": (ctypes.c_uint16, _ChecksumChange, ctypes.c_uint16),
 }
 
 _OK = 0
 _ERROR_TEXT_MAX_LEN = 256
 _STATUS_TEXT_MAX_LEN = 127
+# The longest header that a call writes is that of TCP with all its options.
+_HEADER_MAX_LEN = 60
 
 
 def _version_text(number: int) -> str:
@@ -473,7 +659,9 @@ def _version_text(number: int) -> str:
 @functools.lru_cache(maxsize=None)
 def _library() -> ctypes.CDLL:
     """The library, which is loaded by the first call. If it is missing or has another interface, this is an `ImportError`."""
-    path = os.environ.get("ETHERPARSE_TRANSPORT_LIBRARY") or f"libetherparse_transport.so.{_INTERFACE}"
+    name = f"libetherparse_transport.so.{_INTERFACE}"
+    beside = os.path.join(os.path.dirname(os.path.abspath(__file__)), name)
+    path = os.environ.get("ETHERPARSE_TRANSPORT_LIBRARY") or (beside if os.path.exists(beside) else name)
     try:
         library = ctypes.CDLL(path)
         # The version comes first: a library with another interface may lack calls, or have calls of other types.
@@ -491,8 +679,25 @@ def _library() -> ctypes.CDLL:
 
 
 def library_version() -> str:
-    """The version of the library, such as "0.4.0"."""
+    """The version of the library, such as "0.5.0"."""
     return _version_text(_library().etherparse_version())
+
+
+def _words(name: str, number: int) -> str:
+    """What a call writes of a number. No name or text of a number is longer than the longest text of a status."""
+    buffer = ctypes.create_string_buffer(_STATUS_TEXT_MAX_LEN + 1)
+    getattr(_library(), f"etherparse_{name}")(_integer(number, 32, "a number"), buffer, len(buffer))
+    return buffer.value.decode("ascii")
+
+
+def status_name(status: int) -> str:
+    """The name of a status in C, such as `ETHERPARSE_STATUS_LENGTH`; "unknown status" for another number."""
+    return _words("status_name", status)
+
+
+def verdict_name(kind: int) -> str:
+    """The name of a verdict in C, such as `ETHERPARSE_VERDICT_RIGHT`; "unknown verdict" for another number."""
+    return _words("verdict_name", kind)
 
 
 class Error(ValueError):
@@ -537,6 +742,49 @@ def _bytes_of(data: Bytes) -> bytes:
     if isinstance(data, int):
         raise TypeError("a number is no packet")
     return bytes(data)
+
+
+def _integer(value: int, bits: int, name: str) -> int:
+    """A number of so many bits. ctypes would cut off a number that is too big."""
+    number = operator.index(value)
+    if not 0 <= number < 1 << bits:
+        raise ValueError(f"{name} is a number of {bits} bits")
+    return number
+
+
+def _filled(struct: Any, **values: Any) -> Any:
+    """A struct with these fields. All other fields are 0."""
+    for name, value in values.items():
+        kind = dict(struct._fields_)[name]
+        if issubclass(kind, ctypes.Array):
+            if len(_bytes_of(value)) != kind._length_:
+                raise ValueError(f"{name} has {kind._length_} bytes")
+            setattr(struct, name, kind(*value))
+        else:
+            setattr(struct, name, _integer(value, 8 * ctypes.sizeof(kind), name))
+    return struct
+
+
+def _written(name: str, *arguments: Any) -> bytes:
+    """The bytes that a call writes to a buffer."""
+    buffer, written = ctypes.create_string_buffer(_HEADER_MAX_LEN), ctypes.c_size_t()
+    _call(name, *arguments, buffer, len(buffer), ctypes.byref(written))
+    return buffer.raw[: written.value]
+
+
+def _changed(name: str, data: bytearray | memoryview, *arguments: Any, before: tuple = ()) -> None:
+    """Has a call change bytes in place. If it refuses, they are unchanged."""
+    copied = _bytes_of(data)
+    changed = ctypes.create_string_buffer(copied, len(copied))
+    _call(name, *before, changed, len(copied), *arguments)
+    data[:] = changed.raw
+
+
+def _checksum(name: str, data: Bytes, *arguments: Any) -> int:
+    """The checksum that a call computes."""
+    copied, found = _bytes_of(data), ctypes.c_uint16()
+    _call(name, copied, len(copied), *arguments, ctypes.byref(found))
+    return found.value
 
 
 def _read(name: str, data: bytes, result: Any) -> Any:
@@ -636,6 +884,22 @@ def header_addresses(packet: Bytes) -> HeaderAddresses:
     return HeaderAddresses(found.version, _address(found.version, found.source), _address(found.version, found.destination))
 
 
+def ipv4_header_checksum(packet: Bytes) -> int:
+    """The right checksum of the IPv4 header at the front of a packet, whatever its bytes 10 and 11 contain.
+
+    Raises `Error` if there is no IPv4 header.
+    """
+    return _checksum("ipv4_header_checksum", packet)
+
+
+def store_ipv4_header_checksum(packet: bytearray | memoryview) -> None:
+    """Stores the right checksum of the IPv4 header at the front of a packet in its bytes 10 and 11. No other byte changes.
+
+    Raises `Error` if there is no IPv4 header.
+    """
+    _changed("ipv4_header_checksum_store", packet)
+
+
 def check_ipv4_header(packet: Bytes) -> VerdictKind:
     """Tests the checksum of the IPv4 header at the front of a packet, which no other function tests: `RIGHT` or `WRONG`.
 
@@ -670,13 +934,19 @@ def _packed(address: AnyAddress) -> bytes:
     return ipaddress.ip_address(address).packed
 
 
-def _check(name: str, message: Bytes, source: AnyAddress, destination: AnyAddress, ends: dict[int, str]) -> VerdictKind:
-    """The test of a checksum over these addresses. The call's name ends by their length."""
-    data, addresses = _bytes_of(message), [_packed(source), _packed(destination)]
+def _over(name: str, source: AnyAddress, destination: AnyAddress, ends: dict[int, str]) -> tuple[str, bytes, bytes]:
+    """The name of a call for these addresses, which ends by their length, and the addresses."""
+    addresses = _packed(source), _packed(destination)
     length = len(addresses[0])
     if length != len(addresses[1]) or length not in ends:
         raise ValueError("the addresses are not of one version of IP, or not of the version that the protocol needs")
-    return _tested(name + ends[length], data, len(data), *addresses)
+    return (name + ends[length], *addresses)
+
+
+def _check(name: str, message: Bytes, source: AnyAddress, destination: AnyAddress, ends: dict[int, str]) -> VerdictKind:
+    """The test of a checksum over these addresses."""
+    data, (call, *addresses) = _bytes_of(message), _over(name, source, destination, ends)
+    return _tested(call, data, len(data), *addresses)
 
 
 def _tested(name: str, *arguments: Any) -> VerdictKind:
@@ -725,6 +995,30 @@ def read_udp(message: Bytes, *, lax: bool = False) -> UdpPacket:
     )
 
 
+def write_udp_header(*, source_port: int = 0, destination_port: int = 0, length: int = 0, checksum: int = 0) -> bytes:
+    """The 8 bytes of a UDP header. `length` is the length of header and payload."""
+    fields = {"source_port": source_port, "destination_port": destination_port, "length": length, "checksum": checksum}
+    return _written("udp_header_write", _filled(_UdpHeader(), **fields))
+
+
+def udp_checksum(message: Bytes, source: AnyAddress, destination: AnyAddress) -> int:
+    """The right checksum of the UDP packet at the front of the bytes, whatever its checksum field contains. It is never 0.
+
+    Raises `Error` if the packet is refused, or longer than the pseudo header can count.
+    """
+    name, *addresses = _over("udp_checksum", source, destination, _BOTH_VERSIONS)
+    return _checksum(name, message, *addresses)
+
+
+def store_udp_checksum(message: bytearray | memoryview, source: AnyAddress, destination: AnyAddress) -> None:
+    """Stores the right checksum of the UDP packet at the front of the bytes in its bytes 6 and 7. No other byte changes.
+
+    Raises `Error` if the packet is refused, or longer than the pseudo header can count.
+    """
+    name, *addresses = _over("udp_checksum_store", source, destination, _BOTH_VERSIONS)
+    _changed(name, message, *addresses)
+
+
 def check_udp(message: Bytes, source: AnyAddress, destination: AnyAddress) -> VerdictKind:
     """Tests the checksum of the UDP packet at the front of the bytes: `RIGHT`, `WRONG`, or `ABSENT` if the packet has none.
 
@@ -762,6 +1056,18 @@ class TcpOption:
     value: bytes
 
 
+@dataclass(frozen=True)
+class TcpOptionValues:
+    """A TCP option of a known kind with its values.
+
+    They are the segment size, the shift count, the left and right edge of each block, or the timestamp and its echo reply. The other kinds
+    have none.
+    """
+
+    kind: TcpOptionKind
+    values: tuple[int, ...] = ()
+
+
 def read_tcp(message: Bytes) -> TcpPacket:
     """Reads the TCP packet that the bytes are. Its options are not read.
 
@@ -790,10 +1096,94 @@ def tcp_options(options: Bytes) -> Iterator[TcpOption]:
     Raises `Error` at an option that is cut off, or whose length byte is below 2. Nothing follows it.
     """
     data = _bytes_of(options)
-    place, found = ctypes.c_size_t(0), _TcpRawOption()
-    arguments = (data, len(data), ctypes.byref(place), ctypes.byref(found))
-    while _call("tcp_raw_option_next", *arguments, results=(_OK, Status.OPTIONS_END)) == _OK:
+    for found in _options("tcp_raw_option_next", data, _TcpRawOption()):
         yield TcpOption(TcpOptionKind(found.kind), data[found.value_offset : found.value_offset + found.value_len])
+
+
+def tcp_option_values(options: Bytes) -> Iterator[TcpOptionValues]:
+    """The options in these bytes with their values, in their order, up to the end of the list or of the bytes.
+
+    Raises `Error` at an option of an unknown kind, with a wrong length byte, or that is cut off. Nothing follows it.
+    """
+    for found in _options("tcp_option_next", _bytes_of(options), _TcpOption()):
+        yield TcpOptionValues(TcpOptionKind(found.kind), tuple(found.values[: found.value_count]))
+
+
+def _options(name: str, data: bytes, found: Any) -> Iterator[Any]:
+    """The struct, once for each option that a call reads into it."""
+    place = ctypes.c_size_t(0)
+    arguments = (data, len(data), ctypes.byref(place), ctypes.byref(found))
+    while _call(name, *arguments, results=(_OK, Status.OPTIONS_END)) == _OK:
+        yield found
+
+
+def write_tcp_options(options: Iterable[TcpOptionValues]) -> bytes:
+    """The bytes of some TCP options, padded with zeros to whole words of four bytes.
+
+    Raises `Error` if a kind is unknown, if a kind cannot have these values, or if the options need more than 40 bytes.
+    """
+    listed = [_option(it) for it in options]
+    return _written("tcp_options_write", (_TcpOption * len(listed))(*listed), len(listed))
+
+
+def _option(option: TcpOptionValues) -> _TcpOption:
+    found = _filled(_TcpOption(), kind=option.kind, value_count=len(option.values))
+    if len(option.values) > len(found.values):
+        raise ValueError(f"a TCP option has at most {len(found.values)} values")
+    for place, value in enumerate(option.values):
+        found.values[place] = _integer(value, 32, "a value")
+    return found
+
+
+def write_tcp_header(
+    *, source_port: int = 0, destination_port: int = 0, sequence_number: int = 0, acknowledgment_number: int = 0, flags: int = 0,
+    window_size: int = 0, checksum: int = 0, urgent_pointer: int = 0, options: Bytes = b"",
+) -> bytes:
+    """The 20 to 60 bytes of a TCP header. `flags` are `TcpFlags`. The options are padded with zeros, and the data offset counts them.
+
+    Raises `Error` if the options have more than 40 bytes, or a flag is unknown.
+    """
+    header = _filled(
+        _TcpHeader(), source_port=source_port, destination_port=destination_port, sequence_number=sequence_number,
+        acknowledgment_number=acknowledgment_number, flags=flags, window_size=window_size, checksum=checksum,
+        urgent_pointer=urgent_pointer,
+    )
+    data = _bytes_of(options)
+    return _written("tcp_header_write", header, data, len(data))
+
+
+def store_tcp_header(
+    message: bytearray | memoryview, *, source_port: int = 0, destination_port: int = 0, sequence_number: int = 0,
+    acknowledgment_number: int = 0, flags: int = 0, window_size: int = 0, checksum: int = 0, urgent_pointer: int = 0,
+) -> None:
+    """Replaces the header of the TCP packet that the bytes are. Options, data offset and payload stay. Reserved bits are cleared.
+
+    Raises `Error` if the packet is refused, or a flag is unknown.
+    """
+    header = _filled(
+        _TcpHeader(), source_port=source_port, destination_port=destination_port, sequence_number=sequence_number,
+        acknowledgment_number=acknowledgment_number, flags=flags, window_size=window_size, checksum=checksum,
+        urgent_pointer=urgent_pointer,
+    )
+    _changed("tcp_header_store", message, before=(header,))
+
+
+def tcp_checksum(message: Bytes, source: AnyAddress, destination: AnyAddress) -> int:
+    """The right checksum of the TCP packet that the bytes are, whatever its checksum field contains.
+
+    Raises `Error` if the packet is refused, or longer than the pseudo header can count.
+    """
+    name, *addresses = _over("tcp_checksum", source, destination, _BOTH_VERSIONS)
+    return _checksum(name, message, *addresses)
+
+
+def store_tcp_checksum(message: bytearray | memoryview, source: AnyAddress, destination: AnyAddress) -> None:
+    """Stores the right checksum of the TCP packet that the bytes are in its bytes 16 and 17. No other byte changes.
+
+    Raises `Error` if the packet is refused, or longer than the pseudo header can count.
+    """
+    name, *addresses = _over("tcp_checksum_store", source, destination, _BOTH_VERSIONS)
+    _changed(name, message, *addresses)
 
 
 def check_tcp(message: Bytes, source: AnyAddress, destination: AnyAddress) -> VerdictKind:
@@ -873,6 +1263,42 @@ def read_icmpv4(message: Bytes) -> Icmpv4Packet:
     )
 
 
+def write_icmpv4_header(
+    kind: Icmpv4Kind, *, type: int = 0, code: int = 0, checksum: int = 0, id: int = 0, sequence_number: int = 0,
+    originate_timestamp: int = 0, receive_timestamp: int = 0, transmit_timestamp: int = 0, next_hop_mtu: int = 0, pointer: int = 0,
+    bytes4to7: Bytes = bytes(4),
+) -> bytes:
+    """The header of an ICMPv4 message, 20 bytes for a timestamp message and its reply, and otherwise 8.
+
+    It is made from kind, code, checksum and the fields of the kind. Other fields are ignored. `type` is only for `UNKNOWN`, and `bytes4to7`
+    for `UNKNOWN` and for a redirect message, where it is the address of the gateway.
+
+    Raises `Error` if the kind or its code is unknown.
+    """
+    header = _filled(
+        _Icmpv4Header(), kind=kind, type=type, code=code, checksum=checksum, id=id, sequence_number=sequence_number,
+        originate_timestamp=originate_timestamp, receive_timestamp=receive_timestamp, transmit_timestamp=transmit_timestamp,
+        next_hop_mtu=next_hop_mtu, pointer=pointer, bytes4to7=bytes4to7,
+    )
+    return _written("icmpv4_header_write", header)
+
+
+def icmpv4_checksum(message: Bytes) -> int:
+    """The right checksum of the ICMPv4 message that the bytes are, whatever its checksum field contains.
+
+    Raises `Error` if the message is refused.
+    """
+    return _checksum("icmpv4_checksum", message)
+
+
+def store_icmpv4_checksum(message: bytearray | memoryview) -> None:
+    """Stores the right checksum of the ICMPv4 message that the bytes are in its bytes 2 and 3. No other byte changes.
+
+    Raises `Error` if the message is refused.
+    """
+    _changed("icmpv4_checksum_store", message)
+
+
 def check_icmpv4(message: Bytes) -> VerdictKind:
     """Tests the checksum of the ICMPv4 message that the bytes are: `RIGHT` or `WRONG`.
 
@@ -905,6 +1331,42 @@ def read_icmpv6(message: Bytes) -> Icmpv6Packet:
         bytes4to7=bytes(header.bytes4to7),
         payload=_payload(data, found),
     )
+
+
+def write_icmpv6_header(
+    kind: Icmpv6Kind, *, type: int = 0, code: int = 0, checksum: int = 0, id: int = 0, sequence_number: int = 0, mtu: int = 0,
+    pointer: int = 0, router_lifetime: int = 0, cur_hop_limit: int = 0, flags: int = 0, bytes4to7: Bytes = bytes(4),
+) -> bytes:
+    """The 8 bytes of the header of an ICMPv6 message.
+
+    It is made from kind, code, checksum and the fields of the kind. Other fields and other flags are ignored. `type` and `bytes4to7` are
+    only for `UNKNOWN`.
+
+    Raises `Error` if the kind or its code is unknown.
+    """
+    header = _filled(
+        _Icmpv6Header(), kind=kind, type=type, code=code, checksum=checksum, id=id, sequence_number=sequence_number, mtu=mtu,
+        pointer=pointer, router_lifetime=router_lifetime, cur_hop_limit=cur_hop_limit, flags=flags, bytes4to7=bytes4to7,
+    )
+    return _written("icmpv6_header_write", header)
+
+
+def icmpv6_checksum(message: Bytes, source: AnyAddress, destination: AnyAddress) -> int:
+    """The right checksum of the ICMPv6 message that the bytes are, whatever its checksum field contains.
+
+    Raises `Error` if the message is refused.
+    """
+    name, *addresses = _over("icmpv6_checksum", source, destination, _ONLY_IPV6)
+    return _checksum(name, message, *addresses)
+
+
+def store_icmpv6_checksum(message: bytearray | memoryview, source: AnyAddress, destination: AnyAddress) -> None:
+    """Stores the right checksum of the ICMPv6 message that the bytes are in its bytes 2 and 3. No other byte changes.
+
+    Raises `Error` if the message is refused.
+    """
+    name, *addresses = _over("icmpv6_checksum_store", source, destination, _ONLY_IPV6)
+    _changed(name, message, *addresses)
 
 
 def check_icmpv6(message: Bytes, source: AnyAddress, destination: AnyAddress) -> VerdictKind:
@@ -988,10 +1450,10 @@ def translate(
     packet: bytearray | memoryview, source: AnyAddress | None = None, destination: AnyAddress | None = None,
     source_port: int | None = None, destination_port: int | None = None,
 ) -> None:
-    """Translates an IP packet in place, as an address translator does: replaces addresses, and ports or the identifier of an echo message.
+    """Translates an IP packet in place, as an address translator does: replaces addresses, and ports or the identifier of an ICMP query.
 
     The checksums are updated by what is replaced, so a receiver accepts the packet if it accepted it before. What is None stays. The source
-    port is also the identifier of an echo request, and the destination port the identifier of an echo reply. The packet that an ICMP error
+    port is also the identifier of an ICMP request, and the destination port the identifier of an ICMP reply. The packet that an ICMP error
     is about is translated with source and destination exchanged. In a later fragment only the addresses are replaced.
 
     Raises `Error` if the packet is refused, which is then unchanged. `IP_VERSION` also means that the packet and the addresses have
@@ -1006,6 +1468,95 @@ def translate(
         raise ValueError("the addresses are not of one version of IP")
     [version] = versions
     new = _translation(version, {**addresses, "source_port": source_port, "destination_port": destination_port})
-    changed = ctypes.create_string_buffer(data, len(data))
-    _call("translate_ipv6" if version == 6 else "translate_ipv4", changed, len(data), ctypes.byref(new))
-    packet[:] = changed.raw
+    _changed("translate_ipv6" if version == 6 else "translate_ipv4", packet, ctypes.byref(new))
+
+
+# ---- canonical headers
+
+
+def canonical_header(protocol: int, message: Bytes) -> bytes:
+    """The header at the front of a message with all reserved bits cleared, at most 60 bytes.
+
+    The checksum is copied, so it may be wrong if a bit was cleared. The length field of UDP is ignored.
+
+    Raises `Error` if the protocol is unknown, or the message is refused.
+    """
+    data = _bytes_of(message)
+    return _written("canonical_header", _integer(protocol, 32, "a protocol"), data, len(data))
+
+
+# ---- the Internet checksum
+
+
+@dataclass(frozen=True)
+class Sum:
+    """A running one's complement sum of 16 bit words (RFC 1071). By default it is the sum of no bytes.
+
+    `value` is 0 only if all bytes are zeros. A sum does not change: `add` and `add_at` return another sum.
+    """
+
+    value: int = field(default_factory=lambda: _library().etherparse_sum_new().value)
+
+    def _struct(self) -> _Sum:
+        return _filled(_Sum(), value=self.value)
+
+    def add(self, data: Bytes) -> Sum:
+        """Adds the words of these bytes. An odd last byte is the high half of a word, so only the last of several parts may be odd."""
+        added = _bytes_of(data)
+        return Sum(_library().etherparse_sum_add(self._struct(), added, len(added)).value)
+
+    def add_at(self, offset: int, data: Bytes) -> Sum:
+        """Adds the words of these bytes to a sum that already covers `offset` bytes. So the parts of a packet may have any lengths."""
+        added = _bytes_of(data)
+        return Sum(_library().etherparse_sum_add_at(self._struct(), _integer(offset, 64, "an offset"), added, len(added)).value)
+
+    def checksum(self) -> int:
+        """The checksum of what was added, as TCP, ICMP and the IPv4 header store it. It is 0 if the bytes contain a right checksum."""
+        return _library().etherparse_sum_checksum(self._struct())
+
+    def udp_checksum(self) -> int:
+        """The checksum of what was added, as UDP stores it: 65535 instead of 0."""
+        return _library().etherparse_sum_udp_checksum(self._struct())
+
+
+# ---- the update of a checksum
+
+
+@dataclass(frozen=True)
+class ChecksumChange:
+    """A change of the bytes that a checksum covers (RFC 1624). By default it replaces nothing.
+
+    The fields are the one's complement sums of the replaced bytes and of the new bytes. A change does not change: `replace` and `reversed`
+    return another change.
+    """
+
+    removed: int = field(default_factory=lambda: _library().etherparse_checksum_change_new().removed)
+    added: int = field(default_factory=lambda: _library().etherparse_checksum_change_new().added)
+
+    def _struct(self) -> _ChecksumChange:
+        return _filled(_ChecksumChange(), removed=self.removed, added=self.added)
+
+    def replace(self, old: Bytes, new: Bytes) -> ChecksumChange:
+        """Also replaces the old bytes by the new bytes. They begin at an even offset in what the checksum covers, and both lengths are even
+        or both are odd, which the library cannot check.
+        """
+        before, after = _bytes_of(old), _bytes_of(new)
+        found = _library().etherparse_checksum_change_replace(self._struct(), before, len(before), after, len(after))
+        return ChecksumChange(found.removed, found.added)
+
+    def reversed(self) -> ChecksumChange:
+        """The change that restores the old bytes, as a translator does in the packets of the other direction."""
+        found = _library().etherparse_checksum_change_reversed(self._struct())
+        return ChecksumChange(found.removed, found.added)
+
+    def apply(self, checksum: int) -> int:
+        """The checksum of the changed packet, from the checksum of the packet before, as TCP, ICMP and the IPv4 header store it.
+
+        A right checksum becomes the right checksum, and a wrong checksum stays wrong, with two exceptions. If all bytes become zeros, it is
+        0 and should be 65535. If all bytes were zeros, the wrong checksum 0 becomes right. With a pseudo header neither can happen.
+        """
+        return _library().etherparse_checksum_change_apply(self._struct(), _integer(checksum, 16, "a checksum"))
+
+    def apply_udp(self, checksum: int) -> int:
+        """The same as UDP stores it: 0, which means no checksum, stays 0, and no other checksum becomes 0."""
+        return _library().etherparse_checksum_change_apply_udp(self._struct(), _integer(checksum, 16, "a checksum"))

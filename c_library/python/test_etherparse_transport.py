@@ -7,7 +7,7 @@
 Checksums are also computed here, without the library.
 """
 import copy
-import ctypes
+import dataclasses
 import ipaddress
 import os
 import pathlib
@@ -43,19 +43,13 @@ REQUEST6 = bytes.fromhex("60000000000c3a09" "20010db8" + "00" * 11 + "01" "20010
 OPTION_LENGTHS = {(1, 0): 1, (2, 1): 4, (3, 1): 3, (4, 0): 2, (5, 2): 10, (5, 4): 18, (5, 6): 26, (5, 8): 34, (8, 2): 10}
 
 
-class WrittenOption(ctypes.Structure):
-    """etherparse_tcp_option, which the module does not use."""
-
-    _fields_ = [("kind", ctypes.c_uint32), ("value_count", ctypes.c_uint32), ("values", ctypes.c_uint32 * 8)]
-
-
 def refusal_of_options(options):
-    """The error of the call that writes TCP options, each given by its kind and the number of its values."""
-    listed = (WrittenOption * len(options))(*options)
-    error, buffer, written = ept._Error(), ctypes.create_string_buffer(40), ctypes.c_size_t(0)
-    ept._library().etherparse_tcp_options_write(
-        listed, ctypes.c_size_t(len(options)), buffer, ctypes.c_size_t(len(buffer)), ctypes.byref(written), ctypes.byref(error))
-    return ept.Error(error)
+    """The error of writing TCP options, each given by its kind and the number of its values."""
+    try:
+        ept.write_tcp_options(ept.TcpOptionValues(kind, (0,) * count) for kind, count in options)
+    except ept.Error as error:
+        return error
+    raise AssertionError("the options are not refused")
 
 
 def frames():
@@ -81,7 +75,7 @@ def ip_packet(frame):
 
 def packets():
     """The IP packets of the capture, each with its number and its line of the report."""
-    lines = (STORED / "stdout").read_text().removeprefix("==> - <==\n").splitlines()
+    lines = (STORED / "stdout").read_text().replace("==> - <==\n", "", 1).splitlines()
     for number, frame in frames():
         packet = ip_packet(frame)
         if packet is not None:
@@ -172,6 +166,38 @@ def message_of(found):
     if found.header_protocol == Protocol.UDP:
         return payload[: ept.read_udp(payload).length or len(payload)]
     return payload
+
+
+def fields_of(packet, *names):
+    """The fields of a packet that was read, without these."""
+    return {name: value for name, value in dataclasses.asdict(packet).items() if name not in names}
+
+
+def read_message(found):
+    """The message of a packet, read by the call of its protocol."""
+    payload = found.transport.payload
+    if found.header_protocol == Protocol.UDP:
+        return ept.read_udp(payload, lax=True)
+    return {Protocol.TCP: ept.read_tcp, Protocol.ICMPV4: ept.read_icmpv4, Protocol.ICMPV6: ept.read_icmpv6}[found.header_protocol](payload)
+
+
+def written_again(protocol, packet):
+    """The header of a message that was read, written from its fields."""
+    if protocol == Protocol.UDP:
+        return ept.write_udp_header(**fields_of(packet, "payload", "payload_len_source"))
+    write = {Protocol.TCP: ept.write_tcp_header, Protocol.ICMPV4: ept.write_icmpv4_header, Protocol.ICMPV6: ept.write_icmpv6_header}
+    return write[protocol](**fields_of(packet, "payload"))
+
+
+def checksum_calls(protocol, transport):
+    """The place of the checksum, and the functions that compute and store it, of a message alone."""
+    over = () if protocol == Protocol.ICMPV4 else (transport.source, transport.destination)
+    place, compute, store = {
+        Protocol.UDP: (6, ept.udp_checksum, ept.store_udp_checksum), Protocol.TCP: (16, ept.tcp_checksum, ept.store_tcp_checksum),
+        Protocol.ICMPV4: (2, ept.icmpv4_checksum, ept.store_icmpv4_checksum),
+        Protocol.ICMPV6: (2, ept.icmpv6_checksum, ept.store_icmpv6_checksum),
+    }[protocol]
+    return place, lambda message: compute(message, *over), lambda message: store(message, *over)
 
 
 def captured_len(line):
@@ -308,6 +334,47 @@ class StoredCapture(unittest.TestCase):
                     options[place] = wrong
                     error = refusal_of_options(options)
                     self.assertEqual((error.status, error.option_kind, error.len), (status, wrong[0], 0))
+
+    def test_tcp_options_are_read_with_their_values(self):
+        syn = next(found for number, found, line in self.judged() if number == 6)
+        options = ept.read_tcp(syn.transport.payload).options
+        read = list(ept.tcp_option_values(options))
+        self.assertEqual([(it.kind.name, it.values) for it in read], [
+            ("MAXIMUM_SEGMENT_SIZE", (1460,)), ("SACK_PERMITTED", ()), ("TIMESTAMP", (100, 0)), ("NOOP", ()), ("WINDOW_SCALE", (7,)),
+        ])
+        self.assertEqual(ept.write_tcp_options(read), options)
+        faulty = next(found for number, found, line in self.judged() if number == 8)
+        with self.assertRaises(ept.Error) as caught:
+            list(ept.tcp_option_values(ept.read_tcp(faulty.transport.payload).options))
+        self.assertEqual((caught.exception.status, caught.exception.option_kind), (Status.OPTION_SIZE, 3))
+
+    def test_a_header_that_was_read_is_written_again(self):
+        count = 0
+        for number, found, line in self.judged():
+            if found.header_protocol is not None:
+                payload, packet = found.transport.payload, read_message(found)
+                canonical = ept.canonical_header(found.header_protocol, payload)
+                self.assertEqual(written_again(found.header_protocol, packet), canonical, line)
+                if found.header_protocol == Protocol.TCP:
+                    stored = bytearray(payload)
+                    ept.store_tcp_header(stored, **fields_of(packet, "options", "payload"))
+                    self.assertEqual(stored, canonical + packet.payload, line)
+                count += 1
+        self.assertGreater(count, 38)
+
+    def test_a_stored_checksum_is_the_computed_checksum(self):
+        count = 0
+        for number, found, line in self.judged():
+            if found.kind in (VerdictKind.RIGHT, VerdictKind.WRONG):
+                message = bytearray(message_of(found))
+                place, compute, store = checksum_calls(found.header_protocol, found.transport)
+                right = bytearray(message)
+                struct.pack_into(">H", right, place, found.expected_checksum or struct.unpack_from(">H", message, place)[0])
+                self.assertEqual(struct.pack(">H", compute(message)), bytes(right[place : place + 2]), line)
+                store(message)
+                self.assertEqual(message, right, line)
+                count += 1
+        self.assertGreater(count, 30)
 
     def test_icmp_is_read(self):
         for number, found, line in self.judged():
@@ -471,7 +538,7 @@ class Calls(unittest.TestCase):
                 self.assertEqual(packet, before)
 
     def test_what_is_not_translated(self):
-        unknown = REQUEST[:20] + b"\x0f" + REQUEST[21:]
+        unknown = REQUEST[:20] + b"\x09" + REQUEST[21:]
         for packet, source, status in (
             (PACKET, "::1", Status.IP_VERSION), (REQUEST6, "10.0.0.1", Status.IP_VERSION), (b"\x50" + PACKET[1:], None, Status.IP_VERSION),
             (b"\x46" + PACKET[1:20] + b"\x83\x03\x04\x00" + PACKET[20:], None, Status.TRANSLATE_SOURCE_ROUTE),
@@ -491,8 +558,10 @@ class Calls(unittest.TestCase):
 
     def test_the_packet_that_an_icmp_error_is_about(self):
         for quoted_by, header, trailing, packet in (
-            (ept.quoted_by_icmpv4, "0b00000000000000", b"", PACKET[:28]), (ept.quoted_by_icmpv4, "0b00000000070000", b"more", PACKET[:28]),
-            (ept.quoted_by_icmpv6, "0200000000000500", b"", REQUEST6), (ept.quoted_by_icmpv6, "0100000006000000", b"more", REQUEST6[:48]),
+            (ept.quoted_by_icmpv4, "0b00000000000000", b"", PACKET[:28]),
+            (ept.quoted_by_icmpv4, "0b00000000200000", b"more", PACKET[:28] + bytes(100)),
+            (ept.quoted_by_icmpv6, "0200000000000500", b"", REQUEST6),
+            (ept.quoted_by_icmpv6, "0100000010000000", b"more", REQUEST6[:48] + bytes(80)),
         ):
             quoted = quoted_by(bytes.fromhex(header) + packet + trailing)
             self.assertEqual(quoted, packet)
@@ -525,6 +594,69 @@ class Calls(unittest.TestCase):
             with self.assertRaises(ept.Error) as caught:
                 ept.check_ipv4_header(packet)
             self.assertEqual(caught.exception.status, status)
+
+    def test_the_checksum_of_an_ipv4_header_is_stored(self):
+        changed = bytearray(PACKET)
+        right = 0xFFFF - sum_of(PACKET[:20])
+        self.assertEqual(ept.ipv4_header_checksum(changed), right)
+        ept.store_ipv4_header_checksum(memoryview(changed))
+        self.assertEqual(changed, PACKET[:10] + struct.pack(">H", right) + PACKET[12:])
+        for wrong in (bytearray(REQUEST[:19]), bytearray(REQUEST6)):
+            before = bytes(wrong)
+            with self.assertRaises(ept.Error):
+                ept.store_ipv4_header_checksum(wrong)
+            self.assertEqual(wrong, before)
+
+    def test_numbers_that_no_field_can_have(self):
+        for fields in ({"source_port": 65536}, {"length": -1}):
+            with self.assertRaises(ValueError):
+                ept.write_udp_header(**fields)
+        with self.assertRaises(TypeError):
+            ept.write_udp_header(source_port=1.5)
+        with self.assertRaises(ValueError):
+            ept.write_icmpv4_header(ept.Icmpv4Kind.REDIRECT, bytes4to7=bytes(5))
+        with self.assertRaises(ValueError):
+            ept.write_tcp_options([ept.TcpOptionValues(ept.TcpOptionKind.SACK, (0,) * 9)])
+        with self.assertRaises(ept.Error) as caught:
+            ept.write_tcp_header(flags=0x200)
+        self.assertEqual(caught.exception.status, Status.FLAGS_UNKNOWN)
+        with self.assertRaises(ept.Error) as caught:
+            ept.write_icmpv6_header(ept.Icmpv6Kind.TIME_EXCEEDED, code=2)
+        self.assertEqual(caught.exception.status, Status.MESSAGE_UNKNOWN)
+        with self.assertRaises(ept.Error) as caught:
+            ept.canonical_header(2, PACKET)
+        self.assertEqual(caught.exception.status, Status.PROTOCOL_UNKNOWN)
+
+    def test_codes_of_icmp(self):
+        needed = ept.write_icmpv4_header(
+            ept.Icmpv4Kind.DESTINATION_UNREACHABLE, code=ept.Icmpv4UnreachableCode.FRAGMENTATION_NEEDED, next_hop_mtu=1400)
+        self.assertEqual(needed, bytes([ept.Icmpv4Type.DESTINATION_UNREACHABLE, 4, 0, 0, 0, 0, 0x05, 0x78]))
+        reply = ept.write_icmpv6_header(ept.Icmpv6Kind.ECHO_REPLY, id=1, sequence_number=2)
+        self.assertEqual(reply, bytes([ept.Icmpv6Type.ECHO_REPLY, 0, 0, 0, 0, 1, 0, 2]))
+
+    def test_sums(self):
+        data = PACKET[:27]
+        whole = ept.Sum().add(data)
+        self.assertEqual((ept.Sum().value, whole.value), (0, sum_of(data)))
+        for first in range(len(data)):
+            self.assertEqual(ept.Sum().add_at(0, data[:first]).add_at(first, data[first:]), whole)
+        self.assertEqual((whole.checksum(), whole.udp_checksum()), (0xFFFF - sum_of(data),) * 2)
+        self.assertEqual((ept.Sum(0xFFFF).checksum(), ept.Sum(0xFFFF).udp_checksum()), (0, 0xFFFF))
+
+    def test_changes_of_a_checksum(self):
+        change = ept.ChecksumChange().replace(PACKET[12:16], bytes([203, 0, 113, 7])).replace(b"\x00\x15", b"\x9c\x41")
+        self.assertEqual((ept.ChecksumChange().removed, ept.ChecksumChange().added), (0, 0))
+        self.assertEqual((change.apply(0xB33A), change.apply_udp(0xB33A), change.apply_udp(0)), (0x9CAF, 0x9CAF, 0))
+        self.assertEqual(change.reversed().apply(0x9CAF), 0xB33A)
+        self.assertEqual(change.reversed(), ept.ChecksumChange(change.added, change.removed))
+
+    def test_names_in_c(self):
+        self.assertEqual(ept.status_name(0), "ETHERPARSE_OK")
+        for status in Status:
+            self.assertEqual(ept.status_name(status), f"ETHERPARSE_STATUS_{status.name}")
+        for kind in VerdictKind:
+            self.assertEqual(ept.verdict_name(kind), f"ETHERPARSE_VERDICT_{kind.name}")
+        self.assertEqual((ept.status_name(25), ept.verdict_name(0)), ("unknown status", "unknown verdict"))
 
     def test_a_status_has_a_text(self):
         self.assertEqual(Status.CHECKSUM_WRONG.text, "the checksum is wrong")
@@ -584,14 +716,14 @@ class OtherLibraries(unittest.TestCase):
         self.assertIsInstance(self.refusal_of("/no/such/library.so").__cause__, OSError)
 
     def test_a_library_with_another_interface(self):
-        for version, text in (("0x000300", "0.3.0"), ("0x000500", "0.5.0"), ("0x002800", "0.40.0"), ("0x80000400", "32768.4.0")):
+        for version, text in (("0x000300", "0.3.0"), ("0x000400", "0.4.0"), ("0x003200", "0.50.0"), ("0x80000500", "32768.5.0")):
             refusal = self.refusal_of_library(f"unsigned etherparse_version(void) {{ return {version}; }}")
             self.assertEqual(str(refusal), f"the library has version {text}, and this module needs version {ept._INTERFACE}")
             self.assertIsNone(refusal.__cause__)
 
     def test_a_library_without_a_call(self):
         for text, missing in (
-            ("int other;", "etherparse_version"), ("unsigned etherparse_version(void) { return 0x000400; }", "etherparse_error_text"),
+            ("int other;", "etherparse_version"), ("unsigned etherparse_version(void) { return 0x000500; }", "etherparse_error_text"),
         ):
             refusal = self.refusal_of_library(text)
             self.assertIsInstance(refusal.__cause__, AttributeError)

@@ -7,7 +7,7 @@
 import * as library from "etherparse_transport";
 import { isEqual } from "./replay.js";
 
-const { Icmpv4Kind, Protocol, Status, Sum, TcpFlags, TcpOptionKind, VerdictKind } = library;
+const { Icmpv4Kind, Icmpv4RedirectCode, Icmpv4Type, Icmpv6UnreachableCode, Protocol, Status, Sum, TcpFlags, TcpOptionKind, VerdictKind } = library;
 
 /** A UDP packet from 192.168.1.1 to 192.168.1.2 in an IP packet. */
 const PACKET = Uint8Array.of(
@@ -69,6 +69,7 @@ export const TESTS = {
     namesOfNumbers() {
         const { kind } = library.verdict(PACKET);
         expect([Status.LENGTH, Status[1], VerdictKind[kind], TcpFlags[2], Icmpv4Kind[0]], [1, "LENGTH", "RIGHT", "SYN", "UNKNOWN"]);
+        expect([Icmpv4Type.ECHO_REQUEST, Icmpv4RedirectCode[1], Icmpv6UnreachableCode.PORT_UNREACHABLE], [8, "HOST", 4]);
         expect([Object.isFrozen(Status), Status[99]], [true, undefined]);
     },
 

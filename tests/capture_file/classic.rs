@@ -390,7 +390,7 @@ fn records_longer_than_the_buffer_are_passed_over(rt: HostRuntime) {
 static TEXTS: [(CaptureHeaderError, &str); 5] = [
     (
         CaptureHeaderError::Pcapng,
-        "The capture is in the form pcapng, which is not read.",
+        "The input is a pcapng file, which `CaptureReader` reads.",
     ),
     (
         CaptureHeaderError::CutOff { len: 23 },

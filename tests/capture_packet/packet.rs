@@ -363,7 +363,7 @@ static NETWORKS: [NetworkRow; 65] = [
         Ok(NetworkProtocol::EtherType(0x0600)),
     ),
     (LinkType::CiscoHdlc, BIG, &[0x0F, 0, 0x05, 0xFF, 0xAA, 0xAA, 3], Ok(NetworkProtocol::EtherType(0x05FF))),
-    (LinkType::PppOverEthernet, BIG, &[0x11, 9, 0, 0, 0, 0], Ok(NetworkProtocol::EtherType(0x8864))),
+    (LinkType::PppOverEthernet, BIG, &[0x11, 9, 0, 0, 0, 0], Ok(NetworkProtocol::EtherType(0x8863))),
     (LinkType::PppOverEthernet, BIG, &[0x11, 0, 0, 1, 0], Err(6)),
     (LinkType::PppOverEthernet, BIG, &[0x11, 0, 0, 1, 0, 2, 0xC0, 0x21], Ok(NetworkProtocol::PppProtocol(0xC021))),
     (LinkType::Pflog, BIG, &[45], Err(2)),

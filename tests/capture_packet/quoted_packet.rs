@@ -121,15 +121,15 @@ type QuoteRow = (
 );
 
 #[rattlefmt::skip]
-static ICMPV4_ERRORS: [QuoteRow; 24] = [
+static ICMPV4_ERRORS: [QuoteRow; 23] = [
     (&[&[11, 0, 0, 0, 0, 0, 0, 0], &IPV4_UDP, &UDP], Some((OVER_IPV4, 17, UDP_PORTS))),
     (&[&[3, 3, 0, 0, 0, 0, 0, 0], &IPV4_TCP, &TCP], Some((OVER_IPV4, 6, TCP_PORTS))),
     (&[&[4, 0, 0, 0, 0, 0, 0, 0], &IPV4_UDP, &UDP], Some((OVER_IPV4, 17, UDP_PORTS))),
     (&[&[5, 1, 0, 0, 192, 0, 2, 3], &IPV4_UDP, &UDP], Some((OVER_IPV4, 17, UDP_PORTS))),
     (&[&[12, 0, 0, 0, 20, 0, 0, 0], &IPV4_UDP, &UDP], Some((OVER_IPV4, 17, UDP_PORTS))),
-    // The length field counts seven words of four bytes, and five.
+    // The length field counts seven words of four bytes, and five: fewer than 128 bytes, so it ends nothing.
     (&[&[11, 0, 0, 0, 0, 7, 0, 0], &IPV4_UDP, &UDP, &[0x20, 0, 0, 0]], Some((OVER_IPV4, 17, UDP_PORTS))),
-    (&[&[11, 0, 0, 0, 0, 5, 0, 0], &IPV4_UDP, &UDP], Some((OVER_IPV4, 17, None))),
+    (&[&[11, 0, 0, 0, 0, 5, 0, 0], &IPV4_UDP, &UDP], Some((OVER_IPV4, 17, UDP_PORTS))),
     // The transport header is cut off.
     (&[&[11, 0, 0, 0, 0, 0, 0, 0], &IPV4_TCP, &[0, 80, 4, 210]], Some((OVER_IPV4, 6, TCP_PORTS))),
     (&[&[11, 0, 0, 0, 0, 0, 0, 0], &IPV4_TCP, &[0, 80, 4]], Some((OVER_IPV4, 6, None))),
@@ -141,9 +141,8 @@ static ICMPV4_ERRORS: [QuoteRow; 24] = [
     (&[&[11, 0, 0, 0, 0, 0, 0, 0], &LATER_FRAGMENT, &UDP], Some((OVER_IPV4, 17, None))),
     (&[&[11, 0, 0, 0, 0, 0, 0, 0], &IPV4_ICMP, &ECHO], Some((OVER_IPV4, 1, None))),
     (&[&[11, 0, 0, 0, 0, 0, 0, 0], &IPV4_GRE, &UDP], Some((OVER_IPV4, 47, None))),
-    // The IP header is cut off, rejected, or not there.
+    // The IP header is cut off, refused, or missing.
     (&[&[11, 0, 0, 0, 0, 0, 0, 0], &IPV4_CUT], None),
-    (&[&[11, 0, 0, 0, 0, 4, 0, 0], &IPV4_UDP, &UDP], None),
     (&[&[11, 0, 0, 0, 0, 0, 0, 0], &IPV4_SHORT, &UDP], None),
     (&[&[11, 0, 0, 0, 0, 0, 0, 0], &[0x55], &IPV4_UDP, &UDP], None),
     (&[&[11, 0, 0, 0, 0, 0, 0, 0]], None),
@@ -153,13 +152,13 @@ static ICMPV4_ERRORS: [QuoteRow; 24] = [
 ];
 
 #[rattlefmt::skip]
-static ICMPV6_ERRORS: [QuoteRow; 16] = [
+static ICMPV6_ERRORS: [QuoteRow; 15] = [
     (&[&[1, 4, 0, 0, 0, 0, 0, 0], &IPV6_UDP, &IPV6_ADDRESSES, &UDP], Some((OVER_IPV6, 17, UDP_PORTS))),
     (&[&[2, 0, 0, 0, 0, 0, 5, 0], &IPV6_TCP, &IPV6_ADDRESSES, &TCP], Some((OVER_IPV6, 6, TCP_PORTS))),
     (&[&[3, 0, 0, 0, 0, 0, 0, 0], &IPV6_UDP, &IPV6_ADDRESSES, &UDP], Some((OVER_IPV6, 17, UDP_PORTS))),
     (&[&[4, 1, 0, 0, 0, 0, 0, 40], &IPV6_UDP, &IPV6_ADDRESSES, &UDP], Some((OVER_IPV6, 17, UDP_PORTS))),
-    // The length field counts five words of eight bytes.
-    (&[&[3, 0, 0, 0, 5, 0, 0, 0], &IPV6_UDP, &IPV6_ADDRESSES, &UDP], Some((OVER_IPV6, 17, None))),
+    // The length field counts five words of eight bytes: fewer than 128 bytes, so it ends nothing.
+    (&[&[3, 0, 0, 0, 5, 0, 0, 0], &IPV6_UDP, &IPV6_ADDRESSES, &UDP], Some((OVER_IPV6, 17, UDP_PORTS))),
     (&[&[3, 0, 0, 0, 0, 0, 0, 0], &IPV6_TCP, &IPV6_ADDRESSES, &[0, 80, 4]], Some((OVER_IPV6, 6, None))),
     (&[&[3, 0, 0, 0, 0, 0, 0, 0], &IPV6_ICMP, &IPV6_ADDRESSES, &[128, 0, 0, 0, 0, 1, 0, 2]], Some((OVER_IPV6, 58, None))),
     (&[&[3, 0, 0, 0, 0, 0, 0, 0], &IPV6_1, &IPV6_ADDRESSES, &ECHO], Some((OVER_IPV6, 1, None))),
@@ -168,7 +167,6 @@ static ICMPV6_ERRORS: [QuoteRow; 16] = [
     (&[&[3, 0, 0, 0, 0, 0, 0, 0], &IPV6_FRAGMENT, &IPV6_ADDRESSES, &WHOLE_FRAGMENT, &UDP], Some((OVER_IPV6, 17, UDP_PORTS))),
     (&[&[3, 0, 0, 0, 0, 0, 0, 0], &IPV6_FRAGMENT, &IPV6_ADDRESSES, &SECOND_FRAGMENT, &UDP], Some((OVER_IPV6, 17, None))),
     // An IP header or an extension header is cut off.
-    (&[&[3, 0, 0, 0, 4, 0, 0, 0], &IPV6_UDP, &IPV6_ADDRESSES, &UDP], None),
     (&[&[3, 0, 0, 0, 0, 0, 0, 0], &IPV6_OPTIONS, &IPV6_ADDRESSES, &[17, 0, 1, 4, 0, 0, 0]], None),
     // The message is no error.
     (&[&[128, 0, 0, 0, 0, 0, 0, 0], &IPV6_UDP, &IPV6_ADDRESSES, &UDP], None),

@@ -1,13 +1,13 @@
 //! Runs over captures with names.
 
 use super::{
-    Captures, LINE, ONLY_LINES, Ran, expect_beginning, expect_first_text, expect_ran, run_over,
+    Captures, LINE, ONLY_LINES, Ran, expect_beginning, expect_first_text, expect_ran, run_into,
+    run_over,
 };
 use crate::captures::{ALL, FaultyWriter, changed_capture};
-use crate::expect::{expect_equal, expect_ok, expect_written};
-use capture_run::{ExitStatus, Format, Lines, Open, Parts, WriteError, run};
+use crate::expect::{expect_equal, expect_written};
+use capture_run::{ExitStatus, Format, Lines, Open, Outputs, Parts, Sources, WriteError};
 use std::alloc::Global;
-use std::hash::RandomState;
 use std::io;
 use std::io::{Cursor, ErrorKind};
 use std::process::Abort;
@@ -324,26 +324,23 @@ fn kind_of(outcome: Result<ExitStatus, WriteError>) -> Option<ErrorKind> {
 /// Stops the test unless a run that can't write one of its errors reports the captures, and then returns that fault. The fault is at the
 /// call after `calls`.
 fn expect_without_errors(rt: &(impl Abort + AllocGlobal + RandomSource), calls: usize) {
-    let state = expect_ok(rt, RandomState::new(rt));
-    let opener = Changed { alloc: rt.alloc() };
-    let names = ["right", "missing", "wrong"];
-    let mut output = Vec::new(rt.alloc());
-    let mut errors = FaultyWriter {
+    let sources = Sources {
+        names: &["right", "missing", "wrong"],
+        opener: &Changed { alloc: rt.alloc() },
+    };
+    let errors = FaultyWriter {
         written: Vec::new(rt.alloc()),
         calls,
         takes_nothing: false,
     };
-    let outcome = run(
-        rt.alloc(),
-        state,
-        CHECKED_LINES,
-        &names,
-        &opener,
-        &mut output,
-        &mut errors,
-    );
+    let mut outputs = Outputs {
+        alloc: rt.alloc(),
+        report: Vec::new(rt.alloc()),
+        errors,
+    };
+    let outcome = run_into(rt, CHECKED_LINES, &sources, &mut outputs);
     expect_equal(rt, &kind_of(outcome), &Some(ErrorKind::BrokenPipe));
-    expect_written(rt, &output, WITH_MISSING);
+    expect_written(rt, &outputs.report, WITH_MISSING);
 }
 
 #[test]
@@ -363,15 +360,11 @@ fn write_faults_within_headings(rt: HostRuntime) {
     let names = ["right", "right"];
     let whole = run_over(&rt, ONLY_LINES, &names, &opener);
     expect_equal(&rt, &whole.status, &0);
+    let sources = Sources {
+        names: &names,
+        opener: &opener,
+    };
     for calls in &CALLS {
-        expect_beginning(
-            &rt,
-            ONLY_LINES,
-            &names,
-            &opener,
-            &whole.output,
-            *calls,
-            false,
-        );
+        expect_beginning(&rt, ONLY_LINES, &sources, &whole.output, *calls, false);
     }
 }

@@ -1,6 +1,7 @@
 use super::{expect_line, expect_line_of, expect_transport, expect_verdict, line_of};
 use crate::expect::{expect_all_written, expect_ok, expect_some, expect_written};
 use crate::packets::{OVER_IPV4, OVER_IPV6};
+use crate::summaries::first_info;
 use capture_link::LinkHeaderCutOff;
 use capture_packet::{
     Content, HopLimit, NetworkProtocol, Packet, Refusal, Transport, Tunnel, Verdict,
@@ -237,7 +238,8 @@ fn expect_hop_limit(
     packet.hop_limit = hop_limit;
     let times = Times::SinceFirst;
     let mut line = Vec::new(rt.alloc());
-    let written = write_packet_line(&mut line, times, verbose, 1, None, None, None, &packet);
+    let info = first_info(None, None);
+    let written = write_packet_line(&mut line, times, verbose, &info, &packet);
     expect_ok(rt, written);
     expect_written(rt, &line, wanted);
 }

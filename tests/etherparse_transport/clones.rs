@@ -5,6 +5,7 @@ use etherparse_transport::checksum::Sum16BitWords;
 use etherparse_transport::checksum_change::ChecksumChange;
 use etherparse_transport::err::packet::{
     AnswerEchoError, BuildSliceWriteError, TranslateError, TransportChecksumError,
+    WriteChecksumError,
 };
 use etherparse_transport::err::tcp::{HeaderError, HeaderSliceError};
 use etherparse_transport::err::{Layer, LenError, TextPart, ValueTooBigError, ValueType};
@@ -52,6 +53,7 @@ fn errors_are_cloned(rt: HostRuntime) {
     expect_clone(&rt, &BuildSliceWriteError::Icmpv4InIpv6);
     expect_clone(&rt, &AnswerEchoError::NoEchoRequest);
     expect_clone(&rt, &TranslateError::Protocol(IpNumber(47)));
+    expect_clone(&rt, &WriteChecksumError::Untested(Untested::Fragment));
     expect_clone(&rt, &TcpOptionReadError::UnknownId(34));
     expect_clone(&rt, &TcpOptionWriteError::NotEnoughSpace(41));
     expect_clone(&rt, &TcpRawOptionError::NoLengthByte { kind: 34 });

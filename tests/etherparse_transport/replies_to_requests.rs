@@ -2,7 +2,7 @@
 //! RFC 1071.
 
 use crate::expect::expect_equal;
-use etherparse_transport::ip::is_reply_to;
+use etherparse_transport::ip::{is_reply_from_any, is_reply_to};
 
 /// A request from 192.0.2.1 to 192.0.2.2.
 #[rattlefmt::skip]
@@ -296,5 +296,56 @@ static PAIRS: [(bool, &[u8], &[u8]); 56] = [
 fn a_reply_belongs_to_its_request(rt: HostRuntime) {
     for (is_reply, request, reply) in &PAIRS {
         expect_equal(&rt, &is_reply_to(request, reply), is_reply);
+    }
+}
+
+/// Whether the second packet is a reply from any host to the request in the first.
+#[rattlefmt::skip]
+static FROM_ANY: [(bool, &[u8], &[u8]); 9] = [
+    // IPv4, from the destination
+    (true, REQUEST_IPV4, REPLY_IPV4),
+    // IPv6, from the destination
+    (true, REQUEST_IPV6, REPLY_IPV6),
+    // IPv4, from another host
+    (true, REQUEST_IPV4, &[
+        0x45, 0, 0, 0x20, 0x12, 0x34, 0x40, 0, 0x40, 1, 0xA4, 0x9E, 0xC0, 0, 2, 9, 0xC0, 0, 2, 1, 0, 0, 0x75, 0x5A, 0xAB, 0xCD, 0, 7,
+        0x70, 0x69, 0x6E, 0x67,
+    ]),
+    // IPv6, to the anycast address 2001:db8:: of the routers of a subnet (RFC 4291, section 2.6.1)
+    (true, &[
+        0x60, 0, 0, 0, 0, 0x0C, 0x3A, 0x40, 0x20, 1, 0x0D, 0xB8, 0, 0, 0, 0, 0, 0, 0, 0, 0, 0, 0, 1, 0x20, 1, 0x0D, 0xB8, 0, 0, 0, 0,
+        0, 0, 0, 0, 0, 0, 0, 0, 0x80, 0, 0x99, 0xA0, 0xAB, 0xCD, 0, 7, 0x70, 0x69, 0x6E, 0x67,
+    ], &[
+        0x60, 0, 0, 0, 0, 0x0C, 0x3A, 0x40, 0x20, 1, 0x0D, 0xB8, 0, 0, 0, 0, 0, 0, 0, 0, 0, 0, 0, 2, 0x20, 1, 0x0D, 0xB8, 0, 0, 0, 0,
+        0, 0, 0, 0, 0, 0, 0, 1, 0x81, 0, 0x98, 0x9E, 0xAB, 0xCD, 0, 7, 0x70, 0x69, 0x6E, 0x67,
+    ]),
+    // IPv6, from a multicast address
+    (false, &[
+        0x60, 0, 0, 0, 0, 0x0C, 0x3A, 0x40, 0x20, 1, 0x0D, 0xB8, 0, 0, 0, 0, 0, 0, 0, 0, 0, 0, 0, 1, 0x20, 1, 0x0D, 0xB8, 0, 0, 0, 0,
+        0, 0, 0, 0, 0, 0, 0, 0, 0x80, 0, 0x99, 0xA0, 0xAB, 0xCD, 0, 7, 0x70, 0x69, 0x6E, 0x67,
+    ], &[
+        0x60, 0, 0, 0, 0, 0x0C, 0x3A, 0x40, 0xFF, 2, 0, 0, 0, 0, 0, 0, 0, 0, 0, 0, 0, 0, 0, 1, 0x20, 1, 0x0D, 0xB8, 0, 0, 0, 0, 0, 0,
+        0, 0, 0, 0, 0, 1, 0x81, 0, 0xC7, 0x55, 0xAB, 0xCD, 0, 7, 0x70, 0x69, 0x6E, 0x67,
+    ]),
+    // IPv4, from a loopback address
+    (false, REQUEST_IPV4, &[
+        0x45, 0, 0, 0x20, 0x12, 0x34, 0x40, 0, 0x40, 1, 0xE7, 0xA6, 0x7F, 0, 0, 1, 0xC0, 0, 2, 1, 0, 0, 0x75, 0x5A, 0xAB, 0xCD, 0, 7,
+        0x70, 0x69, 0x6E, 0x67,
+    ]),
+    // IPv4, to another host
+    (false, REQUEST_IPV4, &[
+        0x45, 0, 0, 0x20, 0x12, 0x34, 0x40, 0, 0x40, 1, 0xA4, 0x9D, 0xC0, 0, 2, 2, 0xC0, 0, 2, 9, 0, 0, 0x75, 0x5A, 0xAB, 0xCD, 0, 7,
+        0x70, 0x69, 0x6E, 0x67,
+    ]),
+    // no reply
+    (false, REQUEST_IPV4, REQUEST_IPV4),
+    // other versions
+    (false, REQUEST_IPV6, REPLY_IPV4),
+];
+
+#[test]
+fn a_reply_comes_from_any_host(rt: HostRuntime) {
+    for (is_reply, request, reply) in &FROM_ANY {
+        expect_equal(&rt, &is_reply_from_any(request, reply), is_reply);
     }
 }

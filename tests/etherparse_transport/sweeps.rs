@@ -1,5 +1,5 @@
-//! `canonical_header` over every packet of a small world, beside plain functions of what the header tables say of them, and once more
-//! over each of its results.
+//! Writes the canonical header of packets with every small length, length field and data offset, and with every type and code. Compares the
+//! results with plain functions, which were written from the format tables. Then each result is an input, and must not change.
 
 use super::len_error;
 use crate::expect::{
@@ -11,7 +11,7 @@ use etherparse_transport::err::tcp::{HeaderError, HeaderSliceError};
 use etherparse_transport::{Proto, canonical_header};
 use std::process::Abort;
 
-/// The length of the header at the front of the bytes.
+/// Returns the length of the header at the front of the bytes.
 fn header_len(protocol: Proto, bytes: &[u8]) -> Result<usize, HeaderSliceError> {
     let len = bytes.len();
     let (shortest, layer) = match protocol {
@@ -47,12 +47,12 @@ fn header_len(protocol: Proto, bytes: &[u8]) -> Result<usize, HeaderSliceError> 
     }
 }
 
-/// The byte at this place, 0 where there is none.
+/// Returns the byte at this place, or 0 after the last byte.
 fn at(bytes: &[u8], place: usize) -> u8 {
     if place < bytes.len() { bytes[place] } else { 0 }
 }
 
-/// The bits that have a meaning of the header byte at this place, in a header that begins with these two bytes.
+/// Returns the kept bits of the byte at this place, in a header that begins with these two bytes.
 fn mask(protocol: Proto, first: u8, second: u8, place: usize) -> u8 {
     match (protocol, first, second, place) {
         (Proto::Udp, _, _, _) => 0xFF,
@@ -75,7 +75,7 @@ fn mask(protocol: Proto, first: u8, second: u8, place: usize) -> u8 {
     }
 }
 
-/// How many packets were accepted, and how many refused.
+/// The numbers of accepted and of refused packets.
 #[derive(Clone, Copy, Debug, PartialEq, Eq)]
 struct Counts {
     accepted: usize,
@@ -87,8 +87,8 @@ const NONE: Counts = Counts {
     refused: 0,
 };
 
-/// The packet is accepted with a header of this length, and so is its canonical form, which does not change. A packet with the header that
-/// was found is its own canonical form, so it is not read twice.
+/// Tests that the packet is accepted with a header of this length, and that its canonical form does not change. If the packet is its own
+/// canonical form, it is read only once.
 fn expect_accepted(rt: &impl Abort, protocol: Proto, bytes: &[u8], header_len: usize) {
     let (header, rest) = expect_ok(rt, canonical_header(protocol, bytes));
     let header = header.as_slice();
@@ -101,7 +101,7 @@ fn expect_accepted(rt: &impl Abort, protocol: Proto, bytes: &[u8], header_len: u
     }
 }
 
-/// The header has the length of the one at the front of the packet, and each of its bytes has the bits of that one that have a meaning.
+/// Tests that the result is as long as the header of the packet, and that each byte contains exactly the kept bits of the packet.
 fn expect_kept(rt: &impl Abort, protocol: Proto, front: &[u8], header: &[u8]) {
     expect_at(rt, &(protocol, front), &header.len(), &front.len());
     let (first, second) = (at(front, 0), at(front, 1));
@@ -115,7 +115,7 @@ fn expect_kept(rt: &impl Abort, protocol: Proto, front: &[u8], header: &[u8]) {
     }
 }
 
-/// Both parts, one after the other.
+/// Returns the first part and then the second.
 fn joined(rt: &impl Abort, first: &[u8], second: &[u8]) -> ArrayVec<u8, 60> {
     let mut whole = ArrayVec::new();
     expect_ok(rt, whole.try_extend_from_slice(first));
@@ -123,21 +123,21 @@ fn joined(rt: &impl Abort, first: &[u8], second: &[u8]) -> ArrayVec<u8, 60> {
     whole
 }
 
-/// The packet has this canonical header, and these bytes after it.
+/// Tests that the packet has this canonical header and these bytes after it.
 fn expect_canonical(rt: &impl Abort, protocol: Proto, packet: &[u8], header: &[u8], rest: &[u8]) {
     let (found, after) = expect_ok(rt, canonical_header(protocol, packet));
     expect_bytes(rt, found.as_slice(), header);
     expect_bytes(rt, after, rest);
 }
 
-/// The packet is refused by this error.
+/// Tests that the packet is refused with this error.
 fn expect_refused(rt: &impl Abort, protocol: Proto, bytes: &[u8], expected: &HeaderSliceError) {
     let error = expect_some(rt, canonical_header(protocol, bytes).err());
     expect_at(rt, &(protocol, bytes), &error, expected);
 }
 
 impl Counts {
-    /// Tries a packet and, where it is accepted, its canonical form.
+    /// Tests a packet, and its canonical form if it is accepted.
     fn try_packet(&mut self, rt: &impl Abort, protocol: Proto, bytes: &[u8]) {
         match header_len(protocol, bytes) {
             Ok(header_len) => {
@@ -196,7 +196,7 @@ fn every_tcp_length_and_byte_12(rt: HostRuntime) {
     expect_equal(&rt, &counts, &expected);
 }
 
-/// Tries every type and code over these bytes.
+/// Tests packets of every type and code with these bytes after the code.
 fn try_types_and_codes(rt: &impl Abort, protocol: Proto, after: &[u8]) -> Counts {
     let mut counts = NONE;
     let mut packet = joined(rt, &[0, 0], after);
@@ -211,7 +211,7 @@ fn try_types_and_codes(rt: &impl Abort, protocol: Proto, after: &[u8]) -> Counts
     counts
 }
 
-/// What comes after the type and the code.
+/// The bytes after the type and the code.
 static AFTER_CODE: [u8; 19] = [
     0x12, 0x34, 0xFF, 0xFE, 0xFD, 0xFC, 1, 2, 3, 4, 5, 6, 7, 8, 9, 10, 11, 12, 13,
 ];

@@ -3,6 +3,7 @@
 
 mod ipv4;
 mod ipv6;
+mod quoted;
 
 use crate::expect::{expect_equal, expect_ok, expect_some, expect_text};
 use etherparse_transport::err::packet::TranslateError;
@@ -26,9 +27,11 @@ const CUT_OFF: Verdicts = [ChecksumVerdict::Untested(Untested::CutOff); 2];
 
 const FRAGMENT: Verdicts = [ChecksumVerdict::Untested(Untested::Fragment); 2];
 
+const OTHER: Verdicts = [ChecksumVerdict::Untested(Untested::OtherProtocol); 2];
+
 /// A buffer that begins with these bytes.
-fn buffer_with(bytes: &[u8]) -> [u8; 120] {
-    let mut buffer = [0xAA; 120];
+fn buffer_with(bytes: &[u8]) -> [u8; 200] {
+    let mut buffer = [0xAA; 200];
     for (place, byte) in buffer.iter_mut().zip(bytes) {
         *place = *byte;
     }
@@ -36,7 +39,7 @@ fn buffer_with(bytes: &[u8]) -> [u8; 120] {
 }
 
 /// A buffer that begins with these bytes, as they are after these changes.
-fn changed(rt: &impl Abort, bytes: &[u8], changes: &[Change]) -> [u8; 120] {
+fn changed(rt: &impl Abort, bytes: &[u8], changes: &[Change]) -> [u8; 200] {
     let mut buffer = buffer_with(bytes);
     for (start, new) in changes {
         let places = expect_some(rt, buffer.get_mut(*start..));
@@ -141,6 +144,34 @@ fn expect_refused_ipv6(rt: &impl Abort, error: &TranslateError, packet: &[u8]) {
     expect_equal(rt, &buffer, &buffer_with(packet));
 }
 
+/// The protocols over IPv4 and over IPv6 that are refused, although only an address is replaced.
+static COVERED_IPV4: [u8; 6] = [33, 51, 58, 112, 136, 139];
+
+static COVERED_IPV6: [u8; 13] = [0, 1, 33, 43, 51, 60, 89, 103, 112, 135, 136, 139, 140];
+
+#[test]
+fn protocols_that_cover_addresses_are_refused(rt: HostRuntime) {
+    for protocol in &COVERED_IPV4 {
+        let mut packet = [0; 40];
+        packet[0] = 0x45;
+        packet[9] = *protocol;
+        packet[20] = 59;
+        let result = translate_ipv4(&mut packet, &ipv4::ADDRESS);
+        let error = TranslateError::Protocol(IpNumber(*protocol));
+        expect_equal(&rt, &expect_some(&rt, result.err()), &error);
+    }
+    for protocol in &COVERED_IPV6 {
+        let mut packet = [0; 56];
+        packet[0] = 0x60;
+        packet[5] = 16;
+        packet[6] = *protocol;
+        packet[40] = 59;
+        let result = translate_ipv6(&mut packet, &ipv6::ADDRESS);
+        let error = TranslateError::Protocol(IpNumber(*protocol));
+        expect_equal(&rt, &expect_some(&rt, result.err()), &error);
+    }
+}
+
 #[rattlefmt::skip]
 static TEXTS: [(TranslateError, &str); 7] = [
     (TranslateError::Ip(IpError::Version { version: 5 }), "IP Error: the version is 5."),
@@ -151,7 +182,7 @@ static TEXTS: [(TranslateError, &str); 7] = [
         TranslateError::HeaderCutOff { required_len: 8, len: 7 },
         "Translation Error: the transport header has at least 8 bytes, and the packet contains 7.",
     ),
-    (TranslateError::IcmpMessage, "Translation Error: the ICMP message is no echo message and no error."),
+    (TranslateError::IcmpMessage, "Translation Error: the ICMP message is no query and no error, or a redirect."),
     (TranslateError::QuotedPacket, "Translation Error: the packet that the ICMP error is about can't be translated."),
 ];
 

@@ -5,17 +5,14 @@ use etherparse_transport::{Icmpv4Slice, Icmpv6Slice};
 use std::process::Abort;
 
 /// The values of a length field that are tried, and the numbers of bytes after the header.
-static FIELDS: [u8; 6] = [0, 1, 2, 4, 8, 255];
+static FIELDS: [u8; 8] = [0, 1, 15, 16, 17, 31, 32, 255];
 
-static LENGTHS: [usize; 6] = [0, 1, 7, 8, 32, 40];
+static LENGTHS: [usize; 6] = [0, 1, 8, 127, 128, 140];
 
 /// The length of the quoted packet, in units of this many bytes, of `len` bytes after the header.
 fn counted(field: u8, unit: usize, len: usize) -> usize {
-    if field == 0 {
-        len
-    } else {
-        len.min(usize::from(field).saturating_mul(unit))
-    }
+    let counted = usize::from(field).saturating_mul(unit);
+    if counted < 128 { len } else { len.min(counted) }
 }
 
 /// The length of the packet that this ICMPv4 message quotes, if it is an error.
@@ -31,14 +28,14 @@ fn icmpv4_len(type_u8: u8, field: u8, len: usize) -> Option<usize> {
 fn icmpv6_len(type_u8: u8, field: u8, len: usize) -> Option<usize> {
     match type_u8 {
         1 | 3 => Some(counted(field, 8, len)),
-        2 | 4 => Some(len),
+        0..=127 => Some(len),
         _ => None,
     }
 }
 
 /// A message of this type, with this byte at this place, and with bytes that differ from place to place after the header.
-fn message(type_u8: u8, place: usize, field: u8) -> [u8; 48] {
-    let mut bytes = [0; 48];
+fn message(type_u8: u8, place: usize, field: u8) -> [u8; 148] {
+    let mut bytes = [0; 148];
     for (place, byte) in bytes.iter_mut().enumerate() {
         *byte = place as u8 | 0x80;
     }
@@ -91,6 +88,6 @@ fn errors_quote_what_their_length_field_counts(rt: HostRuntime) {
             }
         }
     }
-    // Five types of ICMPv4 and four of ICMPv6, with each length field and each length.
-    expect_equal(&rt, &counts, &(180, 144));
+    // Five types of ICMPv4 and 128 of ICMPv6, with each length field and each length.
+    expect_equal(&rt, &counts, &(240, 6_144));
 }

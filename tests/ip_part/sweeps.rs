@@ -1,12 +1,13 @@
-//! Every header of a small world, beside plain functions of what packets of that shape carry.
+//! Reads IPv4 packets with every header length and small total length, and IPv6 packets with every chain of up to three extension headers.
+//! Compares the results with plain functions, which were written from the format tables.
 
 use crate::expect::{bytes_between, bytes_from, bytes_to, expect_bytes, expect_equal, expect_ok};
 use etherparse_transport::IpNumber;
 use etherparse_transport::ip::{IpError, transport_in_ip, transport_in_ip_lax};
 use std::process::Abort;
 
-/// Where the payload of an IPv4 packet begins and ends, by the number of words in its header, its total length and the bytes that are
-/// there.
+/// Returns the start and the end of the payload of an IPv4 packet. It depends on the number of words in the header, the total length, and
+/// the number of bytes that are present.
 fn ipv4_payload(words: usize, total_len: usize, len: usize) -> Result<(usize, usize), IpError> {
     let header_len = words.saturating_mul(4);
     if len < 20 {
@@ -37,7 +38,7 @@ fn ipv4_payload(words: usize, total_len: usize, len: usize) -> Result<(usize, us
     Ok((header_len, total_len))
 }
 
-/// What the two calls make of an IPv4 packet.
+/// The payloads that the strict and the lax call return for an IPv4 packet.
 enum Outcome {
     Accepted,
     CutOff,
@@ -45,7 +46,7 @@ enum Outcome {
     Refused,
 }
 
-/// Compares the two calls with the payload of an IPv4 packet with this number of words in its header and this total length.
+/// Tests both calls for an IPv4 packet with this number of words in its header and this total length.
 fn ipv4_outcome(rt: &impl Abort, packet: &[u8], words: usize, total_len: usize) -> Outcome {
     let strict = transport_in_ip(packet);
     let lax = transport_in_ip_lax(packet);
@@ -111,8 +112,7 @@ fn every_total_length_is_kept_or_refused(rt: HostRuntime) {
     );
 }
 
-/// An extension header: its number, its length byte, its length in bytes, and whether it is that of a fragment that others stand
-/// before.
+/// An extension header: its number, its length byte, its length in bytes, and whether it is the header of a later fragment.
 #[derive(Clone, Copy)]
 struct Extension {
     number: u8,
@@ -121,7 +121,7 @@ struct Extension {
     is_later: bool,
 }
 
-/// An extension header that is not a later fragment's.
+/// Returns an extension header that does not make the packet a later fragment.
 fn header(number: u8, length_byte: u8, len: usize) -> Extension {
     Extension {
         number,
@@ -131,7 +131,7 @@ fn header(number: u8, length_byte: u8, len: usize) -> Extension {
     }
 }
 
-/// Every kind of extension header, of 8 bytes and of 16.
+/// All kinds of extension headers, of 8 and of 16 bytes.
 fn kinds() -> [Extension; 12] {
     [
         header(0, 0, 8),
@@ -152,7 +152,7 @@ fn kinds() -> [Extension; 12] {
     ]
 }
 
-/// The number of the extension header at this place of a chain, or of UDP after it.
+/// Returns the number of the extension header at this place of a chain. After the chain it is the number of UDP.
 fn number_at(chain: &[Extension], place: usize) -> u8 {
     match chain.get(place) {
         Some(extension) => extension.number,
@@ -160,14 +160,14 @@ fn number_at(chain: &[Extension], place: usize) -> u8 {
     }
 }
 
-/// Writes a byte where there is one.
+/// Writes a byte, if there is a byte at this place.
 fn write(bytes: &mut [u8; 92], place: usize, value: u8) {
     if place < 92 {
         bytes[place] = value;
     }
 }
 
-/// An IPv6 packet with this chain and a payload of four bytes, and its length.
+/// Returns an IPv6 packet with this chain and a payload of four bytes, and the length of the packet.
 fn ipv6_packet(chain: &[Extension]) -> ([u8; 92], usize) {
     let mut bytes = [0; 92];
     bytes[0] = 0x60;
@@ -184,7 +184,7 @@ fn ipv6_packet(chain: &[Extension]) -> ([u8; 92], usize) {
     (bytes, start.saturating_add(4))
 }
 
-/// The protocol of a packet with this chain, and where its payload begins, if the header counts this many bytes.
+/// Returns the protocol of a packet with this chain, and the start of its payload, if the IP header counts this many bytes.
 fn ipv6_payload(chain: &[Extension], counted_len: usize) -> Result<(u8, usize), IpError> {
     if counted_len == 40 && number_at(chain, 0) == 0 {
         return Err(IpError::JumboPayloadMissing);
@@ -209,7 +209,7 @@ fn ipv6_payload(chain: &[Extension], counted_len: usize) -> Result<(u8, usize), 
     Ok((17, start))
 }
 
-/// Compares the two calls with what a packet with this chain carries, if the header counts this many bytes; whether it is accepted.
+/// Tests both calls for a packet with this chain, if the IP header counts this many bytes. Returns whether the packet is accepted.
 fn is_accepted(rt: &impl Abort, packet: &[u8], chain: &[Extension], counted_len: usize) -> bool {
     let found = transport_in_ip(packet);
     let lax = transport_in_ip_lax(packet);

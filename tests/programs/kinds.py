@@ -2,8 +2,8 @@
 import struct
 
 from .build import (
-    COOKED, COOKED2, ETHERNET, FRAME_RELAY, IPV4, IPV6, LOOPBACK, MAC, PPP, PPP_HDLC, RAW, checksum, frame, gre, icmpv4, icmpv6, ipv4,
-    ipv6, tcp, udp
+    CISCO_HDLC, COOKED, COOKED2, ETHERNET, FRAME_RELAY, IPV4, IPV6, LOOPBACK, MAC, NFLOG, PPP, PPP_HDLC, PPP_OVER_ETHERNET, RAW, checksum,
+    frame, gre, icmpv4, icmpv6, ipv4, ipv6, tcp, udp
 )
 
 TCP_OPTIONS = bytes.fromhex("020405B4" "0402" "080A0000006400000000" "01" "030307")
@@ -133,9 +133,14 @@ def further_headers(link, order="<"):
     pseudowire = frame(ETHERNET, labels + bytes(24), number=0x8847)
     headers = {
         ETHERNET: [("right", MAC + struct.pack(">H", len(snap)) + snap), ("other", MAC + struct.pack(">H", 38) + b"\x42\x42\x03" + bytes(35)),
-                   ("other", MAC + struct.pack(">H", 30) + b"\xFE\xFE\x03\x83" + bytes(26)), ("other", pseudowire)],
-        COOKED: [("right", frame(COOKED, snap, number=4))],
-        COOKED2: [("right", frame(COOKED2, snap, number=4))],
+                   ("other", MAC + struct.pack(">H", 30) + b"\xFE\xFE\x03\x83" + bytes(26)), ("other", pseudowire),
+                   ("right", MAC + struct.pack(">H", len(packet) + 3) + b"\x06\x06\x03" + packet),
+                   ("right", MAC + struct.pack(">H", len(snap)) + bytes.fromhex("AAAA030000F80800") + packet)],
+        COOKED: [("right", frame(COOKED, snap, number=4)), ("other", struct.pack(">HHHQH", 4, 824, 0, 0, 16) + bytes(20))],
+        COOKED2: [("right", frame(COOKED2, snap, number=4)), ("other", struct.pack(">HHIHBBQ", 4, 0, 1, 824, 4, 0, 0) + bytes(20))],
+        CISCO_HDLC: [("other", bytes.fromhex("8F008035") + bytes(18)), ("other", bytes.fromhex("8F002000") + bytes(11))],
+        PPP_OVER_ETHERNET: [("other", bytes.fromhex("11090000000401010000"))],
+        NFLOG: [("right", frame(NFLOG, packet, order=order) + struct.pack(order + "HHI", 8, 5, 0))],
         LOOPBACK: [("right", frame(LOOPBACK, packet, order="><"[order == ">"]))],
         PPP: [("right", struct.pack(">HH", 0xFF03, 0x0281) + labels + packet)],
         PPP_HDLC: [("right", struct.pack(">HH", 0xFF03, 0x0283) + labels + packet)],

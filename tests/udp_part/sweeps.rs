@@ -1,4 +1,5 @@
-//! Every length and length field of a small world, beside plain functions of what UDP packets of that shape are.
+//! Reads UDP packets of every small length with every small length field. Compares the results with plain functions, which were written
+//! from the format tables.
 
 use super::len_error;
 use crate::expect::{
@@ -8,12 +9,12 @@ use etherparse_transport::err::{Layer, LenError};
 use etherparse_transport::{LenSource, UdpHeader, UdpHeaderSlice, UdpSlice};
 use std::process::Abort;
 
-/// The error of fewer bytes than a header has.
+/// Returns the error for fewer bytes than a header has.
 fn short(len: usize) -> LenError {
     len_error(8, len, LenSource::Slice, Layer::UdpHeader)
 }
 
-/// How many bytes a strict slice keeps of `len` bytes, of which 8 are the header, under this length field.
+/// Returns how many of `len` bytes a strict slice keeps under this length field. The first 8 bytes are the header.
 fn kept_by_strict(len: usize, length: u8) -> Result<usize, LenError> {
     let field = usize::from(length);
     if field > len {
@@ -26,7 +27,7 @@ fn kept_by_strict(len: usize, length: u8) -> Result<usize, LenError> {
     }
 }
 
-/// How many bytes a lax slice keeps of `len` bytes, of which 8 are the header, under this length field.
+/// Returns how many of `len` bytes a lax slice keeps under this length field. The first 8 bytes are the header.
 fn kept_by_lax(len: usize, length: u8) -> usize {
     let field = usize::from(length);
     if (8..=len).contains(&field) {
@@ -36,17 +37,17 @@ fn kept_by_lax(len: usize, length: u8) -> usize {
     }
 }
 
-/// Twelve bytes that are all different, with this length field.
+/// Returns twelve bytes that all differ, with this length field.
 fn packet(length: u8) -> [u8; 12] {
     [11, 12, 13, 14, 0, length, 17, 18, 19, 20, 21, 22]
 }
 
-/// The call returned this error. The key is the length field and the length.
+/// Tests that the call returned this error. The key is the length field and the length.
 fn expect_error(rt: &impl Abort, key: &(u8, usize), error: Option<LenError>, expected: &LenError) {
     expect_at(rt, key, &expect_some(rt, error), expected);
 }
 
-/// Each of the five calls refuses these bytes, which are fewer than a header has.
+/// Tests that each of the five calls refuses these bytes, which are fewer than a header has.
 fn expect_short(rt: &impl Abort, slice: &[u8]) {
     let key = &(8, slice.len());
     let expected = &short(slice.len());
@@ -68,13 +69,13 @@ fn every_length_below_the_header_is_refused(rt: HostRuntime) {
     expect_equal(&rt, &refused, &8);
 }
 
-/// The strict slice keeps this many bytes.
+/// Tests that the strict slice keeps this many bytes.
 fn expect_kept(rt: &impl Abort, slice: &[u8], kept: usize) {
     let strict = expect_ok(rt, UdpSlice::from_slice(slice));
     expect_bytes(rt, strict.slice(), bytes_to(rt, slice, kept));
 }
 
-/// Reads the packet by the strict call, and returns what is expected of it: how many bytes are kept, or the error.
+/// Reads the packet by the strict call. Returns the expected result: the number of kept bytes, or the error.
 fn expect_strict(rt: &impl Abort, slice: &[u8], length: u8) -> Result<usize, LenError> {
     let expected = kept_by_strict(slice.len(), length);
     match &expected {
@@ -87,7 +88,7 @@ fn expect_strict(rt: &impl Abort, slice: &[u8], length: u8) -> Result<usize, Len
     expected
 }
 
-/// The lax slice keeps what the length field counts, or all bytes.
+/// Tests that the lax slice keeps the bytes that the length field counts, or all bytes.
 fn expect_lax(rt: &impl Abort, slice: &[u8], length: u8) {
     let kept = kept_by_lax(slice.len(), length);
     let front = bytes_to(rt, slice, kept);
@@ -102,7 +103,7 @@ fn expect_lax(rt: &impl Abort, slice: &[u8], length: u8) {
     expect_equal(rt, &lax.payload_len_source(), &source);
 }
 
-/// The header is the same whatever its length field says.
+/// Tests that the header is the same for every length field.
 fn expect_header(rt: &impl Abort, slice: &[u8], length: u8) {
     let expected = UdpHeader {
         source_port: 0x0B0C,
@@ -115,10 +116,11 @@ fn expect_header(rt: &impl Abort, slice: &[u8], length: u8) {
     expect_bytes(rt, rest, bytes_from(rt, slice, 8));
 }
 
-/// How many packets are accepted, have a length field below the header's length, and have one above the slice's.
+/// The numbers of packets with each result: accepted, a length field below the length of the header, and a length field above the length of
+/// the slice.
 type Counts = (usize, usize, usize);
 
-/// The counts after a packet with this expected result.
+/// Returns the counts after a packet with this expected result.
 fn counted(counts: Counts, expected: &Result<usize, LenError>) -> Counts {
     let (accepted, below_header, above_slice) = counts;
     match expected {

@@ -16,7 +16,7 @@ const DESTINATION_V6: [u8; 16] = [0x20, 0x01, 0x0D, 0xB8, 0, 0, 0, 0, 0, 0, 0, 0
 fn udp_packet(payload: &[u8]) -> Result<Vec<u8>, Error> {
     let header = udp::Header { source_port: 21, destination_port: 1234, length: 8 + payload.len() as u16, checksum: 0 };
     let mut packet = vec![0; 8];
-    header.write(&mut packet)?;
+    udp::write_header(&header, &mut packet)?;
     packet.extend_from_slice(payload);
     udp::store_checksum_ipv4(&mut packet, SOURCE, DESTINATION)?;
     Ok(packet)
@@ -67,7 +67,7 @@ fn show_tcp() -> Result<(), Error> {
     let flags = sys::TCP_ACK | sys::TCP_PSH;
     let header = tcp::Header { source_port: 80, destination_port: 50000, flags, window_size: 512, ..Default::default() };
     let mut packet = vec![0; 60];
-    let header_len = header.write(&options[..options_len], &mut packet)?;
+    let header_len = tcp::write_header(&header, &options[..options_len], &mut packet)?;
     packet.truncate(header_len);
     packet.extend_from_slice(b"GET /");
     tcp::store_checksum_ipv6(&mut packet, SOURCE_V6, DESTINATION_V6)?;
@@ -82,13 +82,13 @@ fn show_tcp() -> Result<(), Error> {
 }
 
 fn show_icmp() -> Result<(), Error> {
-    let request = icmpv4::Header { kind: sys::ICMPV4_ECHO_REQUEST, id: 1, sequence_number: 2, ..Default::default() };
+    let request = icmpv4::Header { kind: sys::ICMPV4_KIND_ECHO_REQUEST, id: 1, sequence_number: 2, ..Default::default() };
     let mut packet = *b"________ping";
-    request.write(&mut packet)?;
+    icmpv4::write_header(&request, &mut packet)?;
     icmpv4::store_checksum(&mut packet)?;
     println!("icmpv4 {packet:02x?} {:?}", icmpv4::test_checksum(&packet)?);
-    let request = icmpv6::Header { kind: sys::ICMPV6_ECHO_REQUEST, id: 1, sequence_number: 2, ..Default::default() };
-    request.write(&mut packet)?;
+    let request = icmpv6::Header { kind: sys::ICMPV6_KIND_ECHO_REQUEST, id: 1, sequence_number: 2, ..Default::default() };
+    icmpv6::write_header(&request, &mut packet)?;
     icmpv6::store_checksum(&mut packet, SOURCE_V6, DESTINATION_V6)?;
     println!("icmpv6 {packet:02x?} {:?}", icmpv6::test_checksum(&packet, SOURCE_V6, DESTINATION_V6)?);
     println!("{:?}", icmpv6::Packet::read(&packet)?.payload);
@@ -96,9 +96,10 @@ fn show_icmp() -> Result<(), Error> {
 }
 
 fn show_errors() {
-    let too_long = tcp::Header::default().write(&[0; 41], &mut [0; 64]);
-    let unknown = icmpv4::Header { kind: 99, ..Default::default() }.write(&mut [0; 64]);
-    let errors = [udp::Packet::read(&[]).err(), udp::Header::default().write(&mut [0; 7]).err(), too_long.err(), unknown.err()];
+    let too_small = udp::write_header(&udp::Header::default(), &mut [0; 7]);
+    let too_long = tcp::write_header(&tcp::Header::default(), &[0; 41], &mut [0; 64]);
+    let unknown = icmpv4::write_header(&icmpv4::Header { kind: 99, ..Default::default() }, &mut [0; 64]);
+    let errors = [udp::Packet::read(&[]).err(), too_small.err(), too_long.err(), unknown.err()];
     for error in errors.into_iter().flatten() {
         println!("{error} {:?}", error.kind());
     }

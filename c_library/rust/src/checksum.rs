@@ -101,8 +101,9 @@ impl ChecksumChange {
         ChecksumChange(unsafe { sys::etherparse_checksum_change_reversed(self.0) })
     }
 
-    /// The checksum of the changed packet, from the checksum that the packet had, as TCP, ICMP and the IPv4 header store it. It is
-    /// wrong where every byte that it covers becomes zero, as none with a pseudo header does: then it is 0, and should be 65535.
+    /// The checksum of the changed packet, from the checksum that the packet had, as TCP, ICMP and the IPv4 header store it. A right
+    /// checksum becomes the right checksum, except that it is 0 and should be 65535 if every byte that it covers becomes zero. A wrong
+    /// checksum stays wrong, except that 0 becomes right if every such byte was zero. With a pseudo header neither can happen.
     pub fn apply(self, checksum: u16) -> u16 {
         // SAFETY: the call takes numbers.
         unsafe { sys::etherparse_checksum_change_apply(self.0, checksum) }

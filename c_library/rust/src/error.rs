@@ -180,7 +180,7 @@ pub enum ErrorKind {
     NoIcmpError,
     /// The IPv4 options contain a loose or strict source route, so the packet is not translated.
     TranslateSourceRoute,
-    /// The protocol is not UDP, TCP or ICMP of the IP version of the call, so the packet is not translated.
+    /// The protocol is not UDP, TCP or ICMP of the IP version of the call, and a port is passed or the protocol covers the addresses.
     TranslateProtocol {
         /// The number of the protocol.
         protocol: usize,
@@ -192,7 +192,7 @@ pub enum ErrorKind {
         /// The length that there is.
         len: usize,
     },
-    /// The ICMP message is no echo message and no error, so the packet is not translated.
+    /// The ICMP message is no query and no error, or a redirect, so the packet is not translated.
     TranslateIcmpMessage,
     /// The packet that the ICMP error is about cannot be translated.
     TranslateQuotedPacket,

@@ -3,7 +3,7 @@
 //! ICMPv4 (RFC 792).
 use crate::{Error, Verdict, answer, sys, verdict};
 
-/// The fields of an ICMPv4 header. The kind is one of `sys::ICMPV4_..`; a field that it does not have is 0.
+/// The fields of an ICMPv4 header. The kind is one of `sys::ICMPV4_KIND_..`; a field that it does not have is 0.
 pub use crate::sys::Icmpv4Header as Header;
 
 /// An ICMPv4 packet that was read.
@@ -23,7 +23,7 @@ impl<'a> Packet<'a> {
     /// ```
     /// use etherparse_transport_c::{icmpv4, sys};
     /// let packet = icmpv4::Packet::read(&[8, 0, 0x19, 0x2C, 0, 1, 0, 2, b'p', b'i', b'n', b'g'])?;
-    /// assert_eq!((packet.header.kind, packet.header.id), (sys::ICMPV4_ECHO_REQUEST, 1));
+    /// assert_eq!((packet.header.kind, packet.header.id), (sys::ICMPV4_KIND_ECHO_REQUEST, 1));
     /// assert_eq!(packet.payload, b"ping");
     /// # Ok::<(), etherparse_transport_c::Error>(())
     /// ```
@@ -36,38 +36,36 @@ impl<'a> Packet<'a> {
     }
 }
 
-impl Header {
-    /// Writes the header at the front of a buffer, and returns how many bytes it has: 8, or of a timestamp message 20. Kind, code,
-    /// checksum and the fields of the kind are written; of kind 0 type, code and the bytes behind the checksum.
-    ///
-    /// Errors: `MessageUnknown`, `BufferTooSmall`; the buffer is as it was.
-    ///
-    /// ```
-    /// use etherparse_transport_c::{icmpv4, sys};
-    /// let kind = sys::ICMPV4_DESTINATION_UNREACHABLE;
-    /// let header = icmpv4::Header { kind, code_u8: 4, next_hop_mtu: 1400, ..Default::default() };
-    /// let mut buffer = [0xEE; 8];
-    /// assert_eq!(header.write(&mut buffer)?, 8);
-    /// assert_eq!(buffer, [3, 4, 0, 0, 0, 0, 0x05, 0x78]);
-    /// # Ok::<(), etherparse_transport_c::Error>(())
-    /// ```
-    pub fn write(&self, buffer: &mut [u8]) -> Result<usize, Error> {
-        let (mut written, mut error) = (0, sys::Error::default());
-        // SAFETY: as above.
-        let status =
-            unsafe { sys::etherparse_icmpv4_header_write(self, buffer.as_mut_ptr(), buffer.len(), &mut written, &mut error) };
-        answer(status, written, error)
-    }
+/// Writes the header at the front of a buffer, and returns how many bytes it has: 8, or of a timestamp message 20. Kind, code,
+/// checksum and the fields of the kind are written; of kind 0 type, code and the bytes behind the checksum.
+///
+/// Errors: `MessageUnknown`, `BufferTooSmall`; the buffer is as it was.
+///
+/// ```
+/// use etherparse_transport_c::{icmpv4, sys};
+/// let kind = sys::ICMPV4_KIND_DESTINATION_UNREACHABLE;
+/// let header = icmpv4::Header { kind, code_u8: 4, next_hop_mtu: 1400, ..Default::default() };
+/// let mut buffer = [0xEE; 8];
+/// assert_eq!(icmpv4::write_header(&header, &mut buffer)?, 8);
+/// assert_eq!(buffer, [3, 4, 0, 0, 0, 0, 0x05, 0x78]);
+/// # Ok::<(), etherparse_transport_c::Error>(())
+/// ```
+pub fn write_header(header: &Header, buffer: &mut [u8]) -> Result<usize, Error> {
+    let (mut written, mut error) = (0, sys::Error::default());
+    // SAFETY: as above.
+    let status =
+        unsafe { sys::etherparse_icmpv4_header_write(header, buffer.as_mut_ptr(), buffer.len(), &mut written, &mut error) };
+    answer(status, written, error)
 }
 
 /// The packet that an error is about, as far as the message contains it. The error is destination unreachable, source quench, redirect,
-/// time exceeded or parameter problem. The length field of RFC 4884 ends the packet if the sender uses it.
+/// time exceeded or parameter problem. The length field of RFC 4884 ends the packet if it counts at least 128 bytes.
 ///
 /// Errors: as [`Packet::read`], and `NoIcmpError` for another message.
 ///
 /// ```
 /// use etherparse_transport_c::{ErrorKind, icmpv4};
-/// let quoted = icmpv4::quoted_packet(&[11, 0, 0, 0, 0, 1, 0, 0, 0x45, 0, 0, 20, 0xEE])?;
+/// let quoted = icmpv4::quoted_packet(&[11, 0, 0, 0, 0, 0, 0, 0, 0x45, 0, 0, 20])?;
 /// assert_eq!(quoted, [0x45, 0, 0, 20]);
 /// let error = icmpv4::quoted_packet(&[8, 0, 0, 0, 0, 0, 0, 0]).unwrap_err();
 /// assert_eq!(error.kind(), ErrorKind::NoIcmpError);

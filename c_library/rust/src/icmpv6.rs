@@ -3,7 +3,7 @@
 //! ICMPv6 (RFC 4443; RFC 4861).
 use crate::{Error, Verdict, answer, sys, verdict};
 
-/// The fields of an ICMPv6 header. The kind is one of `sys::ICMPV6_..`; a field that it does not have is 0.
+/// The fields of an ICMPv6 header. The kind is one of `sys::ICMPV6_KIND_..`; a field that it does not have is 0.
 pub use crate::sys::Icmpv6Header as Header;
 
 /// An ICMPv6 packet that was read.
@@ -23,7 +23,7 @@ impl<'a> Packet<'a> {
     /// ```
     /// use etherparse_transport_c::{icmpv6, sys};
     /// let packet = icmpv6::Packet::read(&[2, 0, 0, 0, 0, 0, 0x05, 0x00, 0x60])?;
-    /// assert_eq!((packet.header.kind, packet.header.mtu), (sys::ICMPV6_PACKET_TOO_BIG, 1280));
+    /// assert_eq!((packet.header.kind, packet.header.mtu), (sys::ICMPV6_KIND_PACKET_TOO_BIG, 1280));
     /// assert_eq!(packet.payload, [0x60]);
     /// # Ok::<(), etherparse_transport_c::Error>(())
     /// ```
@@ -36,38 +36,36 @@ impl<'a> Packet<'a> {
     }
 }
 
-impl Header {
-    /// Writes the header, 8 bytes, at the front of a buffer, and returns how many bytes it has. Kind, code, checksum and the fields
-    /// of the kind are written; of kind 0 type, code and the bytes behind the checksum.
-    ///
-    /// Errors: `MessageUnknown`, `BufferTooSmall`; the buffer is as it was.
-    ///
-    /// ```
-    /// use etherparse_transport_c::{icmpv6, sys};
-    /// let kind = sys::ICMPV6_NEIGHBOR_ADVERTISEMENT;
-    /// let header = icmpv6::Header { kind, flags: sys::ICMPV6_NEIGHBOR_SOLICITED, ..Default::default() };
-    /// let mut buffer = [0xEE; 8];
-    /// assert_eq!(header.write(&mut buffer)?, 8);
-    /// assert_eq!(buffer, [136, 0, 0, 0, 0x40, 0, 0, 0]);
-    /// # Ok::<(), etherparse_transport_c::Error>(())
-    /// ```
-    pub fn write(&self, buffer: &mut [u8]) -> Result<usize, Error> {
-        let (mut written, mut error) = (0, sys::Error::default());
-        // SAFETY: as above.
-        let status =
-            unsafe { sys::etherparse_icmpv6_header_write(self, buffer.as_mut_ptr(), buffer.len(), &mut written, &mut error) };
-        answer(status, written, error)
-    }
+/// Writes the header, 8 bytes, at the front of a buffer, and returns how many bytes it has. Kind, code, checksum and the fields
+/// of the kind are written; of kind 0 type, code and the bytes behind the checksum.
+///
+/// Errors: `MessageUnknown`, `BufferTooSmall`; the buffer is as it was.
+///
+/// ```
+/// use etherparse_transport_c::{icmpv6, sys};
+/// let kind = sys::ICMPV6_KIND_NEIGHBOR_ADVERTISEMENT;
+/// let header = icmpv6::Header { kind, flags: sys::ICMPV6_NEIGHBOR_SOLICITED, ..Default::default() };
+/// let mut buffer = [0xEE; 8];
+/// assert_eq!(icmpv6::write_header(&header, &mut buffer)?, 8);
+/// assert_eq!(buffer, [136, 0, 0, 0, 0x40, 0, 0, 0]);
+/// # Ok::<(), etherparse_transport_c::Error>(())
+/// ```
+pub fn write_header(header: &Header, buffer: &mut [u8]) -> Result<usize, Error> {
+    let (mut written, mut error) = (0, sys::Error::default());
+    // SAFETY: as above.
+    let status =
+        unsafe { sys::etherparse_icmpv6_header_write(header, buffer.as_mut_ptr(), buffer.len(), &mut written, &mut error) };
+    answer(status, written, error)
 }
 
-/// The packet that an error is about, as far as the message contains it. The error is destination unreachable, packet too big, time
-/// exceeded or parameter problem. The length field of RFC 4884 ends the packet if the sender uses it.
+/// The packet that an error is about, as far as the message contains it. Each type below 128 is an error. The length field of RFC 4884 ends
+/// the packet if it counts at least 128 bytes.
 ///
 /// Errors: as [`Packet::read`], and `NoIcmpError` for another message.
 ///
 /// ```
 /// use etherparse_transport_c::{ErrorKind, icmpv6};
-/// let quoted = icmpv6::quoted_packet(&[1, 0, 0, 0, 1, 0, 0, 0, 0x60, 0, 0, 0, 0, 0, 17, 64, 0xEE])?;
+/// let quoted = icmpv6::quoted_packet(&[1, 0, 0, 0, 0, 0, 0, 0, 0x60, 0, 0, 0, 0, 0, 17, 64])?;
 /// assert_eq!(quoted, [0x60, 0, 0, 0, 0, 0, 17, 64]);
 /// let error = icmpv6::quoted_packet(&[128, 0, 0, 0, 0, 0, 0, 0]).unwrap_err();
 /// assert_eq!(error.kind(), ErrorKind::NoIcmpError);

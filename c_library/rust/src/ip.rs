@@ -422,9 +422,9 @@ pub struct Ipv4Translation {
     pub source: Option<[u8; 4]>,
     /// The new destination address.
     pub destination: Option<[u8; 4]>,
-    /// The new source port of UDP and TCP, and the new identifier of an echo request.
+    /// The new source port of UDP and TCP, and the new identifier of an ICMP request.
     pub source_port: Option<u16>,
-    /// The new destination port of UDP and TCP, and the new identifier of an echo reply.
+    /// The new destination port of UDP and TCP, and the new identifier of an ICMP reply.
     pub destination_port: Option<u16>,
 }
 
@@ -445,7 +445,7 @@ impl Ipv4Translation {
 }
 
 /// Translates the IPv4 packet at the front of the bytes, in place, as an address translator does. It replaces addresses, and ports or the
-/// identifier of an echo message, and updates the checksums. A receiver accepts the packet if it accepted it before.
+/// identifier of an ICMP query, and updates the checksums. A receiver accepts the packet if it accepted it before.
 ///
 /// The packet that an ICMP error is about is translated with source and destination exchanged. In a later fragment only the addresses are
 /// replaced. A packet that is cut off is translated as [`Transport::read_lax`] reads it.
@@ -483,9 +483,9 @@ pub struct Ipv6Translation {
     pub source: Option<[u8; 16]>,
     /// The new destination address.
     pub destination: Option<[u8; 16]>,
-    /// The new source port of UDP and TCP, and the new identifier of an echo request.
+    /// The new source port of UDP and TCP, and the new identifier of an ICMP request.
     pub source_port: Option<u16>,
-    /// The new destination port of UDP and TCP, and the new identifier of an echo reply.
+    /// The new destination port of UDP and TCP, and the new identifier of an ICMP reply.
     pub destination_port: Option<u16>,
 }
 

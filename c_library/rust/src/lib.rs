@@ -1,6 +1,6 @@
 // SPDX-FileCopyrightText: 2026 The etherparse_transport developers
 // SPDX-License-Identifier: MIT OR Apache-2.0
-//! Safe calls of the static library `etherparse_transport_c`: UDP, TCP, ICMPv4, ICMPv6 and the Internet checksum.
+//! Safe calls of the library `etherparse_transport` for C: UDP, TCP, ICMPv4, ICMPv6 and the Internet checksum.
 //!
 //! A packet is read from a `&[u8]`, which begins where the transport header begins and ends where the IP packet ends, as [`ip`] finds
 //! it. What is read borrows its payload and its options from these bytes. A call that can refuse returns a [`Result`], whose [`Error`]
@@ -38,13 +38,12 @@ mod error;
 pub mod icmpv4;
 pub mod icmpv6;
 pub mod ip;
-#[allow(missing_docs)]
-pub mod sys;
 pub mod tcp;
 mod text;
 pub mod udp;
 
 pub use error::{Error, ErrorKind, Layer, LenSource, ValueType};
+pub use etherparse_transport_sys as sys;
 pub use text::Text;
 
 /// What a test of a checksum says.

@@ -60,55 +60,53 @@ impl<'a> Packet<'a> {
     }
 }
 
-impl Header {
-    /// Writes the header with these option bytes at the front of a buffer, and returns how many bytes it has, 20 to 60. Zeros behind
-    /// the options fill the last word of four bytes. The data offset is made from the options.
-    ///
-    /// Errors: `OptionsTooLong`, `FlagsUnknown`, `BufferTooSmall`; the buffer is as it was.
-    ///
-    /// ```
-    /// use etherparse_transport_c::{sys, tcp};
-    /// let header = tcp::Header { source_port: 80, flags: sys::TCP_SYN, ..Default::default() };
-    /// let mut buffer = [0xEE; 60];
-    /// assert_eq!(header.write(&[3, 3, 7], &mut buffer)?, 24);
-    /// assert_eq!((&buffer[12..14], &buffer[20..24]), ([0x60, 0x02].as_slice(), [3, 3, 7, 0].as_slice()));
-    /// # Ok::<(), etherparse_transport_c::Error>(())
-    /// ```
-    pub fn write(&self, options: &[u8], buffer: &mut [u8]) -> Result<usize, Error> {
-        let (mut written, mut error) = (0, sys::Error::default());
-        // SAFETY: as above.
-        let status = unsafe {
-            sys::etherparse_tcp_header_write(
-                self,
-                options.as_ptr(),
-                options.len(),
-                buffer.as_mut_ptr(),
-                buffer.len(),
-                &mut written,
-                &mut error,
-            )
-        };
-        answer(status, written, error)
-    }
+/// Writes the header with these option bytes at the front of a buffer, and returns how many bytes it has, 20 to 60. Zeros behind
+/// the options fill the last word of four bytes. The data offset is made from the options.
+///
+/// Errors: `OptionsTooLong`, `FlagsUnknown`, `BufferTooSmall`; the buffer is as it was.
+///
+/// ```
+/// use etherparse_transport_c::{sys, tcp};
+/// let header = tcp::Header { source_port: 80, flags: sys::TCP_SYN, ..Default::default() };
+/// let mut buffer = [0xEE; 60];
+/// assert_eq!(tcp::write_header(&header, &[3, 3, 7], &mut buffer)?, 24);
+/// assert_eq!((&buffer[12..14], &buffer[20..24]), ([0x60, 0x02].as_slice(), [3, 3, 7, 0].as_slice()));
+/// # Ok::<(), etherparse_transport_c::Error>(())
+/// ```
+pub fn write_header(header: &Header, options: &[u8], buffer: &mut [u8]) -> Result<usize, Error> {
+    let (mut written, mut error) = (0, sys::Error::default());
+    // SAFETY: as above.
+    let status = unsafe {
+        sys::etherparse_tcp_header_write(
+            header,
+            options.as_ptr(),
+            options.len(),
+            buffer.as_mut_ptr(),
+            buffer.len(),
+            &mut written,
+            &mut error,
+        )
+    };
+    answer(status, written, error)
+}
 
-    /// Stores the header in the packet at the front of the bytes, in place of the one that is there. Options and payload stay.
-    ///
-    /// Errors: as [`Packet::read`], and `FlagsUnknown`; the bytes are as they were.
-    ///
-    /// ```
-    /// use etherparse_transport_c::tcp;
-    /// let mut bytes = [0, 80, 0, 81, 0, 0, 0, 1, 0, 0, 0, 0, 0x60, 0x02, 0, 9, 0, 0, 0, 0, 2, 4, 0x05, 0xB4];
-    /// let header = tcp::Packet::read(&bytes)?.header;
-    /// tcp::Header { source_port: 443, ..header }.store(&mut bytes)?;
-    /// assert_eq!((&bytes[..4], &bytes[20..]), ([1, 0xBB, 0, 81].as_slice(), [2, 4, 0x05, 0xB4].as_slice()));
-    /// # Ok::<(), etherparse_transport_c::Error>(())
-    /// ```
-    pub fn store(&self, bytes: &mut [u8]) -> Result<(), Error> {
-        let mut error = sys::Error::default();
-        // SAFETY: as above.
-        let status = unsafe { sys::etherparse_tcp_header_store(self, bytes.as_mut_ptr(), bytes.len(), &mut error) };
-        answer(status, (), error)
-    }
+/// Stores the header in the packet at the front of the bytes, in place of the one that is there. Options and payload stay.
+///
+/// Errors: as [`Packet::read`], and `FlagsUnknown`; the bytes are as they were.
+///
+/// ```
+/// use etherparse_transport_c::tcp;
+/// let mut bytes = [0, 80, 0, 81, 0, 0, 0, 1, 0, 0, 0, 0, 0x60, 0x02, 0, 9, 0, 0, 0, 0, 2, 4, 0x05, 0xB4];
+/// let header = tcp::Packet::read(&bytes)?.header;
+/// tcp::store_header(&tcp::Header { source_port: 443, ..header }, &mut bytes)?;
+/// assert_eq!((&bytes[..4], &bytes[20..]), ([1, 0xBB, 0, 81].as_slice(), [2, 4, 0x05, 0xB4].as_slice()));
+/// # Ok::<(), etherparse_transport_c::Error>(())
+/// ```
+pub fn store_header(header: &Header, bytes: &mut [u8]) -> Result<(), Error> {
+    let mut error = sys::Error::default();
+    // SAFETY: as above.
+    let status = unsafe { sys::etherparse_tcp_header_store(header, bytes.as_mut_ptr(), bytes.len(), &mut error) };
+    answer(status, (), error)
 }
 
 /// What to store in bytes 16 and 17 of the packet that the bytes are over IPv4, whatever stands there.
@@ -341,7 +339,7 @@ impl<'a> Iterator for RawOptions<'a> {
 
 impl core::iter::FusedIterator for RawOptions<'_> {}
 
-/// Writes the bytes of some options at the front of a buffer, as [`Header::write`] takes them, and returns how many bytes they have,
+/// Writes the bytes of some options at the front of a buffer, as [`write_header`] takes them, and returns how many bytes they have,
 /// 0 to 40. Zeros behind them fill the last word of four bytes.
 ///
 /// Errors, in this order: `OptionUnknown` or `OptionValues` of the first option that is none, however many there are; `OptionsTooLong`

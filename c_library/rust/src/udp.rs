@@ -62,25 +62,23 @@ impl<'a> Packet<'a> {
     }
 }
 
-impl Header {
-    /// Writes the header, 8 bytes, at the front of a buffer, and returns how many bytes it has.
-    ///
-    /// Errors: `BufferTooSmall`; the buffer is as it was.
-    ///
-    /// ```
-    /// use etherparse_transport_c::udp;
-    /// let header = udp::Header { source_port: 53, destination_port: 80, length: 8, checksum: 0 };
-    /// let mut buffer = [0; 8];
-    /// assert_eq!(header.write(&mut buffer)?, 8);
-    /// assert_eq!(buffer, [0, 53, 0, 80, 0, 8, 0, 0]);
-    /// # Ok::<(), etherparse_transport_c::Error>(())
-    /// ```
-    pub fn write(&self, buffer: &mut [u8]) -> Result<usize, Error> {
-        let (mut written, mut error) = (0, sys::Error::default());
-        // SAFETY: as above.
-        let status = unsafe { sys::etherparse_udp_header_write(self, buffer.as_mut_ptr(), buffer.len(), &mut written, &mut error) };
-        answer(status, written, error)
-    }
+/// Writes the header, 8 bytes, at the front of a buffer, and returns how many bytes it has.
+///
+/// Errors: `BufferTooSmall`; the buffer is as it was.
+///
+/// ```
+/// use etherparse_transport_c::udp;
+/// let header = udp::Header { source_port: 53, destination_port: 80, length: 8, checksum: 0 };
+/// let mut buffer = [0; 8];
+/// assert_eq!(udp::write_header(&header, &mut buffer)?, 8);
+/// assert_eq!(buffer, [0, 53, 0, 80, 0, 8, 0, 0]);
+/// # Ok::<(), etherparse_transport_c::Error>(())
+/// ```
+pub fn write_header(header: &Header, buffer: &mut [u8]) -> Result<usize, Error> {
+    let (mut written, mut error) = (0, sys::Error::default());
+    // SAFETY: as above.
+    let status = unsafe { sys::etherparse_udp_header_write(header, buffer.as_mut_ptr(), buffer.len(), &mut written, &mut error) };
+    answer(status, written, error)
 }
 
 /// What to store in bytes 6 and 7 of the packet at the front of the bytes over IPv4, whatever stands there; never 0.

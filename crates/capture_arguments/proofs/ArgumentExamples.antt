@@ -4,7 +4,7 @@ use Rattle.std.specs.Borrow.{Bor}
 use Rattle.std.specs.Option.{option_map}
 use Rattle.std.specs.Ptr.{null_ptr}
 use Rattle.std.specs.Char.{encode_utf8}
-use Rattle.std.specs.Str.{chars}
+use Rattle.std.specs.Str.{chars, is_utf8}
 use Rattle.std.specs.Str.Parse.{digits_value, without_leading_plus}
 use Rattle.clap.specs.Facts.{Entry}
 use Rattle.clap.specs.Faults.{defaults_fault, flags_fault, walk_fault}
@@ -26,6 +26,7 @@ use Rattle.capture_arguments.specs.Chosen.{AreChosen, AreRead, HasProtocols, Rea
 use Rattle.capture_arguments.specs.CommandLine.{AreMatchesOf, AreRequestedBy, command_line, protocol_names}
 use Rattle.capture_arguments.specs.Conflicts.{conflict_in}
 use Rattle.capture_arguments.specs.Options.{IsOptionsOf}
+use Rattle.capture_arguments.specs.Words.{escaped_option, escaped_option_text, is_escaped_option, word_of}
 use Rattle.capture_arguments.specs.declared.arguments.Options.{Options}
 
 -- ---- words and options
@@ -179,8 +180,8 @@ are_options = record {
   choice = record {
     hosts = values (codes "host");
     ports = subst (λ texts. AreRead ReadsPort texts options.parts.choice.ports) (sym (values (codes "port")))
-        (((omega arith, (omega arith, (omega arith, tt))), refl, omega arith), tt);
-    protocols = subst (λ names. HasProtocols names options.parts.choice.protocols) (sym (values (codes "protocol"))) is_tcp;
+        (λ none. absurd (cc none), (((omega arith, (omega arith, (omega arith, tt))), refl, omega arith), tt));
+    protocols = subst (λ names. HasProtocols names options.parts.choice.protocols) (sym (values (codes "protocol"))) (λ none. absurd (cc none), is_tcp);
   };
   limit = (
     λ none. absurd (cc (sym (ap (λ found. one_text found (codes "count")) are_found) ∙ none)),
@@ -195,4 +196,22 @@ are_options = record {
 }
 
 are_requested : AreRequestedBy words options
-are_requested = (matches, are_matches, are_options)
+unfolding words
+are_requested = (matches, (are_matches, refl), are_options)
+
+-- ---- an option that is not UTF-8
+
+-- an argument that begins with `-`, and contains a byte that no text in UTF-8 contains
+is_escaped : is_escaped_option (word_of (codes "--host=10.0.0.1" ++ 255 ∷ [])) ≡ true
+unfolding chars encode_utf8 is_utf8
+is_escaped = refl
+
+-- it is an option, but not after `--`
+is_option : escaped_option (codes "capture_report" ∷ (0 ∷ codes "--host=\\xFF") ∷ codes "a.pcap" ∷ []) ≡ Some (0 ∷ codes "--host=\\xFF")
+is_option = refl
+
+is_file : escaped_option (codes "capture_report" ∷ codes "--" ∷ (0 ∷ codes "--host=\\xFF") ∷ []) ≡ None
+is_file = refl
+
+option_text : escaped_option_text (0 ∷ codes "--host=\\xFF") ≡ codes "the argument '--host=\\xFF' is not UTF-8"
+option_text = refl

@@ -1,7 +1,7 @@
 -- For the values of options that choose packets.
-use Rattle.std.proofs.Common.{◌≡◌, ◌+◌, ◌<◌, ◌∙◌, ℕ, List, [], ◌∷◌, ◌++◌, Option, Some, None, arith, get_or, length, map, set, subst, sym, take}
-use Rattle.std.proofs.lemmas.List.{length-map, length-take-le, map_more}
-use Rattle.capture_arguments.specs.Chosen.{AreEmpty, ReadsPlaces}
+use Rattle.std.proofs.Common.{◌≡◌, ◌+◌, ◌<◌, ◌∙◌, ℕ, List, [], ◌∷◌, ◌++◌, Option, Some, None, ap, arith, drop, get_or, length, map, refl, set, subst, sym, take}
+use Rattle.std.proofs.lemmas.List.{drop_more, length-map, length-take-le, map-append, map_more, take-append-drop}
+use Rattle.capture_arguments.specs.Chosen.{AreEmpty, IsFirstWrong, ReadsPlaces}
 
 -- the places after the first one are empty
 empty_rest : {X : Type 0} (place : Option X) (places : List (Option X)) → AreEmpty (place ∷ places) → AreEmpty places
@@ -29,3 +29,22 @@ reads-step Reads names named place d places value below room reads one =
     let next = reads-one Reads texts (named (get_or names place d)) places value reads (omega (arith, is_place, room)) one in
     subst (λ all. ReadsPlaces Reads all (set places place (Some value))) (sym (map_more named names place d below))
     (subst (λ at. ReadsPlaces Reads (texts ++ named (get_or names place d) ∷ []) (set places at (Some value))) is_place next)
+
+-- the images of the first elements of a list, and of the others
+split_map : {X Y : Type 0} (named : Y → X) (place : ℕ) (names : List Y)
+    → map named names ≡ map named (take place names) ++ map named (drop place names)
+split_map named place names =
+    ap (map named) (sym (take-append-drop place names)) ∙ map-append named (take place names) (drop place names)
+
+-- the text in the next place is wrong, and the texts before it have values
+pub first-wrong : {X Y : Type 0} (Reads : List ℕ → X → Type 0) (IsWrong : List ℕ → Type 0) (names : List Y) (named : Y → List ℕ) (place : ℕ) (d : Y)
+    (values : List (Option X)) → place < length names → ReadsPlaces Reads (map named (take place names)) values
+    → IsWrong (named (get_or names place d)) → IsFirstWrong Reads IsWrong (map named names) (named (get_or names place d))
+first-wrong Reads IsWrong names named place d values below reads wrong = record {
+  before = map named (take place names);
+  after = map named (drop (place + 1) names);
+  values = values;
+  is_among = split_map named place names ∙ ap (λ rest. map named (take place names) ++ map named rest) (drop_more names place d below);
+  are_read = reads;
+  is_wrong = wrong;
+}

@@ -1,5 +1,5 @@
 -- The packets that the matches of a command line choose.
-use Rattle.std.specs.Prelude.{◌≡◌, ◌⊎◌, ◌<◌, ◌↔◌, ℕ, Contains, IsTrue, List, [], ◌∷◌, ◌++◌, codes, decimal, length, map, None, Ok, Option, Err, Some}
+use Rattle.std.specs.Prelude.{◌≡◌, ◌≢◌, ◌⊎◌, ◌<◌, ◌≤◌, ◌↔◌, ℕ, IsTrue, List, [], ◌∷◌, ◌++◌, codes, decimal, length, map, None, Ok, Option, Err, Some}
 use Rattle.std.specs.Char.{to_ascii_lowercase}
 use Rattle.clap.specs.declared.parser.matches.ArgMatches.{ArgMatches}
 use Rattle.capture_summary.specs.Networks.{ReadsNetwork, network_error_text}
@@ -25,10 +25,10 @@ ReadsPlaces Reads (text ∷ texts) [] = ⊥
 ReadsPlaces Reads (text ∷ texts) (None ∷ places) = ⊥
 ReadsPlaces Reads (text ∷ texts) (Some value ∷ places) = Reads text value × ReadsPlaces Reads texts places
 
--- the values of these texts, if there are texts
+-- the values of these texts; none of no texts
 abbrev pub AreRead : {X : Type 0} → (List ℕ → X → Type 0) → List (List ℕ) → Option (List (Option X)) → Type 0
 AreRead Reads texts None = texts ≡ []
-AreRead Reads texts (Some places) = ReadsPlaces Reads texts places
+AreRead Reads texts (Some places) = (texts ≢ []) × ReadsPlaces Reads texts places
 
 -- the text is a host
 abbrev pub ReadsHost : List ℕ → Network → Type 0
@@ -52,10 +52,10 @@ pub record AreChosen (names : List (List ℕ)) (chosen : Protocols) : Type 0 whe
   pub icmpv4 : IsTrue chosen.icmpv4 ↔ (IsNamed (codes "icmp") names ⊎ IsNamed (codes "icmpv4") names)
   pub icmpv6 : IsTrue chosen.icmpv6 ↔ (IsNamed (codes "icmp") names ⊎ IsNamed (codes "icmpv6") names)
 
--- the protocols with these names, if there are names
+-- the protocols with these names; none of no names
 abbrev pub HasProtocols : List (List ℕ) → Option Protocols → Type 0
 HasProtocols names None = names ≡ []
-HasProtocols names (Some chosen) = AreChosen names chosen
+HasProtocols names (Some chosen) = (names ≢ []) × AreChosen names chosen
 
 -- ---- the choice
 
@@ -65,11 +65,43 @@ pub record IsChoiceOf (matches : ArgMatches) (choice : Choice) : Type 0 where
   pub ports : AreRead ReadsPort (values_of matches (codes "port")) choice.ports
   pub protocols : HasProtocols (values_of matches (codes "protocol")) choice.protocols
 
--- why some matches contain no choice: a text that is no host or no port, or more than 16 values of an option
+-- ---- refusals
+
+-- This is the first of the texts that has no value. The first statement is about a text and its value, and the second about the wrong text.
+pub record IsFirstWrong {X : Type 0} (Reads : List ℕ → X → Type 0) (IsWrong : List ℕ → Type 0) (texts : List (List ℕ)) (wrong : List ℕ) : Type 0 where
+  pub before : List (List ℕ)
+  pub after : List (List ℕ)
+  pub values : List (Option X)
+  pub is_among : texts ≡ before ++ wrong ∷ after
+  pub are_read : ReadsPlaces Reads before values
+  pub is_wrong : IsWrong wrong
+
+-- the text is not a port
+abbrev pub IsNoPort : List ℕ → Type 0
+IsNoPort text = (port : ℕ) → ¬ (ReadsPort text port)
+
+-- why the hosts with these texts choose no packets: there are more than 16 of them, or this is the first that is no host
+abbrev pub AreNoHosts : List (List ℕ) → ChoiceError → Type 0
+AreNoHosts texts (TooMany name) = (name.now ≡ codes "host") × (16 < length texts)
+AreNoHosts texts (Host text error) =
+    (length texts ≤ 16) × IsFirstWrong ReadsHost (λ wrong. ReadsNetwork wrong (Err error)) texts text.now
+AreNoHosts texts (Port text) = ⊥
+
+-- the same for the texts of ports
+abbrev pub AreNoPorts : List (List ℕ) → ChoiceError → Type 0
+AreNoPorts texts (TooMany name) = (name.now ≡ codes "port") × (16 < length texts)
+AreNoPorts texts (Host text error) = ⊥
+AreNoPorts texts (Port text) = (length texts ≤ 16) × IsFirstWrong ReadsPort IsNoPort texts text.now
+
+-- the texts are at most 16 hosts
+abbrev pub AreHosts : List (List ℕ) → Type 0
+AreHosts texts = (length texts ≤ 16) × ((hosts : Option (List (Option Network))) × AreRead ReadsHost texts hosts)
+
+-- why some matches contain no choice of packets: the hosts are wrong, or the hosts are right and the ports are wrong
 abbrev pub IsRefusal : ArgMatches → ChoiceError → Type 0
-IsRefusal matches (Host text error) = Contains (values_of matches (codes "host")) text.now × ReadsNetwork text.now (Err error)
-IsRefusal matches (Port text) = Contains (values_of matches (codes "port")) text.now × ((port : ℕ) → ReadsPort text.now port → ⊥)
-IsRefusal matches (TooMany name) = 16 < length (values_of matches name.now)
+IsRefusal matches error =
+    AreNoHosts (values_of matches (codes "host")) error
+    ⊎ (AreHosts (values_of matches (codes "host")) × AreNoPorts (values_of matches (codes "port")) error)
 
 -- ---- the message
 
@@ -78,5 +110,5 @@ abbrev pub choice_text : ChoiceError → List ℕ
 choice_text (Host text error) =
     codes "invalid value '" ++ (text.now ++ (codes "' for '--host <ADDRESS>': " ++ network_error_text error))
 choice_text (Port text) =
-    codes "invalid value '" ++ (text.now ++ codes "' for '--port <N>': it is no number from 0 to 65535")
+    codes "invalid value '" ++ (text.now ++ codes "' for '--port <N>': not a number from 0 to 65535")
 choice_text (TooMany name) = codes "'--" ++ (name.now ++ (codes "' is given more than " ++ (decimal 16 ++ codes " times")))

@@ -1,5 +1,5 @@
 -- The command line of the program, as clap reads it.
-use Rattle.std.specs.Prelude.{◌≡◌, ◌-◌, ◌^◌, true, List, [], ◌∷◌, ◌++◌, Option, Some, codes, fold, map, option_map, pos}
+use Rattle.std.specs.Prelude.{◌≡◌, ◌-◌, ◌^◌, true, List, [], ◌∷◌, ◌++◌, Option, None, Some, codes, fold, map, option_map, pos}
 use Rattle.std.specs.Borrow.{Bor}
 use Rattle.clap.specs.Words.{App, Rule, Text, fault_of as faults_of, found_of, matches_of, new_app, new_rule, rows_of, with_rule}
 use Rattle.clap.specs.declared.builder.action.ArgAction.TheVariants.{Append, Set, SetTrue}
@@ -9,6 +9,7 @@ use Rattle.clap.specs.declared.builder.value_parser.ValueParser.{ValueParser}
 use Rattle.clap.specs.declared.builder.value_parser.ValueParser.TheVariants as parsers
 use Rattle.clap.specs.declared.parser.matches.ArgMatches.{ArgMatches}
 use Rattle.capture_arguments.specs.Options.{IsOptionsOf}
+use Rattle.capture_arguments.specs.Words.{escaped_option}
 use Rattle.capture_arguments.specs.declared.arguments.Options.{Options}
 
 -- an option without a value
@@ -103,11 +104,11 @@ bare_command = let app = new_app (codes "capture_report") in record app { top = 
 
 -- the version of the program
 abbrev pub version_text : Text
-version_text = codes "0.4.0"
+version_text = codes "0.5.0"
 
 -- what help says before the usage
 abbrev pub about_text : Text
-about_text = codes "Reads captures, and says of every packet what it is and whether its checksum is right"
+about_text = codes "Reads captures, and reports what each packet is and whether its checksum is right"
 
 -- a text that may be absent is this text
 abbrev pub IsText : Option (Bor Text) → Text → Type 0
@@ -132,6 +133,10 @@ abbrev pub AreMatchesOf : List Text → ArgMatches → Type 0
 AreMatchesOf words matches =
     (app : App) × IsCommandLine app × (faults_of app words ≡ []) × (rows_of (found_of matches) ≡ matches_of app words)
 
+-- the same, and each word that is an option is UTF-8
+abbrev pub ArePlainMatchesOf : List Text → ArgMatches → Type 0
+ArePlainMatchesOf words matches = AreMatchesOf words matches × (escaped_option words ≡ None)
+
 -- these words request these options; the first word is the name of the program
 abbrev pub AreRequestedBy : List Text → Options → Type 0
-AreRequestedBy words options = (matches : ArgMatches) × AreMatchesOf words matches × IsOptionsOf matches options
+AreRequestedBy words options = (matches : ArgMatches) × ArePlainMatchesOf words matches × IsOptionsOf matches options

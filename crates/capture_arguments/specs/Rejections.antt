@@ -1,47 +1,82 @@
--- Why the words of a command line are refused. The first word is the name of the program.
-use Rattle.std.specs.Prelude.{◌≡◌, ◌≢◌, ◌⊎◌, ℕ, false, List, [], None}
-use Rattle.clap.specs.Words.{App, IsAmong, Text, fault_of as faults_of, kind_of, matches_of, takes}
+-- Why the words of a command line are refused, and by which error. The first word is the name of the program.
+use Rattle.std.specs.Prelude.{◌≡◌, ◌⊎◌, ℕ, false, List, codes, Some}
+use Rattle.clap.specs.Words.{App, IsAmong, Text, fault_of as faults_of, found_of, kind_of, rows_of, takes}
 use Rattle.clap.specs.declared.error.Error.{Error}
 use Rattle.clap.specs.declared.error.kind.ErrorKind.{ErrorKind}
-use Rattle.clap.specs.declared.error.kind.ErrorKind.TheVariants.{ArgumentConflict, DisplayHelp, DisplayVersion, OutOfMemory, ValueValidation}
+use Rattle.clap.specs.declared.error.kind.ErrorKind.TheVariants.{ArgumentConflict, DisplayHelp, DisplayVersion, OutOfMemory, UnknownArgument, ValueValidation}
 use Rattle.clap.specs.declared.parser.matches.ArgMatches.{ArgMatches}
-use Rattle.capture_arguments.specs.Chosen.{IsRefusal}
-use Rattle.capture_arguments.specs.Conflicts.{conflict_in}
+use Rattle.capture_arguments.specs.Chosen.{IsRefusal, choice_text}
+use Rattle.capture_arguments.specs.Conflicts.{conflict_in, conflict_text}
 use Rattle.capture_arguments.specs.Options.{IsCompatible}
-use Rattle.capture_arguments.specs.CommandLine.{AreMatchesOf, AreRequestedBy, IsCommandLine}
+use Rattle.capture_arguments.specs.CommandLine.{AreMatchesOf, ArePlainMatchesOf, AreRequestedBy, IsCommandLine}
 use Rattle.capture_arguments.specs.OutputFaults.{fault_of}
+use Rattle.capture_arguments.specs.Words.{escaped_option, escaped_option_text}
 use Rattle.capture_arguments.specs.declared.arguments.Options.{Options}
 use Rattle.capture_arguments.specs.declared.chosen.ChoiceError.{ChoiceError}
 
--- The words don't fit the command line, or they request help or the version. This is the kind of the first fault in them, by clap.
-abbrev pub AreNoMatch : List Text → ErrorKind → Type 0
-AreNoMatch words kind = (app : App) × IsCommandLine app × (takes app words ≡ false) × IsAmong kind (faults_of app words)
+-- ---- faults that clap does not find, in the order of the tests
 
--- the words fit the command line, but contain two options that are not used together
-abbrev pub HaveConflict : List Text → Type 0
-HaveConflict words = (app : App) × IsCommandLine app × (faults_of app words ≡ []) × (conflict_in (matches_of app words) ≢ None)
+-- an option is not UTF-8
+abbrev pub HaveEscapedOption : List Text → Text → Type 0
+HaveEscapedOption words message =
+    (matches : ArgMatches) × (option : Text) × AreMatchesOf words matches × (escaped_option words ≡ Some option)
+    × (message ≡ escaped_option_text option)
 
--- the words contain no two options that are not used together, but no choice of packets
-abbrev pub HaveNoChoice : List Text → Type 0
-HaveNoChoice words =
-    (matches : ArgMatches) × (error : ChoiceError) × AreMatchesOf words matches × IsCompatible matches × IsRefusal matches error
+-- two options are not used together
+abbrev pub HaveConflict : List Text → Text → Type 0
+HaveConflict words message =
+    (matches : ArgMatches) × (first : Text) × (second : Text) × ArePlainMatchesOf words matches
+    × (conflict_in (rows_of (found_of matches)) ≡ Some (first, second)) × (message ≡ conflict_text first second)
+
+-- the values of options contain no choice of packets
+abbrev pub HaveNoChoice : List Text → Text → Type 0
+HaveNoChoice words message =
+    (matches : ArgMatches) × (error : ChoiceError) × ArePlainMatchesOf words matches × IsCompatible matches × IsRefusal matches error
+    × (message ≡ choice_text error)
 
 -- the packets can't be written to the file that the words name
-abbrev pub HaveNoOutput : List Text → Type 0
-HaveNoOutput words = (options : Options) × AreRequestedBy words options × (fault_of options ≢ None)
+abbrev pub HaveNoOutput : List Text → Text → Type 0
+HaveNoOutput words message = (options : Options) × AreRequestedBy words options × (fault_of options ≡ Some message)
 
--- the error has this kind, or it is about the memory, since an allocation failed
-abbrev pub HasKindUnless : Type 0 → ErrorKind → Error → Type 0
-HasKindUnless RanOut kind error = (kind_of error ≡ kind) ⊎ ((kind_of error ≡ OutOfMemory) × RanOut)
+-- the first fault in words that fit the command line, by the kind and the message of its error
+abbrev pub HaveFault : List Text → ErrorKind → Text → Type 0
+HaveFault words kind message =
+    ((kind ≡ UnknownArgument) × HaveEscapedOption words message)
+    ⊎ (((kind ≡ ArgumentConflict) × HaveConflict words message)
+    ⊎ (((kind ≡ ValueValidation) × HaveNoChoice words message)
+    ⊎ ((kind ≡ ArgumentConflict) × HaveNoOutput words message)))
 
--- these words are refused by an error for one of these reasons, or an allocation failed
-abbrev pub AreRejectedBy : Type 0 → List Text → Error → Type 0
-AreRejectedBy RanOut words error =
-    ((kind_of error ≡ OutOfMemory) × RanOut)
-    ⊎ (AreNoMatch words (kind_of error)
-    ⊎ (((kind_of error ≡ ArgumentConflict) × HaveConflict words)
-    ⊎ (((kind_of error ≡ ValueValidation) × HaveNoChoice words)
-    ⊎ ((kind_of error ≡ ArgumentConflict) × HaveNoOutput words))))
+-- the message if there is no capture to read
+abbrev pub no_capture_text : Text
+no_capture_text = codes "no FILE is named, and standard input is a terminal"
+
+-- ---- errors
+
+-- clap returned this error for these words, which don't fit the command line, or request help or the version. The statement `Refuses` is true
+-- of what clap returns for words. The error has the kind of the first fault in them, by clap.
+abbrev pub AreNoMatch : (App → List Text → Error → Type 0) → List Text → Error → Type 0
+AreNoMatch Refuses words error =
+    (app : App) × IsCommandLine app × (takes app words ≡ false) × IsAmong (kind_of error) (faults_of app words) × Refuses app words error
+
+-- clap made this error of this kind, this message and the usage of the program. The statement `Explains` is true of what clap makes of them.
+abbrev pub IsExplained : (App → ErrorKind → Text → Error → Type 0) → ErrorKind → Text → Error → Type 0
+IsExplained Explains kind message error =
+    (kind_of error ≡ kind) × ((app : App) × IsCommandLine app × Explains app kind message error)
+
+-- the error is about the memory, since an allocation failed
+abbrev pub IsAboutMemory : Type 0 → Error → Type 0
+IsAboutMemory RanOut error = (kind_of error ≡ OutOfMemory) × RanOut
+
+-- the error has this kind and this message, with the usage of the program, or it is about the memory
+abbrev pub IsExplainedUnless : Type 0 → (App → ErrorKind → Text → Error → Type 0) → ErrorKind → Text → Error → Type 0
+IsExplainedUnless RanOut Explains kind message error = IsExplained Explains kind message error ⊎ IsAboutMemory RanOut error
+
+-- clap refuses these words, or the error has the kind and the message of the first fault in them, or it is about the memory
+abbrev pub AreRejectedBy : Type 0 → (App → List Text → Error → Type 0) → (App → ErrorKind → Text → Error → Type 0) → List Text → Error → Type 0
+AreRejectedBy RanOut Refuses Explains words error =
+    IsAboutMemory RanOut error
+    ⊎ (AreNoMatch Refuses words error
+    ⊎ ((kind : ErrorKind) × (message : Text) × HaveFault words kind message × IsExplained Explains kind message error))
 
 -- the exit status after the text of such an error: 0 for help and for the version, 3 if no memory is left, and 2 for every other error
 abbrev pub answer_number : ErrorKind → ℕ

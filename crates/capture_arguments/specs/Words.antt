@@ -1,11 +1,12 @@
 -- The words of the command line.
-use Rattle.std.specs.Prelude.{◌≡◌, ◌⊎◌, ℕ, ◌+◌, ◌-◌, ◌^◌, if◌then◌else◌, List, [], ◌∷◌, length, map}
+use Rattle.std.specs.Prelude.{◌≡◌, ◌⊎◌, ◌==◌, ◌&&◌, ℕ, ◌+◌, ◌-◌, ◌^◌, Bool, false, if◌then◌else◌, List, [], ◌∷◌, ◌++◌, codes, drop, length, map, None, Option, Some}
 use Rattle.std.specs.IoError.{error_kind}
 use Rattle.std.specs.List.{flat_map}
-use Rattle.std.specs.Str.{is_utf8}
+use Rattle.std.specs.Str.{bytes_eq, is_utf8}
 use Rattle.std.specs.declared.io.Error.{Error}
 use Rattle.std.specs.declared.io.ErrorKind.TheVariants.{ArgumentListTooLong, OutOfMemory}
 use Rattle.capture_facts.specs.ShownText.{escaped_byte}
+use Rattle.capture_request.specs.Names.{without_mark}
 
 -- an argument as a text; if it is not UTF-8, it is the name of a file in its escaped form, after NUL (0), which no argument contains
 abbrev pub word_of : List ℕ → List ℕ
@@ -22,6 +23,28 @@ pub record AreWordsOf (holds : ℕ → List ℕ → Type 0) (ends : ℕ → Type
   pub are_arguments : AreArguments holds 0 arguments
   pub are_all : ends (length arguments)
   pub are_words : words ≡ map word_of arguments
+
+-- ---- options that are not UTF-8
+
+-- the word is the escaped form of an argument that begins with `-` (45)
+abbrev pub is_escaped_option : List ℕ → Bool
+is_escaped_option [] = false
+is_escaped_option (mark ∷ []) = false
+is_escaped_option (mark ∷ (first ∷ word)) = mark == 0 && first == 45
+
+-- the first of these words that is an escaped option; no word after `--` is an option
+abbrev pub first_escaped_option : List (List ℕ) → Option (List ℕ)
+first_escaped_option [] = None
+first_escaped_option (word ∷ words) =
+    if bytes_eq word (codes "--") then None else (if is_escaped_option word then Some word else first_escaped_option words)
+
+-- the same for the words of a command line, of which the first is the name of the program
+abbrev pub escaped_option : List (List ℕ) → Option (List ℕ)
+escaped_option words = first_escaped_option (drop 1 words)
+
+-- the message about such an option
+abbrev pub escaped_option_text : List ℕ → List ℕ
+escaped_option_text word = codes "the argument '" ++ (without_mark word ++ codes "' is not UTF-8")
 
 -- ---- refusals
 

@@ -6,9 +6,11 @@ ghost use Rattle.clap.specs.declared.builder.value_parser.ValueParser.TheVariant
 ghost use Rattle.clap.specs.declared.error.kind.ErrorKind.TheVariants as ErrorKind;
 ghost use Rattle.capture_arguments.specs.Arguments.{HasFlag, HasNumberOr};
 ghost use Rattle.capture_arguments.specs.Options.{IsOptionsOf, IsRefusedBy, names_of};
-ghost use Rattle.capture_arguments.specs.Conflicts.{conflict_in};
-ghost use Rattle.capture_arguments.specs.OutputFaults.{fault_of};
-ghost use Rattle.capture_arguments.specs.Rejections.{AreRejectedBy, HasKindUnless};
+ghost use Rattle.capture_arguments.specs.Chosen.{choice_text};
+ghost use Rattle.capture_arguments.specs.Conflicts.{conflict_in, conflict_text};
+ghost use Rattle.capture_arguments.specs.OutputFaults.{fault_of, is_capture_text};
+ghost use Rattle.capture_arguments.specs.Words.{escaped_option_text};
+ghost use Rattle.capture_arguments.specs.Rejections.{AreRejectedBy, IsExplainedUnless, no_capture_text};
 ghost use Rattle.capture_arguments.specs.CommandLine.{AreRequestedBy, IsCommandLine, IsDescribed, bare_command, choice_rules, count_rule, end_rules, file_rule, file_rules, flag_rule, form_rules, line_buffered_rule, line_rules, numeric_rule, output_rules, parsed_rule, protocol_names, protocol_rule, read_rule, repeated, top_rule, value_rule, verbose_rule, with_rules, write_rule};
 ghost use Rattle.capture_summary.specs.Ranking.{default_top};
 ghost use Rattle.capture_words.specs.TimeText.{times_by};
@@ -17,6 +19,7 @@ ghost use Rattle.capture_request.specs.declared.parts.Format.TheVariants as Form
 use crate::chosen::{ChoiceError, choice_of, choice_text};
 use crate::conflicts::{conflict_in, conflict_text};
 use crate::memory::Memory;
+use crate::words::{escaped_option, escaped_option_text};
 use capture_request::{Format, Parts, STANDARD_INPUT, Times};
 use capture_summary::BUSIEST;
 use clap::error::ErrorKind;
@@ -24,11 +27,14 @@ use clap::{Arg, ArgAction, ArgMatches, Command, Error, value_parser};
 use std::alloc::{AllocError, Global};
 
 /// The version of the program, which is that of the library (`ETHERPARSE_VERSION` in the C header).
-const VERSION: &str = "0.4.0";
+const VERSION: &str = "0.5.0";
 
-/// What help says after the options.
+/// The help after the options.
 const AFTER_HELP: &str = "\
---wrong and --check are about packets whose checksum is wrong or whose form is refused.
+--wrong and --check are about packets whose checksum is wrong, and packets that
+are refused. A checksum that is not filled in is normal for packets that this
+host sent, since its network card fills it in. --json writes the packets and
+then the summary, each as an object in a line.
 
 Exit status: 0 all was read, or as much as -c requests; 1 a capture ends early;
 2 no capture, or a wrong argument; 3 opening, reading or writing failed;
@@ -61,16 +67,17 @@ pub struct Options<'a> {
 ///
 /// # Errors
 ///
-/// An unknown argument is named in the text of the error, whose exit status is 2. So are two options that are not used together. A request
-/// for help or for the version is also an error. Its text goes to standard output, and its exit status is 0. If no memory is left, the exit
-/// status is 3.
+/// The text of the error names what is wrong, and the exit status is 2. It is an unknown argument, an option that is not UTF-8, two options
+/// that are not used together, the first wrong host or port, or a file that can't be written. A request for help or for the version is also
+/// an error. Its text goes to standard output, and its exit status is 0. If no memory is left, the exit status is 3.
 pub fn requested_options<'a, M: Memory>(
     memory: &M,
     words: &'a [String],
 ) -> Result<Options<'a>, Error>
     ensures options { IfOk result (AreRequestedBy (map (λ word. string_bytes word) words.now)) }
     ensures writable { IfOk result (λ options. fault_of options ≡ None) }
-    ensures rejected { IfErr result (AreRejectedBy (M.ran_out memory.now) (map (λ word. string_bytes word) words.now)) }
+    ensures rejected { IfErr result (AreRejectedBy (M.ran_out memory.now) (M.refuses memory.now) (M.explains memory.now)
+        (map (λ word. string_bytes word) words.now)) }
 {
     let options = given_options(memory, words)?;
     match output_fault(&options) {
@@ -82,15 +89,19 @@ pub fn requested_options<'a, M: Memory>(
 /// The options in the arguments, whether the requested file can be written or not.
 fn given_options<'a, M: Memory>(memory: &M, words: &'a [String]) -> Result<Options<'a>, Error>
     ensures options { IfOk result (AreRequestedBy (map (λ word. string_bytes word) words.now)) }
-    ensures rejected { IfErr result (AreRejectedBy (M.ran_out memory.now) (map (λ word. string_bytes word) words.now)) }
+    ensures rejected { IfErr result (AreRejectedBy (M.ran_out memory.now) (M.refuses memory.now) (M.explains memory.now)
+        (map (λ word. string_bytes word) words.now)) }
 {
     let command = command(memory)?;
     let matches = memory.matches(command, words)?;
-    match options_of(memory, &matches) {
-        Ok(options) => Ok(options),
-        Err(OptionsError::Conflict(first, second)) => Err(invalid_pair(memory, first, second)),
-        Err(OptionsError::Choice(error)) => Err(invalid_choice(memory, error)),
-        Err(OptionsError::NoMemory(error)) => Err(error.into()),
+    match escaped_option(words) {
+        Some(word) => Err(invalid_option(memory, word)),
+        None => match options_of(memory, &matches) {
+            Ok(options) => Ok(options),
+            Err(OptionsError::Conflict(first, second)) => Err(invalid_pair(memory, first, second)),
+            Err(OptionsError::Choice(error)) => Err(invalid_choice(memory, error)),
+            Err(OptionsError::NoMemory(error)) => Err(error.into()),
+        },
     }
 }
 
@@ -203,9 +214,19 @@ fn count_of(matches: &ArgMatches<'_>) -> Option<u64>
     matches.get_one("count")
 }
 
+/// The error for an option that is not UTF-8, with the usage. If no memory is left for its text, the error is about the memory.
+fn invalid_option<M: Memory>(memory: &M, word: &str) -> Error
+    ensures { IsExplainedUnless (M.ran_out memory.now) (M.explains memory.now) ErrorKind.UnknownArgument (escaped_option_text word.now) result }
+{
+    match escaped_option_text(memory, word) {
+        Ok(message) => error_with_usage(memory, ErrorKind::UnknownArgument, message.as_str()),
+        Err(error) => error.into(),
+    }
+}
+
 /// The error for two options that are not used together, with the usage. If no memory is left for its text, the error is about the memory.
 fn invalid_pair<M: Memory>(memory: &M, first: &str, second: &str) -> Error
-    ensures { HasKindUnless (M.ran_out memory.now) ErrorKind.ArgumentConflict result }
+    ensures { IsExplainedUnless (M.ran_out memory.now) (M.explains memory.now) ErrorKind.ArgumentConflict (conflict_text first.now second.now) result }
 {
     match conflict_text(memory, first, second) {
         Ok(message) => error_with_usage(memory, ErrorKind::ArgumentConflict, message.as_str()),
@@ -215,7 +236,7 @@ fn invalid_pair<M: Memory>(memory: &M, first: &str, second: &str) -> Error
 
 /// The error for a choice of packets that is not valid, with the usage. If no memory is left for its text, the error is about the memory.
 fn invalid_choice<M: Memory>(memory: &M, error: ChoiceError<'_>) -> Error
-    ensures { HasKindUnless (M.ran_out memory.now) ErrorKind.ValueValidation result }
+    ensures { IsExplainedUnless (M.ran_out memory.now) (M.explains memory.now) ErrorKind.ValueValidation (choice_text error.entry) result }
 {
     match choice_text(memory, error) {
         Ok(message) => error_with_usage(memory, ErrorKind::ValueValidation, message.as_str()),
@@ -239,21 +260,21 @@ fn output_fault(options: &Options<'_>) -> Option<&'static str>
 
 /// The error for a file that can't be written, with the usage. If no memory is left for its text, the error is about the memory.
 fn invalid_output<M: Memory>(memory: &M, fault: &str) -> Error
-    ensures { HasKindUnless (M.ran_out memory.now) ErrorKind.ArgumentConflict result }
+    ensures { IsExplainedUnless (M.ran_out memory.now) (M.explains memory.now) ErrorKind.ArgumentConflict fault.now result }
 {
     error_with_usage(memory, ErrorKind::ArgumentConflict, fault)
 }
 
 /// The error if the file to write is the capture, with the usage. If no memory is left for its text, the error is about the memory.
 pub fn output_is_capture<M: Memory>(memory: &M) -> Error
-    ensures { HasKindUnless (M.ran_out memory.now) ErrorKind.ArgumentConflict result }
+    ensures { IsExplainedUnless (M.ran_out memory.now) (M.explains memory.now) ErrorKind.ArgumentConflict is_capture_text result }
 {
     invalid_output(memory, OUTPUT_IS_CAPTURE)
 }
 
 /// The error if there is no capture to read, with the usage. If no memory is left for its text, the error is about the memory.
 pub fn no_capture<M: Memory>(memory: &M) -> Error
-    ensures { HasKindUnless (M.ran_out memory.now) ErrorKind.MissingRequiredArgument result }
+    ensures { IsExplainedUnless (M.ran_out memory.now) (M.explains memory.now) ErrorKind.MissingRequiredArgument no_capture_text result }
 {
     error_with_usage(
         memory,
@@ -264,7 +285,7 @@ pub fn no_capture<M: Memory>(memory: &M) -> Error
 
 /// An error of this kind with this message and the usage. If no memory is left for its text, the error is about the memory.
 fn error_with_usage<M: Memory>(memory: &M, kind: ErrorKind, message: &str) -> Error
-    ensures { HasKindUnless (M.ran_out memory.now) kind result }
+    ensures { IsExplainedUnless (M.ran_out memory.now) (M.explains memory.now) kind message.now result }
 {
     match command(memory) {
         Ok(mut command) => error_of(memory, &mut command, kind, message),
@@ -279,7 +300,8 @@ fn error_of<M: Memory>(
     kind: ErrorKind,
     message: &str,
 ) -> Error
-    ensures { HasKindUnless (M.ran_out memory.now) kind result }
+    ensures { IsCommandLine (app_of command.old)
+        → IsExplainedUnless (M.ran_out memory.now) (M.explains memory.now) kind message.now result }
 {
     match memory.usage_error(command, kind, message) {
         Ok(error) => error,
@@ -305,9 +327,7 @@ fn bare<'a>(alloc: Global) -> Command<'a>
 {
     Command::new(alloc, "capture_report")
         .version(VERSION)
-        .about(
-            "Reads captures, and says of every packet what it is and whether its checksum is right",
-        )
+        .about("Reads captures, and reports what each packet is and whether its checksum is right")
         .after_help(AFTER_HELP)
 }
 
@@ -328,7 +348,7 @@ fn summary<'a>(alloc: Global) -> Arg<'a>
     ensures rule { rule_of result ≡ flag_rule (codes "summary") }
     ensures local { result.global ≡ false }
 {
-    flag(alloc, "summary", "Write the summary alone")
+    flag(alloc, "summary", "Write only the summary")
 }
 
 /// The option for lines without the summary.
@@ -336,7 +356,7 @@ fn packets<'a>(alloc: Global) -> Arg<'a>
     ensures rule { rule_of result ≡ flag_rule (codes "packets") }
     ensures local { result.global ≡ false }
 {
-    flag(alloc, "packets", "Write the lines of packets alone")
+    flag(alloc, "packets", "Write only the lines of packets")
 }
 
 /// The option for lines only of packets with a fault.
@@ -347,7 +367,7 @@ fn wrong<'a>(alloc: Global) -> Arg<'a>
     flag(
         alloc,
         "wrong",
-        "Write a line only for a packet whose checksum or form is wrong",
+        "Write a line only if the checksum is wrong or the packet is refused",
     )
 }
 
@@ -359,7 +379,7 @@ fn verbose<'a>(alloc: Global) -> Arg<'a>
     flag(
         alloc,
         "verbose",
-        "Write the time to live or the hop limit of packets too, which JSON always has",
+        "Also write the time to live or the hop limit of each packet, which JSON always has",
     )
     .short('v')
 }
@@ -384,7 +404,7 @@ fn absolute<'a>(alloc: Global) -> Arg<'a>
     flag(
         alloc,
         "absolute",
-        "Write the date and time of packets, in UTC, in place of the time since the first",
+        "Write the date and time of each packet, in UTC, instead of the time since the first packet",
     )
 }
 
@@ -396,7 +416,7 @@ fn check<'a>(alloc: Global) -> Arg<'a>
     flag(
         alloc,
         "check",
-        "End with status 4 where the checksum or form of a packet is wrong",
+        "End with status 4 if a checksum is wrong or a packet is refused",
     )
 }
 
@@ -408,7 +428,7 @@ fn json<'a>(alloc: Global) -> Arg<'a>
     flag(
         alloc,
         "json",
-        "Write JSON: an object in a line for each packet, and one for the summary",
+        "Write JSON: an object in a line for each packet, and an object for the summary",
     )
 }
 
@@ -421,7 +441,7 @@ fn top<'a>(alloc: Global) -> Arg<'a>
         alloc,
         "top",
         "N",
-        "Name the N busiest conversations in the summary, in place of 10",
+        "Name the N busiest conversations in the summary instead of 10",
     )
     .value_parser(value_parser!(usize))
 }
@@ -448,7 +468,7 @@ fn host<'a>(alloc: Global) -> Arg<'a>
         alloc,
         "host",
         "ADDRESS",
-        "Report only packets from or to this address, or a network such as 10.0.0.0/8; repeat it for any of several",
+        "Report only packets from or to this address, or a network such as 10.0.0.0/8; repeat it for several addresses",
     )
 }
 
@@ -461,7 +481,7 @@ fn port<'a>(alloc: Global) -> Arg<'a>
         alloc,
         "port",
         "N",
-        "Report only packets from or to this port; repeat it for any of several",
+        "Report only packets from or to this port; repeat it for several ports",
     )
     .value_parser(value_parser!(u16))
 }
@@ -475,7 +495,7 @@ fn protocol<'a>(alloc: Global) -> Arg<'a>
         alloc,
         "protocol",
         "NAME",
-        "Report only packets of this protocol; repeat it for any of several",
+        "Report only packets of this protocol; repeat it for several protocols",
     )
     .value_parser(PROTOCOLS.as_slice())
     .ignore_case(true)
@@ -518,7 +538,7 @@ fn write<'a>(alloc: Global) -> Arg<'a>
         alloc,
         "write",
         "FILE",
-        "Write the packets that have a line to a capture of the same format, in place of the report; `-` is standard output",
+        "Write the packets that have a line to a capture of the same format instead of the report; `-` is standard output",
     )
     .short('w')
 }
@@ -531,7 +551,7 @@ fn line_buffered<'a>(alloc: Global) -> Arg<'a>
     flag(
         alloc,
         "line-buffered",
-        "Write each line out as soon as it is done, as to a terminal",
+        "Write each line out as soon as it is complete, as on a terminal",
     )
     .short('l')
 }
@@ -554,13 +574,7 @@ fn read<'a>(alloc: Global) -> Arg<'a>
     ensures rule { rule_of result ≡ read_rule }
     ensures local { result.global ≡ false }
 {
-    several(
-        alloc,
-        "read",
-        "FILE",
-        "A capture, as FILE without the option",
-    )
-    .short('r')
+    several(alloc, "read", "FILE", "A capture, like FILE").short('r')
 }
 
 /// The captures.

@@ -1,7 +1,7 @@
 //! The packets that the arguments choose.
 
-ghost use Rattle.std.specs.Prelude.{◌≡◌, ◌≤◌, ◌↔◌, ℕ, Contains, Err, IfErr, IfOk, IsTrue, OnErr, codes, length, map, string_bytes};
-ghost use Rattle.capture_arguments.specs.Chosen.{AreChosen, AreRead, HasProtocols, IsChoiceOf, IsNamed, IsRefusal, ReadsHost, ReadsPlaces, ReadsPort, choice_text};
+ghost use Rattle.std.specs.Prelude.{◌≡◌, ◌≤◌, ◌↔◌, Err, IfErr, IfOk, IsTrue, OnErr, codes, length, map, string_bytes};
+ghost use Rattle.capture_arguments.specs.Chosen.{AreChosen, AreNoHosts, AreNoPorts, AreRead, HasProtocols, IsChoiceOf, IsFirstWrong, IsNamed, IsNoPort, IsRefusal, ReadsHost, ReadsPlaces, ReadsPort, choice_text};
 ghost use Rattle.capture_arguments.specs.Arguments.{values_of};
 ghost use Rattle.capture_summary.specs.Networks.{ReadsNetwork};
 
@@ -47,11 +47,13 @@ fn hosts_of<'a>(
     matches: &ArgMatches<'a>,
 ) -> Result<Option<[Option<Network>; MAX_CHOSEN]>, ChoiceError<'a>>
     ensures hosts { IfOk result (AreRead ReadsHost (values_of matches.now (codes "host"))) }
-    ensures refusal { IfErr result (IsRefusal matches.now) }
+    ensures few { IfOk result (λ hosts. length (values_of matches.now (codes "host")) ≤ 16) }
+    ensures refusal { IfErr result (AreNoHosts (values_of matches.now (codes "host"))) }
 {
-    let Some(texts) = matches.get_strs("host") else {
+    let texts = matches.get_strs("host").unwrap_or(&[]);
+    if texts.is_empty() {
         return Ok(None);
-    };
+    }
     if texts.len() > MAX_CHOSEN {
         return Err(ChoiceError::TooMany("host"));
     }
@@ -65,7 +67,8 @@ fn hosts_of<'a>(
 fn hosts_in<'a>(texts: &[&'a str]) -> Result<[Option<Network>; MAX_CHOSEN], (&'a str, NetworkError)>
     requires { length texts.now ≤ 16 }
     ensures hosts { IfOk result (ReadsPlaces ReadsHost (map (λ text. text.now) texts.now)) }
-    ensures refusal { IfErr result (λ refused. Contains (map (λ text. text.now) texts.now) refused.0.now × ReadsNetwork refused.0.now (Err refused.1)) }
+    ensures refusal { IfErr result (λ refused.
+        IsFirstWrong ReadsHost (λ wrong. ReadsNetwork wrong (Err refused.1)) (map (λ text. text.now) texts.now) refused.0.now) }
 {
     let mut hosts = [None; MAX_CHOSEN];
     for (place, text) in texts.iter().enumerate() {
@@ -82,11 +85,12 @@ fn ports_of<'a>(
     matches: &ArgMatches<'a>,
 ) -> Result<Option<[Option<u16>; MAX_CHOSEN]>, ChoiceError<'a>>
     ensures ports { IfOk result (AreRead ReadsPort (values_of matches.now (codes "port"))) }
-    ensures refusal { IfErr result (IsRefusal matches.now) }
+    ensures refusal { IfErr result (AreNoPorts (values_of matches.now (codes "port"))) }
 {
-    let Some(texts) = matches.get_strs("port") else {
+    let texts = matches.get_strs("port").unwrap_or(&[]);
+    if texts.is_empty() {
         return Ok(None);
-    };
+    }
     if texts.len() > MAX_CHOSEN {
         return Err(ChoiceError::TooMany("port"));
     }
@@ -100,7 +104,7 @@ fn ports_of<'a>(
 fn ports_in<'a>(texts: &[&'a str]) -> Result<[Option<u16>; MAX_CHOSEN], &'a str>
     requires { length texts.now ≤ 16 }
     ensures ports { IfOk result (ReadsPlaces ReadsPort (map (λ text. text.now) texts.now)) }
-    ensures refusal { IfErr result (λ refused. Contains (map (λ text. text.now) texts.now) refused.now × ((port : ℕ) → ReadsPort refused.now port → ⊥)) }
+    ensures refusal { IfErr result (λ wrong. IsFirstWrong ReadsPort IsNoPort (map (λ text. text.now) texts.now) wrong.now) }
 {
     let mut ports = [None; MAX_CHOSEN];
     for (place, text) in texts.iter().enumerate() {
@@ -116,7 +120,10 @@ fn ports_in<'a>(texts: &[&'a str]) -> Result<[Option<u16>; MAX_CHOSEN], &'a str>
 fn protocols_of(matches: &ArgMatches<'_>) -> Option<Protocols>
     ensures { HasProtocols (values_of matches.now (codes "protocol")) result }
 {
-    Some(protocols_in(matches.get_strs("protocol")?))
+    match matches.get_strs("protocol")? {
+        [] => None,
+        names => Some(protocols_in(names)),
+    }
 }
 
 /// The protocols with these names, in either case. `icmp` names ICMPv4 and ICMPv6.
@@ -156,7 +163,7 @@ pub fn choice_text<M: Memory>(memory: &M, error: ChoiceError<'_>) -> Result<Stri
             "invalid value '{text}' for '--host <ADDRESS>': {error}"
         )),
         ChoiceError::Port(text) => memory.text(format_args!(
-            "invalid value '{text}' for '--port <N>': it is no number from 0 to 65535"
+            "invalid value '{text}' for '--port <N>': not a number from 0 to 65535"
         )),
         ChoiceError::TooMany(name) => memory.text(format_args!(
             "'--{name}' is given more than {MAX_CHOSEN} times"

@@ -7,14 +7,23 @@ use std::fmt::Display;
 use streams::new_buffer;
 
 /// What allocates for this crate. Only these calls return an error because no memory is left. A function over any `Memory` can hence state
-/// that its error is about the memory only if an allocation failed.
+/// that its error is about the memory only if an allocation failed. In the same way it can state which error of `clap` it returns, since
+/// only these calls return one.
 pub trait Memory {
-    ghost use Rattle.std.specs.Prelude.{◌≡◌, ◌++◌, ◌∷◌, [], IfErr, IfOk, IfSome, OnErr, OnOk, length, map, string_bytes, true};
-    ghost use Rattle.clap.specs.Words.{AddsArg, FailsBy, HasMatchesOf, app_of, fault_of as faults_of, is_simple_and_free, kind_of, takes};
+    ghost use Rattle.std.specs.Prelude.{◌≡◌, ◌++◌, ◌∷◌, [], ℕ, IfErr, IfOk, IfSome, List, OnErr, OnOk, length, map, string_bytes, true};
+    ghost use Rattle.clap.specs.Words.{AddsArg, App, FailsBy, HasMatchesOf, app_of, fault_of as faults_of, is_simple_and_free, kind_of, takes};
+    ghost use Rattle.clap.specs.declared.error.Error.{Error};
+    ghost use Rattle.clap.specs.declared.error.kind.ErrorKind.{ErrorKind};
     ghost use Rattle.clap.specs.declared.error.kind.ErrorKind.TheVariants.{OutOfMemory};
 
     /// The statement that is true if an allocation failed.
     ghost ran_out: { Self → Type 0 };
+
+    /// The statement that is true of a command line, of words, and of the error that `matches` returns for them.
+    ghost refuses: { Self → App → List (List ℕ) → Error → Type 0 };
+
+    /// The statement that is true of a command line, of a kind, of a message, and of the error that `usage_error` makes of them.
+    ghost explains: { Self → App → ErrorKind → List ℕ → Error → Type 0 };
 
     /// The allocator, for calls that don't allocate.
     fn alloc(&self) -> Global;
@@ -59,6 +68,7 @@ pub trait Memory {
             takes (app_of command.entry) (map (λ word. string_bytes word) words.now) ≡ true → kind_of error ≡ OutOfMemory) }
         ensures kinds { is_simple_and_free (app_of command.entry) ≡ true
             → FailsBy (faults_of (app_of command.entry) (map (λ word. string_bytes word) words.now)) result }
+        ensures refuses { IfErr result (refuses self.now (app_of command.entry) (map (λ word. string_bytes word) words.now)) }
         ensures ran_out { IfErr result (λ error. kind_of error ≡ OutOfMemory → ran_out self.now) };
 
     /// An error of this kind with this message and the usage of the command.
@@ -69,12 +79,17 @@ pub trait Memory {
         message: &str,
     ) -> Result<Error, AllocError>
         ensures kind { IfOk result (λ error. kind_of error ≡ kind) }
+        ensures explains { IfOk result (explains self.now (app_of command.old) kind message.now) }
         ensures ran_out { OnErr result (ran_out self.now) };
 }
 
-/// The memory of the program. Nothing is stated about when its allocations fail.
+/// The memory of the program. Nothing is stated about when its allocations fail, or about the texts of errors.
 impl Memory for Global {
     ghost ran_out = { λ memory. Unit {0} };
+
+    ghost refuses = { λ memory app words error. Unit {0} };
+
+    ghost explains = { λ memory app kind message error. Unit {0} };
 
     fn alloc(&self) -> Global {
         *self

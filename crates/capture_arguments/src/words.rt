@@ -1,11 +1,11 @@
 //! The words of the command line.
 
-ghost use Rattle.std.specs.Prelude.{◌≡◌, IfErr, IfOk, OnErr, map, string_bytes};
-ghost use Rattle.capture_arguments.specs.Words.{AreNoWords, AreWordsOf, word_of};
+ghost use Rattle.std.specs.Prelude.{◌≡◌, IfErr, IfOk, OnErr, map, option_map, string_bytes};
+ghost use Rattle.capture_arguments.specs.Words.{AreNoWords, AreWordsOf, escaped_option, escaped_option_text, is_escaped_option, word_of};
 
 use crate::memory::Memory;
 use capture_facts::EscapedBytes;
-use capture_request::ESCAPED;
+use capture_request::{ESCAPED, without_mark};
 use std::alloc::AllocError;
 use std::env::{Env, FillError};
 use std::io;
@@ -58,8 +58,8 @@ impl<'a> Arguments for OwnArguments<'a> {
     }
 }
 
-/// All arguments of a program as words, the name of the program first. An argument that is not UTF-8 is the name of a file, and begins with
-/// [`ESCAPED`].
+/// All arguments of a program as words, the name of the program first. An argument that is not UTF-8 is escaped, and begins with
+/// [`ESCAPED`]. [`requested_options`](crate::requested_options) accepts it as a value or as the name of a file, but not as an option.
 ///
 /// # Errors
 ///
@@ -90,4 +90,41 @@ fn word_of<M: Memory>(memory: &M, bytes: &[u8]) -> Result<String, AllocError>
         Ok(text) => memory.text(text),
         Err(_) => memory.text(format_args!("{ESCAPED}{}", EscapedBytes(bytes))),
     }
+}
+
+/// The first option that is not UTF-8, in its escaped form, if there is one. The first word is the name of the program, and no word after
+/// `--` is an option.
+pub fn escaped_option(words: &[String]) -> Option<&str>
+    ensures { option_map (λ word. word.now) result ≡ escaped_option (map (λ word. string_bytes word) words.now) }
+{
+    let [_, arguments @ ..] = words else {
+        return None;
+    };
+    let mut left = arguments;
+    while let [word, others @ ..] = left {
+        if word.as_str() == "--" {
+            return None;
+        }
+        if is_escaped_option(word.as_str()) {
+            return Some(word.as_str());
+        }
+        left = others;
+    }
+    None
+}
+
+/// Whether a word is the escaped form of an argument that begins with `-`.
+fn is_escaped_option(word: &str) -> bool
+    ensures { result ≡ is_escaped_option word.now }
+{
+    matches!(word.as_bytes(), [0, b'-', ..])
+}
+
+/// The message about an option that is not UTF-8.
+pub fn escaped_option_text<M: Memory>(memory: &M, word: &str) -> Result<String, AllocError>
+    ensures text { IfOk result (λ text. string_bytes text ≡ escaped_option_text word.now) }
+    ensures ran_out { OnErr result (M.ran_out memory.now) }
+{
+    let option = without_mark(word);
+    memory.text(format_args!("the argument '{option}' is not UTF-8"))
 }

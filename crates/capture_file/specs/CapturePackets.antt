@@ -1,4 +1,4 @@
--- The packets of a capture, one after the other, for both file formats (draft-ietf-opsawg-pcap; draft-ietf-opsawg-pcapng).
+-- The packets of a capture in their order, for both file formats (draft-ietf-opsawg-pcap; draft-ietf-opsawg-pcapng).
 use Rattle.std.specs.Prelude.{◌≡◌, ℕ, ◌+◌, ◌<◌, ◌≤◌, if◌then◌else◌, nat_le, List, [], ◌∷◌, ◌++◌, map, drop, length, take, slice_range, Option, Some, None, Ok}
 use Rattle.std.specs.List.{AllByRecursion, concat}
 use Rattle.capture_file.specs.Classic.{IsHeaderOf, IsReading, IsRecord, capture_header_len, header_refusal, record_header, record_header_len}
@@ -16,7 +16,7 @@ use Rattle.capture_file.specs.declared.reader.next_packet.NextPacket.TheVariants
 use Rattle.capture_file.specs.declared.reader.pcapng_reader.PcapngReader.{PcapngReader}
 use Rattle.capture_file.specs.declared.reader.next_packet.TooLongPacket.{TooLongPacket}
 
--- a packet of a capture: its data and its captured bytes, or a packet that is too long to be kept
+-- a packet of a capture: its data and its captured bytes, or a packet that is longer than the buffer
 pub data FilePacket : Type 0 where
   kept : CapturedPacket → List ℕ → FilePacket
   too_long : TooLongPacket → FilePacket
@@ -32,12 +32,12 @@ abbrev pub offset_of : CaptureReader → ℕ
 offset_of (Classic reader) = reader.offset
 offset_of (Pcapng reader) = reader.offset
 
--- the reader is where the record of the next packet begins; in a pcapng file, after the blocks that are skipped
+-- the reader is at the start of the record or block of the next packet; in a pcapng file the blocks before it were skipped
 abbrev pub Seeks : ℕ → CaptureReader → Option (List ℕ) → CaptureReader → Type 0
 Seeks room (Classic before) left after = after ≡ Classic before
 Seeks room (Pcapng before) left after = (reader : PcapngReader) × (after ≡ Pcapng reader) × HasPassed room before left reader
 
--- reading failed within the record or block at the place of the reader; in a pcapng file, after the blocks that are skipped
+-- reading failed within the record or block at the place of the reader; in a pcapng file the blocks before it were skipped
 abbrev pub FailsToRead : ℕ → CaptureReader → Option (List ℕ) → Option (List ℕ) → CaptureReader → Type 0
 FailsToRead room (Classic before) left still_left after = (after ≡ Classic before) × FailsInRecord before.header.byte_order left still_left
 FailsToRead room (Pcapng before) left still_left after =
@@ -59,7 +59,7 @@ pub record ReadsOne (room : ℕ) (before : CaptureReader) (left still_left : Opt
   pub reads : ReadsPacket before left still_left after buffer next
   pub gives : packet_in buffer next ≡ Some packet
 
--- these packets were read, one after the other
+-- these packets were read in their order
 abbrev pub ReadsPackets : ℕ → CaptureReader → Option (List ℕ) → Option (List ℕ) → CaptureReader → List FilePacket → Type 0
 ReadsPackets room before left still_left after [] = (after ≡ before) × (still_left ≡ left)
 ReadsPackets room before left still_left after (packet ∷ packets) =
@@ -109,7 +109,7 @@ HasPackets room (Pcapng reader) bytes packets next =
     (still_left : Option (List ℕ)) × (after : CaptureReader) × ReadsPackets room (Pcapng reader) (Some bytes) still_left after packets
     × EndsWith room after still_left next
 
--- packets that the bytes begin with are the first packets of the bytes
+-- if the bytes begin with some packets, these are the first packets of the bytes
 abbrev pub AreFirstPackets : ℕ → CaptureReader → List ℕ → Type 0
 AreFirstPackets room reader bytes =
     (first packets : List FilePacket) (next : NextPacket) → BeginsWithPackets room reader first bytes
@@ -149,7 +149,8 @@ Begins room (Classic reader) bytes rest =
 Begins room (Pcapng reader) bytes rest =
     (buffer : List ℕ) × (length buffer ≡ room) × ReadsFirstBlock (Some bytes) (Some rest) buffer (Ok reader)
 
--- the same for the bytes that an input has left before and after the beginning, if they are known
+-- the same for an input that contained some bytes before the beginning was read, and contains others after it; nothing is stated of unknown
+-- bytes
 abbrev pub BeginsInput : ℕ → CaptureReader → Option (List ℕ) → Option (List ℕ) → Type 0
 BeginsInput room reader None still_left = Unit {0}
 BeginsInput room reader (Some bytes) None = ⊥

@@ -1,5 +1,4 @@
--- The packets of a capture in one form, whatever the form of its file (draft-ietf-opsawg-pcap, section 5; draft-ietf-opsawg-pcapng,
--- section 4).
+-- The packets of a capture in one form for both forms of files (draft-ietf-opsawg-pcap, section 5; draft-ietf-opsawg-pcapng, section 4).
 use Rattle.std.specs.Prelude.{◌≡◌, ℕ, ◌+◌, ◌-◌, ◌^◌, ◌/◌, ◌%◌, ◌==◌, ◌≤◌, if◌then◌else◌, min, pos, List, length, Option, Some, None}
 use Rattle.std.specs.Option.{option_map}
 use Rattle.capture_file.specs.Classic.{capture_header_len, link_type_or_number, record_header_len}
@@ -48,11 +47,11 @@ timestamp_time interface timestamp = record {
 
 -- ---- a classic capture
 
--- the reader of a capture whose header was read: its records begin after 24 bytes
+-- the reader of a capture after its header; its records begin after 24 bytes
 abbrev pub begins_records : CaptureHeader → ClassicReader
 begins_records capture = record { header = capture; offset = capture_header_len }
 
--- what a record says of its packet; its captured bytes are in front of the buffer
+-- the packet of a record; its captured bytes are at the front of the buffer
 abbrev pub packet_of_record : CaptureHeader → RecordHeader → CapturedPacket
 packet_of_record capture header = record {
   link_type = capture.link_type;
@@ -63,7 +62,7 @@ packet_of_record capture header = record {
   original_len = header.original_len;
 }
 
--- the same where the buffer has no room for the captured bytes
+-- the packet of a record that is longer than the buffer
 abbrev pub long_record : CaptureHeader → RecordHeader → TooLongPacket
 long_record capture header = record {
   link_type = Some capture.link_type;
@@ -72,24 +71,24 @@ long_record capture header = record {
   original_len = Some header.original_len;
 }
 
--- what comes next in a capture, by its next record
+-- the next item of a capture, if this is the next record
 abbrev pub next_by_record : CaptureHeader → NextRecord → NextPacket
 next_by_record capture (records.Whole header) = packets.Whole (packet_of_record capture header)
 next_by_record capture (records.TooLong header) = packets.TooLong (long_record capture header)
 next_by_record capture records.End = packets.End
 next_by_record capture (records.CutOff required_len len) = packets.CutOff required_len len
 
--- where the record after this one begins; a number that would be 2^64 or more is the greatest below
+-- the place after a record that begins at `offset`; the count stops at 2^64 - 1
 abbrev pub offset_after_record : ℕ → RecordHeader → ℕ
 offset_after_record offset header = min (offset + (record_header_len + header.captured_len)) (2 ^ 64 - 1)
 
--- the same by what was read: no record begins after the end or after one that is cut off
+-- the place after this item; at the end of the input, or in a record that is cut off, the place stays
 abbrev pub offset_by_record : ℕ → NextRecord → ℕ
 offset_by_record offset (records.Whole header) = offset_after_record offset header
 offset_by_record offset (records.TooLong header) = offset_after_record offset header
 offset_by_record offset other = offset
 
--- the next record was read, and it says what comes next
+-- the next record was read, and it determines the next item
 pub record ReadsRecordPacket (before : ClassicReader) (left still_left : Option (List ℕ)) (after : ClassicReader) (buffer : List ℕ)
     (next : NextPacket) : Type 0 where
   pub next_record : NextRecord
@@ -100,12 +99,12 @@ pub record ReadsRecordPacket (before : ClassicReader) (left still_left : Option 
 
 -- ---- a pcapng file
 
--- where the captured bytes of a packet block begin, by its type
+-- the place of the captured bytes in a packet block of this type
 abbrev pub packet_start : ℕ → ℕ
 packet_start type = if type == simple_packet_type then body_at + simple_captured_at else body_at + timed_captured_at
 
--- A packet of this interface, by the header of its block, its timestamp, and its captured and original length. The block is in front of the
--- buffer.
+-- A packet of this interface, with the byte order in the header of its block, its timestamp, and its captured and original length. The
+-- whole block is at the front of the buffer.
 abbrev pub interface_packet : BlockHeader → InterfaceDescription → Option ℕ → ℕ → ℕ → CapturedPacket
 interface_packet header interface timestamp captured_len original_len = record {
   link_type = link_type_or_number interface.link_type;
@@ -116,22 +115,22 @@ interface_packet header interface timestamp captured_len original_len = record {
   original_len = original_len;
 }
 
--- what a block says of its packet, of this interface; the block is in front of the buffer
+-- the packet of a block that was captured on this interface; the whole block is at the front of the buffer
 abbrev pub packet_of_block : BlockHeader → InterfaceDescription → PacketBlock → CapturedPacket
 packet_of_block header interface packet =
     interface_packet header interface packet.timestamp (length packet.captured.now) packet.original_len
 
--- what is known of the packet of a block that the buffer has no room for
+-- the packet of a block that is longer than the buffer
 abbrev pub long_block : BlockHeader → TooLongPacket
 long_block header = record { link_type = None; time = None; required_len = header.total_len; original_len = None }
 
--- ---- either form
+-- ---- both forms
 
--- the captured bytes of a packet end within this many bytes of the buffer
+-- the captured bytes of a packet are within the first `len` bytes of the buffer
 abbrev pub IsWithin : ℕ → CapturedPacket → Type 0
 IsWithin len packet = packet.start + packet.captured_len ≤ len
 
--- so do those of the packet that comes next, if one does
+-- if the next item is a packet, its captured bytes are within the first `len` bytes of the buffer
 abbrev pub IsNextWithin : ℕ → NextPacket → Type 0
 IsNextWithin len (packets.Whole packet) = IsWithin len packet
 IsNextWithin len other = Unit {0}

@@ -9,8 +9,8 @@ use Rattle.capture_file.specs.declared.pcapng.errors.BlockError.TheVariants.{Cut
 use Rattle.capture_file.specs.declared.pcapng.read.NextBlock.{NextBlock}
 use Rattle.capture_file.specs.declared.pcapng.read.NextBlock.TheVariants.{End, Refused, TooLong, Whole}
 
--- the next item according to the bytes that were read: one block, at the front of the buffer or without room in it; no byte; or bytes that
--- are refused as a block
+-- The bytes that were read determine the next item: a block at the front of the buffer, a block that is longer than the buffer, the end of
+-- the input, or bytes that are refused as a block.
 abbrev pub IsNextBlock : ByteOrder → List ℕ → List ℕ → NextBlock → Type 0
 IsNextBlock section bytes buffer (Whole header) =
     IsBlock section bytes × (header ≡ block_header section bytes) × (header.total_len ≤ length buffer)
@@ -20,7 +20,7 @@ IsNextBlock section bytes buffer (TooLong header) =
 IsNextBlock section bytes buffer End = bytes ≡ []
 IsNextBlock section bytes buffer (Refused error) = (bytes ≢ []) × (block_refusal section bytes ≡ Some error)
 
--- the reader is at its end, if no byte or only a part of a block was read
+-- the input is at its end, if no block or only a part of a block was read
 abbrev pub IsLastBlock : NextBlock → Option (List ℕ) → Type 0
 IsLastBlock End still_left = IsAtEnd still_left
 IsLastBlock (Refused (CutOff required len)) still_left = IsAtEnd still_left

@@ -1,4 +1,5 @@
--- What reads from a stream do to a capture: its header and its records, by what the reader had left before and has left afterwards.
+-- Reading a classic capture from a stream: its header and its records. The statements compare the bytes that are left in the stream before
+-- and after a read.
 use Rattle.std.specs.Prelude.{◌≡◌, ◌≢◌, ℕ, ◌+◌, ◌<◌, ◌≤◌, if◌then◌else◌, nat_lt, List, [], length, take, drop, Option, Some, None, IfSome, Result, Ok, Err}
 use Rattle.std.specs.List.{AllByRecursion, concat}
 use Rattle.std.specs.Io.KnownBytes.{Consumes, IsAtEnd}
@@ -12,7 +13,7 @@ use Rattle.capture_file.specs.declared.classic.record_header.RecordHeader.{Recor
 
 -- ---- the header
 
--- 24 bytes were read, which are not refused, and this is the header in them
+-- 24 bytes were read and accepted, and they contain this header
 pub record GivesHeader (left still_left : Option (List ℕ)) (header : CaptureHeader) : Type 0 where
   pub bytes : List ℕ
   pub has_len : length bytes ≡ capture_header_len
@@ -20,7 +21,7 @@ pub record GivesHeader (left still_left : Option (List ℕ)) (header : CaptureHe
   pub accepted : header_refusal bytes ≡ None
   pub is_header : IsHeaderOf bytes header
 
--- the first 24 bytes, or all where they are fewer, are refused by this error
+-- the first 24 bytes are refused with this error; at the end of the input there may be fewer bytes
 pub record RefusesHeader (left still_left : Option (List ℕ)) (error : CaptureHeaderError) : Type 0 where
   pub bytes : List ℕ
   pub first : IfSome left (λ all. bytes ≡ take capture_header_len all)
@@ -33,12 +34,12 @@ ReadsHeader left still_left (Err error) = RefusesHeader left still_left error
 
 -- ---- a record
 
--- how many bytes a record has, as far as it can be said
+-- the length of a record; if its header is not complete, it is the length of the header
 abbrev pub required_len : ByteOrder → List ℕ → ℕ
 required_len order bytes = if nat_lt (length bytes) record_header_len then record_header_len else record_len order bytes
 
--- what comes next by the bytes that were read: one record, with its captured bytes in front of the buffer or with more than it has room
--- for; no byte; or some bytes that are no whole record
+-- The bytes that were read determine the next item: a record whose captured bytes are at the front of the buffer, a record that is longer
+-- than the buffer, the end of the input, or bytes that are not a whole record.
 abbrev pub IsNext : ByteOrder → List ℕ → List ℕ → NextRecord → Type 0
 IsNext order bytes buffer (Whole header) =
     IsRecord order bytes × (header ≡ record_header order bytes) × (header.captured_len ≤ length buffer)
@@ -49,20 +50,20 @@ IsNext order bytes buffer End = bytes ≡ []
 IsNext order bytes buffer (CutOff required len) =
     (bytes ≢ []) × IsPartial order bytes × (required ≡ required_len order bytes) × (len ≡ length bytes)
 
--- the reader has come to its end, where no record was read
+-- the input is at its end, if no whole record was read
 abbrev pub IsLast : NextRecord → Option (List ℕ) → Type 0
 IsLast End still_left = IsAtEnd still_left
 IsLast (CutOff required len) still_left = IsAtEnd still_left
 IsLast other still_left = Unit {0}
 
--- these bytes were read, and they say what comes next
+-- these bytes were read, and they determine the next item
 pub record ReadsNext (order : ByteOrder) (left still_left : Option (List ℕ)) (buffer : List ℕ) (next : NextRecord) : Type 0 where
   pub bytes : List ℕ
   pub consumed : Consumes left still_left bytes
   pub is_next : IsNext order bytes buffer next
   pub is_last : IsLast next still_left
 
--- after the header of a record its captured bytes, all of them or those that are there
+-- after the header of a record, its captured bytes were read, or all bytes that are left if there are fewer
 abbrev pub IsCaptured : RecordHeader → List ℕ → List ℕ → NextRecord → Type 0
 IsCaptured header bytes buffer (Whole same) =
     (same ≡ header) × (length bytes ≡ header.captured_len) × (header.captured_len ≤ length buffer)
@@ -79,13 +80,13 @@ pub record ReadsCaptured (header : RecordHeader) (left still_left : Option (List
   pub is_captured : IsCaptured header bytes buffer next
   pub is_last : IsLast next still_left
 
--- reading failed within a record: after these bytes, which do not begin with a whole record
+-- reading failed within a record: these bytes were read before, and they do not begin with a whole record
 pub record FailsInRecord (order : ByteOrder) (left still_left : Option (List ℕ)) : Type 0 where
   pub bytes : List ℕ
   pub consumed : Consumes left still_left bytes
   pub partial : IsPartial order bytes
 
--- between two moments the reader gave these records, one after the other
+-- these records were read in their order
 pub record ReadsRecords (order : ByteOrder) (left still_left : Option (List ℕ)) (records : List (List ℕ)) : Type 0 where
   pub each : AllByRecursion (IsRecord order) records
   pub consumed : Consumes left still_left (concat records)

@@ -1,5 +1,5 @@
--- Worked examples of JSON objects, so that a wrong definition fails before any code does. The texts are those of tests of `capture_report`
--- and `capture_json`.
+-- Worked examples of JSON objects. A wrong definition fails here before its code is written. The texts also occur in tests of
+-- `capture_report` and `capture_json`.
 use Rattle.std.proofs.Common.{◌≡◌, ◌++◌, [], ◌∷◌, None, Some, arith, codes, inr, refl}
 use Rattle.std.specs.Char.{encode_utf8}
 use Rattle.std.specs.Fmt.{char_count, digits, padded_integral}

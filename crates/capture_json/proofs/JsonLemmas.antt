@@ -1,4 +1,4 @@
--- Members and items that are written one after the other, of packets.
+-- Members and items of packets that are written in order.
 use Rattle.std.proofs.Common.{◌≡◌, ◌<◌, ◌+◌, ◌∙◌, ◌∷◌, [], ℕ, List, ◌++◌, OnOk, Result, ap, get_or, length, map, None, Some, sym, take, true, true≢false}
 use Rattle.std.proofs.lemmas.List.{flat_map_more, map-append, take_more}
 use Rattle.std.proofs.lemmas.Result.{on_ok_weaker}

@@ -13,7 +13,7 @@ use Rattle.capture_words.proofs.TcpTextLaws.{one_of}
 use Rattle.capture_json.specs.JsonOptions.{AreOptionFields, AreOptionMembers, AreOptionObjects, IsOptionObject, data_fields, element_fields, fault_members, kind_object, option_object}
 use Rattle.capture_json.specs.Members.{Member, array_of}
 
--- one element is the whole of some bytes
+-- if some bytes are one element, nothing follows it
 one_element : (bytes : List ℕ) (element other : TcpOptionElement) → BeginsWith bytes element [] → BeginsWith bytes other [] → element ≡ other
 one_element bytes element other begins again =
     ap (first_or element) (one_reading bytes (Ok element ∷ []) (Ok other ∷ []) ([], begins, inl refl) ([], again, inl refl))
@@ -23,7 +23,7 @@ one_element bytes element other begins again =
     first_or none (Ok first ∷ items) = first
     first_or none (Err error ∷ items) = none
 
--- the fields of an option by the reason why it is no element
+-- the fields of an option; `element_refusal` is the reason why it is not an element
 abbrev AreFieldsBy : {E : Type 0} → RawOption → List Member → Option E → Type 0
 AreFieldsBy option fields found = MatchOption found
     ((element : TcpOptionElement) × BeginsWith (raw_spelling option) element [] × (fields ≡ element_fields element))

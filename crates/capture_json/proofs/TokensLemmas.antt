@@ -1,4 +1,4 @@
--- Tokens that are written one after the other, and their text.
+-- Tokens that are written in order, and their text.
 use Rattle.std.specs.Prelude.{codes}
 use Rattle.std.proofs.Common.{◌≡◌, ◌<◌, ◌+◌, ◌∙◌, ℕ, List, [], ◌∷◌, ◌++◌, Bool, true, false, ap, append_assoc, fold, get_or, length, map, refl, sym, take}
 use Rattle.std.proofs.lemmas.List.{map_more}
@@ -93,7 +93,7 @@ pub nested_by : (name : List ℕ) (members : List Member) (before begun filled a
 nested_by name members before begun filled after is_begun is_filled is_ended =
     is_ended ∙ ap object_ended (is_filled ∙ ap (with_members members) is_begun) ∙ nested name members before
 
--- members of things by their names
+-- the members of some items; each item has a name
 mapped : {X Z : Type 0} (member : Z → Member) (named : X → Z) (rows : List X)
     → map (λ row. member (named row)) rows ≡ map member (map named rows)
 mapped member named [] = refl
@@ -117,7 +117,7 @@ pub line_is : (members : List Member) → line_text (with_members members (token
 line_is members =
     ap (λ text. text ++ codes "\n") (ap print (closed members (token.begin_object ∷ [])) ∙ print-outline (object_of members))
 
--- the text of a value alone
+-- the text of a value that is the whole line
 pub row_is : (value : Data) → print (push value []) ≡ compact_text value
 unfolding push
 row_is value = print-outline value
@@ -145,7 +145,7 @@ later_rows members (first ∷ more) =
     ∙ ap (λ text. 44 ∷ compact_text (object_of (members first)) ++ text)
     (ap (λ later. print_from later rest) (ends_object true (members first)) ∙ later_rows members more)
 
--- rows, with a comma between two
+-- rows, with commas between them
 rows_are : {X : Type 0} (members : X → List Member) (rows : List X)
     → print (flat_map (λ row. value_tokens (object_of (members row))) rows) ≡ rows_text (λ row. object_of (members row)) rows
 unfolding print_from
@@ -158,7 +158,7 @@ rows_are members (first ∷ more) =
     ∙ ap (λ text. compact_text (object_of (members first)) ++ text)
     (ap (λ later. print_from later rest) (ends_object false (members first)) ∙ later_rows members more)
 
--- the tokens of rows, and the closing bracket
+-- the tokens of rows, and then the closing bracket
 items_are : {X : Type 0} (value : X → Data) (rows : List X)
     → items_tokens (items_outline (items_of (map value rows))) ≡ flat_map (λ row. value_tokens (value row)) rows ++ token.end_array ∷ []
 items_are value [] = refl
@@ -166,13 +166,13 @@ items_are value (first ∷ more) =
     ap (λ rest. value_tokens (value first) ++ rest) (items_are value more)
     ∙ sym (append_assoc (value_tokens (value first)) (flat_map (λ row. value_tokens (value row)) more) (token.end_array ∷ []))
 
--- a closing bracket has no comma
+-- no comma precedes a closing bracket
 bracket_first : (later : Bool) (more : List Token) → print_from later (token.end_array ∷ more) ≡ print (token.end_array ∷ more)
 unfolding print_from
 bracket_first true more = refl
 bracket_first false more = refl
 
--- an opening bracket is no end of a value
+-- an opening bracket does not end a value
 begun_open : (name : List ℕ) (before : List Token) → fold (λ _ one. ends one) false (array_begun name before) ≡ false
 begun_open name before =
     ap (fold (λ _ one. ends one) false) (sym (append_assoc before (token.key name ∷ []) (token.begin_array ∷ [])))
@@ -208,7 +208,7 @@ parts name value first more rows =
     ∙ ap (λ items. head ++ token.key name ∷ token.begin_array ∷ items) (append_assoc middle (token.end_array ∷ []) end)
     ∙ sym (append_assoc head (token.key name ∷ token.begin_array ∷ []) (middle ++ token.end_array ∷ end))
 
--- a line whose rows are written one after the other
+-- a line whose rows are written in order
 pub line_by_rows : {X : Type 0} (name : List ℕ) (members : X → List Member) (first more : List Member) (rows : List X)
     → print (array_begun name (with_members first (token.begin_object ∷ [])))
     ++ (rows_text (λ row. object_of (members row)) rows ++ line_text (with_members more (token.end_array ∷ [])))

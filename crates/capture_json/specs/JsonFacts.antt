@@ -1,4 +1,4 @@
--- What a capture is, as members of the summary.
+-- The facts of a capture, as members of the summary.
 use Rattle.std.specs.Prelude.{ℕ, ◌+◌, List, [], ◌∷◌, ◌++◌, codes, slice_get, Option, Some, None}
 use Rattle.capture_facts.specs.FactsText.{byte_order_word, resolution_text}
 use Rattle.capture_file.specs.Packets.{power_of_ten}
@@ -12,27 +12,27 @@ use Rattle.capture_json.specs.Members.{Member, array_of, object_of, whole_number
 use Rattle.capture_texts.specs.declared.file_texts.InterfaceTexts.{InterfaceTexts}
 use Rattle.serde_json.specs.Data.{Data, string}
 
--- the type of a file, and its byte order
+-- the type and the byte order of a file
 abbrev pub form_members : List ℕ → ByteOrder → List Member
 form_members type order = (codes "file_type", string type) ∷ (codes "byte_order", string (byte_order_word order)) ∷ []
 
--- the maximum number of captured bytes of a packet, and the unit of the times
+-- the greatest number of bytes that are captured of a packet, and the unit of the times
 abbrev pub limits_members : ℕ → TimeResolution → List Member
 limits_members snap_len resolution =
     (codes "snap_length", whole_number snap_len) ∷ (codes "time_resolution", string (resolution_text resolution)) ∷ []
 
--- the interface with this number, as an object; its texts are in this list if they are kept
+-- the interface with this number as an object, with its texts if this list contains them
 abbrev pub interface_data : List InterfaceTexts → ℕ → InterfaceDescription → Data
 interface_data texts number interface =
     object_of (limits_members interface.snap_len interface.time_resolution ++ interface_members (slice_get texts number))
 
--- interfaces, one after the other, the first with this number
+-- interfaces as objects in their order; the first has this number
 abbrev pub interfaces_data : List InterfaceTexts → ℕ → List InterfaceDescription → List Data
 interfaces_data texts number [] = []
 interfaces_data texts number (interface ∷ interfaces) =
     interface_data texts number interface ∷ interfaces_data texts (number + 1) interfaces
 
--- a capture, if there is one
+-- the facts of a capture, if there is one
 abbrev pub facts_members : Option CaptureReader → List Member
 facts_members None = []
 facts_members (Some (Classic reader)) =

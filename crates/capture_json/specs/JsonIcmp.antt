@@ -9,11 +9,11 @@ use Rattle.icmp_part.specs.declared.icmpv6_type.Icmpv6Type.{Icmpv6Type}
 use Rattle.icmp_part.specs.declared.icmpv6_type.Icmpv6Type.TheVariants as icmpv6
 use Rattle.serde_json.specs.Data.{string}
 
--- the identifier and the sequence number of a message and its reply
+-- the identifier and the sequence number of a request or a reply
 abbrev pub echo_fields : ℕ → ℕ → List Member
 echo_fields identifier sequence = (codes "identifier", whole_number identifier) ∷ (codes "sequence", whole_number sequence) ∷ []
 
--- a number that only some messages of a type have
+-- a number that only some messages of a type contain
 abbrev pub optional_number : List ℕ → Option ℕ → List Member
 optional_number name None = []
 optional_number name (Some value) = (name, whole_number value) ∷ []

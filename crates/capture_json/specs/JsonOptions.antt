@@ -40,7 +40,7 @@ element_fields (Timestamp value echo_reply) =
 abbrev pub data_fields : RawOption → List Member
 data_fields option = (codes "data", string (hex_bytes option.value)) ∷ []
 
--- these are the fields of an option: those of its element, if it is one, otherwise its data
+-- these are the fields of an option: the fields of its element if it is one, and its data otherwise
 abbrev pub AreOptionFields : RawOption → List Member → Type 0
 AreOptionFields option fields = MatchOption (element_refusal option)
     ((element : TcpOptionElement) × BeginsWith (raw_spelling option) element [] × (fields ≡ element_fields element))
@@ -48,11 +48,11 @@ AreOptionFields option fields = MatchOption (element_refusal option)
 
 -- ---- objects
 
--- a kind, and fields
+-- an option of this kind with these fields
 abbrev pub option_object : ℕ → List Member → Data
 option_object kind fields = object_of ((codes "kind", whole_number kind) ∷ fields)
 
--- a kind without fields
+-- an option of this kind without fields
 abbrev pub kind_object : ℕ → Data
 kind_object kind = option_object kind []
 
@@ -60,8 +60,9 @@ kind_object kind = option_object kind []
 abbrev pub IsOptionObject : RawOption → Data → Type 0
 IsOptionObject option value = (fields : List Member) × AreOptionFields option fields × (value ≡ option_object option.kind fields)
 
--- These are the objects of the options in some bytes, and the fault after them, if there is one. There is no object at the end of the bytes
--- or at a fault. Kind 0 ends the options, and has the last object. Any other option has an object, and then come the objects of the rest.
+-- These are the objects of the options in some bytes, and the fault after them, if there is one. No object stands for the end of the bytes
+-- or for a fault. An option of kind 0 ends the list and has the last object. Any other option has an object, and the objects of the options
+-- after it follow.
 abbrev pub AreOptionObjects : List ℕ → List Data → Option TcpRawOptionError → Type 0
 AreOptionObjects bytes [] None = bytes ≡ []
 AreOptionObjects bytes [] (Some error) = raw_fault bytes ≡ Some error

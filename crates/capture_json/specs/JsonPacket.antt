@@ -1,4 +1,4 @@
--- A packet as a JSON object (RFC 8259): the members of each part, with the words of its line of text.
+-- A packet as a JSON object (RFC 8259), with the members of each part. Its words are those of the line of text.
 use Rattle.std.specs.Prelude.{◌≡◌, ℕ, ◌==◌, if◌then◌else◌, List, [], ◌∷◌, ◌++◌, length, map, slice_index, codes, Option, Some, None}
 use Rattle.std.specs.List.{flat_map}
 use Rattle.std.specs.Net.Addr.{segments_of}
@@ -52,13 +52,13 @@ use Rattle.capture_words.specs.TcpText.{tcp_flags}
 use Rattle.capture_words.specs.TimeText.{time_text}
 use Rattle.capture_words.specs.declared.times.Times.{Times}
 
--- the time as in the line of text, and as seconds since 1970 and nanoseconds; `null` alone for a packet without a known time
+-- the time as in the line of text, and as seconds since 1970 and nanoseconds; if the time is unknown, the only member is `null`
 abbrev pub time_members : Times → Option PacketTime → Option PacketTime → List Member
 time_members times first None = (codes "time", null) ∷ []
 time_members times first (Some time) =
     (codes "time", string (time_text times first (Some time))) ∷ instant_members (codes "seconds") (codes "nanoseconds") time
 
--- the length of a frame, in bytes, and how many of them were captured, if the capture contains the length
+-- the length of a frame in bytes, and how many of them were captured; there are no members if the capture does not contain the length
 abbrev pub frame_members : Option FrameLen → List Member
 frame_members None = []
 frame_members (Some len) = (codes "length", whole_number len.original) ∷ (codes "captured_length", whole_number len.captured) ∷ []
@@ -84,7 +84,7 @@ port_members source destination =
 abbrev pub header_port_members : List ℕ → List Member
 header_port_members header = port_members (be_number header 0 2) (be_number header 2 2)
 
--- the number of bytes of a payload that were captured, if it is not the length of the payload
+-- the number of bytes of a payload that were captured, unless all were captured
 abbrev pub captured_members : ℕ → ℕ → List Member
 captured_members payload_len captured_len =
     if captured_len == payload_len then [] else (codes "payload_captured_length", whole_number captured_len) ∷ []
@@ -106,7 +106,7 @@ udp_members datagram =
 abbrev pub name_if_set : NamedFlag → List (List ℕ)
 name_if_set flag = if flag.0 then flag.1 ∷ [] else []
 
--- the names of the set flags, in their order; `named` maps each thing to its flag
+-- the names of the flags that are set, in their order; `named` maps an item to its flag and the name of the flag
 abbrev pub names_of_set : {X : Type 0} → (X → NamedFlag) → List X → List (List ℕ)
 names_of_set named flags = flat_map (λ flag. name_if_set (named flag)) flags
 
@@ -120,7 +120,7 @@ tcp_number_members header =
 abbrev pub urgent_members : List ℕ → List Member
 urgent_members header = if flag_of header urg_flag then (codes "urgent_pointer", whole_number (be_number header 18 2)) ∷ [] else []
 
--- the fields of a header after its ports, except the checksum, with these members of its options
+-- the fields of a header after its ports, except the checksum; `options` are the members of its options
 abbrev pub tcp_header_members : List ℕ → List Member → List Member
 tcp_header_members header options =
     (codes "flags", texts_data (names_of_set (λ flag. flag) (tcp_flags header)))
@@ -162,7 +162,7 @@ icmpv6_content message =
 abbrev pub icmpv6_members : List ℕ → List Member
 icmpv6_members message = (codes "icmpv6", object_of (icmpv6_content message)) ∷ []
 
--- these members are a transport with a header that is read
+-- these are the members of a transport whose header is read
 abbrev pub AreReadMembers : TransportSlice → List Member → Type 0
 AreReadMembers (slices.Udp datagram) members = members ≡ udp_members datagram
 AreReadMembers (slices.Tcp segment) members = AreTcpMembers segment members
@@ -199,7 +199,7 @@ abbrev pub quoted_fields : Quoted → List Member
 quoted_fields quoted =
     address_members quoted.addresses ++ (ip_protocol_members quoted.protocol quoted.proto ++ quoted_port_members quoted.ports)
 
--- the packet that an ICMP error quotes, if its IP headers are read
+-- the packet that an ICMP error quotes, if the IP headers of that packet can be read
 abbrev pub quoted_members : Option Quoted → List Member
 quoted_members None = []
 quoted_members (Some quoted) = (codes "quoted", object_of (quoted_fields quoted)) ∷ []
@@ -236,7 +236,8 @@ network_number_members (Nlpid number) = (codes "nlpid", whole_number number) ∷
 abbrev pub network_members : NetworkProtocol → List Member
 network_members protocol = network_number_members protocol ++ name_members (network_protocol_name protocol)
 
--- these members are the content of a packet: none if it is not read, and only the addresses if its IP headers are rejected
+-- These are the members of the content of a packet. A packet that is not read has none. A packet whose IP headers are refused has only its
+-- addresses.
 abbrev pub AreContentMembers : Content → List Member → Type 0
 AreContentMembers contents.Unread members = members ≡ []
 AreContentMembers (contents.IpHeader addresses) members = members ≡ address_members (by_value addresses)
@@ -259,20 +260,20 @@ hop_limit_members (Some (limits.Ipv6 limit)) = (codes "hop_limit", whole_number 
 abbrev pub word_member : List ℕ → VerdictKind → Member
 word_member name kind = (name, string (with_underscores (verdict_word kind)))
 
--- the reason why a packet is rejected
+-- the reason why a packet is refused
 abbrev pub refused_member : Refusal → Member
 refused_member refusal = (codes "refused", string (refusal_text refusal))
 
--- a checksum that is not tested, and the reason
+-- the members for a checksum that is not tested, with the reason
 abbrev pub not_tested_members : VerdictKind → List Member
 not_tested_members reason = (codes "checksum", string (codes "not_looked_at")) ∷ word_member (codes "reason") reason ∷ []
 
--- the rejection if there is one, otherwise the reason why the checksum is not tested
+-- the reason why the packet is refused if it is, and otherwise the reason why the checksum is not tested
 abbrev pub members_by : Option Refusal → VerdictKind → List Member
 members_by None reason = not_tested_members reason
 members_by (Some refusal) reason = refused_member refusal ∷ []
 
--- a checksum that is not tested for this reason; a UDP packet without a length is rejected
+-- the members for a checksum that is not tested for this reason; a UDP packet without a length is refused
 abbrev pub untested_members : Untested → List Member
 untested_members reason = members_by (refusal_if_untested reason) (untested_kind reason)
 
@@ -295,12 +296,12 @@ verdict_members (verdicts.Refused refusal) = refused_member refusal ∷ []
 
 -- ---- packets
 
--- the kind of a line
+-- the type of a line
 abbrev pub type_member : List ℕ → Member
 type_member kind = (codes "type", string kind)
 
--- these members are a packet: its type, its number, its time, the length of its frame, its tunnels, its content, its hop limit, and its
--- verdict
+-- These are the members of a packet: its type, its number, its time, the length of its frame, its tunnels, its content, its hop limit, and
+-- its verdict.
 abbrev pub ArePacketMembers : Times → ℕ → Option PacketTime → Option PacketTime → Option FrameLen → Packet → List Member → Type 0
 ArePacketMembers times number first time len packet members =
     (what : List Member) × AreContentMembers packet.content what
@@ -308,11 +309,11 @@ ArePacketMembers times number first time len packet members =
     ++ (frame_members len ++ (tunnel_members packet.tunnels.items
     ++ (what ++ (hop_limit_members packet.hop_limit ++ verdict_members packet.verdict))))))
 
--- an object in a line
+-- an object on its own line
 abbrev pub json_line : List Member → List ℕ
 json_line members = compact_text (object_of members) ++ codes "\n"
 
--- the name of a capture
+-- the members of the line that contains the name of a capture
 abbrev pub file_members : List ℕ → List Member
 file_members name = type_member (codes "file") ∷ (codes "file", string name) ∷ []
 

@@ -1,4 +1,4 @@
--- The summary as a JSON object: what the capture is, the totals, and the tables with the names of their rows.
+-- The summary as a JSON object: the facts of the capture, the totals, and the tables with the names of their rows.
 use Rattle.std.specs.Prelude.{ℕ, ◌-◌, ◌^◌, min, List, [], ◌∷◌, ◌++◌, map, codes, length, Option, Some, None}
 use Rattle.std.specs.Net.Socket.{socket_ip, socket_port}
 use Rattle.std.specs.Net.Text.{ip_text}
@@ -26,7 +26,7 @@ use Rattle.capture_summary.specs.declared.conversation_count.ConversationCount.{
 abbrev pub count_members : Count → List Member
 count_members count = (codes "packets", whole_number count.packets) ∷ (codes "bytes", whole_number count.bytes) ∷ []
 
--- ---- the rows of each table, under their words; no row is left out
+-- ---- the rows of each table under their words; every row is written
 
 -- a row that counts packets
 abbrev pub row_member : List ℕ × ℕ → Member
@@ -76,14 +76,15 @@ uncounted_members without_ports without_room =
 
 -- ---- the summary
 
--- the numbers of packets and bits per second, unless the earliest and the latest time are equal; a number of 2^64 or more becomes 2^64 - 1
+-- The numbers of packets and bits per second. They are left out if the earliest and the latest time are equal. A number of 2^64 or more
+-- becomes 2^64 - 1.
 abbrev pub rates_members : Option Rates → List Member
 rates_members None = []
 rates_members (Some rates) =
     (codes "packets_per_second", whole_number (min rates.packets (2 ^ 64 - 1)))
     ∷ (codes "bits_per_second", whole_number (min rates.bits (2 ^ 64 - 1))) ∷ []
 
--- the times of the earliest and of the latest packet, the time between them, each as a text and as numbers, and the rates in this time
+-- the times of the earliest and of the latest packet and the time between them, as texts and as numbers, and the rates in this time
 abbrev pub span_members : SummaryTables → Option TimeSpan → List Member
 span_members tables None = []
 span_members tables (Some span) =
@@ -112,19 +113,19 @@ rows_members tables =
     (codes "link_types", rows_data (link_rows tables.links)) ∷ (codes "protocols", counts_data (protocol_rows tables.protocols))
     ∷ (codes "checksums", rows_data (verdict_rows tables.verdicts)) ∷ (codes "refusals", rows_data (refusal_rows tables.refusals)) ∷ []
 
--- the type, what the capture is, and the totals
+-- the type, the facts of the capture, and the totals
 abbrev pub head_members : Option CaptureReader → SummaryTables → List Member
 head_members capture tables = type_member (codes "summary") ∷ (facts_members capture ++ totals_members tables)
 
--- the same, and the tables
+-- the type, the facts of the capture, the totals, and the tables of rows
 abbrev pub tables_members : Option CaptureReader → SummaryTables → List Member
 tables_members capture tables = head_members capture tables ++ rows_members tables
 
--- the same, and these conversations
+-- all members of the summary, with these conversations
 abbrev pub summary_members : Option CaptureReader → List ConversationCount → SummaryTables → List Member
 summary_members capture busiest tables =
     tables_members capture tables ++ busiest_member busiest ∷ uncounted_members tables.flows.without_ports tables.flows.without_room
 
--- the line of the summary, with at most this number of the busiest conversations
+-- the line of the summary, with at most `top` of the busiest conversations
 abbrev pub json_summary : Option CaptureReader → ℕ → SummaryTables → List ℕ
 json_summary capture top tables = json_line (summary_members capture (busiest_of top tables.flows.rows) tables)

@@ -10,18 +10,18 @@ use Rattle.capture_words.specs.AbsoluteTime.{nanoseconds_since_1970}
 abbrev pub seconds_since_1970 : PacketTime → ℤ
 seconds_since_1970 time = int_div_euclid (nanoseconds_since_1970 time) (pos nanoseconds_per_second)
 
--- the nanoseconds after these seconds, which are never negative
+-- the nanoseconds after these seconds, from 0 to 999,999,999
 abbrev pub nanoseconds_of_second : PacketTime → ℕ
 nanoseconds_of_second time = unsigned_abs (int_rem_euclid (nanoseconds_since_1970 time) (pos nanoseconds_per_second))
 
--- the signed number of 64 bits that is nearest to a number: only numbers below -2^63, and of 2^63 or more, are changed
+-- the nearest number that a signed number of 64 bits can contain
 abbrev pub nearest_long : ℤ → ℤ
 nearest_long number =
     if int_lt number (neg_ℤ (pos (2 ^ 63))) then neg_ℤ (pos (2 ^ 63))
     else if int_lt (pos (2 ^ 63 - 1)) number then pos (2 ^ 63 - 1)
     else number
 
--- a time as two numbers with these names; no time is before -2^63 seconds, and later times than 2^63 - 1 seconds have this number
+-- A time as two numbers with these names. No time is before -2^63 seconds. A time after 2^63 - 1 seconds is written as 2^63 - 1 seconds.
 abbrev pub instant_members : List ℕ → List ℕ → PacketTime → List Member
 instant_members seconds nanoseconds time =
     (seconds, integer (nearest_long (seconds_since_1970 time))) ∷ (nanoseconds, whole_number (nanoseconds_of_second time)) ∷ []

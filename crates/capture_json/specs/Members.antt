@@ -3,16 +3,16 @@ use Rattle.std.specs.Prelude.{ℕ, ℤ, pos, negsuc, List, [], ◌∷◌, map}
 use Rattle.serde_json.specs.Data.{Data, Members, array, member, negative, no_members, number, object, string, unsigned}
 use Rattle.serde_json.specs.View.{items_of}
 
--- a name, and the value under it
+-- a name and its value
 abbrev pub Member : Type 0
 Member = List ℕ × Data
 
--- these members, in their order
+-- the members of an object, in this order
 abbrev pub members_of : List Member → Members
 members_of [] = no_members
 members_of (first ∷ more) = member first.0 first.1 (members_of more)
 
--- an object of these members
+-- an object with these members
 abbrev pub object_of : List Member → Data
 object_of parts = object (members_of parts)
 

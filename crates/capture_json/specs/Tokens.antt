@@ -1,4 +1,4 @@
--- The tokens of a line that is being written (the crate `json`). Only the calls that write a part of a line cite this page.
+-- The tokens of a line that is being written (the crate `json`). Only the calls that write a part of a line use these definitions.
 use Rattle.std.specs.Prelude.{◌≡◌, ℕ, List, [], ◌∷◌, ◌++◌, codes, Option}
 use Rattle.std.specs.List.{flat_map}
 use Rattle.json.specs.Print.{print}
@@ -22,37 +22,37 @@ value_tokens value = json_tokens (outline value)
 
 -- ---- the tokens after a part is written
 
--- a member
+-- the tokens after a member is written
 unfoldable pub put : List ℕ → Data → List Token → List Token
 put name value before = before ++ token.key name ∷ value_tokens value
 
--- members, one after the other
+-- the tokens after these members are written in their order
 abbrev pub with_members : List Member → List Token → List Token
 with_members [] before = before
 with_members (first ∷ more) before = with_members more (put first.0 first.1 before)
 
--- an item of an array
+-- the tokens after an item of an array is written
 unfoldable pub push : Data → List Token → List Token
 push value before = before ++ value_tokens value
 
--- items of an array, one after the other
+-- the tokens after these items of an array are written in their order
 abbrev pub with_items : List Data → List Token → List Token
 with_items [] before = before
 with_items (first ∷ more) before = with_items more (push first before)
 
--- the name of an object, and its opening brace
+-- the tokens after the name of an object and its opening brace are written
 abbrev pub object_begun : List ℕ → List Token → List Token
 object_begun name before = before ++ token.key name ∷ token.begin_object ∷ []
 
--- the name of an array, and its opening bracket
+-- the tokens after the name of an array and its opening bracket are written
 abbrev pub array_begun : List ℕ → List Token → List Token
 array_begun name before = before ++ token.key name ∷ token.begin_array ∷ []
 
--- the closing brace of an object
+-- the tokens after the closing brace of an object is written
 abbrev pub object_ended : List Token → List Token
 object_ended before = before ++ token.end_object ∷ []
 
--- the closing bracket of an array
+-- the tokens after the closing bracket of an array is written
 abbrev pub array_ended : List Token → List Token
 array_ended before = before ++ token.end_array ∷ []
 
@@ -66,22 +66,22 @@ PutsOne Are before after = (members : List Member) × Are members × (after ≡ 
 abbrev pub PushesItem : (Data → Type 0) → List Token → List Token → Type 0
 PushesItem IsItem before after = (value : Data) × IsItem value × (after ≡ push value before)
 
--- the objects of the options in some bytes, up to this fault, were written as items
+-- the objects of the options in some bytes were written as items, up to this fault
 abbrev pub PushesOptions : List ℕ → Option TcpRawOptionError → List Token → List Token → Type 0
 PushesOptions bytes fault before after =
     (values : List Data) × AreOptionObjects bytes values fault × (after ≡ with_items values before)
 
--- the text of an object that lacks only its closing brace, and a line feed
+-- the text of a line whose object lacks only its closing brace: the brace and a line feed are added
 abbrev pub line_text : List Token → List ℕ
 line_text tokens = print (object_ended tokens) ++ codes "\n"
 
 -- ---- an array that is written row by row
 
--- a comma (44) before the text of a row
+-- the text of a later row: a comma (44), and then the row
 abbrev pub later_row : {X : Type 0} → (X → Data) → X → List ℕ
 later_row value row = 44 ∷ compact_text (value row)
 
--- the texts of rows, with a comma between two
+-- the texts of rows, with commas between them
 abbrev pub rows_text : {X : Type 0} → (X → Data) → List X → List ℕ
 rows_text value [] = []
 rows_text value (first ∷ more) = compact_text (value first) ++ flat_map (later_row value) more

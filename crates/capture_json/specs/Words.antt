@@ -1,7 +1,7 @@
 -- The words of tables as names in JSON.
 use Rattle.std.specs.Prelude.{ℕ, ◌==◌, if◌then◌else◌, List, map}
 
--- an underscore (95) instead of a space (32)
+-- a byte of a word, with an underscore (95) instead of a space (32)
 abbrev pub underscore_if_space : ℕ → ℕ
 underscore_if_space byte = if byte == 32 then 95 else byte
 

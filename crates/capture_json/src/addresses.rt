@@ -13,7 +13,7 @@ use std::alloc::AllocError;
 use std::io;
 use std::io::Write;
 
-/// Writes source and destination.
+/// Writes the source and the destination.
 pub fn put_addresses(
     line: &mut Line,
     room: &mut Vec<u8>,
@@ -53,7 +53,7 @@ pub fn put_ports(line: &mut Line, source: u16, destination: u16) -> Result<(), A
     line.put_number("destination_port", u64::from(destination))
 }
 
-/// Writes the length of a payload, in bytes, and how many of them were captured, if these are not all.
+/// Writes the length of a payload in bytes. If not all of them were captured, it also writes how many were.
 pub fn put_payload_len(
     line: &mut Line,
     payload_len: usize,

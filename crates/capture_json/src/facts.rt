@@ -1,4 +1,4 @@
-//! What a capture is, as members of the summary.
+//! The facts of a capture, as members of the summary.
 
 ghost use Rattle.std.specs.Prelude.{◌≡◌, OnOk, codes};
 ghost use Rattle.capture_facts.specs.FactsText.{resolution_text};
@@ -18,7 +18,7 @@ use capture_texts::InterfaceTexts;
 use std::alloc::AllocError;
 use std::io;
 
-/// Writes what a capture is, if there is one, as `capture_facts::write_facts` does.
+/// Writes the facts of a capture, if there is one. They are the same as in `capture_facts::write_facts`.
 pub fn put_facts(
     line: &mut Line,
     room: &mut Vec<u8>,
@@ -47,7 +47,7 @@ pub fn put_facts(
     }
 }
 
-/// Writes the type of a file, and its byte order.
+/// Writes the type and the byte order of a file.
 fn put_form(line: &mut Line, file_type: &str, order: ByteOrder) -> Result<(), AllocError>
     ensures { OnOk result (tokens_in line.new ≡ with_members (form_members file_type.now order) (tokens_in line.old)) }
 {
@@ -55,7 +55,7 @@ fn put_form(line: &mut Line, file_type: &str, order: ByteOrder) -> Result<(), Al
     line.put_text("byte_order", byte_order_word(order))
 }
 
-/// Writes the maximum number of captured bytes of a packet, and the unit of the times.
+/// Writes the greatest number of bytes that are captured of a packet, and the unit of the times.
 fn put_limits(
     line: &mut Line,
     room: &mut Vec<u8>,
@@ -107,7 +107,7 @@ fn push_interfaces(
     Ok(())
 }
 
-/// Writes the interface with this number as an object, with its texts, if they are kept.
+/// Writes the interface with this number as an object, with its texts if they are kept.
 fn push_interface(
     line: &mut Line,
     room: &mut Vec<u8>,

@@ -4,12 +4,13 @@ ghost use Rattle.std.specs.Prelude.{OnOk};
 ghost use Rattle.std.specs.Io.KnownBytes.{Appends};
 ghost use Rattle.capture_json.specs.JsonPacket.{file_members, json_line};
 
+use crate::Line;
 use crate::text::write_line;
-use crate::{Line, WriteError};
+use capture_request::WriteError;
 use std::alloc::Global;
 use std::io::Write;
 
-/// Writes the name of a capture as a JSON object of the type `file` in a line. The line precedes the packets of the capture.
+/// Writes the name of a capture as a JSON object of the type `file`, on its own line. The line precedes the packets of the capture.
 ///
 /// # Errors
 ///

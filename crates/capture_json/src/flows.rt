@@ -11,16 +11,17 @@ ghost use Rattle.serde_json.specs.Written.{compact_text};
 ghost use Rattle.capture_json.specs.JsonSummary as specs;
 ghost use Rattle.capture_json.specs.JsonSummary.{conversation_data, conversation_members, count_members, uncounted_members};
 
+use crate::Line;
 use crate::protocol::put_ip_protocol;
 use crate::text::{put_written, write_bytes, write_part};
-use crate::{Line, WriteError};
+use capture_request::WriteError;
 use capture_summary::{ConversationCount, Count, Flow};
 use std::alloc::{AllocError, Global};
 use std::io;
 use std::io::Write;
 use std::net::SocketAddr;
 
-/// Writes a row for each of these conversations, with a comma between two. A row is in memory only until it is written.
+/// Writes a row for each of these conversations, with commas between them. A row is in memory only until it is written.
 pub fn write_rows<W: Write>(
     output: &mut W,
     alloc: Global,
@@ -38,7 +39,7 @@ pub fn write_rows<W: Write>(
     Ok(())
 }
 
-/// Writes a comma and the row of a conversation.
+/// Writes a comma and then the row of a conversation.
 fn write_later_row<W: Write>(
     output: &mut W,
     alloc: Global,
@@ -66,7 +67,7 @@ fn write_row<W: Write>(
     }
 }
 
-/// Writes the row of a conversation as an item.
+/// Writes the row of a conversation as an item of the array.
 fn push_row(line: &mut Line, room: &mut Vec<u8>, row: &ConversationCount) -> io::Result<()>
     ensures { OnOk result (tokens_in line.new ≡ push (conversation_data row.now) (tokens_in line.old)) }
 {

@@ -1,4 +1,4 @@
-//! Packets and the summary as JSON (RFC 8259), each as an object in a line.
+//! Packets and the summary as JSON (RFC 8259), each as an object on its own line.
 //!
 //! Names are whole words joined by underscores, and numbers are whole numbers. A member that does not apply is left out. Members are
 //! written in the order of their definitions, into the memory of one `Line`. The contracts state the text that is written.
@@ -29,10 +29,8 @@ mod times;
 mod totals;
 mod tunnels;
 mod verdict;
-mod write_error;
 
 pub use file_name::write_file_name;
 use line::Line;
 pub use packet::write_packet;
 pub use summary::write_summary;
-pub use write_error::WriteError;

@@ -3,13 +3,13 @@ ghost use Rattle.std.specs.Prelude.{◌≡◌, []};
 use json::Writer;
 use std::alloc::{AllocError, Global};
 
-/// The bytes that most lines fit into.
+/// The initial room of a line in bytes. Most lines fit into it.
 const LINE_ROOM: usize = 512;
 
 /// A line of JSON that is being written into memory.
 ///
-/// A call writes a member, or a part of one, behind what was written before. Braces and brackets are the caller's. Every call that writes
-/// fails if no memory is left. The line is then incomplete, and is to be dropped.
+/// A call writes a member, or a part of a member, after the bytes that were written before. The caller writes braces and brackets in pairs.
+/// Every call that writes fails if no memory is left. Then the line is incomplete, and the caller must drop it.
 #[derive(Drop)]
 pub struct Line {
     writer: Writer,
@@ -24,7 +24,7 @@ impl Line {
     ghost use Rattle.capture_json.specs.Tokens.{array_begun, array_ended, object_begun, object_ended, push, put, tokens_in};
     ghost use Rattle.serde_json.specs.Data.{null, string};
 
-    /// A line without a byte.
+    /// Returns an empty line.
     ///
     /// # Errors
     ///
@@ -148,7 +148,7 @@ impl Line {
         self.writer.string(text)
     }
 
-    /// Writes the opening brace of an object that is an item of an array, or the whole line.
+    /// Writes the opening brace of an object. The object is an item of an array, or it is the whole line.
     ///
     /// # Errors
     ///
@@ -159,7 +159,7 @@ impl Line {
         self.writer.begin_object()
     }
 
-    /// The bytes of the line.
+    /// Returns the bytes of the line.
     pub fn into_bytes(self) -> Vec<u8>
         ensures { result.items ≡ print (tokens_in self) }
     {

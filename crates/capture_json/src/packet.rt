@@ -6,6 +6,7 @@ ghost use Rattle.capture_json.specs.Tokens.{PutsOne, tokens_in, with_members};
 ghost use Rattle.capture_json.specs.JsonPacket.{AreContentMembers, ArePacketMembers, AreReadMembers, AreTransportMembers, IsJsonLine, frame_members, hop_limit_members, time_members, udp_members};
 ghost use Rattle.capture_words.specs.Written.{AppendsOne};
 
+use crate::Line;
 use crate::addresses::{put_addresses, put_payload_len, put_ports};
 use crate::icmp::{put_icmpv4, put_icmpv6};
 use crate::network::put_network_protocol;
@@ -16,10 +17,10 @@ use crate::text::{put_written, write_line};
 use crate::times::put_instant;
 use crate::tunnels::put_tunnels;
 use crate::verdict::put_verdict;
-use crate::{Line, WriteError};
 use capture_file::PacketTime;
 use capture_packet::{Content, HopLimit, Packet, Transport};
-use capture_summary::FrameLen;
+use capture_request::WriteError;
+use capture_summary::{FrameLen, PacketInfo};
 use capture_words::{Times, write_time};
 use std::alloc::{AllocError, Global};
 use std::io;
@@ -27,11 +28,11 @@ use std::io::Write;
 use transport_part::TransportSlice;
 use udp_part::UdpSlice;
 
-/// The bytes that most texts in a line fit into.
+/// The initial room of a text in bytes. Most texts fit into it.
 const TEXT_ROOM: usize = 64;
 
-/// Writes a packet as a JSON object of the type `packet` in a line: its number, its time, the length of its frame, its tunnels, its
-/// addresses, its content, its hop limit and its verdict.
+/// Writes a packet as a JSON object of the type `packet`, on its own line. The object contains the number of the packet, its time, the
+/// length of its frame, its tunnels, its addresses, its content, its hop limit and its verdict.
 ///
 /// # Errors
 ///
@@ -40,21 +41,16 @@ pub fn write_packet<W: Write>(
     output: &mut W,
     alloc: Global,
     times: Times,
-    number: u64,
-    first: Option<PacketTime>,
-    time: Option<PacketTime>,
-    len: Option<FrameLen>,
+    info: &PacketInfo,
     packet: &Packet,
 ) -> Result<(), WriteError>
     ensures { OnOk result (AppendsOne (W.contents output.old) (W.contents output.new)
-        (IsJsonLine times number first time len packet.now)) }
+        (IsJsonLine times info.now.number info.now.first info.now.capture.time info.now.capture.len packet.now)) }
 {
     let mut line = Line::new(alloc)?;
     line.begin_item()?;
     let mut room = Vec::with_capacity(alloc, TEXT_ROOM)?;
-    match put_packet(
-        &mut line, &mut room, times, number, first, time, len, packet,
-    ) {
+    match put_packet(&mut line, &mut room, times, info, packet) {
         Ok(()) => write_line(output, line),
         Err(_) => Err(WriteError::NoMemory),
     }
@@ -65,25 +61,23 @@ fn put_packet(
     line: &mut Line,
     room: &mut Vec<u8>,
     times: Times,
-    number: u64,
-    first: Option<PacketTime>,
-    time: Option<PacketTime>,
-    len: Option<FrameLen>,
+    info: &PacketInfo,
     packet: &Packet,
 ) -> io::Result<()>
-    ensures { OnOk result (PutsOne (ArePacketMembers times number first time len packet.now) (tokens_in line.old) (tokens_in line.new)) }
+    ensures { OnOk result (PutsOne (ArePacketMembers times info.now.number info.now.first info.now.capture.time info.now.capture.len packet.now)
+        (tokens_in line.old) (tokens_in line.new)) }
 {
     line.put_text("type", "packet")?;
-    line.put_number("number", number)?;
-    put_time(line, room, times, first, time)?;
-    put_frame_len(line, len)?;
+    line.put_number("number", info.number)?;
+    put_time(line, room, times, info.first, info.capture.time)?;
+    put_frame_len(line, info.capture.len)?;
     put_tunnels(line, room, packet.tunnels.as_slice())?;
     put_content(line, room, &packet.content)?;
     put_hop_limit(line, packet.hop_limit)?;
     put_verdict(line, room, &packet.verdict)
 }
 
-/// Writes the time of a packet, as in a line of text, and as numbers.
+/// Writes the time of a packet, as a text like in a line of text, and as numbers.
 fn put_time(
     line: &mut Line,
     room: &mut Vec<u8>,
@@ -102,7 +96,7 @@ fn put_time(
     Ok(put_instant(line, "seconds", "nanoseconds", known)?)
 }
 
-/// Writes the length of a frame, in bytes, and how many of them were captured, if the capture contains the length.
+/// Writes the length of a frame in bytes, and how many of them were captured. It writes nothing if the capture does not contain the length.
 fn put_frame_len(line: &mut Line, len: Option<FrameLen>) -> Result<(), AllocError>
     ensures { OnOk result (tokens_in line.new ≡ with_members (frame_members len) (tokens_in line.old)) }
 {
@@ -165,7 +159,7 @@ fn put_transport(line: &mut Line, room: &mut Vec<u8>, transport: &Transport) -> 
     }
 }
 
-/// Writes a transport with a header that is read.
+/// Writes a transport whose header is read.
 fn put_read(line: &mut Line, room: &mut Vec<u8>, transport: &TransportSlice) -> io::Result<()>
     ensures { OnOk result (PutsOne (AreReadMembers transport.now) (tokens_in line.old) (tokens_in line.new)) }
 {

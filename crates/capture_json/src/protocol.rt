@@ -1,4 +1,4 @@
-//! The protocol of a packet: its number, and its name.
+//! The protocol of a packet: its number and its name.
 
 ghost use Rattle.std.specs.Prelude.{◌≡◌, OnOk};
 ghost use Rattle.std.specs.Option.{option_map};

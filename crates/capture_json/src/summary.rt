@@ -8,20 +8,21 @@ ghost use Rattle.capture_json.specs.Tokens.{array_begun, line_text, put, tokens_
 ghost use Rattle.capture_json.specs.JsonPacket.{json_line};
 ghost use Rattle.capture_json.specs.JsonSummary.{counts_data, counts_member, row_member, rows_data, summary_members, tables_members, uncounted_members};
 
+use crate::Line;
 use crate::facts::put_facts;
 use crate::flows::{put_count, put_uncounted, write_rows};
 use crate::text::{as_text, fill_with_underscores, write_line, write_part};
 use crate::totals::put_totals;
-use crate::{Line, WriteError};
 use capture_file::reader::CaptureReader;
+use capture_request::WriteError;
 use capture_summary::{ConversationCount, Count, Summary};
 use std::alloc::Global;
 use std::io;
 use std::io::Write;
 
-/// Writes the summary as a JSON object of the type `summary` in a line. It contains what the capture is, if `capture` is one, the numbers
-/// of packets, bytes and conversations, the times of the packets, and each table under its name. The conversations are written row by row,
-/// so that the memory does not grow with their number.
+/// Writes the summary as a JSON object of the type `summary`, on its own line. The object contains the facts of the capture if `capture` is
+/// one, the numbers of packets, bytes and conversations, the times of the packets, and each table under its name. The conversations are
+/// written row by row, so that the memory does not grow with their number.
 ///
 /// # Errors
 ///
@@ -41,7 +42,8 @@ pub fn write_summary<W: Write>(
     write_end(output, alloc, flows.without_ports(), flows.without_room())
 }
 
-/// Writes the type, what the capture is, the totals and the tables, and what precedes the first conversation.
+/// Writes everything before the first conversation: the type, the facts of the capture, the totals, the tables, and the beginning of the
+/// array.
 fn write_tables<W: Write>(
     output: &mut W,
     alloc: Global,
@@ -63,7 +65,7 @@ fn write_tables<W: Write>(
     }
 }
 
-/// Writes what follows the last conversation: the packets that no conversation counts.
+/// Writes everything after the last conversation: the end of the array, and the packets that no conversation counts.
 fn write_end<W: Write>(
     output: &mut W,
     alloc: Global,
@@ -79,7 +81,7 @@ fn write_end<W: Write>(
     write_line(output, line)
 }
 
-/// Writes the type, what the capture is, the totals and the tables.
+/// Writes the type, the facts of the capture, the totals and the tables.
 fn put_tables(
     line: &mut Line,
     room: &mut Vec<u8>,

@@ -15,7 +15,7 @@ use std::io;
 use std::io::Write;
 use tcp_part::{TcpOptionElement, TcpRawOption, TcpRawOptionError, TcpSlice, tcp_option};
 
-/// Writes the options of a header: an array of an object for each option, and the reason if the next option can't be read.
+/// Writes the options of a header as an array with an object for each option. If an option can't be read, it also writes the reason.
 pub fn put_options(line: &mut Line, room: &mut Vec<u8>, segment: &TcpSlice) -> io::Result<()>
     ensures { OnOk result (PutsOne (AreOptionMembers (options_of segment.now)) (tokens_in line.old) (tokens_in line.new)) }
 {
@@ -25,7 +25,7 @@ pub fn put_options(line: &mut Line, room: &mut Vec<u8>, segment: &TcpSlice) -> i
     put_fault(line, room, fault)
 }
 
-/// Writes an object for each option as an item, up to the end of the list or the first fault, and returns the fault.
+/// Writes each option as an object in an array, up to the end of the list or the first fault. Returns the fault, if there is one.
 fn push_options(
     line: &mut Line,
     room: &mut Vec<u8>,
@@ -45,7 +45,7 @@ fn push_options(
     if rest.is_empty() {
         return Ok(None);
     }
-    // Bytes are left at the end of the list, so kind 0 is next.
+    // Bytes are left, so that an option of kind 0 ends the list.
     push_kind(line, tcp_option::KIND_END)?;
     Ok(None)
 }

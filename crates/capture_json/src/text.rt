@@ -1,4 +1,4 @@
-//! Lines, and texts that are first written into memory.
+//! Writing lines, and texts that are first written into memory.
 
 ghost use Rattle.std.specs.Prelude.{◌≡◌, OnOk, IfOk};
 ghost use Rattle.std.specs.Io.KnownBytes.{Appends};
@@ -7,12 +7,13 @@ ghost use Rattle.capture_json.specs.Tokens.{line_text, put, tokens_in};
 ghost use Rattle.serde_json.specs.Data.{string};
 ghost use Rattle.capture_json.specs.Words.{underscore_if_space, with_underscores};
 
-use crate::{Line, WriteError};
+use crate::Line;
+use capture_request::WriteError;
 use std::alloc::AllocError;
 use std::io::{ErrorKind, Write};
 use std::{io, str};
 
-/// Writes the closing brace of the object that is the line, then the line with a line feed.
+/// Writes the closing brace of the object that is the line. Then writes the line and a line feed.
 pub fn write_line<W: Write>(output: &mut W, mut line: Line) -> Result<(), WriteError>
     ensures { OnOk result (Appends (W.contents output.old) (W.contents output.new) (line_text (tokens_in line))) }
 {
@@ -24,7 +25,7 @@ pub fn write_line<W: Write>(output: &mut W, mut line: Line) -> Result<(), WriteE
     }
 }
 
-/// Writes what is there of a line.
+/// Writes the part of a line that is in memory.
 pub fn write_part<W: Write>(output: &mut W, line: Line) -> Result<(), WriteError>
     ensures { OnOk result (Appends (W.contents output.old) (W.contents output.new) (print (tokens_in line))) }
 {
@@ -36,20 +37,18 @@ pub fn write_part<W: Write>(output: &mut W, line: Line) -> Result<(), WriteError
 pub fn write_bytes<W: Write>(output: &mut W, bytes: &[u8]) -> Result<(), WriteError>
     ensures { OnOk result (Appends (W.contents output.old) (W.contents output.new) bytes.now) }
 {
-    match output.write_all(bytes) {
-        Ok(()) => Ok(()),
-        Err(error) => Err(WriteError::Write(error)),
-    }
+    Ok(output.write_all(bytes)?)
 }
 
-/// Writes a member that is a text, which was written into memory.
+/// Writes a member whose value is a text in memory.
 pub fn put_written(line: &mut Line, name: &str, text: &[u8]) -> io::Result<()>
     ensures { OnOk result (tokens_in line.new ≡ put name.now (string text.now) (tokens_in line.old)) }
 {
     Ok(line.put_text(name, as_text(text)?)?)
 }
 
-/// The text of these bytes. The output of `write!`, and a word with underscores, is UTF-8, so there is no error.
+/// Returns these bytes as a text. The bytes are UTF-8, since they come from `write!` or are a word with underscores. Hence there is no
+/// error.
 pub fn as_text(bytes: &[u8]) -> io::Result<&str>
     ensures { IfOk result (λ text. text.now ≡ bytes.now) }
 {

@@ -11,7 +11,7 @@ use capture_texts::{FileTexts, InterfaceTexts, KeptText};
 use std::alloc::AllocError;
 use std::io;
 
-/// Writes the texts of a section, and the number of packets with a comment, as `capture_facts::write_facts` does.
+/// Writes the texts of a section, and the number of packets with a comment. They are the same as in `capture_facts::write_facts`.
 pub fn put_texts(line: &mut Line, room: &mut Vec<u8>, texts: &FileTexts) -> io::Result<()>
     ensures { OnOk result (tokens_in line.new ≡ with_members (texts_members texts.now) (tokens_in line.old)) }
 {
@@ -58,7 +58,7 @@ fn put_kept(line: &mut Line, room: &mut Vec<u8>, name: &str, text: &KeptText) ->
     put_written(line, name, room.as_slice())
 }
 
-/// Writes the number of packets with a comment, if there is one.
+/// Writes the number of packets with a comment, unless it is 0.
 fn put_commented(line: &mut Line, count: u64) -> Result<(), AllocError>
     ensures { OnOk result (tokens_in line.new ≡ with_members (commented_members count) (tokens_in line.old)) }
 {

@@ -26,7 +26,7 @@ pub fn put_instant(
     line.put_number(nanoseconds_name, nanoseconds)
 }
 
-/// The whole seconds from the beginning of 1970 to a time, rounded down, and the nanoseconds after them.
+/// The whole seconds from the beginning of 1970 to a time, rounded down, and the nanoseconds after these seconds.
 fn seconds_and_nanoseconds(time: PacketTime) -> (i128, u64)
     ensures seconds { result.0 ≡ seconds_since_1970 time }
     ensures nanoseconds { result.1 ≡ nanoseconds_of_second time }
@@ -39,7 +39,7 @@ fn seconds_and_nanoseconds(time: PacketTime) -> (i128, u64)
     (seconds, nanoseconds as u64)
 }
 
-/// The signed number of 64 bits that is nearest to a number.
+/// Returns the nearest number that a signed number of 64 bits can contain.
 fn nearest_long(number: i128) -> i64
     ensures { result ≡ specs.nearest_long number }
 {

@@ -84,7 +84,7 @@ fn put_rates(line: &mut Line, rates: Option<Rates>) -> Result<(), AllocError>
     }
 }
 
-/// A number as a number of 64 bits. A greater number becomes the greatest such number.
+/// Returns the nearest number that an unsigned number of 64 bits can contain.
 fn number_of(number: u128) -> u64
     ensures { result ≡ min number (2 ^ 64 - 1) }
 {
@@ -111,7 +111,7 @@ fn put_duration(line: &mut Line, room: &mut Vec<u8>, span: TimeSpan) -> io::Resu
     Ok(put_duration_numbers(line, span)?)
 }
 
-/// Writes the time between the earliest packet and the latest as whole seconds, and the nanoseconds after them.
+/// Writes the time between the earliest packet and the latest as whole seconds and the nanoseconds after them.
 fn put_duration_numbers(line: &mut Line, span: TimeSpan) -> Result<(), AllocError>
     ensures { OnOk result (tokens_in line.new ≡ with_members (duration_members span.earliest span.latest) (tokens_in line.old)) }
 {

@@ -44,7 +44,7 @@ fn put_checksum(line: &mut Line, room: &mut Vec<u8>, verdict: ChecksumVerdict) -
     }
 }
 
-/// Writes the reason why a checksum is not tested. A UDP packet without a length is rejected.
+/// Writes the reason why a checksum is not tested. A UDP packet without a length is refused.
 fn put_untested(line: &mut Line, room: &mut Vec<u8>, reason: Untested) -> io::Result<()>
     ensures { OnOk result (tokens_in line.new ≡ with_members (untested_members reason) (tokens_in line.old)) }
 {
@@ -70,7 +70,7 @@ fn put_word(line: &mut Line, room: &mut Vec<u8>, name: &str, kind: VerdictKind) 
     put_written(line, name, room.as_slice())
 }
 
-/// Writes the reason why a packet is rejected.
+/// Writes the reason why a packet is refused.
 fn put_refusal(line: &mut Line, room: &mut Vec<u8>, refusal: &Refusal) -> io::Result<()>
     ensures { OnOk result (tokens_in line.new ≡ put (codes "refused") (refused_member refusal.now).1 (tokens_in line.old)) }
 {
@@ -79,7 +79,7 @@ fn put_refusal(line: &mut Line, room: &mut Vec<u8>, refusal: &Refusal) -> io::Re
     put_written(line, "refused", room.as_slice())
 }
 
-/// Writes the reason why a UDP packet without a length is rejected.
+/// Writes the reason why a UDP packet without a length is refused.
 fn put_zero_length(line: &mut Line, room: &mut Vec<u8>) -> io::Result<()>
     ensures { OnOk result (tokens_in line.new ≡ put (codes "refused") (refused_member zero_length).1 (tokens_in line.old)) }
 {

@@ -53,6 +53,14 @@ ethernet_without_ip = no_tag _ _ 14 _ _ refl (omega arith) refl
 ethernet_with_llc : HasLinkHeader Ethernet LittleEndian (addresses ++ 0 ∷ 38 ∷ 0x42 ∷ 0x42 ∷ 0x03 ∷ []) 17 (Some (Llc 0x42 0x42)) None
 ethernet_with_llc = (refl, refl, refl)
 
+ip_after_llc : HasLinkHeader Ethernet LittleEndian (addresses ++ 0 ∷ 5 ∷ 0x06 ∷ 0x06 ∷ 0x03 ∷ packet) 17 None None
+ip_after_llc = (refl, refl, refl)
+
+-- the organization code of a bridge, and the ether type of IPv4
+ip_after_bridge : HasLinkHeader Ethernet LittleEndian
+    (addresses ++ 0 ∷ 10 ∷ 0xAA ∷ 0xAA ∷ 0x03 ∷ 0x00 ∷ 0x00 ∷ 0xF8 ∷ 0x08 ∷ 0x00 ∷ packet) 22 None None
+ip_after_bridge = no_tag _ _ 22 None _ refl (omega arith) refl
+
 -- the frame ends within the tag, whose end is at 18 bytes
 ends_in_tag : NeedsLinkHeader Ethernet LittleEndian (addresses ++ 0x81 ∷ 0x00 ∷ 0 ∷ []) 18
 ends_in_tag =
@@ -68,8 +76,23 @@ linux_cooked = no_tag _ _ 16 None _ refl (omega arith) refl
 linux_cooked_2 : HasLinkHeader LinuxCooked2 LittleEndian (0x86 ∷ 0xDD ∷ (replicate 18 0 ++ packet)) 20 None None
 linux_cooked_2 = no_tag _ _ 20 None _ refl (omega arith) refl
 
+-- the device type 824, and the protocol 16, generic netlink
+netlink : HasLinkHeader LinuxCooked LittleEndian (0 ∷ 4 ∷ 0x03 ∷ 0x38 ∷ (replicate 10 0 ++ 0 ∷ 16 ∷ [])) 16 (Some (LinkType 253)) None
+netlink = (refl, refl, refl)
+
+-- the protocol 4 before an LLC header is a protocol of netlink too
+netlink_2 : HasLinkHeader LinuxCooked2 LittleEndian (0 ∷ 4 ∷ (replicate 6 0 ++ 0x03 ∷ 0x38 ∷ replicate 10 0)) 20 (Some (LinkType 253)) None
+netlink_2 = (refl, refl, refl)
+
 cisco_hdlc : HasLinkHeader CiscoHdlc LittleEndian (0x0F ∷ 0x00 ∷ 0x08 ∷ 0x00 ∷ packet) 4 None None
 cisco_hdlc = no_tag _ _ 4 None _ refl (omega arith) refl
+
+-- SLARP, which as an ether type would be RARP, and CDP
+cisco_hdlc_without_ether_type : HasLinkHeader CiscoHdlc LittleEndian (0x8F ∷ 0x00 ∷ 0x80 ∷ 0x35 ∷ []) 4 (Some (LinkType 104)) None
+cisco_hdlc_without_ether_type = (refl, refl, refl)
+
+cisco_discovery : HasLinkHeader PppHdlc LittleEndian (0x8F ∷ 0x00 ∷ 0x20 ∷ 0x00 ∷ []) 4 (Some (LinkType 104)) None
+cisco_discovery = (refl, refl, refl)
 
 -- the ether type after a global routing header, and two reserved bytes that are not 0
 infiniband : HasLinkHeader InfiniBand LittleEndian (0x60 ∷ (replicate 39 0 ++ 0x86 ∷ 0xDD ∷ 0 ∷ 1 ∷ packet)) 44 None None
@@ -106,6 +129,10 @@ session_without_protocol = no_tag _ _ 20 _ _ refl (omega arith) refl
 -- the first session, without the header of Ethernet
 ppp_over_ethernet : HasLinkHeader PppOverEthernet LittleEndian (0x11 ∷ 0x00 ∷ 0 ∷ 1 ∷ 0 ∷ 4 ∷ 0x00 ∷ 0x21 ∷ packet) 8 None (Some 10)
 ppp_over_ethernet = (refl, refl, refl)
+
+-- PADI, a discovery packet
+pppoe_discovery : HasLinkHeader PppOverEthernet LittleEndian (0x11 ∷ 0x09 ∷ 0 ∷ 0 ∷ 0 ∷ 0 ∷ []) 6 (Some (EtherType 0x8863)) None
+pppoe_discovery = (refl, refl, refl)
 
 -- ---- stacks of MPLS labels
 
@@ -235,15 +262,23 @@ ipnet : HasLinkHeader Ipnet LittleEndian (1 ∷ 26 ∷ (replicate 22 0 ++ packet
 ipnet = (refl, refl, refl)
 
 -- an attribute of four bytes, and the packet
-nflog : HasLinkHeader Nflog BigEndian (2 ∷ 0 ∷ 0 ∷ 5 ∷ 8 ∷ 0 ∷ 1 ∷ 0 ∷ 8 ∷ 0 ∷ 3 ∷ 0 ∷ 6 ∷ 0 ∷ 9 ∷ 0 ∷ packet) 16 None None
+nflog : HasLinkHeader Nflog BigEndian (2 ∷ 0 ∷ 0 ∷ 5 ∷ 8 ∷ 0 ∷ 1 ∷ 0 ∷ 8 ∷ 0 ∷ 3 ∷ 0 ∷ 6 ∷ 0 ∷ 9 ∷ 0 ∷ packet) 16 None (Some 18)
 nflog = (refl, refl, refl)
 
+-- two bytes of padding, and another attribute, follow the packet
+nflog_with_padding : HasLinkHeader Nflog BigEndian (2 ∷ 0 ∷ 0 ∷ 5 ∷ 6 ∷ 0 ∷ 9 ∷ 0 ∷ (packet ++ 0 ∷ 0 ∷ 4 ∷ 0 ∷ 10 ∷ 0 ∷ [])) 8 None (Some 10)
+nflog_with_padding = (refl, refl, refl)
+
+-- the frame ends one byte before the attribute
+nflog_with_cut_packet : HasLinkHeader Nflog BigEndian (2 ∷ 0 ∷ 0 ∷ 5 ∷ 7 ∷ 0 ∷ 9 ∷ 0 ∷ packet) 8 None None
+nflog_with_cut_packet = (refl, refl, refl)
+
 -- an attribute with padding, on a machine with the other byte order
-nflog_other_order : HasLinkHeader Nflog BigEndian (10 ∷ 0 ∷ 0 ∷ 5 ∷ 0 ∷ 5 ∷ 0 ∷ 10 ∷ 0 ∷ 0 ∷ 0 ∷ 0 ∷ 0 ∷ 6 ∷ 0 ∷ 9 ∷ packet) 16 None None
+nflog_other_order : HasLinkHeader Nflog BigEndian (10 ∷ 0 ∷ 0 ∷ 5 ∷ 0 ∷ 5 ∷ 0 ∷ 10 ∷ 0 ∷ 0 ∷ 0 ∷ 0 ∷ 0 ∷ 6 ∷ 0 ∷ 9 ∷ packet) 16 None (Some 18)
 nflog_other_order = (refl, refl, refl)
 
 -- a bridged packet
-nflog_without_ip : HasLinkHeader Nflog BigEndian (7 ∷ 0 ∷ 0 ∷ 5 ∷ 6 ∷ 0 ∷ 9 ∷ 0 ∷ packet) 8 (Some (AddressFamily 7)) None
+nflog_without_ip : HasLinkHeader Nflog BigEndian (7 ∷ 0 ∷ 0 ∷ 5 ∷ 6 ∷ 0 ∷ 9 ∷ 0 ∷ packet) 8 (Some (AddressFamily 7)) (Some 10)
 nflog_without_ip = (refl, refl, refl)
 
 -- the frame ends within the first attribute, whose end is at 12 bytes

@@ -37,6 +37,10 @@ mpls = 0x8847
 abbrev pub mpls_multicast : ℕ
 mpls_multicast = 0x8848
 
+-- PPPoE discovery (RFC 2516, section 4)
+abbrev pub pppoe_discovery : ℕ
+pppoe_discovery = 0x8863
+
 -- a PPPoE session (RFC 2516, section 4)
 abbrev pub pppoe_session : ℕ
 pppoe_session = 0x8864

@@ -1,10 +1,12 @@
 pub mod AddressFamilies
+pub mod CiscoHdlc
 pub mod EtherHeaders
 pub mod EtherTypes
 pub mod FrameRelay
 pub mod Ieee80211
 pub mod Link
 pub mod LinkHeaders
+pub mod LinuxCooked
 pub mod Llc
 pub mod Metadata
 pub mod Mpls

@@ -1,17 +1,19 @@
 -- The headers of the link layer before a network packet: their lengths, and the protocols that follow them.
-use Rattle.std.specs.Prelude.{◌≡◌, ◌⊎◌, ◌≤◌, ◌<◌, ℕ, zero, suc, ◌+◌, ◌*◌, ◌==◌, ◌||◌, ◌&&◌, nat_le, nat_lt, Bool, true, false, if◌then◌else◌, List, length, slice_index, slice_range, is_some, Option, Some, None, Result, Ok, Err}
+use Rattle.std.specs.Prelude.{◌≡◌, ◌⊎◌, ◌≤◌, ◌<◌, ℕ, zero, suc, ◌+◌, ◌*◌, ◌==◌, ◌||◌, ◌&&◌, nat_lt, Bool, true, false, if◌then◌else◌, List, length, slice_range, is_some, Option, Some, None, Result, Ok, Err}
 use Rattle.net_base.specs.Bytes.{be_number}
 use Rattle.capture_link.specs.EtherTypes.{customer_tag, ipv4_ether_type, ipv6_ether_type, least_ether_type, mpls, mpls_multicast, old_service_tag, other_old_service_tag, pppoe_session, service_tag}
 use Rattle.capture_link.specs.AddressFamilies.{family_at}
+use Rattle.capture_link.specs.CiscoHdlc.{cisco_header, is_cisco_hdlc}
 use Rattle.capture_link.specs.EtherHeaders.{ethernet_at}
 use Rattle.capture_link.specs.FrameRelay.{frame_relay}
 use Rattle.capture_link.specs.Ieee80211.{after_radiotap, frame_at}
-use Rattle.capture_link.specs.LinkHeaders.{end_in, with_bytes}
+use Rattle.capture_link.specs.LinkHeaders.{end_in}
+use Rattle.capture_link.specs.LinuxCooked.{cooked_header, device_type_at, device_type_at_2, linux_cooked, linux_cooked_2}
 use Rattle.capture_link.specs.Llc.{llc_at}
 use Rattle.capture_link.specs.Metadata.{after_avs, after_ppi, after_prism, after_tap, filter_header, ipnet_header}
 use Rattle.capture_link.specs.Mpls.{stack_at}
 use Rattle.capture_link.specs.Nflog.{log_header}
-use Rattle.capture_link.specs.Ppp.{ppp_header, session_at}
+use Rattle.capture_link.specs.Ppp.{ppp_header, pppoe_frame, session_at}
 use Rattle.capture_texts.specs.declared.byte_order.ByteOrder.{ByteOrder}
 use Rattle.capture_texts.specs.declared.byte_order.ByteOrder.TheVariants.{BigEndian}
 use Rattle.capture_texts.specs.declared.link_type.LinkType.{LinkType}
@@ -28,18 +30,6 @@ use Rattle.capture_link.specs.declared.network_protocol.NetworkProtocol.{Network
 use Rattle.capture_link.specs.declared.network_protocol.NetworkProtocol.TheVariants.{EtherType as UnknownEtherType}
 
 -- ---- headers with an ether type
-
--- the length of a LINKTYPE_LINUX_SLL header without tags, and the place of its ether type (draft-ietf-opsawg-pcaplinktype)
-abbrev pub linux_cooked : EtherHeader
-linux_cooked = record { len = 16; ether_type_at = 14 }
-
--- the same of LINKTYPE_LINUX_SLL2 (draft-ietf-opsawg-pcaplinktype)
-abbrev pub linux_cooked_2 : EtherHeader
-linux_cooked_2 = record { len = 20; ether_type_at = 0 }
-
--- LINKTYPE_C_HDLC (RFC 1547, section 4.3.1): an address, a control byte, and the ether type
-abbrev pub cisco_hdlc : EtherHeader
-cisco_hdlc = record { len = 4; ether_type_at = 2 }
 
 -- LINKTYPE_IPOIB: a global routing header of 40 bytes, and the encapsulation header of IP over InfiniBand (RFC 4391, section 6), which
 -- contains the ether type and two reserved bytes
@@ -137,17 +127,6 @@ NeedsEtherHeader header frame required_len =
     ((length frame < header.len) × (required_len ≡ header.len))
     ⊎ (NeedsTag header frame required_len ⊎ NeedsAfterTags header frame required_len)
 
--- ---- headers with an ether type or an LLC header
-
--- the protocol of a Linux cooked frame with an LLC header (LINKTYPE_LINUX_SLL)
-abbrev pub cooked_llc : ℕ
-cooked_llc = 0x0004
-
--- a frame of LINKTYPE_LINUX_SLL or LINKTYPE_LINUX_SLL2, with an ether type, or with an LLC header
-abbrev pub cooked_header : EtherHeader → List ℕ → Result FirstHeader LinkHeaderCutOff
-cooked_header header frame = with_bytes frame header.len (
-    if be_number frame header.ether_type_at 2 == cooked_llc then llc_at frame header.len else Ok (EtherType header))
-
 -- ---- all link types
 
 -- a frame with a whole header at its front
@@ -155,23 +134,19 @@ abbrev pub whole : Result LinkHeader LinkHeaderCutOff → Result FirstHeader Lin
 whole (Ok header) = Ok (Whole header)
 whole (Err error) = Err error
 
--- a LINKTYPE_PPP_HDLC frame with an address of Cisco HDLC: 0F to one station, or 8F to all stations
-abbrev pub is_cisco_hdlc : List ℕ → Bool
-is_cisco_hdlc frame = nat_le 1 (length frame) && (slice_index frame 0 == 0x0F || slice_index frame 0 == 0x8F)
-
 -- the first header of a frame of this link type
 abbrev pub first_header : LinkType → ByteOrder → List ℕ → Result FirstHeader LinkHeaderCutOff
 first_header BsdLoopback order frame = family_at order frame 0
 first_header Ethernet order frame = ethernet_at frame 0
 first_header Ppp order frame = whole (ppp_header frame)
-first_header PppHdlc order frame = if is_cisco_hdlc frame then Ok (EtherType cisco_hdlc) else whole (ppp_header frame)
-first_header PppOverEthernet order frame = whole (session_at frame 0)
+first_header PppHdlc order frame = if is_cisco_hdlc frame then cisco_header frame else whole (ppp_header frame)
+first_header PppOverEthernet order frame = whole (pppoe_frame frame)
 first_header RawIp order frame = Ok (Whole (record { len = 0; next = None; end = None }))
-first_header CiscoHdlc order frame = Ok (EtherType cisco_hdlc)
+first_header CiscoHdlc order frame = cisco_header frame
 first_header Ieee80211 order frame = frame_at frame 0
 first_header FrameRelay order frame = frame_relay frame
 first_header OpenBsdLoopback order frame = family_at BigEndian frame 0
-first_header LinuxCooked order frame = cooked_header linux_cooked frame
+first_header LinuxCooked order frame = cooked_header linux_cooked device_type_at frame
 first_header Pflog order frame = filter_header frame
 first_header Prism order frame = after_prism frame
 first_header Radiotap order frame = after_radiotap frame
@@ -181,7 +156,7 @@ first_header Ipnet order frame = ipnet_header frame
 first_header Nflog order frame = log_header frame
 first_header InfiniBand order frame = Ok (EtherType infiniband)
 first_header Pktap order frame = after_tap frame
-first_header LinuxCooked2 order frame = cooked_header linux_cooked_2 frame
+first_header LinuxCooked2 order frame = cooked_header linux_cooked_2 device_type_at_2 frame
 
 -- The whole link header has this length, and this protocol comes next, according to the first header; `None` is IP. What follows the header
 -- has this end, if the header states it; `None` is the end of the frame.

@@ -14,13 +14,18 @@ use Rattle.capture_texts.specs.declared.link_type.LinkType.TheVariants.{BsdLoopb
 use Rattle.capture_link.specs.declared.link.LinkHeaderCutOff.{LinkHeaderCutOff}
 use Rattle.capture_link.specs.declared.link.header.FirstHeader.{FirstHeader}
 use Rattle.capture_link.specs.declared.link.header.FirstHeader.TheVariants.{Whole}
+use Rattle.capture_link.specs.declared.network_protocol.NetworkProtocol.{NetworkProtocol}
 use Rattle.capture_link.specs.declared.network_protocol.NetworkProtocol.TheVariants.{AddressFamily}
 
 -- ---- a packet after its address family
 
+-- the next protocol according to an address family, which is a family of IP or not
+abbrev pub family_protocol : ℕ → Bool → Option NetworkProtocol
+family_protocol family is_ip = if is_ip then None else Some (AddressFamily family)
+
 -- a whole header of this length with an address family, which is a family of IP or not
 abbrev pub with_family : ℕ → ℕ → Bool → FirstHeader
-with_family len family is_ip = Whole (record { len = len; next = if is_ip then None else Some (AddressFamily family); end = None })
+with_family len family is_ip = Whole (record { len = len; next = family_protocol family is_ip; end = None })
 
 -- a length with the padding up to a multiple of four
 abbrev pub padded : ℕ → ℕ

@@ -1,13 +1,14 @@
 -- Packets that the packet filter of Linux logged (LINKTYPE_NFLOG, in the registry of link types of tcpdump.org).
-use Rattle.std.specs.Prelude.{ℕ, zero, suc, ◌+◌, ◌≤◌, ◌==◌, ◌||◌, Bool, nat_lt, if◌then◌else◌, List, length, slice_index, Option, Some, None, Result, Ok, Err}
+use Rattle.std.specs.Prelude.{ℕ, zero, suc, ◌+◌, ◌≤◌, ◌==◌, ◌||◌, Bool, nat_le, nat_lt, if◌then◌else◌, List, length, slice_index, Option, Some, None, Result, Ok, Err}
 use Rattle.capture_texts.specs.LinkTypes.{nflog_number}
 use Rattle.capture_texts.specs.Numbers.{short_at}
 use Rattle.capture_link.specs.LinkHeaders.{Fits, unread, with_bytes}
-use Rattle.capture_link.specs.Metadata.{padded, with_family}
+use Rattle.capture_link.specs.Metadata.{family_protocol, padded}
 use Rattle.capture_texts.specs.declared.byte_order.ByteOrder.{ByteOrder}
 use Rattle.capture_texts.specs.declared.byte_order.ByteOrder.TheVariants.{BigEndian, LittleEndian}
 use Rattle.capture_link.specs.declared.link.LinkHeaderCutOff.{LinkHeaderCutOff}
 use Rattle.capture_link.specs.declared.link.header.FirstHeader.{FirstHeader}
+use Rattle.capture_link.specs.declared.link.header.FirstHeader.TheVariants.{Whole}
 use Rattle.capture_link.specs.declared.link.nflog.Attribute.{Attribute}
 use Rattle.capture_link.specs.declared.link.nflog.Attribute.TheVariants.{Last, Other}
 
@@ -50,16 +51,25 @@ attribute_order frame =
     if slice_index frame 6 == 0 then (if slice_index frame 7 == 0 then None else Some BigEndian)
     else (if slice_index frame 7 == 0 then Some LittleEndian else None)
 
--- the header up to the packet, which begins after the fields of the attribute at this place; byte 0 is the address family
-abbrev pub payload_at : List ℕ → ℕ → FirstHeader
-payload_at frame place = with_family (place + attribute_fields_len) (slice_index frame 0) (is_linux_ip (slice_index frame 0))
+-- the end of a packet, if the frame contains all of it; otherwise the packet ends with the frame
+abbrev pub end_within : List ℕ → ℕ → Option ℕ
+end_within frame end = if nat_le end (length frame) then Some end else None
+
+-- The header up to the packet, which begins after the fields of the attribute at this place, and ends with this attribute, whose length is
+-- given. Byte 0 is the address family.
+abbrev pub payload_at : List ℕ → ℕ → ℕ → FirstHeader
+payload_at frame place len = Whole (record {
+  len = place + attribute_fields_len;
+  next = family_protocol (slice_index frame 0) (is_linux_ip (slice_index frame 0));
+  end = end_within frame (place + len);
+})
 
 -- The attribute at this place: its fields, and a value. Its length counts the fields, but not the padding up to a multiple of four. A
 -- header with a shorter length is not read.
 abbrev pub attribute_at : ByteOrder → List ℕ → ℕ → Result Attribute LinkHeaderCutOff
 attribute_at order frame place = with_bytes frame (place + attribute_fields_len) (
     if nat_lt (short_at order frame place) attribute_fields_len then Ok (Last (unread_log (place + attribute_fields_len)))
-    else if short_at order frame (place + 2) == payload_type then Ok (Last (payload_at frame place))
+    else if short_at order frame (place + 2) == payload_type then Ok (Last (payload_at frame place (short_at order frame place)))
     else with_bytes frame (place + padded (short_at order frame place)) (Ok (Other (place + padded (short_at order frame place)))))
 
 -- the header, if this is its next attribute, and this header follows from the place after another attribute

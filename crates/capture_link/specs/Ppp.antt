@@ -1,7 +1,7 @@
 -- PPP frames (RFC 1661 and RFC 1662), and frames of PPP over Ethernet (RFC 2516).
-use Rattle.std.specs.Prelude.{ℕ, ◌+◌, ◌==◌, ◌||◌, ◌&&◌, Bool, nat_le, if◌then◌else◌, List, length, slice_index, take, Option, Some, None, Result, Ok, Err}
+use Rattle.std.specs.Prelude.{ℕ, ◌+◌, ◌==◌, ◌||◌, ◌&&◌, Bool, not, nat_le, if◌then◌else◌, List, length, slice_index, take, Option, Some, None, Result, Ok, Err}
 use Rattle.net_base.specs.Bytes.{be_number, flag}
-use Rattle.capture_link.specs.EtherTypes.{pppoe_session}
+use Rattle.capture_link.specs.EtherTypes.{pppoe_discovery, pppoe_session}
 use Rattle.capture_link.specs.LinkHeaders.{with_bytes}
 use Rattle.capture_link.specs.Mpls.{stack_at}
 use Rattle.capture_link.specs.declared.link.LinkHeaderCutOff.{LinkHeaderCutOff}
@@ -59,3 +59,16 @@ abbrev pub session_at : List ℕ → ℕ → Result LinkHeader LinkHeaderCutOff
 session_at frame place = with_bytes frame (place + 6) (
     if be_number frame place 2 == 0x1100 then session_payload frame (place + 6) (place + 6 + be_number frame (place + 4) 2)
     else Ok (unread_session (place + 6)))
+
+-- The header begins a discovery packet: version 1 and type 1 in a byte, and a code other than 0, which is the code of a session (RFC 2516,
+-- sections 5 and 6).
+abbrev pub is_discovery : List ℕ → Bool
+is_discovery frame = slice_index frame 0 == 0x11 && not (be_number frame 0 2 == 0x1100)
+
+-- the header of a discovery packet, whose tags are not read; the next protocol is the ether type of such packets
+abbrev pub discovery : LinkHeader
+discovery = record { len = 6; next = Some (EtherType pppoe_discovery); end = None }
+
+-- A LINKTYPE_PPP_ETHER frame begins with a PPPoE header. No ether type precedes it, so its code determines whether it is a session.
+abbrev pub pppoe_frame : List ℕ → Result LinkHeader LinkHeaderCutOff
+pppoe_frame frame = with_bytes frame 6 (if is_discovery frame then Ok discovery else session_at frame 0)

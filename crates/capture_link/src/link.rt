@@ -7,12 +7,14 @@ ghost use Rattle.capture_link.specs.Link as specs;
 ghost use Rattle.capture_link.specs.Link.{AreBytesAfter, HasEtherHeader, HasLinkHeader, IsFoundAfter, NeedsEtherHeader, NeedsLinkHeader, by_ether_type};
 ghost use Rattle.capture_link.specs.LinkHeaders.{Fits, IsHeaderWithin, max_frame_place};
 
+mod cisco_hdlc;
 pub mod ether_type;
 mod frame_relay;
 mod header;
 mod ieee80211;
 #[doc(hidden)]
 pub mod laws;
+mod linux_cooked;
 mod llc;
 mod metadata;
 mod mpls;
@@ -20,6 +22,7 @@ mod nflog;
 mod ppp;
 
 use crate::NetworkProtocol;
+use crate::link::cisco_hdlc::{cisco_header, is_cisco_hdlc};
 use crate::link::ether_type::{
     CUSTOMER_TAG, IPV4, IPV6, MPLS, MPLS_MULTICAST, OLD_SERVICE_TAG, OTHER_OLD_SERVICE_TAG,
     PPPOE_SESSION, SERVICE_TAG,
@@ -27,13 +30,14 @@ use crate::link::ether_type::{
 use crate::link::frame_relay::frame_relay;
 use crate::link::header::{EtherHeader, FirstHeader, LinkHeader, expect_len, number_at, short_at};
 use crate::link::ieee80211::{after_radiotap, frame_at};
+use crate::link::linux_cooked::{linux_cooked, linux_cooked_2};
 use crate::link::llc::llc_at;
 use crate::link::metadata::{
     after_avs, after_ppi, after_prism, after_tap, filter_header, ipnet_header,
 };
 use crate::link::mpls::stack_at;
 use crate::link::nflog::log_header;
-use crate::link::ppp::{ppp_header, session_at};
+use crate::link::ppp::{ppp_header, pppoe_frame, session_at};
 use capture_texts::{ByteOrder, LinkType};
 
 /// The content of a frame after its link header.
@@ -48,7 +52,8 @@ pub enum Frame<'a> {
 /// The bytes of a frame after its link header.
 #[derive(Debug, PartialEq, Eq, Drop)]
 pub struct IpBytes<'a> {
-    /// The bytes up to the end of a PPPoE payload, or up to the end of the frame. They begin with the IP packet. Padding may follow it.
+    /// The bytes up to the end that the link header states, or up to the end of the frame. They begin with the IP packet. Padding may
+    /// follow it.
     pub bytes: &'a [u8],
     /// The place of these bytes, in bytes from the start of the frame: the length of the link header.
     pub start: usize,
@@ -71,32 +76,11 @@ const ETHER_TYPE_AT: usize = 12;
 /// The length of the header of an Ethernet frame, in bytes.
 const ETHERNET_LEN: usize = 14;
 
-/// LINKTYPE_LINUX_SLL: the protocol is at the end.
-const LINUX_COOKED: EtherHeader = EtherHeader {
-    len: 16,
-    ether_type_at: 14,
-};
-
-/// LINKTYPE_LINUX_SLL2: the protocol is at the front.
-const LINUX_COOKED_2: EtherHeader = EtherHeader {
-    len: 20,
-    ether_type_at: 0,
-};
-
-/// LINKTYPE_C_HDLC: an address, a control byte, and the protocol (RFC 1547, section 4.3.1).
-const CISCO_HDLC: EtherHeader = EtherHeader {
-    len: 4,
-    ether_type_at: 2,
-};
-
 /// LINKTYPE_IPOIB: a global routing header, and the encapsulation header with the protocol and two reserved bytes (RFC 4391, section 6).
 const INFINIBAND: EtherHeader = EtherHeader {
     len: 44,
     ether_type_at: 40,
 };
-
-/// The protocol of a Linux cooked frame with an LLC header (LINKTYPE_LINUX_SLL).
-const COOKED_LLC: u16 = 0x0004;
 
 /// The length of a VLAN tag (IEEE 802.1Q, clause 9.5), in bytes: two bytes of control information, and the next ether type.
 const TAG_LEN: usize = 4;
@@ -113,11 +97,6 @@ const IPV6_FAMILY_NETBSD: u32 = 24;
 const IPV6_FAMILY_FREEBSD: u32 = 28;
 
 const IPV6_FAMILY_DARWIN: u32 = 30;
-
-/// The first byte of a Cisco HDLC frame to one station, and of a Cisco HDLC frame to all stations (RFC 1547, section 4.3.1).
-const TO_ONE_STATION: u8 = 0x0F;
-
-const TO_ALL_STATIONS: u8 = 0x8F;
 
 /// The network packet in a frame with the link type of its capture. `order` is the byte order of the numbers in the capture.
 ///
@@ -141,14 +120,19 @@ const TO_ALL_STATIONS: u8 = 0x8F;
 /// the header of a PPPoE session (RFC 2516) or a stack of MPLS labels (RFC 3032). A stack of MPLS labels is also skipped after the PPP
 /// protocols 0281 and 0283.
 ///
-/// A PPPoE header states the length of its payload. What follows the payload is not part of the packet. If the frame ends before the
-/// payload, the payload ends with the frame. If the payload is too short for its PPP header, the protocol is the ether type 8864.
+/// A PPPoE header states the length of its payload, and LINKTYPE_NFLOG states the length of the packet. What follows is not part of the
+/// packet. If the frame ends before the payload, the payload ends with the frame. If a PPPoE payload is too short for its PPP header, the
+/// protocol is the ether type 8864. A PPPoE discovery packet of LINKTYPE_PPP_ETHER has the ether type 8863.
 ///
 /// These numbers identify an IP packet:
 /// - the ether types 0800 and 86DD
 /// - the address families 2, 24, 28 and 30, in either byte order, 2 and 26 of LINKTYPE_IPNET, and 2 and 10 of LINKTYPE_NFLOG
 /// - the PPP protocols 0021 and 0057
 /// - the network layer protocol IDs CC and 8E
+/// - the LLC header 06 06 03
+///
+/// An ether type follows the organization codes 000000 and 0000F8 of a SNAP header. In Cisco HDLC the numbers 8035 and 2000 are not ether
+/// types, and in a Linux cooked frame of a netlink device no number is one.
 ///
 /// # Errors
 ///
@@ -213,19 +197,19 @@ fn first_header(
         LinkType::BsdLoopback => family_at(order, frame, 0),
         LinkType::Ethernet => ethernet_at(frame, 0),
         LinkType::Ppp => Ok(FirstHeader::Whole(ppp_header(frame)?)),
-        LinkType::PppHdlc if is_cisco_hdlc(frame) => Ok(FirstHeader::EtherType(CISCO_HDLC)),
+        LinkType::PppHdlc if is_cisco_hdlc(frame) => cisco_header(frame),
         LinkType::PppHdlc => Ok(FirstHeader::Whole(ppp_header(frame)?)),
-        LinkType::PppOverEthernet => Ok(FirstHeader::Whole(session_at(frame, 0)?)),
+        LinkType::PppOverEthernet => Ok(FirstHeader::Whole(pppoe_frame(frame)?)),
         LinkType::RawIp => Ok(FirstHeader::Whole(LinkHeader {
             len: 0,
             next: None,
             end: None,
         })),
-        LinkType::CiscoHdlc => Ok(FirstHeader::EtherType(CISCO_HDLC)),
+        LinkType::CiscoHdlc => cisco_header(frame),
         LinkType::Ieee80211 => frame_at(frame, 0),
         LinkType::FrameRelay => frame_relay(frame),
         LinkType::OpenBsdLoopback => family_at(ByteOrder::BigEndian, frame, 0),
-        LinkType::LinuxCooked => cooked_header(LINUX_COOKED, frame),
+        LinkType::LinuxCooked => linux_cooked(frame),
         LinkType::Pflog => filter_header(frame),
         LinkType::Prism => after_prism(frame),
         LinkType::Radiotap => after_radiotap(frame),
@@ -235,15 +219,8 @@ fn first_header(
         LinkType::Nflog => log_header(frame),
         LinkType::InfiniBand => Ok(FirstHeader::EtherType(INFINIBAND)),
         LinkType::Pktap => after_tap(frame),
-        LinkType::LinuxCooked2 => cooked_header(LINUX_COOKED_2, frame),
+        LinkType::LinuxCooked2 => linux_cooked_2(frame),
     }
-}
-
-/// Whether the address of a LINKTYPE_PPP_HDLC frame is an address of Cisco HDLC.
-fn is_cisco_hdlc(frame: &[u8]) -> bool
-    ensures { result ≡ specs.is_cisco_hdlc frame.now }
-{
-    !frame.is_empty() && matches!(frame[0], TO_ONE_STATION | TO_ALL_STATIONS)
 }
 
 /// A header with an ether type, and its tags.
@@ -363,20 +340,6 @@ fn ethernet_at(frame: &[u8], place: usize) -> Result<FirstHeader, LinkHeaderCutO
         llc_at(frame, len)
     } else {
         Ok(FirstHeader::EtherType(EtherHeader { len, ether_type_at }))
-    }
-}
-
-/// The header of a Linux cooked frame: a header with an ether type, or an LLC header after it.
-fn cooked_header(header: EtherHeader, frame: &[u8]) -> Result<FirstHeader, LinkHeaderCutOff>
-    requires { (header.ether_type_at + 2 ≤ header.len) × (header.len ≤ 20) }
-    ensures is { result ≡ specs.cooked_header header frame.now }
-    ensures fits { IfOk result (Fits frame.now) }
-{
-    expect_len(frame, header.len)?;
-    if short_at(frame, header.ether_type_at) == COOKED_LLC {
-        llc_at(frame, header.len)
-    } else {
-        Ok(FirstHeader::EtherType(header))
     }
 }
 

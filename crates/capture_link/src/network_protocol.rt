@@ -5,7 +5,8 @@ pub enum NetworkProtocol {
     EtherType(u16),
     /// A protocol with this address family in a loopback header.
     AddressFamily(u32),
-    /// An unknown protocol: the frame is of the link type with this number, which is not read, or its header is not read.
+    /// An unknown protocol: the frame is of the link type with this number, which is not read, or its header is not read. The number is 104
+    /// for SLARP and CDP in Cisco HDLC, and 253 for netlink in a Linux cooked frame.
     LinkType(u16),
     /// An IEEE 802.11 frame with a body that is not read. The frame is not a data frame, contains no data, is encrypted, or contains
     /// something other than one whole data unit.
@@ -27,7 +28,7 @@ pub enum NetworkProtocol {
         /// The service access point of the source.
         ssap: u8,
     },
-    /// A protocol in a SNAP header (RFC 1042) with an organization code other than 0.
+    /// A protocol in a SNAP header (RFC 1042) with an organization code other than 0 and 0000F8.
     Snap {
         /// The organization code, three bytes.
         organization_code: u32,

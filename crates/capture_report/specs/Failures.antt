@@ -1,18 +1,18 @@
--- The exit statuses of runs that can't go on.
+-- The exit statuses of runs that ended early.
 use Rattle.std.specs.Prelude.{ℕ, ◌+◌}
 use Rattle.std.specs.IoError.{error_kind}
 use Rattle.std.specs.declared.io.ErrorKind.{ErrorKind}
 use Rattle.std.specs.declared.io.ErrorKind.TheVariants as kinds
-use Rattle.capture_json.specs.declared.write_error.WriteError.{WriteError}
-use Rattle.capture_json.specs.declared.write_error.WriteError.TheVariants.{NoMemory, Write}
+use Rattle.capture_request.specs.declared.writing_error.WriteError.{WriteError}
+use Rattle.capture_request.specs.declared.writing_error.WriteError.TheVariants.{NoMemory, Write}
 
--- If the reader of standard output ended first it is the status that a shell reports for a program that SIGPIPE, signal 13, ended.
--- Otherwise it is 3.
+-- If the reader of standard output ended first, it is the status that a shell reports for a program that ended by SIGPIPE, which is signal
+-- 13. Otherwise it is 3.
 abbrev pub failure_number : ErrorKind → ℕ
 failure_number kinds.BrokenPipe = 128 + 13
 failure_number kind = 3
 
--- the same after a report that could not be written
+-- the exit status if a report could not be written
 abbrev pub write_failure_number : WriteError → ℕ
 write_failure_number (Write error) = failure_number (error_kind error)
 write_failure_number NoMemory = 3

@@ -14,14 +14,14 @@ use Rattle.capture_selection.specs.declared.selection_error.SelectionError.{Sele
 use Rattle.capture_selection.specs.declared.selection_error.SelectionError.TheVariants.{Capture, Write}
 use Rattle.capture_report.specs.declared.input.FileId.{FileId}
 
--- two files are the same file if the numbers of both are known, and are equal
+-- two files are the same file; the numbers of both are known and equal
 abbrev pub is_same_file : Option FileId → Option FileId → Bool
 is_same_file (Some file) (Some other) = file.device == other.device && file.number == other.number
 is_same_file file other = false
 
 -- ---- exit statuses
 
--- The end of a run that wrote the packets of a capture: the exit status that a report of the capture has, or the error of a write.
+-- The end of a run that wrote the packets of a capture. It is the exit status that a report of the capture has, or the error of a write.
 abbrev pub written_status : Result (Unit {0}) SelectionError → Result ExitStatus Error
 written_status (Ok done) = Ok statuses.Success
 written_status (Err (Capture error)) = Ok (exit_status error)
@@ -32,13 +32,13 @@ abbrev pub FailsFirst : {T : Type 0} → Result (Unit {0}) SelectionError → Re
 FailsFirst (Err (Write error)) result = result ≡ Err error
 FailsFirst ended result = Unit {0}
 
--- this is the number of the exit status
+-- the run ends with an exit status that has this number
 abbrev pub IsStatusOf : Result (Unit {0}) SelectionError → ℕ → Type 0
 IsStatusOf ended number = (status : ExitStatus) × (written_status ended ≡ Ok status) × (number ≡ exit_number status)
 
 -- ---- what is written to standard error
 
--- the lines of the end of a capture with this name: there is one if the capture could not be read to its end
+-- the lines for the end of a capture with this name; there is one line if the capture could not be read to its end
 abbrev pub AreErrorLines : Option (List ℕ) → Result (Unit {0}) SelectionError → List (List ℕ) → Type 0
 AreErrorLines name (Ok done) lines = AreEndLines name (Ok done) lines
 AreErrorLines name (Err (Capture error)) lines = AreEndLines name (Err error) lines
@@ -49,20 +49,21 @@ abbrev pub counts_line : Counts → List ℕ
 counts_line counts =
     codes "capture_report: " ++ (decimal counts.read ++ (codes " packets read, " ++ (decimal counts.written ++ codes " written\n")))
 
--- the same lines, and then the line with the numbers of packets
+-- the lines for the end of a capture, and then the line with the numbers of packets
 abbrev pub AreSelectionLines : Option (List ℕ) → Result (Unit {0}) SelectionError → Counts → List (List ℕ) → Type 0
 AreSelectionLines name ended counts lines =
     (errors : List (List ℕ)) × AreErrorLines name ended errors × (lines ≡ errors ++ counts_line counts ∷ [])
 
 -- ---- the run
 
--- no packet
+-- the numbers before the first packet
 abbrev pub no_counts : Counts
 no_counts = record { read = 0; chosen = 0; written = 0 }
 
--- The packets of a capture with this name that have a line in the report with these options were written, up to the end of the capture or an
--- error. Then the output was flushed. Of the lines for standard error a beginning was written, and all of them if the result is no error. If
--- the result is an error, it may be the error of writing a packet, and then nothing is stated of the output.
+-- The packets of a capture that have a line in a report with these options were written, up to the end of the capture or an error. Then the
+-- output was flushed. At least a beginning of the lines for standard error was written, and all of them if the result is no error. `name`
+-- is the name of the capture in these lines. If the result is an error, it may be the error of writing a packet, and then nothing is stated
+-- of the output.
 pub record WritesSelection (options : Parts) (name left still_left held now_held told now_told : Option (List ℕ)) (result : Result ℕ Error) : Type 0 where
   pub ended : Result (Unit {0}) SelectionError
   pub counts : Counts

@@ -18,11 +18,12 @@ read_of progress = progress.read
 abbrev pub next_of : {R : Type 0} → Progress R → ℕ
 next_of progress = progress.next
 
--- whether the line is to be erased
+-- whether the line was written and must be erased
 abbrev pub is_written : {R : Type 0} → Progress R → Bool
 is_written progress = progress.is_written
 
--- The line is shown for a file above 100 MB, if standard error is a terminal and no other output is written to the terminal meanwhile.
+-- The line is shown for a file of more than 100 MB if standard error is a terminal, and no other output is written to the terminal while
+-- the file is read.
 abbrev pub is_shown : ℕ → Bool → Bool → Bool
 is_shown len stderr_is_terminal lines_on_terminal = nat_lt 100000000 len && (stderr_is_terminal && not lines_on_terminal)
 

@@ -10,7 +10,7 @@ use std::io::{ErrorKind, Read, Stdin};
 use std::os::unix::fs::MetadataExt;
 use std::{fs, io};
 
-/// The name by which Linux describes the file that is standard input.
+/// The name of the file that is standard input, on Linux.
 const STANDARD_INPUT_FILE: &str = "/dev/stdin";
 
 /// The error for a name that is not UTF-8.
@@ -30,8 +30,8 @@ impl Input {
     ///
     /// # Errors
     ///
-    /// The error of the system if the file can't be opened, and `InvalidFilename` if the name is escaped: a file is opened only by a name
-    /// that is UTF-8.
+    /// The error of the operating system if the file can't be opened, and `InvalidFilename` if the name is escaped. A file can be opened
+    /// only by a name that is UTF-8.
     pub fn open(rt: &HostRuntime, name: &str) -> io::Result<Input>
         ensures { IfOk result (IsRequestedBy name.now) }
     {
@@ -44,7 +44,7 @@ impl Input {
         Ok(Input::File(File::open(rt, name)?))
     }
 
-    /// The length of a file in bytes. It is 0 for standard input, and if the system does not tell it.
+    /// Returns the length of a file in bytes. It is 0 for standard input, and if the operating system does not report a length.
     pub fn len(&self) -> u64
         ensures { IsFileLen self.now result }
     {
@@ -57,7 +57,7 @@ impl Input {
         }
     }
 
-    /// Whether this input is the file with this name, by the numbers of the device and of the file.
+    /// Whether this input is the file with this name. The numbers of device and file are compared.
     pub fn is_named(&self, rt: &HostRuntime, name: &str) -> bool {
         let metadata = match self {
             Input::Standard(_) => fs::metadata(rt, STANDARD_INPUT_FILE),
@@ -67,17 +67,17 @@ impl Input {
     }
 }
 
-/// The device and the number of a file, by which the system tells files apart.
+/// The number of a device and of a file on it, which together identify the file.
 #[derive(Clone, Copy)]
 pub struct FileId {
-    /// The number of the device that has the file.
+    /// The number of the device that contains the file.
     pub device: u64,
     /// The number of the file on the device.
     pub number: u64,
 }
 
 impl FileId {
-    /// The numbers in what the system tells about a file. `None` if it tells nothing.
+    /// Returns the numbers in the metadata of a file, or `None` if there are no metadata.
     fn of(told: io::Result<Metadata>) -> Option<FileId> {
         let metadata = told.ok()?;
         Some(FileId {
@@ -87,7 +87,7 @@ impl FileId {
     }
 }
 
-/// Whether two files are the same file. A file without numbers is no other file.
+/// Whether two files are the same file. If the numbers of a file are unknown, the result is `false`.
 fn is_same_file(file: Option<FileId>, other: Option<FileId>) -> bool
     ensures { result ≡ is_same_file file other }
 {

@@ -2,7 +2,7 @@
 //!
 //! A capture is a file in the classic format of libpcap (draft-ietf-opsawg-pcap) or a pcapng file (draft-ietf-opsawg-pcapng). A packet is
 //! read down to its transport: UDP (RFC 768), TCP (RFC 9293), ICMPv4 (RFC 792) or ICMPv6 (RFC 4443), over IPv4 or IPv6. The report has a
-//! line for each packet, and then a summary. A capture is read as a stream, one packet at a time. The memory needed does not grow with the
+//! line for each packet, and then a summary. A capture is read as a stream, one packet at a time, so that the memory does not grow with the
 //! capture.
 //!
 //! ```text
@@ -31,7 +31,7 @@ use capture_request::{
     CaptureError, ExitStatus, Lines, MAX_PACKET_LEN, Parts, STANDARD_INPUT, write_error,
     write_open_error,
 };
-use capture_run::{Open, WriteError, run};
+use capture_run::{Open, Outputs, Sources, WriteError, run};
 use capture_selection::{Counts, SelectionError, write_selected};
 use input::Input;
 use new_file::NewFile;
@@ -46,7 +46,8 @@ use streams::{new_buffer, write_whole};
 /// The size of the input buffer of a capture and of the buffer of standard output, in bytes.
 const BUFFER_LEN: usize = 1 << 16;
 
-/// The exit status if the reader of standard output or standard error ended first. A shell reports it for a program that SIGPIPE ended.
+/// The exit status if the reader of standard output or standard error ended first. A shell reports the same status for a program that ended
+/// by SIGPIPE.
 const BROKEN_PIPE: u8 = 128 + 13;
 
 fn main(rt: HostRuntime) -> ExitCode {
@@ -56,7 +57,7 @@ fn main(rt: HostRuntime) -> ExitCode {
     }
 }
 
-/// Writes the error that ends the program, and returns the exit status. Nothing is written if the reader of standard output or standard
+/// Writes the error that ends the program, and returns the exit status. It writes nothing if the reader of standard output or standard
 /// error ended first, as `head` does.
 fn failure(rt: &HostRuntime, error: &io::Error) -> u8
     ensures { result ≡ failure_number (error_kind error.now) }
@@ -83,11 +84,11 @@ fn status(rt: &HostRuntime) -> io::Result<u8> {
         return write_to(rt, &options, name);
     }
     if options.line_buffered || rt.stdout().is_terminal() {
-        let mut output = LineWriter::with_capacity(rt.alloc(), BUFFER_LEN, rt.stdout())?;
-        return report_to(rt, &options, &mut output);
+        let output = LineWriter::with_capacity(rt.alloc(), BUFFER_LEN, rt.stdout())?;
+        return report_to(rt, &options, output);
     }
-    let mut output = BufWriter::with_capacity(rt.alloc(), BUFFER_LEN, rt.stdout())?;
-    report_to(rt, &options, &mut output)
+    let output = BufWriter::with_capacity(rt.alloc(), BUFFER_LEN, rt.stdout())?;
+    report_to(rt, &options, output)
 }
 
 /// Writes the error in the arguments, or the text that they request, and returns the exit status.
@@ -102,31 +103,39 @@ fn answer(rt: &HostRuntime, error: clap::Error) -> io::Result<u8>
 }
 
 /// Reports all captures, and returns the exit status.
-fn report_to<W: Write>(rt: &HostRuntime, options: &Options<'_>, output: &mut W) -> io::Result<u8> {
+fn report_to<W: Write + Drop>(
+    rt: &HostRuntime,
+    options: &Options<'_>,
+    output: W,
+) -> io::Result<u8> {
     let state = RandomState::new(rt)?;
     let lines_on_terminal = rt.stdout().is_terminal() && options.parts.lines != Lines::None;
     let files = Files {
         rt,
         lines_on_terminal,
     };
-    let names = options.files.as_slice();
-    let mut errors = rt.stderr();
-    match run(
-        rt.alloc(),
-        state,
-        options.parts,
-        names,
-        &files,
-        output,
-        &mut errors,
-    ) {
+    let sources = Sources {
+        names: options.files.as_slice(),
+        opener: &files,
+    };
+    let mut outputs = Outputs {
+        alloc: rt.alloc(),
+        report: output,
+        errors: rt.stderr(),
+    };
+    // The limit of the program: a packet above `MAX_PACKET_LEN`, 524,288 bytes, is counted, but not read.
+    let Ok(mut bytes) = new_buffer(rt.alloc(), MAX_PACKET_LEN) else {
+        return Ok(write_failure(rt, &WriteError::NoMemory));
+    };
+    let buffer = bytes.as_mut_slice().as_mut_array().unwrap();
+    match run(&sources, options.parts, state, buffer, &mut outputs) {
         Ok(status) => Ok(status.number()),
         Err(error) => Ok(write_failure(rt, &error)),
     }
 }
 
 /// Writes the packets of the capture to the file with this name, or to standard output, and returns the exit status. The file is created
-/// when the first bytes are written to it, so after the start of the capture was accepted.
+/// when its first byte is written, hence only if the beginning of the capture was accepted.
 fn write_to(rt: &HostRuntime, options: &Options<'_>, name: &str) -> io::Result<u8> {
     let capture = options.files.as_slice().first().copied();
     let input = match Input::open(rt, capture.unwrap_or(STANDARD_INPUT)) {
@@ -167,7 +176,8 @@ fn unopened<E: Write>(
     Ok(ExitStatus::Failed.number())
 }
 
-/// Writes the packets of a capture with this name, if it has one, and then their numbers to standard error. Returns the exit status.
+/// Writes the packets of a capture, and then writes their numbers to standard error. Returns the exit status. If the capture has a name,
+/// errors contain it.
 fn write_packets<W: Write + Drop>(
     rt: &HostRuntime,
     parts: &Parts,
@@ -191,8 +201,8 @@ fn write_packets<W: Write + Drop>(
     )
 }
 
-/// Writes the packets of a capture with this name, if it has one, to the output, and then their numbers to `errors`. Returns the exit
-/// status. If the capture can't be read to its end, the error is written before the numbers.
+/// Writes the packets of a capture to the output, and then writes their numbers to `errors`. Returns the exit status. If the capture can't
+/// be read to its end, the error is written before the numbers. If the capture has a name, errors contain it.
 ///
 /// # Errors
 ///
@@ -211,13 +221,13 @@ fn write_selection<R: Read, W: Write, E: Write>(
 {
     let mut counts = Counts::NONE;
     let ended = write_selected(input, output, buffer, parts, &mut counts);
-    // What was written before an error is part of the output.
+    // Packets that were written before an error are part of the output.
     let flushed = output.flush();
     finished(errors, alloc, name, ended, flushed, &counts)
 }
 
-/// Writes the error of a capture with this name, if it has an error, and then the numbers of packets. Returns the exit status. The numbers
-/// are left out if the output could not be flushed.
+/// Writes the error of a capture if there is one, and then the numbers of packets. Returns the exit status. The numbers are left out if the
+/// output could not be flushed. If the capture has a name, the error contains it.
 fn finished<E: Write>(
     errors: &mut E,
     alloc: Global,
@@ -238,7 +248,7 @@ fn finished<E: Write>(
     Ok(status.number())
 }
 
-/// Writes the error of a capture with this name, if it has an error, and returns the exit status.
+/// Writes the error of a capture if there is one, and returns the exit status. If the capture has a name, the error contains it.
 fn written_status<E: Write>(
     errors: &mut E,
     alloc: Global,
@@ -278,7 +288,7 @@ fn counts_line(alloc: Global, counts: &Counts) -> Result<String, AllocError>
     format!(in alloc; "capture_report: {read} packets read, {written} written\n")
 }
 
-/// Writes the error that ends the report, and returns the exit status. Nothing is written if the reader of standard output or standard error
+/// Writes the error that ends the report, and returns the exit status. It writes nothing if the reader of standard output or standard error
 /// ended first.
 fn write_failure(rt: &HostRuntime, error: &WriteError) -> u8
     ensures { result ≡ write_failure_number error.now }
@@ -290,7 +300,8 @@ fn write_failure(rt: &HostRuntime, error: &WriteError) -> u8
     ExitStatus::Failed.number()
 }
 
-/// An input that shows its progress if it is a long file. `lines_on_terminal` is whether other output is written to the terminal meanwhile.
+/// Returns an input that shows the progress of reading if it is a long file. `lines_on_terminal` states whether other output is written to
+/// the terminal at the same time.
 fn with_progress(rt: &HostRuntime, input: Input, lines_on_terminal: bool) -> Progress<Input>
     ensures inner { inner_of result ≡ input }
     ensures mixed { IsTrue lines_on_terminal → next_of result ≡ 2 ^ 64 - 1 }
@@ -300,7 +311,7 @@ fn with_progress(rt: &HostRuntime, input: Input, lines_on_terminal: bool) -> Pro
     Progress::new(input, len, shown, rt.stderr())
 }
 
-/// The files of the computer.
+/// The files of the computer, and standard input.
 #[derive(Drop)]
 struct Files<'a> {
     rt: &'a HostRuntime,

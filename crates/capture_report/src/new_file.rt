@@ -7,18 +7,18 @@ use std::fs::File;
 use std::io;
 use std::io::Write;
 
-/// A file that is created when the first byte is written to it. Until then, a file with this name stays as it is.
+/// A file that is created when its first byte is written. Until then, an existing file with this name is unchanged.
 #[derive(Drop)]
 pub struct NewFile<'a> {
     rt: &'a HostRuntime,
     name: &'a str,
-    /// `None` until the file is created.
+    /// The file, or `None` until it is created.
     file: Option<File>,
     is_refused: bool,
 }
 
 impl<'a> NewFile<'a> {
-    /// A file with this name, which is not created yet.
+    /// Returns a file with this name, which is not created yet.
     pub fn new(rt: &'a HostRuntime, name: &'a str) -> NewFile<'a>
         ensures { is_refused result ≡ false }
     {
@@ -37,7 +37,7 @@ impl<'a> NewFile<'a> {
         self.is_refused
     }
 
-    /// The file, which is created if it is not there yet.
+    /// Returns the file, and creates it first if necessary.
     fn created(&mut self) -> io::Result<File> {
         if let Some(file) = self.file.take() {
             return Ok(file);
@@ -56,14 +56,14 @@ impl<'a> Write for NewFile<'a> {
         written
     }
 
-    /// Nothing is kept back, since each write is a write of the file.
+    /// Does nothing, since each write is a write of the file.
     fn flush(&mut self) -> io::Result<()> {
         Ok(())
     }
 }
 
-/// Creates the file with this name. A clone of a file has a number above the numbers of the standard streams. If standard error is closed,
-/// the file itself could have its number, and would contain the messages.
+/// Creates the file with this name. The file is cloned, since the number of a clone is above the numbers of the standard streams. Without
+/// the clone, the file would get the number of standard error if that is closed, and then error messages would be written into the file.
 fn create(rt: &HostRuntime, name: &str) -> io::Result<File> {
     File::create(rt, name)?.try_clone()
 }

@@ -9,28 +9,28 @@ use std::io::{Read, Stderr, Write};
 /// A progress line is shown for a file with more bytes than this.
 const LONG: u64 = 100_000_000;
 
-/// As many spaces as the longest progress line has characters, and a return to the start of the line.
+/// Spaces that erase the longest progress line, and a return to the start of the line.
 const ERASED: &str = "                     \r";
 
-/// A reader of a capture that shows on standard error how many percent of the capture it has read. The line is no part of the report: it is
-/// erased at the end of the capture, and a failed write of it is ignored.
+/// A reader of a capture that shows its progress on standard error, in percent. The line is not part of the report. It is erased at the end
+/// of the capture, and a failure to write it is ignored.
 ///
-/// The line ends with a return, and is shorter than any error line. An error line that follows is written over it.
+/// The line ends with a return, and is shorter than any error line, so that an error line overwrites it.
 pub struct Progress<R> {
     inner: R,
     errors: Stderr,
     /// The length of the capture in bytes.
     len: u64,
-    /// The number of bytes that were read, or `u64::MAX` if that is less.
+    /// The number of bytes that were read, but at most `u64::MAX`.
     read: u64,
-    /// The line is written next after this number of bytes. It is `u64::MAX` if no line is shown.
+    /// The number of bytes after which the line is written next. It is `u64::MAX` if no line is shown.
     next: u64,
-    /// Whether the line is to be erased.
+    /// Whether the line was written and must be erased.
     is_written: bool,
 }
 
-/// Whether a progress line is shown for a file with this length in bytes. `lines_on_terminal` is whether other output is written to the
-/// terminal while the file is read: the two would be mixed.
+/// Whether a progress line is shown for a file with this length in bytes. `lines_on_terminal` states whether other output is written to the
+/// terminal while the file is read. Progress lines would be mixed with it.
 pub fn is_shown(len: u64, stderr_is_terminal: bool, lines_on_terminal: bool) -> bool
     ensures { result ≡ is_shown len stderr_is_terminal lines_on_terminal }
 {
@@ -47,7 +47,7 @@ fn percent(read: u64, len: u64) -> u8
     (u128::from(read) * 100 / u128::from(len)) as u8
 }
 
-/// The number of bytes of each percent, rounded up to the next whole number.
+/// The number of bytes in each percent, rounded up to the next whole number.
 fn step(len: u64) -> u64
     ensures { result ≡ step_of len }
 {
@@ -55,8 +55,8 @@ fn step(len: u64) -> u64
 }
 
 impl<R> Progress<R> {
-    /// Wraps the reader of a capture that has `len` bytes. If `shown`, the line is written to `errors` each time another percent of them
-    /// was read.
+    /// Wraps the reader of a capture with a length of `len` bytes. If `shown` is set, the line is written to `errors` after each percent of
+    /// these bytes.
     pub fn new(inner: R, len: u64, shown: bool, errors: Stderr) -> Progress<R>
         ensures inner { inner_of result ≡ inner }
         ensures read { read_of result ≡ 0 }
@@ -72,7 +72,8 @@ impl<R> Progress<R> {
         }
     }
 
-    /// Counts the bytes of a read. The line is written if another percent was read. It is erased at the end, where no byte is read.
+    /// Counts the bytes of a read. It writes the line if another percent was read, and erases the line at the end of the capture, where a
+    /// read returns no bytes.
     fn count(&mut self, bytes: usize)
         ensures inner { inner_of self.new ≡ inner_of self.old }
         ensures read { read_of self.new ≡ min (2 ^ 64 - 1) (read_of self.old + bytes) }
@@ -88,7 +89,7 @@ impl<R> Progress<R> {
         }
     }
 
-    /// Writes the line, and finds out when it is written next.
+    /// Writes the line, and calculates when it is written next.
     fn write(&mut self)
         ensures inner { inner_of self.new ≡ inner_of self.old }
         ensures read { read_of self.new ≡ read_of self.old }

@@ -7,13 +7,13 @@ use Rattle.capture_request.specs.declared.capture_error.CaptureError.TheVariants
 use Rattle.capture_file.specs.declared.reader.open_error.OpenError.TheVariants as refusals
 use Rattle.capture_file.specs.declared.classic.capture_header_error.CaptureHeaderError.TheVariants.{Magic}
 
--- The compression of a file whose first four bytes are this big-endian number. These are the first bytes of a file:
--- gzip: 1F 8B (RFC 1952, section 2.3.1)
--- compress: 1F 9D
--- zstd: 28 B5 2F FD (RFC 8878, section 3.1.1)
--- xz: FD 37 7A 58 5A 00 (the .xz file format, section 2.1.1.1)
--- lz4: 04 22 4D 18 (LZ4 frame format)
--- bzip2: 42 5A 68, and a digit from 1 to 9, which is 31 to 39
+-- The compression of a file whose first four bytes are this big-endian number. The files begin with these bytes:
+--   gzip: 1F 8B (RFC 1952, section 2.3.1)
+--   compress: 1F 9D
+--   zstd: 28 B5 2F FD (RFC 8878, section 3.1.1)
+--   xz: FD 37 7A 58 5A 00 (the .xz file format, section 2.1.1.1)
+--   lz4: 04 22 4D 18 (LZ4 frame format)
+--   bzip2: 42 5A 68, and a digit from 1 to 9, which is 31 to 39
 abbrev pub compression_with : ℕ → Option Compression
 compression_with magic =
     if magic / 65536 == 0x1F8B then Some Gzip
@@ -33,7 +33,7 @@ compression_name Xz = codes "xz"
 compression_name Bzip2 = codes "bzip2"
 compression_name Lz4 = codes "lz4"
 
--- the compression of the capture that this error rejects
+-- the compression of the capture, if this error refuses it because it is compressed
 abbrev pub compression_of : CaptureError → Option Compression
 compression_of (Header (refusals.Classic (Magic magic))) = compression_with magic
 compression_of other = None

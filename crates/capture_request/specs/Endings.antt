@@ -1,4 +1,4 @@
--- The end of a report of a capture: a beginning that is rejected, the greatest number of packets, and the exit status.
+-- The end of the report of a capture: a beginning that is refused, the greatest number of packets, and the exit status.
 use Rattle.std.specs.Prelude.{◌≡◌, ℕ, List, length, Some, Option, Result, Ok, Err}
 use Rattle.capture_file.specs.Opening.{ReadsBeginning}
 use Rattle.capture_file.specs.declared.classic.capture_header_error.CaptureHeaderError.TheVariants.{CutOff, Magic, Modified, Pcapng, Version}
@@ -15,13 +15,13 @@ use Rattle.capture_request.specs.declared.capture_error.CaptureError.TheVariants
 abbrev pub max_packets : ℕ
 max_packets = 18446744073709551614
 
--- this error rejects the beginning of a capture
+-- this error is the reason why the beginning of a capture is refused
 abbrev pub IsRefusedCapture : OpenError → List ℕ → Type 0
 IsRefusedCapture error bytes =
     (still_left : Option (List ℕ)) × (buffer : List ℕ) × (length buffer ≡ max_packet_len)
     × ReadsBeginning (Some bytes) still_left buffer (Err error)
 
--- the exit status of an error
+-- the exit status of a report that ends with this error
 abbrev pub exit_status : CaptureError → ExitStatus
 exit_status (Header (refusals.Classic Pcapng)) = Unfinished
 exit_status (Header (refusals.Classic Modified)) = Unfinished
@@ -39,7 +39,7 @@ exit_status Enough = Success
 exit_status (ReadHeader error) = Failed
 exit_status (Read number offset error) = Failed
 
--- the exit status of a report
+-- the exit status of a report that ends with this result
 abbrev pub status_of : Result (Unit {0}) CaptureError → ExitStatus
 status_of (Ok done) = Success
 status_of (Err error) = exit_status error

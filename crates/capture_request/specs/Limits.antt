@@ -7,18 +7,18 @@ use Rattle.capture_summary.specs.declared.choice.Choice.{Choice}
 use Rattle.capture_request.specs.declared.capture_error.CaptureError.{CaptureError}
 use Rattle.capture_request.specs.declared.capture_error.CaptureError.TheVariants.{Enough, Header, Read, ReadHeader, RecordCutOff, Refused, TooManyPackets}
 
--- as many packets were counted as are requested
+-- the number of counted packets has reached the requested number
 abbrev pub is_full : Option ℕ → ℕ → Bool
 is_full None counted = false
 is_full (Some limit) counted = not (nat_lt counted limit)
 
--- no more packets were counted than are requested
+-- at most as many packets were counted as are requested
 abbrev pub IsWithin : Option ℕ → ℕ → Type 0
 IsWithin None counted = Unit {0}
 IsWithin (Some limit) counted = counted ≤ limit
 
--- The report of a capture ended early exactly if as many packets were counted as are requested. Nothing is stated of a capture whose
--- beginning is not accepted, or with which no more packets can be counted.
+-- The report of a capture ended early exactly if the requested number of packets was counted. Nothing is stated if the beginning of the
+-- capture was refused, or if no further packet could be counted.
 abbrev pub EndsByLimit : Option ℕ → ℕ → Result (Unit {0}) CaptureError → Type 0
 EndsByLimit limit counted (Ok done) = is_full limit counted ≡ false
 EndsByLimit limit counted (Err Enough) = is_full limit counted ≡ true
@@ -29,12 +29,12 @@ EndsByLimit limit counted (Err TooManyPackets) = Unit {0}
 EndsByLimit limit counted (Err (Header error)) = Unit {0}
 EndsByLimit limit counted (Err (ReadHeader error)) = Unit {0}
 
--- the report of a capture did not end for a requested number of packets
+-- the report of a capture ended for another reason than the requested number of packets
 abbrev pub EndsWithoutLimit : Result (Unit {0}) CaptureError → Type 0
 EndsWithoutLimit (Err Enough) = ⊥
 EndsWithoutLimit other = Unit {0}
 
--- fewer packets than are requested were counted before the last of these packets, if there is one
+-- before the last of these packets, fewer packets were counted than are requested; nothing is stated if there is no packet
 abbrev pub EndsWithRequested : Option ℕ → Choice → SummaryTables → List FilePacket → Type 0
 EndsWithRequested limit choice before packets =
     (packets ≡ [])

@@ -10,7 +10,7 @@ use Rattle.capture_summary.specs.Kinds.{verdict_kind, verdict_place}
 use Rattle.capture_summary.specs.declared.verdict_kind.VerdictKind.{VerdictKind}
 use Rattle.capture_summary.specs.declared.verdict_kind.VerdictKind.TheVariants.{Refused, Wrong}
 
--- the checksum is wrong, or the packet is rejected
+-- the checksum is wrong, or the packet was refused
 abbrev pub is_fault : VerdictKind → Bool
 is_fault kind = verdict_place kind == verdict_place Wrong || verdict_place kind == verdict_place Refused
 
@@ -24,12 +24,12 @@ has_line lines.None verdict = false
 abbrev pub HasNoLine : Parts → Packet → Type 0
 HasNoLine parts packet = (IsChosen parts.choice packet → ⊥) ⊎ (has_line parts.lines packet.verdict ≡ false)
 
--- the statement holds if one of these packets has no line
+-- the statement holds if the packet has no line; `IsPacket` states which packet it is
 pub record IfNoLine (IsPacket : Packet → Type 0) (parts : Parts) (Statement : Type 0) : Type 0 where
   pub packet : Packet
   pub is_packet : IsPacket packet
   pub holds : HasNoLine parts packet → Statement
 
--- the packets that have a line: no packet, if only the summary is requested
+-- which packets have a line; no packet has one if only the summary is requested
 abbrev pub lines_by : Bool → Bool → Lines
 lines_by summary_alone wrong_alone = if summary_alone then lines.None else if wrong_alone then lines.Wrong else lines.All

@@ -2,7 +2,7 @@
 use Rattle.std.specs.Prelude.{ℕ, ◌==◌, if◌then◌else◌, List, [], ◌∷◌}
 use Rattle.capture_facts.specs.ShownText.{shown_text}
 
--- a name without the mark, NUL (0), of a name that is escaped already
+-- a name without the mark NUL (0), with which a name begins if it is escaped
 abbrev pub without_mark : List ℕ → List ℕ
 without_mark [] = []
 without_mark (byte ∷ name) = if byte == 0 then name else byte ∷ name

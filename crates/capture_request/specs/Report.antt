@@ -1,4 +1,4 @@
--- What a report reads of a capture, and what it counts: each packet that is chosen once, in their order.
+-- What a report reads of a capture, and what it counts. Each chosen packet is counted once, in the order of the packets.
 use Rattle.std.specs.Prelude.{◌≡◌, ◌≤◌, ◌⊎◌, ℕ, ◌+◌, List, length, [], ◌∷◌, nat_lt, Option, Some, None, IfSome, Result, Ok, Err}
 use Rattle.std.specs.Option.{option_map}
 use Rattle.capture_file.specs.CapturePackets.{BeginsWithPackets, EndsWith, FailsToRead, HasPackets, FilePacket, ReadsOne, ReadsPackets, kept, too_long, offset_of}
@@ -29,48 +29,48 @@ use Rattle.capture_request.specs.declared.capture_error.CaptureError.TheVariants
 use Rattle.capture_summary.specs.declared.capture_info.CaptureInfo.{CaptureInfo}
 use Rattle.capture_summary.specs.declared.flow.Flow.{Flow}
 
--- a packet of which the capture says this was counted, once in each table: in the rows of its content and of the verdict on it, and in
--- that of its flow
+-- A packet was counted once in each table: in the rows of its protocol, of its verdict and of its flow. `info` is the data that the capture
+-- contains about it.
 pub record CountsRead (packet : Packet) (info : CaptureInfo) (before after : SummaryTables) : Type 0 where
   pub flow : Option Flow
   pub is_flow : IsFlowOf packet.content flow
   pub counts : CountsOne before (content_protocol packet.content) (verdict_kind packet.verdict) (verdict_refusal_kind packet.verdict) flow info after
 
--- it was counted if it is chosen, and else nothing was
+-- the packet was counted if it is chosen, and nothing was counted otherwise
 abbrev pub CountsChosen : Choice → Packet → CaptureInfo → SummaryTables → SummaryTables → Type 0
 CountsChosen choice packet info before after =
     (IsChosen choice packet × CountsRead packet info before after) ⊎ ((IsChosen choice packet → ⊥) × (after ≡ before))
 
--- one of these packets was counted, if it is chosen
+-- the packet for which `IsPacket` holds was counted if it is chosen
 pub record CountsPacket (choice : Choice) (IsPacket : Packet → Type 0) (info : CaptureInfo) (before after : SummaryTables) : Type 0 where
   pub packet : Packet
   pub is_packet : IsPacket packet
   pub counts : CountsChosen choice packet info before after
 
--- ---- what a packet is
+-- ---- how a packet is read
 
--- a packet that is too long is not read
+-- the result for a packet that is too long for the buffer, which is not read
 abbrev pub IsTooLong : ℕ → Packet → Type 0
 IsTooLong required_len packet = packet ≡ in_no_tunnel Unread (TooLong required_len)
 
--- what captured bytes are read as, by their link type; where they are fewer than those of the packet, it was cut
+-- The result of reading a frame of this link type. The packet is truncated if fewer bytes were captured than the frame had.
 abbrev pub IsReadAs : Result LinkType ℕ → CapturedPacket → List ℕ → Packet → Type 0
 IsReadAs (Ok link_type) captured frame packet =
     IsRead link_type captured.byte_order frame (nat_lt captured.captured_len captured.original_len) packet
 IsReadAs (Err number) captured frame packet =
     packet ≡ in_no_tunnel (NotIp (protocols.LinkType number)) (untested OtherProtocol)
 
--- what a packet of a capture is
+-- the result of reading a packet of a capture
 abbrev pub IsPacketOf : FilePacket → Packet → Type 0
 IsPacketOf (kept captured frame) packet = IsReadAs captured.link_type captured frame packet
 IsPacketOf (too_long captured) packet = IsTooLong captured.required_len packet
 
--- when it was captured, where the capture says it
+-- the time at which a packet was captured, if the capture contains it
 abbrev pub packet_time : FilePacket → Option PacketTime
 packet_time (kept packet frame) = packet.time
 packet_time (too_long packet) = packet.time
 
--- the data about a packet in its capture: its link type, its time, and the length of its frame
+-- the data that the capture contains about a packet: its link type, its time, and the length of its frame
 abbrev pub captured_info : CapturedPacket → CaptureInfo
 captured_info packet = record {
   link_type = Some packet.link_type;
@@ -78,8 +78,8 @@ captured_info packet = record {
   len = Some (record { original = packet.original_len; captured = packet.captured_len });
 }
 
--- the data about a packet that is too long, as far as its capture contains them. A record of a classic capture contains the original
--- length, and requires as many bytes as were captured. A block of a pcapng file is not read.
+-- The data that the capture contains about a packet that is too long. A record of a classic capture contains the original length, and
+-- requires as many bytes as were captured. A block of a pcapng file is not read, so that the original length is unknown.
 abbrev pub too_long_info : TooLongPacket → CaptureInfo
 too_long_info packet = record {
   link_type = packet.link_type;
@@ -87,7 +87,7 @@ too_long_info packet = record {
   len = option_map (λ original. record { original = original; captured = packet.required_len }) packet.original_len;
 }
 
--- the data about a packet of a capture
+-- the data that the capture contains about a packet
 abbrev pub info_of : FilePacket → CaptureInfo
 info_of (kept packet frame) = captured_info packet
 info_of (too_long packet) = too_long_info packet
@@ -98,48 +98,48 @@ info_of (too_long packet) = too_long_info packet
 abbrev pub CountsCaptured : Choice → FilePacket → SummaryTables → SummaryTables → Type 0
 CountsCaptured choice packet before after = CountsPacket choice (IsPacketOf packet) (info_of packet) before after
 
--- those of these packets that are chosen were counted one after the other
+-- the chosen ones among these packets were counted, in their order
 abbrev pub CountsEach : Choice → SummaryTables → List FilePacket → SummaryTables → Type 0
 CountsEach choice before [] after = after ≡ before
 CountsEach choice before (packet ∷ packets) after =
     (between : SummaryTables) × CountsCaptured choice packet before between × CountsEach choice between packets after
 
--- one packet was read, and counted if it is chosen
+-- one packet was read, and it was counted if it is chosen
 pub record ReportsOne (choice : Choice) (reader : CaptureReader) (left still_left : Option (List ℕ)) (still_reader : CaptureReader) (before after : SummaryTables) : Type 0 where
   pub packet : FilePacket
   pub reads : ReadsOne max_packet_len reader left still_left still_reader packet
   pub counted : CountsCaptured choice packet before after
 
--- packets were read, and nothing after them
+-- some packets were read, and nothing was read after them
 abbrev pub ReadsWholePackets : CaptureReader → Option (List ℕ) → Option (List ℕ) → CaptureReader → Type 0
 ReadsWholePackets reader left still_left still_reader =
     (packets : List FilePacket) × ReadsPackets max_packet_len reader left still_left still_reader packets
 
 -- ---- the end of the packets
 
--- the packets were read to the end of the input, or to a record or block that is cut off or can't be read
+-- the packets were read to the end of the input, or to a record or block that is cut off or refused
 abbrev pub IsReadToEnd : Result (Unit {0}) CaptureError → Type 0
 IsReadToEnd (Ok done) = Unit {0}
 IsReadToEnd (Err (RecordCutOff number offset required_len len)) = Unit {0}
 IsReadToEnd (Err (Refused error)) = Unit {0}
 IsReadToEnd other = ⊥
 
--- how what comes after the last packet is answered, where the next one has this number: the end is no error, and an error says what is cut
--- off or why a block can't be read
+-- The result `ended` reports the item after the last packet. The next packet would have this number. The end of the input is no error. An
+-- error contains how many bytes are missing, or why a block is refused.
 abbrev pub IsAnsweredBy : NextPacket → ℕ → Result (Unit {0}) CaptureError → Type 0
 IsAnsweredBy next number (Ok done) = next ≡ packets.End
 IsAnsweredBy next number (Err (RecordCutOff its_number offset required len)) = (next ≡ packets.CutOff required len) × (its_number ≡ number)
 IsAnsweredBy next number (Err (Refused error)) = next ≡ packets.Refused error
 IsAnsweredBy next number other = ⊥
 
--- the next item was read, and it is this item, which is not a packet; this is the reader after it
+-- the next item was read; it is `next`, which is not a packet, and `after` is the reader after it
 abbrev pub ReadsEnd : CaptureReader → Option (List ℕ) → NextPacket → Option (List ℕ) → CaptureReader → Type 0
 ReadsEnd before left next still_left after =
     (ends : EndsWith max_packet_len before left next) × (still_left ≡ ends.still_left) × (after ≡ ends.after)
 
--- The next item was read, or reading it failed, and this result reports it. The item is not a packet: the input is at its end, or within a
--- record or block, or the next block can't be read. An error within a record or block contains this number, and the place where the record
--- or block begins. This is the reader that is left.
+-- The next item was read, or reading it failed, and this result reports it. The item is not a packet: the input ends here or within a
+-- record or block, or the next block is refused. An error within a record or block contains this number, and the place where the record or
+-- block begins. `after` is the reader after the item.
 abbrev pub EndsAtItem : ℕ → CaptureReader → Option (List ℕ) → Option (List ℕ) → CaptureReader → Result (Unit {0}) CaptureError → Type 0
 EndsAtItem number before left still_left after (Ok done) = ReadsEnd before left packets.End still_left after
 EndsAtItem number before left still_left after (Err (RecordCutOff its_number offset required len)) =
@@ -149,28 +149,28 @@ EndsAtItem number before left still_left after (Err (Read its_number offset erro
     FailsToRead max_packet_len before left still_left after × (its_number ≡ number) × (offset ≡ offset_of after)
 EndsAtItem number before left still_left after other = ⊥
 
--- The report of a capture ended with this result, after so many packets of this capture and of the captures before it. No item was read if
--- as many packets were counted as are requested, or if no further packet can be counted. Otherwise the item after the last packet, which
--- would be the packet with this number, ended the report. This is the reader that is left.
+-- The report of a capture ended with this result. `count` is the number of packets of this capture and of the captures before it. No item
+-- was read if the requested number of packets was counted, or if no further packet can be counted. Otherwise the item after the last packet
+-- ended the report. That item is in the place of the packet with this number. `after` is the reader at the end.
 abbrev pub HasEnded : ℕ → ℕ → CaptureReader → Option (List ℕ) → Option (List ℕ) → CaptureReader → Result (Unit {0}) CaptureError → Type 0
 HasEnded count number before left still_left after (Err Enough) = (still_left ≡ left) × (after ≡ before)
 HasEnded count number before left still_left after (Err TooManyPackets) = (max_packets ≤ count) × (still_left ≡ left) × (after ≡ before)
 HasEnded count number before left still_left after ended = EndsAtItem number before left still_left after ended
 
--- the next packet, which has this number, was read and counted if it is chosen, or there is none and nothing was counted
+-- the next packet, which has this number, was read and counted if it is chosen; or there is no next packet, and nothing was counted
 abbrev pub ReportsNext : Choice → ℕ → CaptureReader → Option (List ℕ) → Option (List ℕ) → CaptureReader → SummaryTables → SummaryTables → Option (Result (Unit {0}) CaptureError) → Type 0
 ReportsNext choice number reader left still_left still_reader before after None = ReportsOne choice reader left still_left still_reader before after
 ReportsNext choice number reader left still_left still_reader before after (Some ended) =
     (after ≡ before) × EndsAtItem number reader left still_left still_reader ended
 
--- the bytes after the beginning of a capture are these packets, and this result reports what follows them
+-- the bytes after the beginning of a capture contain exactly these packets, and this result reports the item after them
 abbrev pub EndsAfter : CaptureReader → List FilePacket → Result (Unit {0}) CaptureError → List ℕ → Type 0
 EndsAfter reader packets ended bytes =
     (next : NextPacket) × HasPackets max_packet_len reader bytes packets next × IsAnsweredBy next (length packets + 1) ended
 
--- The packets of a capture were read, from the first one on, and then the report of the capture ended with this result. `first` is the
--- reader after the beginning of the capture, and `last` is the reader that is left. `counted` packets of other captures were counted before.
--- The bytes of the capture begin with these packets. If they were read to their end, they contain no other packet.
+-- The packets of a capture were read from the first one on, and then the report of the capture ended with this result. `first` is the
+-- reader after the beginning of the capture, and `last` is the reader at the end. `counted` is the number of packets before these, in other
+-- captures. The bytes of the capture begin with these packets. If the bytes were read to their end, they contain no other packet.
 pub record ReadsUntil (first : CaptureReader) (left still_left : Option (List ℕ)) (packets : List FilePacket) (counted : ℕ) (last : CaptureReader)
     (ended : Result (Unit {0}) CaptureError) : Type 0 where
   pub middle : Option (List ℕ)

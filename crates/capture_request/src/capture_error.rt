@@ -17,7 +17,7 @@ use std::io::Write;
 use streams::write_whole;
 use thiserror::Error;
 
-/// Why the report of a capture ends before the capture does.
+/// The reason why the report of a capture ends before the capture does.
 #[derive(Debug, Error, Drop)]
 pub enum CaptureError {
     /// The input is not a capture, or it is a capture of another format.
@@ -30,31 +30,31 @@ pub enum CaptureError {
         number: u64,
         /// The start of the record or block, in bytes from the start of the capture.
         offset: u64,
-        /// The length of the record or block in bytes, as far as it is known.
+        /// The length of the record or block in bytes. It is a lower bound if the input ends before the length field is complete.
         required_len: usize,
-        /// The number of bytes that are present.
+        /// The number of bytes that are left in the input.
         len: usize,
     },
     /// A block of a pcapng file can't be read.
     #[error(transparent)]
     Refused(PlacedPacketError),
     /// Reading failed within the beginning of the capture.
-    #[error("The header of the capture: reading failed: {0}.")]
+    #[error("Reading the header of the capture failed: {0}.")]
     ReadHeader(io::Error),
     /// Reading failed within a record.
-    #[error("Packet {number}, at byte {offset} of the capture: reading failed: {error}.")]
+    #[error("Reading packet {number}, at byte {offset} of the capture, failed: {error}.")]
     Read {
         /// The number of the packet. The first packet of a capture is number 1.
         number: u64,
         /// The start of the record or block, in bytes from the start of the capture.
         offset: u64,
-        /// The error of the system.
+        /// The error of the operating system.
         error: io::Error,
     },
-    /// The limit of 2^64 - 2 counted packets is reached.
-    #[error("No more packets can be counted.")]
+    /// The report has counted 2^64 - 2 packets, which is the limit.
+    #[error("2^64 - 2 packets were counted, and no more can be counted.")]
     TooManyPackets,
-    /// As many packets were counted as are requested. The rest of the capture is not read. The report is complete.
+    /// The requested number of packets is counted. The rest of the capture is not read, and the report is complete.
     #[error("The requested number of packets is reached.")]
     Enough,
 }
@@ -83,7 +83,7 @@ impl CaptureError {
         }
     }
 
-    /// The compression of the capture, if the capture was rejected because it is compressed.
+    /// The compression of the capture, if the capture is refused because it is compressed.
     fn compression(&self) -> Option<Compression>
         ensures { result ≡ compression_of self.now }
     {
@@ -95,8 +95,8 @@ impl CaptureError {
     }
 }
 
-/// Writes the line of the error with which the report of a capture ended. Nothing is written if the capture was read to its end, or to the
-/// last packet that is requested.
+/// Writes the line of the error with which the report of a capture ended. It writes nothing if the capture was read to its end, or to the
+/// last requested packet.
 pub fn write_end<E: Write>(
     errors: &mut E,
     alloc: Global,
@@ -112,7 +112,7 @@ pub fn write_end<E: Write>(
     }
 }
 
-/// Writes the line of an error: the names of the program and of the capture, if it has one, and the text of the error.
+/// Writes the line of an error. It contains the name of the program, the name of the capture if there is one, and the text of the error.
 ///
 /// # Errors
 ///
@@ -132,7 +132,7 @@ pub fn write_error<E: Write>(
     }
 }
 
-/// The line of an error: the names of the program and of the capture, if it has one, and the text of the error.
+/// Returns the line of an error. It contains the name of the program, the name of the capture if there is one, and the text of the error.
 fn error_line(alloc: Global, name: Option<&str>, error: &CaptureError) -> Result<String, AllocError>
     ensures { IfOk result (λ line. IsLineOf (option_map (λ text. shown_name text.now) name.entry) (IsErrorText error.now) (string_bytes line)) }
 {
@@ -161,7 +161,7 @@ fn text_of(alloc: Global, error: &CaptureError) -> Result<String, AllocError>
     }
 }
 
-/// The words with which filters of tcpdump begin (pcap-filter(7)).
+/// The words with which a filter of tcpdump begins (pcap-filter(7)).
 static FILTER_WORDS: [&str; 16] = [
     "tcp",
     "udp",
@@ -181,11 +181,11 @@ static FILTER_WORDS: [&str; 16] = [
     "proto",
 ];
 
-/// The text for such a word, which is no filter here.
+/// The text that follows if the name of a capture begins like a filter.
 const FILTER_HINT: &str = "; filters are --host, --port and --protocol";
 
-/// Writes the line of a capture that can't be opened: the names of the program and of the capture, and the text of the error. If the name
-/// begins with a word of a filter, as `tcp port 80` does, the options that select packets follow.
+/// Writes the line of a capture that can't be opened. It contains the name of the program, the name of the capture, and the text of the
+/// error. If the name begins like a filter, for example `tcp port 80`, the line also lists the options that select packets.
 ///
 /// # Errors
 ///
@@ -204,8 +204,8 @@ pub fn write_open_error<E: Write>(
     }
 }
 
-/// The line of a capture that can't be opened: the names of the program and of the capture, and the text of the error. If the name begins
-/// with a word of a filter, the options that select packets follow.
+/// Returns the line of a capture that can't be opened. If the name begins like a filter, the line also lists the options that select
+/// packets.
 fn open_error_line(alloc: Global, name: &str, error: &io::Error) -> Result<String, AllocError>
     ensures { IfOk result (λ line. IsOpenErrorLine name.now (string_bytes line)) }
 {
@@ -215,7 +215,7 @@ fn open_error_line(alloc: Global, name: &str, error: &io::Error) -> Result<Strin
     format!(in alloc; "capture_report: {shown}: {text}{hint}\n")
 }
 
-/// The text for the name of a capture whose first word is a word of a filter. It is empty for every other name.
+/// The options that select packets, if the first word of the name of a capture is a word of a filter. Otherwise the text is empty.
 fn hint_of(name: &str) -> &'static str
     ensures { result.now ≡ hint_of name.now }
 {

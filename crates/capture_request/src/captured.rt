@@ -6,15 +6,15 @@ use capture_file::reader::CapturedPacket;
 use capture_packet::{Content, NetworkProtocol, Packet, Verdict, read_packet};
 use transport_part::Untested;
 
-/// A packet that is not read, since the buffer has no room for its `required_len` bytes.
+/// Returns a packet that is not read, since its `required_len` bytes are more than the buffer can contain.
 pub fn packet_without_room<'a>(required_len: u32) -> Packet<'a>
     ensures { IsTooLong required_len result }
 {
     Packet::in_no_tunnel(Content::Unread, Verdict::TooLong { required_len })
 }
 
-/// The packet in a frame, which is read according to the link type of its capture or interface. A frame of a link type that is not read
-/// contains no IP packet.
+/// Returns the packet in a frame. The link type of its capture or interface determines how the frame is read. A frame of an unknown link
+/// type contains no IP packet.
 pub fn packet_in_frame<'a>(captured: &CapturedPacket, frame: &'a [u8]) -> Packet<'a>
     ensures { IsReadAs captured.now.link_type captured.now frame.now result }
 {

@@ -30,16 +30,17 @@ const ZSTANDARD_MAGIC: u32 = 0x28B5_2FFD;
 /// The first four of the six bytes that begin a file of `xz` (the .xz file format, section 2.1.1.1).
 const XZ_MAGIC: u32 = 0xFD37_7A58;
 
-/// The first four bytes of an LZ4 frame (LZ4 frame format, general structure): 184D2204, the least significant byte first.
+/// The first four bytes of an LZ4 frame: 184D2204, with the least significant byte first (LZ4 frame format, general structure).
 const LZ4_MAGIC: u32 = 0x0422_4D18;
 
-/// The first four bytes of a file of `bzip2`: `BZh`, and the size of its blocks, a digit from 1 to 9.
+/// The first four bytes of a file of `bzip2`: `BZh`, and a digit from 1 to 9 for the size of its blocks.
 const FIRST_BZIP2_MAGIC: u32 = 0x425A_6831;
 
 const LAST_BZIP2_MAGIC: u32 = 0x425A_6839;
 
 impl Compression {
-    /// The compression of a file whose first four bytes are this big-endian number, or `None` if it is none of these.
+    /// Returns the compression of a file. `magic` contains its first four bytes as a big-endian number. The result is `None` if no
+    /// compression begins with these bytes.
     pub fn from_magic(magic: u32) -> Option<Compression>
         ensures { result ≡ compression_with magic }
     {
@@ -59,7 +60,7 @@ impl Compression {
         }
     }
 
-    /// The name of the command that decompresses the file.
+    /// Returns the name of the command that decompresses the file.
     pub fn command(self) -> &'static str
         ensures { result.now ≡ compression_name self }
     {

@@ -1,7 +1,7 @@
 ghost use Rattle.std.specs.Prelude.{◌≡◌};
 ghost use Rattle.capture_request.specs.ExitStatuses.{exit_number};
 
-/// The end of a run, as the exit status of the program. If several apply, the status with the greatest number counts.
+/// The result of a run, as the exit status of the program. If several results apply, the status with the greatest number is returned.
 #[derive(Clone, Copy, Debug, PartialEq, Eq)]
 pub enum ExitStatus {
     /// 0: all captures were read to their ends.
@@ -12,7 +12,7 @@ pub enum ExitStatus {
     NoCapture,
     /// 3: opening, reading or writing failed, or no memory was left.
     Failed,
-    /// 4: a check was requested, and the checksum of a packet is wrong or a packet is rejected.
+    /// 4: a check was requested, and a packet has a wrong checksum or was refused.
     Fault,
 }
 

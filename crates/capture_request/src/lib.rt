@@ -1,8 +1,8 @@
 //! What is requested of the report of a capture, what the report counts, and how it ends.
 //!
 //! `Parts` are the options of a report. `packet_in_frame` reads the packet of a record or block. `CaptureError` is the reason why a report
-//! ends before its capture does, and `ExitStatus` is what a program returns then. `capture_run` writes such a report, and `capture_selection`
-//! writes the packets that have a line in it as a capture.
+//! ends before its capture does, and `WriteError` is the reason why a report can't be written. `ExitStatus` is the status that the program
+//! then returns. `capture_run` writes the report, and `capture_selection` writes the packets that have a line in it to another capture.
 //!
 //! ```
 //! let parts = Parts::from_flags(false, false, true, false);
@@ -17,6 +17,7 @@ mod compression;
 mod exit_status;
 mod parts;
 mod shown_name;
+mod writing_error;
 
 pub use capture_error::{CaptureError, write_end, write_error, write_open_error};
 pub use capture_packet::MAX_PACKET_LEN;
@@ -27,3 +28,4 @@ pub use compression::Compression;
 pub use exit_status::ExitStatus;
 pub use parts::{Format, Lines, Parts};
 pub use shown_name::{ESCAPED, STANDARD_INPUT, without_mark};
+pub use writing_error::WriteError;

@@ -16,7 +16,7 @@ use capture_summary::{BUSIEST, VerdictKind};
 pub struct Parts {
     /// The packets that are counted and may have a line.
     pub choice: Choice,
-    /// The chosen packets that have a line.
+    /// Which of the chosen packets have a line.
     pub lines: Lines,
     /// How a line shows the time of its packet.
     pub times: Times,
@@ -26,17 +26,17 @@ pub struct Parts {
     pub summary: bool,
     /// The format of lines and summary.
     pub format: Format,
-    /// The number of the busiest conversations that the summary lists, at most.
+    /// The greatest number of conversations that the summary lists. It lists the busiest ones.
     pub top: usize,
-    /// Whether the exit status reports a packet with a wrong checksum or a rejected packet.
+    /// Whether the exit status reports that a packet has a wrong checksum or was refused.
     pub check: bool,
-    /// The number of chosen packets after which the report ends, if a number is requested. No more packets are read then.
+    /// The number of chosen packets after which the report ends, if a number is requested. No packet is read after them.
     pub limit: Option<u64>,
 }
 
 impl Parts {
-    /// The options that these flags request: all packets without a limit, as text without details, with times since the first packet, and
-    /// with the ten busiest conversations.
+    /// Returns the options that these flags request. All packets are chosen without a limit. The report is text without details, shows
+    /// times since the first packet, and lists the ten busiest conversations.
     pub fn from_flags(
         summary_alone: bool,
         packets_alone: bool,
@@ -75,9 +75,9 @@ impl Parts {
 /// The format of a report.
 #[derive(Clone, Copy, Debug, PartialEq, Eq)]
 pub enum Format {
-    /// Lines and tables.
+    /// Lines and tables of text.
     Text,
-    /// A JSON object in a line for each packet, and a JSON object in a line for the summary.
+    /// JSON: one line with an object for each packet, and one line with an object for the summary.
     Json,
 }
 
@@ -86,7 +86,7 @@ pub enum Format {
 pub enum Lines {
     /// Every packet.
     All,
-    /// A packet with a wrong checksum, or a rejected packet.
+    /// A packet with a wrong checksum, or a refused packet.
     Wrong,
     /// No packet.
     None,

@@ -6,10 +6,11 @@ ghost use Rattle.capture_request.specs.Names.{without_mark};
 /// The name of standard input among the captures.
 pub const STANDARD_INPUT: &str = "-";
 
-/// The first character of a name that is not UTF-8. The bytes of the name follow, escaped. The name of a file contains no NUL.
+/// The first character of a name that is not UTF-8. The bytes of the name follow, escaped. No other name begins with it, since the name of
+/// a file contains no NUL.
 pub const ESCAPED: char = '\0';
 
-/// A name without its mark, if it is escaped.
+/// Returns a name without the mark of an escaped name.
 pub fn without_mark(name: &str) -> &str
     ensures { result.now ≡ without_mark name.now }
 {

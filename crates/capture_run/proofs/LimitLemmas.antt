@@ -15,13 +15,13 @@ within_more : (limit : Option ℕ) (counted now : ℕ) → is_full limit counted
 within_more None counted now more most = tt
 within_more (Some limit) counted now more most = grind (arith, more, most)
 
--- the same after a packet was counted
+-- the limit holds after a packet was counted
 pub within_step : (limit : Option ℕ) (choice : Choice) (packet : FilePacket) (before after : SummaryTables) → is_full limit before.packets ≡ false
     → CountsCaptured choice packet before after → IsWithin limit after.packets
 within_step limit choice packet before after more counts =
     within_more limit before.packets after.packets more (counts_at_most choice before (packet ∷ []) after (after, counts, refl))
 
--- a capture that ended for another reason, before the limit
+-- a capture that ended before the limit did not end by the limit
 pub not_by_limit : (limit : Option ℕ) (counted : ℕ) (ended : Result (Unit {0}) CaptureError) → is_full limit counted ≡ false
     → EndsWithoutLimit ended → EndsByLimit limit counted ended
 not_by_limit limit counted (Ok done) more without = more
@@ -33,7 +33,7 @@ not_by_limit limit counted (Err TooManyPackets) more without = tt
 not_by_limit limit counted (Err (Header error)) more without = tt
 not_by_limit limit counted (Err (ReadHeader error)) more without = tt
 
--- at the beginning of a capture nothing is stated
+-- if the beginning of a capture is refused, nothing is stated about the limit
 pub limit_at_header : (limit : Option ℕ) (counted : ℕ) (left : Option (List ℕ)) (error : CaptureError) → RejectsBeginning left (Err error)
     → EndsByLimit limit counted (Err error)
 limit_at_header limit counted left (Header error) rejects = tt

@@ -1,4 +1,4 @@
--- For the end of the packets of a capture, and the reader that is left.
+-- For the end of the packets of a capture, and the reader after them.
 use Rattle.std.proofs.Common.{◌≡◌, ◌+◌, List, Err, None, Ok, Option, Result, Some, IfSome, length, refl, subst, ℕ}
 use Rattle.capture_file.proofs.CapturePacketsLemmas.{has_packets}
 use Rattle.capture_file.specs.CapturePackets.{EndsWith, FilePacket, HasPackets, ReadsPackets, packet_in}
@@ -40,7 +40,7 @@ ended_at_item count number before after left still_left (Err TooManyPackets) end
 ended_at_item count number before after left still_left (Err (Header error)) ends = absurd ends
 ended_at_item count number before after left still_left (Err (ReadHeader error)) ends = absurd ends
 
--- the item at which the packets of the input end, as the result reports it
+-- the item at which the packets of the input end; the result reports it
 item_of : (number : ℕ) (before after : CaptureReader) (left still_left : Option (List ℕ)) (ended : Result (Unit {0}) CaptureError)
     → EndsAtItem number before left still_left after ended → IsReadToEnd ended
     → (next : NextPacket) × EndsWith max_packet_len before left next × IsAnsweredBy next number ended
@@ -54,14 +54,14 @@ item_of number before after left still_left (Err (Read its_number offset error))
 item_of number before after left still_left (Err (Header error)) ends is_end = absurd is_end
 item_of number before after left still_left (Err (ReadHeader error)) ends is_end = absurd is_end
 
--- at the end of the bytes these are all packets
+-- if the input was read to its end, the packets that were read are all packets
 ends_after : (reader : CaptureReader) (left : Option (List ℕ)) (packets : List FilePacket) (next : NextPacket) (ended : Result (Unit {0}) CaptureError)
     → IfSome left (λ bytes. HasPackets max_packet_len reader bytes packets next) → IsAnsweredBy next (length packets + 1) ended
     → IfSome left (EndsAfter reader packets ended)
 ends_after reader None packets next ended has answered = tt
 ends_after reader (Some bytes) packets next ended has answered = (next, has, answered)
 
--- the packets that were read before the item at which the packets of the input end are all packets of the input
+-- if the input was read to its end, the packets that were read are all packets of the input
 pub all_packets : (reader before after : CaptureReader) (left middle still_left : Option (List ℕ)) (packets : List FilePacket)
     (ended : Result (Unit {0}) CaptureError) → ReadsPackets max_packet_len reader left middle before packets
     → EndsAtItem (length packets + 1) before middle still_left after ended → IsReadToEnd ended → IfSome left (EndsAfter reader packets ended)

@@ -1,4 +1,5 @@
--- Worked examples of whole runs, so that a wrong definition fails before any code does: the statements about a run can be met.
+-- Worked examples of whole runs. They show that the statements about a run can be met, so that a wrong definition fails before its code is
+-- written.
 use Rattle.std.proofs.Common.{◌≡◌, ◌≤◌, ◌∙◌, ◌+◌, ◌-◌, ℕ, true, false, List, [], ◌∷◌, ◌++◌, Err, Ok, None, Some, Option, arith, codes, inl, length, length-append, refl, replicate}
 use Rattle.std.proofs.lemmas.List.{length-replicate}
 use Rattle.std.specs.Fmt.{char_count, digits, padded_integral}
@@ -85,7 +86,7 @@ described = record {
 
 -- ---- the buffers
 
--- some bytes after these bytes fill a buffer
+-- bytes with which `front` fills a buffer
 filled : (front : List ℕ) (room : ℕ) → length front ≤ room → (rest : List ℕ) × (length (front ++ rest) ≡ room)
 filled front room within =
     let count : ℕ = room - length front in
@@ -122,7 +123,7 @@ module _ (first second : List ℕ) (first_room : length (section ++ first) ≡ m
   passes : PassesBlocks (length (interface ++ second)) 1 begun (Some interface) (Some []) described
   passes = (begun, Some interface, interface ++ second, refl, (refl, refl), describes)
 
-  -- the file is then at its end
+  -- then the file is at its end
   abbrev ends : EndsWith max_packet_len (Pcapng begun) (Some interface) packets.End
   ends = record {
     still_left = Some [];
@@ -148,7 +149,7 @@ module _ (first second : List ℕ) (first_room : length (section ++ first) ≡ m
     no_packet = refl;
   }
 
-  -- the report of the file: no packet is counted, and the reader that is left knows the interface
+  -- the report of the file: no packet is counted, and the reader after the packets knows the interface
   writes : (parts : Parts) → WritesCapture parts (Some (section ++ interface)) (Some []) (Ok tt) empty_tables empty_tables (Pcapng described) []
   writes parts = record {
     reader = Pcapng begun;
@@ -172,7 +173,7 @@ module _ (first second : List ℕ) (first_room : length (section ++ first) ≡ m
 
 -- ---- the run
 
--- the options of a summary alone
+-- the options of a report that consists only of a summary
 abbrev summary_alone : Parts
 summary_alone = record {
   choice = every_packet;
@@ -226,7 +227,7 @@ summary_of_file = record {
 
 -- ---- a classic capture with one packet
 
--- version 2.4, 262,144 bytes of snap length, and link type 147, which is not read, as written by a little-endian machine
+-- version 2.4, a snap length of 262,144 bytes, and link type 147, which is not read, as written by a little-endian machine
 abbrev file_header : List ℕ
 file_header = 212 ∷ 195 ∷ 178 ∷ 161 ∷ 2 ∷ 0 ∷ 4 ∷ 0 ∷ 0 ∷ 0 ∷ 0 ∷ 0 ∷ 0 ∷ 0 ∷ 0 ∷ 0 ∷ 0 ∷ 0 ∷ 4 ∷ 0 ∷ 147 ∷ 0 ∷ 0 ∷ 0 ∷ []
 
@@ -367,7 +368,7 @@ module _ (rest : List ℕ) (room : length (170 ∷ rest) ≡ max_packet_len) whe
     };
   }
 
--- the options of lines alone
+-- the options of a report that consists only of lines
 abbrev lines_alone : Parts
 lines_alone = record summary_alone { lines = lines.All; summary = false }
 

@@ -4,7 +4,7 @@ use Rattle.std.proofs.KnownBytes.{Appends-nil, Appends-trans}
 use Rattle.std.proofs.lemmas.List.{length-map, length-take-le, map-append, map_more}
 use Rattle.std.specs.Io.KnownBytes.{Appends}
 use Rattle.std.specs.List.{concat}
-use Rattle.capture_json.specs.declared.write_error.WriteError.{WriteError}
+use Rattle.capture_request.specs.declared.writing_error.WriteError.{WriteError}
 use Rattle.capture_summary.specs.SummaryTables.{empty_tables}
 use Rattle.capture_request.proofs.LineLemmas.{writes-more, writes-nothing, writes-weaker}
 use Rattle.capture_run.specs.Captures.{Given, IsRun, Progress, ReportsEach, ReportsHeaded, ReportsNamed, TellsFirst, WritesReport, WritesRun, at_start, captures_of, heading_of, progress_of}
@@ -17,7 +17,7 @@ use Rattle.capture_request.specs.declared.exit_status.ExitStatus.{ExitStatus}
 use Rattle.capture_request.specs.declared.exit_status.ExitStatus.TheVariants.{Success}
 use Rattle.capture_request.specs.declared.parts.Parts.{Parts}
 
--- a capture after others
+-- the reports of some captures, and then of one more capture
 reports-push : (Reads : List ℕ → Given → Type 0) (parts : Parts) (count place now : ℕ) (names : List (List ℕ)) (name : List ℕ)
     (before between after : Progress) (text headed : List ℕ) (lines more : List (List ℕ))
     → ReportsEach Reads parts count place names before between text lines → now ≡ place + length names
@@ -49,7 +49,7 @@ reports-push Reads parts count place now (first ∷ names) name before between a
       simp (all_lines, append_assoc) refl,
     )
 
--- standard input, without a name
+-- the report of standard input, which has no name
 reports_one : (Reads : List ℕ → Given → Type 0) (parts : Parts) (before after : Progress) (text : List ℕ) (lines : List (List ℕ))
     → ReportsHeaded Reads parts 0 0 (codes "-") before after text lines
     → ReportsEach Reads parts 0 0 (captures_of []) before after text lines
@@ -68,17 +68,17 @@ left_out Reads parts count place name before a e AreWhole full = record {
   tells = writes-nothing e AreWhole;
 }
 
--- a capture after its heading
-pub headed : (Reads : List ℕ → Given → Type 0) (parts : Parts) (count place : ℕ) (name : List ℕ) (shown : Option (List ℕ)) (before : Progress)
+-- the report of a capture, with its heading
+pub headed : (Reads : List ℕ → Given → Type 0) (parts : Parts) (count place : ℕ) (name : List ℕ) (before : Progress)
     (a b c e f : Option (List ℕ)) (result : Result CaptureReports WriteError) → is_full parts.limit before.summary.packets ≡ false
-    → shown ≡ line_name count name → Appends a b (heading_of parts count place name)
-    → IfOk result (λ after. WritesReport b c e f (IsNone after.unwritten) (ReportsNamed Reads parts shown name before (progress_of after)))
+    → Appends a b (heading_of parts count place name)
+    → IfOk result (λ after. WritesReport b c e f (IsNone after.unwritten) (ReportsNamed Reads parts (line_name count name) name before (progress_of after)))
     → IfOk result (λ after. WritesReport a c e f (IsNone after.unwritten) (ReportsHeaded Reads parts count place name before (progress_of after)))
-headed Reads parts count place name shown before a b c e f (Err error) more same head one = tt
-headed Reads parts count place name shown before a b c e f (Ok after) more same head one = record {
+headed Reads parts count place name before a b c e f (Err error) more head one = tt
+headed Reads parts count place name before a b c e f (Ok after) more head one = record {
   text = heading_of parts count place name ++ one.text;
   lines = one.lines;
-  is_report = rw more (one.text, rw same at one.is_report, refl);
+  is_report = rw more (one.text, one.is_report, refl);
   appends = Appends-trans a b c (heading_of parts count place name) one.text head one.appends;
   tells = one.tells;
 }
@@ -105,7 +105,7 @@ one-more Reads parts others count xs named i d before between after a b c e f h 
       tells = writes-more e f h Between After After each.lines one.lines told (λ whole. whole) each.tells one.tells;
     }
 
--- if nothing more can be reported, the captures so far were reported
+-- if nothing more can be reported, the report of the captures so far remains
 pub tells_first : {X : Type 0} (Reads : List ℕ → Given → Type 0) (parts : Parts) (count : ℕ) (xs : List X) (named : X → List ℕ) (i : ℕ)
     (before between : Progress) (a b e f : Option (List ℕ)) (AreWhole : Type 0)
     → WritesReport a b e f AreWhole (ReportsEach Reads parts count 0 (map named (take i xs)) before between)
@@ -135,7 +135,7 @@ tells_nothing Reads parts count names before e = record {
   tells = writes-nothing e ⊥;
 }
 
--- nothing was written of an error
+-- if nothing was written to the writer of errors, no capture was reported there
 pub untold : {X T E : Type 0} (Reads : List ℕ → Given → Type 0) (parts : Parts) (count : ℕ) (names : List (List ℕ)) (before : Progress)
     (contents : X → Option (List ℕ)) (old new : X) (result : Result T E) → OnErr result (new ≡ old)
     → IfErr result (λ error. TellsFirst Reads parts count names before (contents old) (contents new))

@@ -1,4 +1,4 @@
--- The report of a run: captures, one after the other, and then the summary of all captures.
+-- The report of a run: the packets of each capture, and then the summary of all captures.
 use Rattle.std.specs.Prelude.{◌≡◌, ◌↔◌, ℕ, ◌+◌, ◌==◌, ◌&&◌, nat_lt, Bool, true, false, IsTrue, if◌then◌else◌, List, [], ◌∷◌, ◌++◌, codes, length, MatchBool, Option, Some, None, Result}
 use Rattle.std.specs.Io.KnownBytes.{Appends}
 use Rattle.std.specs.List.{concat}
@@ -24,15 +24,15 @@ use Rattle.capture_request.specs.declared.capture_error.CaptureError.{CaptureErr
 
 -- ---- one capture
 
--- the state that is kept from capture to capture: the counts, the greatest exit status, whether no beginning of a capture was accepted, and
--- the reader of the only capture whose beginning was accepted
+-- The state that is kept from capture to capture. `summary` contains the counts, and `status` is the greatest exit status. `is_empty` is
+-- true if no beginning of a capture was accepted. `capture` is the reader of the only capture whose beginning was accepted.
 pub record Progress : Type 0 where
   pub summary : SummaryTables
   pub status : ExitStatus
   pub is_empty : Bool
   pub capture : Option CaptureReader
 
--- the state of these reports
+-- the part of these reports that is kept from capture to capture
 abbrev pub progress_of : CaptureReports → Progress
 progress_of reports = record { summary = reports.summary; status = reports.status; is_empty = reports.is_empty; capture = reports.capture }
 
@@ -49,15 +49,16 @@ unopened before = record {
   capture = before.capture;
 }
 
--- the reader of the only capture whose beginning was accepted, after one more capture with this reader; `is_empty` states that there was none
--- before
+-- The reader of the only capture whose beginning was accepted, after one more capture. `before` is the reader before that capture, and the
+-- last argument is the reader of that capture. `is_empty` is true if no beginning was accepted before.
 abbrev pub only_capture : Bool → Option CaptureReader → Option CaptureReader → Option CaptureReader
 only_capture is_empty before None = before
 only_capture true before (Some reader) = Some reader
 only_capture false before (Some reader) = None
 
--- A capture was reported. This is the text of its packets, and these are the lines of its error, after this name. These are its bytes, if
--- they are known. The reader that is left of it says what the capture is, if no other capture has an accepted beginning.
+-- A capture with the bytes `left` was reported. `text` is the text of its packets, and `lines` are the lines of its error, which contain
+-- the name `shown`. The bytes are `None` if they are unknown. `reader` is the reader after the packets. It is kept for the summary if no
+-- other capture has an accepted beginning.
 pub record ReportsOpened (parts : Parts) (shown : Option (List ℕ)) (left : Option (List ℕ)) (before after : Progress) (text : List ℕ) (lines : List (List ℕ)) : Type 0 where
   pub ended : Result (Unit {0}) CaptureError
   pub still_left : Option (List ℕ)
@@ -70,32 +71,34 @@ pub record ReportsOpened (parts : Parts) (shown : Option (List ℕ)) (left : Opt
   pub limit : EndsByLimit parts.limit after.summary.packets ended
   pub within : IsWithin parts.limit before.summary.packets → IsWithin parts.limit after.summary.packets
 
--- what a name gives: nothing that can be opened, or an input with these bytes, if they are known
+-- What a name gives: `None` if nothing can be opened by the name, or an input with these bytes. The bytes are `None` if they are unknown.
 abbrev pub Given : Type 0
 Given = Option (Option (List ℕ))
 
--- the name gives this, according to the statements about names that can't be opened and about opened inputs, and to the view of their bytes
+-- The name gives this. `Misses` is the statement about a name that can't be opened, `Opens` is the statement about an opened input, and
+-- `remaining` returns the bytes of an input.
 abbrev pub Gives : {R : Type 0} → (List ℕ → Type 0) → (List ℕ → R → Type 0) → (R → Option (List ℕ)) → List ℕ → Given → Type 0
 Gives Misses Opens remaining name None = Misses name
 Gives {R} Misses Opens remaining name (Some left) = (input : R) × Opens name input × (left ≡ remaining input)
 
--- a capture of this content was reported, or it can't be opened, and this is its text and these are the lines of its error
+-- The capture that a name gives was reported, or the name gives none. `text` is the text of its packets, and `lines` are the lines of its
+-- error.
 abbrev pub ReportsGiven : Parts → Option (List ℕ) → List ℕ → Given → Progress → Progress → List ℕ → List (List ℕ) → Type 0
 ReportsGiven parts shown name None before after text lines = (after ≡ unopened before) × (text ≡ []) × IsOneLine (IsOpenErrorLine name) lines
 ReportsGiven parts shown name (Some left) before after text lines = ReportsOpened parts shown left before after text lines
 
--- what this name gives was reported
+-- the capture with this name was reported, or the name gives none
 abbrev pub ReportsNamed : (List ℕ → Given → Type 0) → Parts → Option (List ℕ) → List ℕ → Progress → Progress → List ℕ → List (List ℕ) → Type 0
 ReportsNamed Reads parts shown name before after text lines =
     (given : Given) × Reads name given × ReportsGiven parts shown name given before after text lines
 
 -- ---- all captures
 
--- the line before the packets of a capture: its name, after an empty line if it is not the first capture
+-- the heading as text: the name of the capture, after an empty line if it is not the first capture
 abbrev pub text_heading : ℕ → List ℕ → List ℕ
 text_heading place name = (if place == 0 then [] else codes "\n") ++ (codes "==> " ++ (shown_name name ++ codes " <==\n"))
 
--- this line as text, or as a JSON object with the member `file`
+-- the heading in a format: a line of text, or a JSON object with the member `file`
 abbrev pub heading_in : Format → ℕ → List ℕ → List ℕ
 heading_in formats.Text place name = text_heading place name
 heading_in formats.Json place name = json_line (file_members (without_mark name))
@@ -106,20 +109,21 @@ has_lines lines.All = true
 has_lines lines.Wrong = true
 has_lines lines.None = false
 
--- the line before the packets of a capture; it is left out if there is only one capture, or if no packet has a line
+-- the line before the packets of a capture; it is empty if there is only one capture, or if no packet has a line
 abbrev pub heading_of : Parts → ℕ → ℕ → List ℕ → List ℕ
 heading_of parts count place name = if nat_lt 1 count && has_lines parts.lines then heading_in parts.format place name else []
 
--- The capture with this name at this place was reported, of so many captures. This is its text: its heading, and then the text of its
--- packets. These are the lines of its error. If as many packets were counted before as are requested, the capture is left out.
+-- The capture with this name was reported. `count` is the number of named captures, and `place` is the place of this capture. `text` is its
+-- heading and then the text of its packets, and `lines` are the lines of its error. If the requested number of packets was counted before,
+-- the capture is skipped.
 abbrev pub ReportsHeaded : (List ℕ → Given → Type 0) → Parts → ℕ → ℕ → List ℕ → Progress → Progress → List ℕ → List (List ℕ) → Type 0
 ReportsHeaded Reads parts count place name before after text lines =
     MatchBool (is_full parts.limit before.summary.packets) ((after ≡ before) × (text ≡ []) × (lines ≡ []))
     ((packets : List ℕ) × ReportsNamed Reads parts (line_name count name) name before after packets lines
     × (text ≡ heading_of parts count place name ++ packets))
 
--- the captures with these names, of so many, were reported one after the other, the first of them at this place; this is their text, and
--- these are the lines of their errors
+-- The captures with these names were reported in their order, and the first of them has this place. `count` is the number of all named
+-- captures. `text` is the text of these captures, and `lines` are the lines of their errors.
 abbrev pub ReportsEach : (List ℕ → Given → Type 0) → Parts → ℕ → ℕ → List (List ℕ) → Progress → Progress → List ℕ → List (List ℕ) → Type 0
 ReportsEach Reads parts count place [] before after text lines = (after ≡ before) × (text ≡ []) × (lines ≡ [])
 ReportsEach Reads parts count place (name ∷ names) before after text lines =
@@ -128,13 +132,13 @@ ReportsEach Reads parts count place (name ∷ names) before after text lines =
     × ReportsEach Reads parts count (place + 1) names between after others other_lines
     × (text ≡ first ++ others) × (lines ≡ first_lines ++ other_lines)
 
--- the captures that are read: standard input, if there is no name
+-- the captures that are read; without a name standard input is read
 abbrev pub captures_of : List (List ℕ) → List (List ℕ)
 captures_of [] = codes "-" ∷ []
 captures_of (name ∷ names) = name ∷ names
 
--- The report of a run with this exit status, and the lines of its errors, in the order of the captures. The report is the text of each
--- capture, and then the summary, if the beginning of a capture was accepted.
+-- The report of a run with this exit status. `text` is the text of each capture, and then the summary if the beginning of a capture was
+-- accepted. `lines` are the lines of errors, in the order of the captures.
 pub record IsRun (Reads : List ℕ → Given → Type 0) (parts : Parts) (names : List (List ℕ)) (status : ExitStatus) (text : List ℕ) (lines : List (List ℕ)) : Type 0 where
   pub after : Progress
   pub captures : List ℕ
@@ -144,7 +148,8 @@ pub record IsRun (Reads : List ℕ → Given → Type 0) (parts : Parts) (names 
 
 -- ---- what is written of a report
 
--- a report was written to one writer, and at least a beginning of each line of its errors to another writer
+-- A report was written to one writer, and at least a beginning of each line of its errors was written to another writer. If `AreWhole`
+-- holds, each line is whole.
 pub record WritesReport (before after errors_before errors_after : Option (List ℕ)) (AreWhole : Type 0) (IsReport : List ℕ → List (List ℕ) → Type 0) : Type 0 where
   pub text : List ℕ
   pub lines : List (List ℕ)
@@ -152,14 +157,14 @@ pub record WritesReport (before after errors_before errors_after : Option (List 
   pub appends : Appends before after text
   pub tells : WritesLines errors_before errors_after AreWhole lines
 
--- a report was written to one writer, and the whole of each line of its errors to another writer
+-- a report was written to one writer, and all lines of its errors were written to another writer
 abbrev pub WritesRun : Option (List ℕ) → Option (List ℕ) → Option (List ℕ) → Option (List ℕ) → (List ℕ → List (List ℕ) → Type 0) → Type 0
 WritesRun before after errors_before errors_after IsReport =
     (text : List ℕ) × (lines : List (List ℕ)) × IsReport text lines × Appends before after text
     × Appends errors_before errors_after (concat lines)
 
--- The first of these captures were reported. At least a beginning of each line of their errors was written, and nothing else to the same
--- writer.
+-- The first of these captures were reported. At least a beginning of each line of their errors was written, and nothing else was written to
+-- the same writer.
 pub record TellsFirst (Reads : List ℕ → Given → Type 0) (parts : Parts) (count : ℕ) (names : List (List ℕ)) (before : Progress) (errors_before errors_after : Option (List ℕ)) : Type 0 where
   pub first : List (List ℕ)
   pub others : List (List ℕ)

@@ -1,5 +1,4 @@
--- The text of a report. It contains the line of each packet that has one, in the order of the packets, then an empty line, and then the
--- summary.
+-- The text of a report: the line of each packet that has one, in the order of the packets, then an empty line, and then the summary.
 use Rattle.std.specs.Prelude.{◌≡◌, ℕ, ◌+◌, if◌then◌else◌, List, [], ◌∷◌, ◌++◌, codes, Option, Some, None, Result, Err}
 use Rattle.std.specs.Option.{option_or}
 use Rattle.capture_file.specs.CapturePackets.{BeginsInput, FilePacket}
@@ -22,32 +21,32 @@ use Rattle.capture_request.specs.declared.parts.Parts.{Parts}
 use Rattle.capture_request.specs.declared.capture_error.CaptureError.{CaptureError}
 use Rattle.capture_request.specs.declared.capture_error.CaptureError.TheVariants.{Enough}
 
--- the text of a packet of a capture: its line with this number, its time and its length, if it is chosen and has a line
+-- the text of a packet of a capture: the line with its number, its time and its length, if it is chosen and has a line
 abbrev pub IsPacketText : Parts → ℕ → Option PacketTime → FilePacket → List ℕ → Type 0
 IsPacketText parts number first packet text = IsTextOfOne (IsPacketOf packet) parts number first (info_of packet) text
 
--- the first time among these packets, or the first time of the packets before them, if there is one
+-- the first time of a packet, first among the packets before these, and then among these packets
 abbrev pub first_time : Option PacketTime → List FilePacket → Option PacketTime
 first_time first [] = first
 first_time first (packet ∷ packets) = first_time (option_or first (packet_time packet)) packets
 
--- the text of packets, one after the other, with numbers from this number on
+-- the text of these packets in their order; the first of them has this number
 abbrev pub IsPacketsText : Parts → ℕ → Option PacketTime → List FilePacket → List ℕ → Type 0
 IsPacketsText parts number first [] text = text ≡ []
 IsPacketsText parts number first (packet ∷ packets) text =
     (line : List ℕ) × (others : List ℕ) × IsPacketText parts number first packet line
     × IsPacketsText parts (number + 1) (option_or first (packet_time packet)) packets others × (text ≡ line ++ others)
 
--- a packet was read, and was counted if it is chosen, and this is its text
+-- a packet was read, it was counted if it is chosen, and `text` is its text
 pub record WritesPacket (parts : Parts) (number : ℕ) (first now_first : Option PacketTime) (reader : CaptureReader) (left still_left : Option (List ℕ)) (still_reader : CaptureReader) (before after : SummaryTables) (text : List ℕ) : Type 0 where
   pub reports : ReportsOne parts.choice reader left still_left still_reader before after
   pub is_first : now_first ≡ option_or first (packet_time reports.packet)
   pub is_text : IsPacketText parts number first reports.packet text
 
--- The report of the packets of a capture, after its beginning. One list contains the packets that were read, one after the other, until the
--- report ended; the chosen packets of this list were counted, and this is its text. The first packet has number 1, whether it is chosen or
--- not. If the report ended by the number of packets that is requested, it ended with the last of these. `reader` is the reader after the
--- beginning of the capture, and `last` is the reader that is left.
+-- The report of the packets of a capture, after its beginning. `packets` are all packets that were read until the report ended. The chosen
+-- packets among them were counted, and `text` is the text of all. The first packet has number 1, whether it is chosen or not. If the report
+-- ended since the requested number of packets was counted, the last of `packets` is the last requested one. `reader` is the reader after
+-- the beginning of the capture, and `last` is the reader after the packets.
 pub record WritesPackets (reader last : CaptureReader) (parts : Parts) (first : Option PacketTime) (left still_left : Option (List ℕ)) (ended : Result (Unit {0}) CaptureError) (before after : SummaryTables) (text : List ℕ) : Type 0 where
   pub packets : List FilePacket
   pub read : ReadsUntil reader left still_left packets before.packets last ended
@@ -55,30 +54,31 @@ pub record WritesPackets (reader last : CaptureReader) (parts : Parts) (first : 
   pub counted : CountsEach parts.choice before packets after
   pub is_text : IsPacketsText parts 1 first packets text
 
--- the report of a capture with an accepted beginning: the report of its packets, without an earlier first time
+-- the report of a capture with an accepted beginning; no packet before it has a time
 pub record WritesCapture (parts : Parts) (left still_left : Option (List ℕ)) (ended : Result (Unit {0}) CaptureError) (before after : SummaryTables) (last : CaptureReader) (text : List ℕ) : Type 0 where
   pub reader : CaptureReader
   pub after_beginning : Option (List ℕ)
   pub begins : BeginsInput max_packet_len reader left after_beginning
   pub writes : WritesPackets reader last parts None after_beginning still_left ended before after text
 
--- The report of a capture: the counts after it, the reader that is left, and the text. If the beginning of the capture is rejected, nothing
--- is counted, no reader is left, and the text is empty.
+-- The report of a capture: the counts after it, the reader after its packets, and its text. If the beginning of the capture is refused,
+-- nothing is counted, there is no reader, and the text is empty.
 abbrev pub IsCaptureReport : Parts → Option (List ℕ) → Option (List ℕ) → Result (Unit {0}) CaptureError → SummaryTables → SummaryTables → Option CaptureReader → List ℕ → Type 0
 IsCaptureReport parts left still_left ended before after None text = RejectsBeginning left ended × (after ≡ before) × (text ≡ [])
 IsCaptureReport parts left still_left ended before after (Some last) text = WritesCapture parts left still_left ended before after last text
 
--- the empty line between the lines of packets and the summary
+-- the empty line between the lines of packets and the summary; without lines of packets it is left out
 abbrev pub empty_line : Lines → List ℕ
 empty_line lines.All = codes "\n"
 empty_line lines.Wrong = codes "\n"
 empty_line lines.None = []
 
--- the summary in a format: what the capture is, and the tables, after an empty line if lines are requested too; or a JSON object
+-- The summary in a format. As text it is the facts of the capture and the tables, after an empty line if lines are requested too. As JSON
+-- it is an object.
 abbrev pub summary_in : Format → Lines → ℕ → Option CaptureReader → SummaryTables → List ℕ
 summary_in formats.Text lines top capture tables = empty_line lines ++ (facts_text capture ++ summary_text top tables)
 summary_in formats.Json lines top capture tables = json_summary capture top tables
 
--- the end of a report: the summary in the requested format, if a summary is requested
+-- the end of a report: the summary in the requested format if a summary is requested, and nothing otherwise
 abbrev pub end_text : Parts → Option CaptureReader → SummaryTables → List ℕ
 end_text parts capture tables = if parts.summary then summary_in parts.format parts.lines parts.top capture tables else []

@@ -4,13 +4,14 @@ use Rattle.capture_request.specs.Endings.{IsRefusedCapture}
 use Rattle.capture_request.specs.declared.capture_error.CaptureError.{CaptureError}
 use Rattle.capture_request.specs.declared.capture_error.CaptureError.TheVariants.{Header, ReadHeader}
 
--- the report ended before the first packet
+-- the report ended within the beginning of the capture, before the first packet
 abbrev pub EndsAtHeader : Result (Unit {0}) CaptureError → Type 0
 EndsAtHeader (Err (Header error)) = Unit {0}
 EndsAtHeader (Err (ReadHeader error)) = Unit {0}
 EndsAtHeader other = ⊥
 
--- the report ended before the first packet: this error rejects the beginning of the capture, or reading the beginning failed
+-- The report ended within the beginning of the capture. Either this error is the reason why the beginning is refused, or reading the
+-- beginning failed.
 abbrev pub RejectsBeginning : Option (List ℕ) → Result (Unit {0}) CaptureError → Type 0
 RejectsBeginning left (Err (Header error)) = IfSome left (IsRefusedCapture error)
 RejectsBeginning left (Err (ReadHeader error)) = Unit {0}

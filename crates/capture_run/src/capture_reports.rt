@@ -15,9 +15,9 @@ ghost use Rattle.capture_text.specs.SummaryText.{tables_text};
 ghost use Rattle.capture_words.specs.Written.{AppendsOne};
 ghost use Rattle.capture_request.specs.declared.parts.Lines.TheVariants as Lines;
 
-use crate::packet_report::is_full;
+use crate::packet_report::{PacketReport, is_full};
 use crate::packets::report_packets;
-use crate::{CaptureError, ExitStatus, Format, Lines, Parts, WriteError};
+use crate::{CaptureError, ExitStatus, Format, Lines, MAX_PACKET_LEN, Parts, WriteError};
 use capture_facts::write_facts;
 use capture_file::reader::CaptureReader;
 use capture_summary::{ConversationCount, Summary};
@@ -27,24 +27,24 @@ use std::hash::RandomState;
 use std::io;
 use std::io::{Read, Write};
 
-/// The reports of captures, one after the other: the state that is kept from capture to capture.
+/// The state that is kept from capture to capture.
 #[derive(Drop)]
 pub(crate) struct CaptureReports {
     parts: Parts,
     summary: Summary,
-    /// The greatest exit status of a report so far.
+    /// The greatest exit status of the reports so far.
     status: ExitStatus,
     /// Whether no header of a capture was accepted so far.
     is_empty: bool,
-    /// The reader of the capture whose header was accepted, after its packets. None of several captures.
+    /// The reader of the only capture whose header was accepted, as it was after its packets. `None` after the headers of several captures.
     capture: Option<CaptureReader>,
-    /// The error of the last line of an error that could not be written.
+    /// The last failure to write the line of an error.
     unwritten: Option<io::Error>,
 }
 
 impl CaptureReports {
-    /// The state before the first capture. `state` provides the keys of the hashes that find a flow. With random keys, no capture can be
-    /// crafted to slow down these lookups.
+    /// Returns the state before the first capture. `state` provides the keys of the hashes that find a flow. With random keys, no capture
+    /// can be crafted to slow down these lookups.
     pub fn new(alloc: Global, state: RandomState, parts: Parts) -> CaptureReports
         ensures parts { result.parts ≡ parts }
         ensures summary { result.summary ≡ empty_tables }
@@ -64,18 +64,20 @@ impl CaptureReports {
     }
 
     /// Reads a capture, and adds its chosen packets to the counts of the captures before it. Writes the line of each chosen packet that has
-    /// a line. Packet numbers and times start again in each capture. Packets that are not chosen count for both.
+    /// a line. Packet numbers and times start again in each capture. Packets that are not chosen have a number too, and their times count
+    /// as a first time.
     ///
-    /// The inner error states why the capture was rejected, or why its records can't be read further. Packets before the error are counted,
-    /// and another capture can follow.
+    /// The inner error is the reason why the capture was refused, or why its records can't be read further. Packets before the error are
+    /// counted, and another capture can follow.
     ///
     /// # Errors
     ///
     /// `Write` if writing fails, and `NoMemory` if no memory is left. Nothing more can be reported then.
     pub fn add<R: Read, W: Write>(
         self,
-        alloc: Global,
         input: &mut R,
+        buffer: &mut [u8; MAX_PACKET_LEN],
+        alloc: Global,
         output: &mut W,
     ) -> Result<(CaptureReports, Result<(), CaptureError>), WriteError>
         ensures report { IfOk result (λ given. (reader : Option CaptureReader)
@@ -98,12 +100,13 @@ impl CaptureReports {
             capture,
             unwritten,
         } = self;
+        let mut packets = PacketReport::new(alloc, summary, parts);
         let mut reader = None;
-        let (summary, ended) = report_packets(alloc, summary, parts, &mut reader, input, output)?;
+        let ended = report_packets(&mut packets, &mut reader, input, buffer, output)?;
         let status = greater(status, status_of(&ended));
         let reports = CaptureReports {
             parts,
-            summary,
+            summary: packets.into_summary(),
             status,
             is_empty: is_empty && ends_at_header(&ended),
             capture: only_capture(is_empty, capture, reader),
@@ -119,14 +122,14 @@ impl CaptureReports {
         &self.parts
     }
 
-    /// Whether as many packets were counted as are requested. No further capture is read then.
+    /// Whether the number of counted packets has reached the requested number. Then no further capture is read.
     pub fn is_full(&self) -> bool
         ensures { result ≡ is_full self.now.parts.limit self.now.summary.packets }
     {
         is_full(self.parts.limit, &self.summary)
     }
 
-    /// Records that a capture could not be opened: the status becomes at least `Failed`.
+    /// Records that a capture could not be opened. The status becomes at least `Failed`.
     pub fn add_unopened(self) -> CaptureReports
         ensures { result ≡ record self { status = greater self.status ExitStatus.Failed } }
     {
@@ -136,7 +139,7 @@ impl CaptureReports {
         }
     }
 
-    /// Records whether the line of an error was written. If it was not, the error is kept until the end of the run.
+    /// Records whether the line of an error was written. If writing it failed, the failure is kept until the end of the run.
     pub fn after_line(self, written: io::Result<()>) -> CaptureReports
         ensures progress { progress_of result ≡ progress_of self }
         ensures parts { result.parts ≡ self.parts }
@@ -151,7 +154,7 @@ impl CaptureReports {
         }
     }
 
-    /// The error of a line of an error that could not be written, if there is one.
+    /// Returns the last failure to write the line of an error, if there is one.
     pub fn into_unwritten(self) -> Option<io::Error>
         ensures { result ≡ self.unwritten }
     {
@@ -159,8 +162,8 @@ impl CaptureReports {
     }
 
     /// Writes the summary of all captures if it is requested and the header of a capture was accepted. Returns the exit status, which is
-    /// the greatest status of the reports. With a requested check it is `Fault` if the checksum of a packet is wrong or a packet is
-    /// rejected, even if a capture can't be read to its end.
+    /// the greatest status of the reports. If a check is requested, and a packet has a wrong checksum or was refused, the status is
+    /// `Fault`, even if a capture can't be read to its end.
     ///
     /// # Errors
     ///
@@ -171,10 +174,8 @@ impl CaptureReports {
             (if self.now.is_empty then [] else end_text self.now.parts self.now.capture self.now.summary)) }
     {
         self.write_end(alloc, output)?;
-        match output.flush() {
-            Ok(()) => Ok(self.final_status()),
-            Err(error) => Err(WriteError::Write(error)),
-        }
+        output.flush()?;
+        Ok(self.final_status())
     }
 
     /// Writes the summary if it is requested and the header of a capture was accepted.
@@ -186,17 +187,28 @@ impl CaptureReports {
             return Ok(());
         }
         let busiest = self.summary.flows().busiest(alloc, self.parts.top)?;
-        write_summary_in(
-            output,
-            alloc,
-            &self.parts,
-            &self.capture,
-            &self.summary,
-            busiest.as_slice(),
-        )
+        self.write_summary(busiest.as_slice(), alloc, output)
     }
 
-    /// The exit status of all reports: `Fault` if a check finds a fault, and otherwise their greatest status.
+    /// Writes the summary in the requested format. It lists these conversations.
+    fn write_summary<W: Write>(
+        &self,
+        busiest: &[ConversationCount],
+        alloc: Global,
+        output: &mut W,
+    ) -> Result<(), WriteError>
+        ensures { busiest.now ≡ busiest_of self.now.parts.top self.now.summary.flows.rows → OnOk result (Appends (W.contents output.old) (W.contents output.new)
+            (summary_in self.now.parts.format self.now.parts.lines self.now.parts.top self.now.capture self.now.summary)) }
+    {
+        let (capture, summary) = (&self.capture, &self.summary);
+        match self.parts.format {
+            Format::Text => write_text_summary(output, self.parts.lines, capture, summary, busiest),
+            Format::Json => capture_json::write_summary(output, alloc, capture, summary, busiest),
+        }
+    }
+
+    /// The exit status of the run. It is `Fault` if a check is requested and finds a fault. Otherwise it is the greatest status of the
+    /// reports.
     fn final_status(&self) -> ExitStatus
         ensures { result ≡ final_status self.now.parts.check self.now.status self.now.summary }
     {
@@ -207,25 +219,7 @@ impl CaptureReports {
     }
 }
 
-/// Writes the summary in the requested format. It lists these conversations.
-fn write_summary_in<W: Write>(
-    output: &mut W,
-    alloc: Global,
-    parts: &Parts,
-    capture: &Option<CaptureReader>,
-    summary: &Summary,
-    busiest: &[ConversationCount],
-) -> Result<(), WriteError>
-    ensures { busiest.now ≡ busiest_of parts.now.top summary.now.flows.rows → OnOk result (Appends (W.contents output.old) (W.contents output.new)
-        (summary_in parts.now.format parts.now.lines parts.now.top capture.now summary.now)) }
-{
-    match parts.format {
-        Format::Text => write_text_summary(output, parts.lines, capture, summary, busiest),
-        Format::Json => capture_json::write_summary(output, alloc, capture, summary, busiest),
-    }
-}
-
-/// Writes what the capture is, and the tables, after an empty line if lines of packets are requested.
+/// Writes the facts of the capture and the tables. If lines of packets are requested, an empty line comes first.
 fn write_text_summary<W: Write>(
     output: &mut W,
     lines: Lines,
@@ -237,13 +231,10 @@ fn write_text_summary<W: Write>(
         (empty_line lines ++ (facts_text capture.now ++ tables_text busiest.now summary.now))) }
 {
     write_empty_line(output, lines)?;
-    match write_facts_and_tables(output, capture, summary, busiest) {
-        Ok(()) => Ok(()),
-        Err(error) => Err(WriteError::Write(error)),
-    }
+    Ok(write_facts_and_tables(output, capture, summary, busiest)?)
 }
 
-/// Writes what the capture is, and the tables.
+/// Writes the facts of the capture and the tables.
 fn write_facts_and_tables<W: Write>(
     output: &mut W,
     capture: &Option<CaptureReader>,
@@ -256,20 +247,17 @@ fn write_facts_and_tables<W: Write>(
     write_summary(output, summary, busiest)
 }
 
-/// Writes the empty line before the summary, if lines of packets are requested.
+/// Writes the empty line before the summary if lines of packets are requested.
 fn write_empty_line<W: Write>(output: &mut W, lines: Lines) -> Result<(), WriteError>
     ensures { OnOk result (Appends (W.contents output.old) (W.contents output.new) (empty_line lines)) }
 {
     if lines == Lines::None {
         return Ok(());
     }
-    match writeln!(output) {
-        Ok(()) => Ok(()),
-        Err(error) => Err(WriteError::Write(error)),
-    }
+    Ok(writeln!(output)?)
 }
 
-/// The status with the greater number.
+/// Returns the status with the greater number.
 fn greater(status: ExitStatus, other: ExitStatus) -> ExitStatus
     ensures { result ≡ greater status other }
 {
@@ -280,7 +268,8 @@ fn greater(status: ExitStatus, other: ExitStatus) -> ExitStatus
     }
 }
 
-/// The reader of the only capture whose header was accepted, after one more capture. `reader` is its reader, if its header was accepted.
+/// Returns the reader of the only capture whose header was accepted, after one more capture. `capture` is the reader before it, and `reader`
+/// is the reader of this capture, if its header was accepted.
 fn only_capture(
     is_empty: bool,
     capture: Option<CaptureReader>,
@@ -305,7 +294,7 @@ fn ends_at_header(ended: &Result<(), CaptureError>) -> bool
     )
 }
 
-/// The exit status of a report with this end.
+/// Returns the exit status of a report that ended with this result.
 fn status_of(ended: &Result<(), CaptureError>) -> ExitStatus
     ensures { result ≡ status_of ended.now }
 {

@@ -3,7 +3,6 @@ ghost use Rattle.std.specs.Option.{option_or};
 ghost use Rattle.capture_request.specs.Limits.{is_full};
 ghost use Rattle.capture_request.specs.Lines.{HasNoLine, IfNoLine, has_line};
 ghost use Rattle.capture_request.specs.Report.{CountsChosen, CountsRead, CountsPacket, IsReadAs, IsTooLong, captured_info, too_long_info};
-ghost use Rattle.capture_text.specs.PacketLine.{IsLine};
 ghost use Rattle.capture_run.specs.ReportText.{IsLineIn, IsTextOf, IsTextOfChosen, IsTextOfOne};
 ghost use Rattle.capture_words.specs.Written.{AppendsOne};
 ghost use Rattle.capture_request.specs.declared.parts.Lines.TheVariants as Lines;
@@ -14,13 +13,13 @@ use capture_file::reader::{CapturedPacket, TooLongPacket};
 use capture_json::write_packet;
 use capture_packet::Packet;
 use capture_summary::{
-    CaptureInfo, FrameLen, Protocol, RefusalKind, Summary, VerdictKind, flow_of,
+    CaptureInfo, FrameLen, PacketInfo, Protocol, RefusalKind, Summary, VerdictKind, flow_of,
 };
 use capture_text::write_packet_line;
 use std::alloc::Global;
 use std::io::Write;
 
-/// The report so far: the state that is kept from packet to packet.
+/// The state that is kept from packet to packet.
 #[derive(Drop)]
 pub struct PacketReport {
     alloc: Global,
@@ -30,7 +29,7 @@ pub struct PacketReport {
 }
 
 impl PacketReport {
-    /// The report of a capture before its first packet. Its packets are added to the counts of the summary.
+    /// Returns the state before the first packet. Packets are added to the counts of `summary`.
     pub fn new(alloc: Global, summary: Summary, parts: Parts) -> PacketReport
         ensures parts { result.parts ≡ parts }
         ensures first { result.first ≡ None }
@@ -44,28 +43,35 @@ impl PacketReport {
         }
     }
 
-    /// The counts.
+    /// Starts a capture. The times of its packets are written since its own first packet.
+    pub fn start_capture(&mut self)
+        ensures { self.new ≡ record self.old { first = None } }
+    {
+        self.first = None;
+    }
+
+    /// The counts so far.
     pub fn summary(&self) -> &Summary
         ensures { result.now ≡ self.now.summary }
     {
         &self.summary
     }
 
-    /// Whether as many packets were counted as are requested.
+    /// Whether the number of counted packets has reached the requested number.
     pub fn is_full(&self) -> bool
         ensures { result ≡ is_full self.now.parts.limit self.now.summary.packets }
     {
         is_full(self.parts.limit, &self.summary)
     }
 
-    /// The counts, after the report ends.
+    /// Returns the counts at the end of the report.
     pub fn into_summary(self) -> Summary
         ensures { result ≡ self.summary }
     {
         self.summary
     }
 
-    /// Counts a packet with these captured bytes if it is chosen, and writes its line if it has one.
+    /// Counts the packet in this frame if it is chosen, and writes its line if it has one. `number` is its number in the capture.
     pub fn add<W: Write>(
         &mut self,
         output: &mut W,
@@ -87,7 +93,7 @@ impl PacketReport {
         self.add_packet(output, number, &captured_info(captured), &packet)
     }
 
-    /// Counts a packet that is too long to be checked if it is chosen, and writes its line if it has one.
+    /// Counts a packet that is too long for the buffer if it is chosen, and writes its line if it has one. Its checksum is not tested.
     pub fn add_too_long<W: Write>(
         &mut self,
         output: &mut W,
@@ -130,11 +136,50 @@ impl PacketReport {
             return Ok(());
         }
         count(&mut self.summary, info, packet)?;
-        write_if_included(output, self.alloc, &self.parts, number, first, info, packet)
+        let placed = PacketInfo {
+            number,
+            first,
+            capture: *info,
+        };
+        self.write_if_included(output, &placed, packet)
+    }
+
+    /// Writes the line of a packet, if it has one.
+    fn write_if_included<W: Write>(
+        &self,
+        output: &mut W,
+        info: &PacketInfo,
+        packet: &Packet<'_>,
+    ) -> Result<(), WriteError>
+        ensures text { OnOk result (AppendsOne (W.contents output.old) (W.contents output.new)
+            (IsTextOfChosen self.now.parts info.now.number info.now.first info.now.capture packet.now)) }
+        ensures silent { has_line self.now.parts.lines packet.now.verdict ≡ false → output.new ≡ output.old }
+    {
+        if !self.parts.lines.include(&packet.verdict) {
+            return Ok(());
+        }
+        self.write_line(output, info, packet)
+    }
+
+    /// Writes the line of a packet in the requested format.
+    fn write_line<W: Write>(
+        &self,
+        output: &mut W,
+        info: &PacketInfo,
+        packet: &Packet<'_>,
+    ) -> Result<(), WriteError>
+        ensures { OnOk result (AppendsOne (W.contents output.old) (W.contents output.new)
+            (IsLineIn self.now.parts.format self.now.parts.times self.now.parts.verbose info.now.number info.now.first info.now.capture packet.now)) }
+    {
+        let (times, verbose) = (self.parts.times, self.parts.verbose);
+        match self.parts.format {
+            Format::Text => Ok(write_packet_line(output, times, verbose, info, packet)?),
+            Format::Json => write_packet(output, self.alloc, times, info, packet),
+        }
     }
 }
 
-/// Whether the summary counts as many packets as this limit, if there is one.
+/// Whether the number of counted packets has reached this limit. Without a limit the result is `false`.
 pub(crate) fn is_full(limit: Option<u64>, summary: &Summary) -> bool
     ensures { result ≡ is_full limit summary.now.packets }
 {
@@ -159,7 +204,7 @@ fn count(summary: &mut Summary, info: &CaptureInfo, packet: &Packet<'_>) -> Resu
     Ok(())
 }
 
-/// The data about a packet in its capture.
+/// The data that the capture contains about a packet.
 fn captured_info(captured: &CapturedPacket) -> CaptureInfo
     ensures { result ≡ captured_info captured.now }
 {
@@ -173,7 +218,7 @@ fn captured_info(captured: &CapturedPacket) -> CaptureInfo
     }
 }
 
-/// The data about a packet that is too long, as far as its capture contains them.
+/// The data that the capture contains about a packet that is too long.
 fn too_long_info(captured: &TooLongPacket) -> CaptureInfo
     ensures { result ≡ too_long_info captured.now }
 {
@@ -185,74 +230,5 @@ fn too_long_info(captured: &TooLongPacket) -> CaptureInfo
         link_type: captured.link_type,
         time: captured.time,
         len: captured.original_len.map(frame_len),
-    }
-}
-
-/// Writes the line of a packet, if it has one.
-fn write_if_included<W: Write>(
-    output: &mut W,
-    alloc: Global,
-    parts: &Parts,
-    number: u64,
-    first: Option<PacketTime>,
-    info: &CaptureInfo,
-    packet: &Packet<'_>,
-) -> Result<(), WriteError>
-    ensures text { OnOk result (AppendsOne (W.contents output.old) (W.contents output.new)
-        (IsTextOfChosen parts.now number first info.now packet.now)) }
-    ensures silent { has_line parts.now.lines packet.now.verdict ≡ false → output.new ≡ output.old }
-{
-    if !parts.lines.include(&packet.verdict) {
-        return Ok(());
-    }
-    write_line(output, alloc, parts, number, first, info, packet)
-}
-
-/// Writes the line of a packet in the requested format.
-fn write_line<W: Write>(
-    output: &mut W,
-    alloc: Global,
-    parts: &Parts,
-    number: u64,
-    first: Option<PacketTime>,
-    info: &CaptureInfo,
-    packet: &Packet<'_>,
-) -> Result<(), WriteError>
-    ensures { OnOk result (AppendsOne (W.contents output.old) (W.contents output.new)
-        (IsLineIn parts.now.format parts.now.times parts.now.verbose number first info.now packet.now)) }
-{
-    match parts.format {
-        Format::Text => write_text_line(output, parts, number, first, info, packet),
-        Format::Json => write_packet(
-            output,
-            alloc,
-            parts.times,
-            number,
-            first,
-            info.time,
-            info.len,
-            packet,
-        ),
-    }
-}
-
-/// Writes the line of a packet as text.
-fn write_text_line<W: Write>(
-    output: &mut W,
-    parts: &Parts,
-    number: u64,
-    first: Option<PacketTime>,
-    info: &CaptureInfo,
-    packet: &Packet<'_>,
-) -> Result<(), WriteError>
-    ensures { OnOk result (AppendsOne (W.contents output.old) (W.contents output.new)
-        (IsLine parts.now.times parts.now.verbose number first info.now.time info.now.len packet.now)) }
-{
-    let (times, verbose) = (parts.times, parts.verbose);
-    match write_packet_line(
-        output, times, verbose, number, first, info.time, info.len, packet,
-    ) {
-        Ok(()) => Ok(()),
-        Err(error) => Err(WriteError::Write(error)),
     }
 }

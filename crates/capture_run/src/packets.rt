@@ -1,4 +1,4 @@
-//! From the bytes of a capture to the counts and lines of its packets.
+//! Reading the packets of a capture, counting them and writing their lines.
 
 ghost use Rattle.std.specs.Prelude.{◌≡◌, ◌<◌, ◌-◌, ◌^◌, ℕ, List, Err, IfErr, IfOk, IfSome, IsNone, Some, length, take};
 ghost use Rattle.capture_file.specs.CapturePackets.{ArePacketsBeforeCut, BeginsInput, HasPackets, FilePacket, ReadsOne};
@@ -12,50 +12,39 @@ ghost use Rattle.capture_words.specs.Written.{AppendsOne};
 ghost use Rattle.capture_request.specs.declared.parts.Lines.TheVariants as Lines;
 
 use crate::packet_report::PacketReport;
-use crate::{CaptureError, MAX_PACKET_LEN, Parts, WriteError};
+use crate::{CaptureError, MAX_PACKET_LEN, WriteError};
 use capture_file::reader::{CaptureReader, NextPacket};
-use capture_summary::Summary;
-use std::alloc::Global;
 use std::io::{Read, Write};
-use streams::new_buffer;
 
-/// Reads a capture, counts each of its packets that is chosen in the summary, and writes its line if it has one. The error beside the
-/// summary says why the capture is not read, or where its packets can't be read further. If a number of packets is requested, the report
-/// ends as soon as it is reached, and nothing after the last of these packets is read. `capture` becomes the reader after the packets, if
-/// the header of the capture is accepted.
+/// Reads a capture and counts its chosen packets. Writes the line of each chosen packet that has a line. The inner error gives the reason why
+/// the capture is refused, or why its packets can't be read further. If a number of packets is requested, the report ends with the last of
+/// them, and no byte after that packet is read. `capture` becomes the reader after the packets, if the header of the capture is accepted.
 pub(crate) fn report_packets<R: Read, W: Write>(
-    alloc: Global,
-    summary: Summary,
-    parts: Parts,
+    packets: &mut PacketReport,
     capture: &mut Option<CaptureReader>,
     input: &mut R,
+    buffer: &mut [u8; MAX_PACKET_LEN],
     output: &mut W,
-) -> Result<(Summary, Result<(), CaptureError>), WriteError>
-    ensures report { IfOk result (λ given. AppendsOne (W.contents output.old) (W.contents output.new)
-        (IsCaptureReport parts (R.remaining input.old) (R.remaining input.new) given.1 summary given.0 capture.new)) }
-    ensures limit { IfOk result (λ given. EndsByLimit parts.limit given.0.packets given.1) }
-    ensures within { IsWithin parts.limit summary.packets → IfOk result (λ given. IsWithin parts.limit given.0.packets) }
-    ensures silent { parts.lines ≡ Lines.None → output.new ≡ output.old }
+) -> Result<Result<(), CaptureError>, WriteError>
+    ensures report { IfOk result (λ ended. AppendsOne (W.contents output.old) (W.contents output.new)
+        (IsCaptureReport packets.old.parts (R.remaining input.old) (R.remaining input.new) ended packets.old.summary packets.new.summary capture.new)) }
+    ensures limit { IfOk result (EndsByLimit packets.old.parts.limit packets.new.summary.packets) }
+    ensures within { IsWithin packets.old.parts.limit packets.old.summary.packets
+        → IfOk result (λ ended. IsWithin packets.old.parts.limit packets.new.summary.packets) }
+    ensures silent { packets.old.parts.lines ≡ Lines.None → output.new ≡ output.old }
 {
+    packets.start_capture();
     *capture = None;
-    let mut buffer = new_buffer(alloc, MAX_PACKET_LEN)?;
-    let mut reader = match read_header(input, buffer.as_mut_slice()) {
+    let mut reader = match read_header(input, buffer) {
         Ok(reader) => reader,
-        Err(error) => return Ok((summary, Err(error))),
+        Err(error) => return Ok(Err(error)),
     };
-    let mut packets = PacketReport::new(alloc, summary, parts);
-    let ended = report_each(
-        input,
-        output,
-        buffer.as_mut_slice(),
-        &mut reader,
-        &mut packets,
-    )?;
+    let ended = report_each_packet(packets, &mut reader, input, buffer, output)?;
     *capture = Some(reader);
-    Ok((packets.into_summary(), ended))
+    Ok(ended)
 }
 
-/// Reads the beginning of a capture.
+/// Reads the beginning of a capture, and returns a reader of its packets.
 fn read_header<R: Read>(input: &mut R, buffer: &mut [u8]) -> Result<CaptureReader, CaptureError>
     requires buffer { length buffer.old ≡ MAX_PACKET_LEN }
     ensures begins { IfOk result (λ reader. BeginsInput max_packet_len reader (R.remaining input.old) (R.remaining input.new)) }
@@ -68,17 +57,17 @@ fn read_header<R: Read>(input: &mut R, buffer: &mut [u8]) -> Result<CaptureReade
     }
 }
 
-/// Counts each packet that is chosen, and writes its line if it has one. The inner error says where the packets can't be read further, or
-/// that as many were counted as are requested; after the outer one nothing more can be written or counted.
+/// Counts each packet that is chosen, and writes its line if it has one. The inner error gives the reason why the packets can't be read
+/// further, or it is `Enough` if the requested number of packets was counted. After an outer error nothing more can be written or counted.
 ///
-/// Of a capture of either form that was cut after any number of bytes the packets whose record or block ends before the cut are counted,
-/// and no other.
-fn report_each<R: Read, W: Write>(
-    input: &mut R,
-    output: &mut W,
-    buffer: &mut [u8],
-    reader: &mut CaptureReader,
+/// If a capture was truncated, exactly the packets whose record or block ends before the cut are counted. This holds for both forms of
+/// captures.
+fn report_each_packet<R: Read, W: Write>(
     packets: &mut PacketReport,
+    reader: &mut CaptureReader,
+    input: &mut R,
+    buffer: &mut [u8],
+    output: &mut W,
 ) -> Result<Result<(), CaptureError>, WriteError>
     requires buffer { length buffer.old ≡ MAX_PACKET_LEN }
     ensures report { IfOk result (λ ended. AppendsOne (W.contents output.old) (W.contents output.new)
@@ -107,7 +96,8 @@ fn report_each<R: Read, W: Write>(
     Ok(Err(CaptureError::TooManyPackets))
 }
 
-/// Counts the next packet if it is chosen, and writes its line if it has one. Some where there is none, or it can't be read.
+/// Counts the next packet if it is chosen, and writes its line if it has one. The result is `Some` if the capture ends here, or if the next
+/// packet can't be read.
 fn report_next<R: Read, W: Write>(
     input: &mut R,
     output: &mut W,

@@ -1,4 +1,4 @@
-//! The report of a run: captures, one after the other, and then the summary of all captures.
+//! The report of a run: the packets of each capture, and then the summary of all captures.
 
 ghost use Rattle.std.specs.Prelude.{◌≡◌, IfErr, IfOk, IsNone, OnErr, OnOk, length, map};
 ghost use Rattle.std.specs.Io.KnownBytes.{Appends};
@@ -9,7 +9,11 @@ ghost use Rattle.capture_request.specs.ErrorLines.{line_name};
 ghost use Rattle.capture_request.specs.Names.{shown_name};
 
 use crate::capture_reports::CaptureReports;
-use crate::{ExitStatus, Format, Lines, Open, Parts, STANDARD_INPUT, WriteError};
+use crate::named_capture::NamedCapture;
+use crate::{
+    ExitStatus, Format, Lines, MAX_PACKET_LEN, Open, Outputs, Parts, STANDARD_INPUT, Sources,
+    WriteError,
+};
 use capture_facts::ShownText;
 use capture_json::write_file_name;
 use capture_request::{without_mark, write_end, write_open_error};
@@ -18,37 +22,38 @@ use std::hash::RandomState;
 use std::io;
 use std::io::Write;
 
-/// Reports the captures with these names, one after the other, or standard input if there is no name. Then it writes the summary of all
-/// captures, and returns the exit status. `state` provides the keys of the hashes that find a flow. With random keys, no capture can be
-/// crafted to slow down these lookups.
+/// Reports the captures of `sources` in their order. Then it writes the summary of all captures, and returns the exit status. `state` provides
+/// the keys of the hashes that find a flow. With random keys, no capture can be crafted to slow down these lookups. `buffer` has room for a
+/// packet, or for a block of a pcapng file. Longer packets are counted, but not read.
 ///
 /// If a number of packets is requested, the run ends with the last of them, and reads no further capture.
 ///
-/// For a capture that can't be opened or can't be read to its end, a line with its name and the error is written to `errors`. The next
-/// capture follows. The exit status is the greatest status of all captures. With a requested check it is `Fault` if the checksum of a
-/// packet is wrong or a packet is rejected, even if a capture can't be opened or can't be read to its end.
+/// If a capture can't be opened, or can't be read to its end, a line with its name and the error is written to `outputs.errors`. Then the next
+/// capture follows. The exit status is the greatest status of all captures. If a check is requested, and a packet has a wrong checksum or
+/// was refused, the status is `Fault`. This holds even if a capture can't be opened or can't be read to its end.
 ///
 /// # Errors
 ///
-/// `Write` if writing to `output` fails, and `NoMemory` if no memory is left. Nothing more can be reported then. If writing to `errors`
-/// fails, all captures and the summary are reported first, and then `Write` is returned.
+/// `Write` if writing to `outputs.report` fails, and `NoMemory` if no memory is left. Nothing more can be reported then. If writing to
+/// `outputs.errors` fails, all captures and the summary are reported first, and then `Write` is returned.
 pub fn run<O: Open, W: Write, E: Write>(
-    alloc: Global,
-    state: RandomState,
+    sources: &Sources<'_, O>,
     parts: Parts,
-    names: &[&str],
-    opener: &O,
-    output: &mut W,
-    errors: &mut E,
+    state: RandomState,
+    buffer: &mut [u8; MAX_PACKET_LEN],
+    outputs: &mut Outputs<W, E>,
 ) -> Result<ExitStatus, WriteError>
-    ensures report { IfOk result (λ status. WritesRun (W.contents output.old) (W.contents output.new) (E.contents errors.old) (E.contents errors.new)
-        (IsRun (Gives (O.misses opener.now) (O.opens opener.now) O.Input.remaining) parts (map (λ name. name.now) names.now) status)) }
-    ensures errors { IfErr result (λ error. TellsFirst (Gives (O.misses opener.now) (O.opens opener.now) O.Input.remaining) parts (length names.now)
-        (specs.captures_of (map (λ name. name.now) names.now)) at_start (E.contents errors.old) (E.contents errors.new)) }
+    ensures report { IfOk result (λ status. WritesRun (W.contents outputs.old.report) (W.contents outputs.new.report)
+        (E.contents outputs.old.errors) (E.contents outputs.new.errors)
+        (IsRun (Gives (O.misses sources.now.opener.now) (O.opens sources.now.opener.now) O.Input.remaining) parts
+        (map (λ name. name.now) sources.now.names.now) status)) }
+    ensures errors { IfErr result (λ error. TellsFirst (Gives (O.misses sources.now.opener.now) (O.opens sources.now.opener.now) O.Input.remaining) parts
+        (length sources.now.names.now) (specs.captures_of (map (λ name. name.now) sources.now.names.now)) at_start
+        (E.contents outputs.old.errors) (E.contents outputs.new.errors)) }
 {
-    let reports = CaptureReports::new(alloc, state, parts);
-    let reports = report_captures(alloc, names, opener, reports, output, errors)?;
-    let status = reports.finish(alloc, output)?;
+    let reports = CaptureReports::new(outputs.alloc, state, parts);
+    let reports = report_captures(sources, reports, buffer, outputs)?;
+    let status = reports.finish(outputs.alloc, &mut outputs.report)?;
     match reports.into_unwritten() {
         Some(error) => Err(WriteError::Write(error)),
         None => Ok(status),
@@ -57,90 +62,87 @@ pub fn run<O: Open, W: Write, E: Write>(
 
 /// Reports the captures with these names, or standard input if there is no name.
 fn report_captures<O: Open, W: Write, E: Write>(
-    alloc: Global,
-    names: &[&str],
-    opener: &O,
+    sources: &Sources<'_, O>,
     reports: CaptureReports,
-    output: &mut W,
-    errors: &mut E,
+    buffer: &mut [u8; MAX_PACKET_LEN],
+    outputs: &mut Outputs<W, E>,
 ) -> Result<CaptureReports, WriteError>
-    ensures report { IfOk result (λ after. WritesReport (W.contents output.old) (W.contents output.new) (E.contents errors.old) (E.contents errors.new)
-        (IsNone after.unwritten) (ReportsEach (Gives (O.misses opener.now) (O.opens opener.now) O.Input.remaining) reports.parts (length names.now) 0
-        (specs.captures_of (map (λ name. name.now) names.now)) (progress_of reports) (progress_of after))) }
+    ensures report { IfOk result (λ after. WritesReport (W.contents outputs.old.report) (W.contents outputs.new.report)
+        (E.contents outputs.old.errors) (E.contents outputs.new.errors) (IsNone after.unwritten)
+        (ReportsEach (Gives (O.misses sources.now.opener.now) (O.opens sources.now.opener.now) O.Input.remaining) reports.parts
+        (length sources.now.names.now) 0 (specs.captures_of (map (λ name. name.now) sources.now.names.now)) (progress_of reports) (progress_of after))) }
     ensures told { IfOk result (λ after. IsNone after.unwritten → IsNone reports.unwritten) }
-    ensures errors { IfErr result (λ error. TellsFirst (Gives (O.misses opener.now) (O.opens opener.now) O.Input.remaining) reports.parts (length names.now)
-        (specs.captures_of (map (λ name. name.now) names.now)) (progress_of reports) (E.contents errors.old) (E.contents errors.new)) }
+    ensures errors { IfErr result (λ error. TellsFirst (Gives (O.misses sources.now.opener.now) (O.opens sources.now.opener.now) O.Input.remaining) reports.parts
+        (length sources.now.names.now) (specs.captures_of (map (λ name. name.now) sources.now.names.now)) (progress_of reports)
+        (E.contents outputs.old.errors) (E.contents outputs.new.errors)) }
     ensures parts { IfOk result (λ after. after.parts ≡ reports.parts) }
 {
-    if names.is_empty() {
-        report_headed(alloc, 0, 0, STANDARD_INPUT, opener, reports, output, errors)
+    if sources.names.is_empty() {
+        let input = NamedCapture {
+            count: 0,
+            place: 0,
+            name: STANDARD_INPUT,
+        };
+        report_headed(&input, sources.opener, reports, buffer, outputs)
     } else {
-        report_each(alloc, names, opener, reports, output, errors)
+        report_each_capture(sources, reports, buffer, outputs)
     }
 }
 
-/// Reports each of these captures, after its heading.
-fn report_each<O: Open, W: Write, E: Write>(
-    alloc: Global,
-    names: &[&str],
-    opener: &O,
+/// Reports each of these captures, with the heading of each.
+fn report_each_capture<O: Open, W: Write, E: Write>(
+    sources: &Sources<'_, O>,
     reports: CaptureReports,
-    output: &mut W,
-    errors: &mut E,
+    buffer: &mut [u8; MAX_PACKET_LEN],
+    outputs: &mut Outputs<W, E>,
 ) -> Result<CaptureReports, WriteError>
-    ensures report { IfOk result (λ after. WritesReport (W.contents output.old) (W.contents output.new) (E.contents errors.old) (E.contents errors.new)
-        (IsNone after.unwritten) (ReportsEach (Gives (O.misses opener.now) (O.opens opener.now) O.Input.remaining) reports.parts (length names.now) 0
-        (map (λ name. name.now) names.now) (progress_of reports) (progress_of after))) }
+    ensures report { IfOk result (λ after. WritesReport (W.contents outputs.old.report) (W.contents outputs.new.report)
+        (E.contents outputs.old.errors) (E.contents outputs.new.errors) (IsNone after.unwritten)
+        (ReportsEach (Gives (O.misses sources.now.opener.now) (O.opens sources.now.opener.now) O.Input.remaining) reports.parts
+        (length sources.now.names.now) 0 (map (λ name. name.now) sources.now.names.now) (progress_of reports) (progress_of after))) }
     ensures told { IfOk result (λ after. IsNone after.unwritten → IsNone reports.unwritten) }
-    ensures errors { IfErr result (λ error. TellsFirst (Gives (O.misses opener.now) (O.opens opener.now) O.Input.remaining) reports.parts (length names.now)
-        (map (λ name. name.now) names.now) (progress_of reports) (E.contents errors.old) (E.contents errors.new)) }
+    ensures errors { IfErr result (λ error. TellsFirst (Gives (O.misses sources.now.opener.now) (O.opens sources.now.opener.now) O.Input.remaining) reports.parts
+        (length sources.now.names.now) (map (λ name. name.now) sources.now.names.now) (progress_of reports)
+        (E.contents outputs.old.errors) (E.contents outputs.new.errors)) }
     ensures parts { IfOk result (λ after. after.parts ≡ reports.parts) }
 {
     let mut reports = reports;
-    for (place, name) in names.iter().enumerate() {
-        reports = report_headed(
-            alloc,
-            names.len(),
+    for (place, name) in sources.names.iter().enumerate() {
+        let capture = NamedCapture {
+            count: sources.names.len(),
             place,
             name,
-            opener,
-            reports,
-            output,
-            errors,
-        )?;
+        };
+        reports = report_headed(&capture, sources.opener, reports, buffer, outputs)?;
     }
     Ok(reports)
 }
 
-/// Reports the capture with this name, after its heading. `count` is the number of named captures. The capture is left out if as many
-/// packets were counted as are requested.
+/// Reports a capture, with its heading. The capture is skipped if the requested number of packets was counted before.
 fn report_headed<O: Open, W: Write, E: Write>(
-    alloc: Global,
-    count: usize,
-    place: usize,
-    name: &str,
+    capture: &NamedCapture<'_>,
     opener: &O,
     reports: CaptureReports,
-    output: &mut W,
-    errors: &mut E,
+    buffer: &mut [u8; MAX_PACKET_LEN],
+    outputs: &mut Outputs<W, E>,
 ) -> Result<CaptureReports, WriteError>
-    ensures report { IfOk result (λ after. WritesReport (W.contents output.old) (W.contents output.new) (E.contents errors.old) (E.contents errors.new)
-        (IsNone after.unwritten) (ReportsHeaded (Gives (O.misses opener.now) (O.opens opener.now) O.Input.remaining) reports.parts count place
-        name.now (progress_of reports) (progress_of after))) }
+    ensures report { IfOk result (λ after. WritesReport (W.contents outputs.old.report) (W.contents outputs.new.report)
+        (E.contents outputs.old.errors) (E.contents outputs.new.errors) (IsNone after.unwritten)
+        (ReportsHeaded (Gives (O.misses opener.now) (O.opens opener.now) O.Input.remaining) reports.parts capture.now.count capture.now.place
+        capture.now.name.now (progress_of reports) (progress_of after))) }
     ensures told { IfOk result (λ after. IsNone after.unwritten → IsNone reports.unwritten) }
-    ensures errors { OnErr result (errors.new ≡ errors.old) }
+    ensures errors { OnErr result (outputs.new.errors ≡ outputs.old.errors) }
     ensures parts { IfOk result (λ after. after.parts ≡ reports.parts) }
 {
     if reports.is_full() {
         return Ok(reports);
     }
     let parts = *reports.parts();
-    write_heading_if_any(output, alloc, &parts, count, place, name)?;
-    let shown = line_name(count, name);
-    report_capture(alloc, name, shown, opener, reports, output, errors)
+    write_heading_if_any(capture, &parts, outputs.alloc, &mut outputs.report)?;
+    report_capture(capture, opener, reports, buffer, outputs)
 }
 
-/// The name of a capture in the line of an error within it. Standard input has no name there if no capture is named.
+/// The name of a capture in the line of an error within it. If no capture is named, standard input is read, and the line contains no name.
 fn line_name<'a>(count: usize, name: &'a str) -> Option<&'a str>
     ensures { option_map (λ text. shown_name text.now) result ≡ line_name count name.now }
 {
@@ -150,54 +152,54 @@ fn line_name<'a>(count: usize, name: &'a str) -> Option<&'a str>
     Some(name)
 }
 
-/// Reports the capture with this name. An error within the capture is written after `shown`.
+/// Reports a capture without its heading.
 fn report_capture<O: Open, W: Write, E: Write>(
-    alloc: Global,
-    name: &str,
-    shown: Option<&str>,
+    capture: &NamedCapture<'_>,
     opener: &O,
     reports: CaptureReports,
-    output: &mut W,
-    errors: &mut E,
+    buffer: &mut [u8; MAX_PACKET_LEN],
+    outputs: &mut Outputs<W, E>,
 ) -> Result<CaptureReports, WriteError>
-    ensures report { IfOk result (λ after. WritesReport (W.contents output.old) (W.contents output.new) (E.contents errors.old) (E.contents errors.new)
-        (IsNone after.unwritten) (ReportsNamed (Gives (O.misses opener.now) (O.opens opener.now) O.Input.remaining) reports.parts
-        (option_map (λ text. shown_name text.now) shown.entry) name.now (progress_of reports) (progress_of after))) }
+    ensures report { IfOk result (λ after. WritesReport (W.contents outputs.old.report) (W.contents outputs.new.report)
+        (E.contents outputs.old.errors) (E.contents outputs.new.errors) (IsNone after.unwritten)
+        (ReportsNamed (Gives (O.misses opener.now) (O.opens opener.now) O.Input.remaining) reports.parts
+        (line_name capture.now.count capture.now.name.now) capture.now.name.now (progress_of reports) (progress_of after))) }
     ensures told { IfOk result (λ after. IsNone after.unwritten → IsNone reports.unwritten) }
-    ensures errors { OnErr result (errors.new ≡ errors.old) }
+    ensures errors { OnErr result (outputs.new.errors ≡ outputs.old.errors) }
     ensures parts { IfOk result (λ after. after.parts ≡ reports.parts) }
 {
+    let (name, alloc) = (capture.name, outputs.alloc);
     let mut input = match opener.open(name) {
         Ok(input) => input,
         Err(error) => {
-            let written = write_open_error(errors, alloc, name, &error);
+            let written = write_open_error(&mut outputs.errors, alloc, name, &error);
             return Ok(reports.add_unopened().after_line(written));
         }
     };
-    let (reports, ended) = reports.add(alloc, &mut input, output)?;
-    let written = write_end(errors, alloc, shown, &ended);
+    let (reports, ended) = reports.add(&mut input, buffer, alloc, &mut outputs.report)?;
+    let shown = line_name(capture.count, name);
+    let written = write_end(&mut outputs.errors, alloc, shown, &ended);
     Ok(reports.after_line(written))
 }
 
-/// Writes the line before the packets of a capture. The line is left out if `count`, the number of captures, is at most 1, or if no packet
-/// has a line.
+/// Writes the line before the packets of a capture, which contains the name of the capture. It writes nothing if there is at most one named
+/// capture, or if no packet has a line.
 fn write_heading_if_any<W: Write>(
-    output: &mut W,
-    alloc: Global,
+    capture: &NamedCapture<'_>,
     parts: &Parts,
-    count: usize,
-    place: usize,
-    name: &str,
+    alloc: Global,
+    output: &mut W,
 ) -> Result<(), WriteError>
-    ensures { OnOk result (Appends (W.contents output.old) (W.contents output.new) (heading_of parts.now count place name.now)) }
+    ensures { OnOk result (Appends (W.contents output.old) (W.contents output.new)
+        (heading_of parts.now capture.now.count capture.now.place capture.now.name.now)) }
 {
-    if count <= 1 || parts.lines == Lines::None {
+    if capture.count <= 1 || parts.lines == Lines::None {
         return Ok(());
     }
-    write_heading(output, alloc, parts.format, place, name)
+    write_heading(output, alloc, parts.format, capture.place, capture.name)
 }
 
-/// Writes the line before the packets of a capture.
+/// Writes the line before the packets of a capture, which contains the name of the capture.
 fn write_heading<W: Write>(
     output: &mut W,
     alloc: Global,
@@ -208,10 +210,7 @@ fn write_heading<W: Write>(
     ensures { OnOk result (Appends (W.contents output.old) (W.contents output.new) (heading_in format place name.now)) }
 {
     match format {
-        Format::Text => match write_text_heading(output, place, name) {
-            Ok(()) => Ok(()),
-            Err(error) => Err(WriteError::Write(error)),
-        },
+        Format::Text => Ok(write_text_heading(output, place, name)?),
         Format::Json => write_file_name(output, alloc, without_mark(name)),
     }
 }

@@ -44,8 +44,8 @@ QuotesHost quoted host = IsSomeAnd quoted (λ packet. IsSourceOrDestination pack
 abbrev pub QuotesPort : Option Quoted → ℕ → Type 0
 QuotesPort quoted port = IsSomeAnd quoted (λ packet. IsSomeAnd packet.ports (λ ports. (port ≡ ports.0) ⊎ (port ≡ ports.1)))
 
--- An IP packet from or to this host, or an ICMP error that quotes such a packet. If the headers of the packet are rejected, the addresses
--- of the fixed header count.
+-- An IP packet is from or to this host, or it is an ICMP error that quotes such a packet. If the headers of the packet are refused, the
+-- addresses in its fixed header are used.
 abbrev pub HasHost : Content → Network → Type 0
 HasHost contents.Unread host = ⊥
 HasHost (contents.IpHeader addresses) host = IsSourceOrDestination (by_value addresses) host

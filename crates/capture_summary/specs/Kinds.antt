@@ -36,7 +36,7 @@ protocol_rows counts = map (λ kind. (protocol_word kind, slice_index_or counts 
 
 -- ---- the table of checksums
 
--- the row of a checksum that is not tested; a UDP packet without a length is rejected
+-- the row of a checksum that is not tested; a UDP packet without a length is refused
 abbrev pub untested_kind : Untested → VerdictKind
 untested_kind reasons.Fragment = Fragment
 untested_kind reasons.CutOff = CutOff
@@ -93,16 +93,16 @@ verdict_word Refused = codes "refused"
 abbrev pub verdict_rows : List ℕ → List (List ℕ × ℕ)
 verdict_rows counts = map (λ kind. (verdict_word kind, slice_index counts (verdict_place kind))) verdict_kinds
 
--- ---- the table of rejections
+-- ---- the table of refusals
 
--- the row of a rejected length of a transport
+-- the row of a refusal for the length of a transport
 abbrev pub length_kind : Proto → RefusalKind
 length_kind protos.Udp = UdpLength
 length_kind protos.Tcp = TcpLength
 length_kind protos.Icmpv4 = Icmpv4Length
 length_kind protos.Icmpv6 = Icmpv6Length
 
--- the row of a rejection
+-- the row of a refusal
 abbrev pub refusal_kind : Refusal → RefusalKind
 refusal_kind (refusals.Link error) = LinkHeader
 refusal_kind (refusals.Ip (ip_errors.HeaderCutOff required_len len)) = IpHeaderCutOff
@@ -118,7 +118,7 @@ refusal_kind (refusals.Ip (ip_errors.JumboPayloadFragment offset)) = IpExtension
 refusal_kind (refusals.Transport proto (tcp_errors.Len error)) = length_kind proto
 refusal_kind (refusals.Transport proto (tcp_errors.Content error)) = TcpDataOffset
 
--- the row of the rejection, if the packet is rejected
+-- the row of the refusal, if the packet is refused
 abbrev pub verdict_refusal_kind : Verdict → Option RefusalKind
 verdict_refusal_kind verdict = option_map refusal_kind (refusal_of verdict)
 
@@ -243,7 +243,7 @@ abbrev pub flow_protocol_word : FlowProtocol → List ℕ
 flow_protocol_word flow_protocols.Udp = codes "UDP"
 flow_protocol_word flow_protocols.Tcp = codes "TCP"
 
--- the protocol of a flow as one of the four
+-- the protocol of a flow as one of the four transport protocols
 abbrev pub flow_proto : FlowProtocol → Proto
 flow_proto flow_protocols.Udp = protos.Udp
 flow_proto flow_protocols.Tcp = protos.Tcp

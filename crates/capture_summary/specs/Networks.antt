@@ -59,8 +59,8 @@ IsNoAddress text = (address : IpAddr) → ¬ (IsIpText text address)
 
 -- the text of an error
 abbrev pub network_error_text : NetworkError → List ℕ
-network_error_text errors.Address = codes "it is no IPv4 or IPv6 address"
-network_error_text errors.PrefixLength = codes "the prefix length is no number from 0 to 32 for IPv4, or to 128 for IPv6"
+network_error_text errors.Address = codes "not an IPv4 or IPv6 address"
+network_error_text errors.PrefixLength = codes "the prefix length is not a number from 0 to 32 for IPv4, or to 128 for IPv6"
 network_error_text errors.HostBits = codes "the address has bits other than 0 after its prefix"
 
 -- the text is a number of 32 bits

@@ -39,7 +39,7 @@ empty_tables = record {
   flows = record { rows = []; without_ports = no_packets; without_room = no_packets };
 }
 
--- each table counts each packet once; the table of rejections counts each rejected packet once
+-- each table counts each packet once; the table of refusals counts each refused packet once
 pub record IsBalanced (tables : SummaryTables) : Type 0 where
   pub protocols : sum_by (λ count. count.packets) tables.protocols ≡ tables.packets
   pub verdicts : sum tables.verdicts ≡ tables.packets
@@ -47,7 +47,7 @@ pub record IsBalanced (tables : SummaryTables) : Type 0 where
   pub refusals : sum tables.refusals ≡ slice_index tables.verdicts (verdict_place Refused)
   pub flows : packets_counted tables.flows ≡ tables.packets
 
--- the table of rejections after a packet, rejected or not
+-- the table of refusals after a packet, whether it was refused or not
 abbrev pub refusal_counted : Option RefusalKind → List ℕ → List ℕ
 refusal_counted (Some refusal) table = counted_at (refusal_place refusal) table
 refusal_counted None table = table
@@ -68,6 +68,6 @@ pub record CountsOne (before : SummaryTables) (protocol : Protocol) (verdict : V
   pub refusals : after.refusals ≡ refusal_counted refusal before.refusals
   pub flows : after.flows ≡ table_counted flow (counted_len info.len) before.flows
 
--- whether a packet with a wrong checksum, or a rejected packet, was counted
+-- whether a packet with a wrong checksum, or a refused packet, was counted
 abbrev pub has_fault : SummaryTables → Bool
 has_fault tables = nat_lt 0 (slice_index tables.verdicts (verdict_place Wrong) + slice_index tables.verdicts (verdict_place Refused))

@@ -12,7 +12,7 @@ pub struct FrameLen {
     pub captured: u64,
 }
 
-/// The data about a packet in a capture, in addition to its bytes.
+/// The data that a capture contains about a packet, in addition to its bytes.
 #[derive(Clone, Copy, Debug, PartialEq, Eq)]
 pub struct CaptureInfo {
     /// The link type of the packet, or the number of a link type that is not read, if the capture contains it.

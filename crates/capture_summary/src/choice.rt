@@ -10,17 +10,17 @@ use crate::{FlowProtocol, Network, Protocol};
 use capture_packet::{Content, Packet, Transport, Tunnel};
 use ip_part::IpAddresses;
 
-/// The most hosts of a choice, and the most ports.
+/// The greatest number of hosts in a choice, and of ports.
 pub const MAX_CHOSEN: usize = 16;
 
-/// The packets that are chosen: a packet is chosen if it matches every field that is set.
+/// The packets that are chosen. A packet is chosen if it matches every field that is set.
 #[derive(Clone, Copy, Debug, PartialEq, Eq)]
 pub struct Choice {
-    /// If set, only packets with a source or destination address in one of these networks are chosen, ICMP errors that quote a packet with
-    /// such an address, and packets in a tunnel with such an outer packet.
+    /// If set, only these packets are chosen: packets with a source or destination address in one of these networks, ICMP errors that quote
+    /// such a packet, and packets in a tunnel whose outer packet is such a packet.
     pub hosts: Option<[Option<Network>; MAX_CHOSEN]>,
-    /// If set, only packets with one of these as source or destination port are chosen, and ICMP errors that quote a packet with such a
-    /// port.
+    /// If set, only these packets are chosen: packets whose source or destination port is one of these, and ICMP errors that quote such a
+    /// packet.
     pub ports: Option<[Option<u16>; MAX_CHOSEN]>,
     /// If set, only packets of these protocols are chosen.
     pub protocols: Option<Protocols>,

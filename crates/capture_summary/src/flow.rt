@@ -27,7 +27,7 @@ impl FlowProtocol {
         }
     }
 
-    /// The protocol as one of the four.
+    /// Returns the protocol as one of the four transport protocols.
     pub fn proto(self) -> Proto
         ensures { result ≡ flow_proto self }
     {

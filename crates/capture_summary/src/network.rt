@@ -102,14 +102,14 @@ fn has_zeros_at_end(number: u128, host_bits: u32) -> bool
     }
 }
 
-/// Why a text is no network.
+/// The reason why a text is not a network.
 #[derive(Clone, Copy, Debug, PartialEq, Eq)]
 pub enum NetworkError {
     /// The text, or its part before `/`, is not an address.
     Address,
     /// The part after `/` is not a number, or is above the number of bits of the address.
     PrefixLength,
-    /// The address has bits after its prefix.
+    /// The address has bits that are 1 after its prefix.
     HostBits,
 }
 
@@ -119,9 +119,9 @@ impl NetworkError {
         ensures { result.now ≡ network_error_text self }
     {
         match self {
-            NetworkError::Address => "it is no IPv4 or IPv6 address",
+            NetworkError::Address => "not an IPv4 or IPv6 address",
             NetworkError::PrefixLength => {
-                "the prefix length is no number from 0 to 32 for IPv4, or to 128 for IPv6"
+                "the prefix length is not a number from 0 to 32 for IPv4, or to 128 for IPv6"
             }
             NetworkError::HostBits => "the address has bits other than 0 after its prefix",
         }

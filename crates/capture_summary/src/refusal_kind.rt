@@ -9,7 +9,7 @@ use ip_part::{IpError, Proto};
 use net_base::err::tcp::HeaderSliceError;
 use transport_part::{ChecksumVerdict, Untested};
 
-/// The kind of a rejection, without its fields: a row of the table of rejections.
+/// The kind of a refusal, without its fields: a row of the table of refusals.
 #[derive(Clone, Copy, Debug, PartialEq, Eq)]
 pub enum RefusalKind {
     /// The frame ends within its link header.
@@ -22,25 +22,25 @@ pub enum RefusalKind {
     IpHeaderLength,
     /// The total length of an IPv4 packet is below the length of its header.
     IpTotalLength,
-    /// The IP header counts more bytes than are present. `read_packet` never rejects a packet for this reason. It reports the packet as cut
+    /// The IP header counts more bytes than are present. `read_packet` never refuses a packet for this reason. It reports the packet as cut
     /// off.
     IpPacketCutOff,
-    /// The packet ends within an extension header, or its jumbo payload length is rejected.
+    /// The packet ends within an extension header, or its jumbo payload length is refused.
     IpExtensionHeader,
-    /// The length of a UDP packet is rejected.
+    /// The length of a UDP packet is refused.
     UdpLength,
-    /// The length of a TCP segment is rejected.
+    /// The length of a TCP segment is refused.
     TcpLength,
     /// The data offset of a TCP header is too small.
     TcpDataOffset,
-    /// The length of an ICMPv4 message is rejected.
+    /// The length of an ICMPv4 message is refused.
     Icmpv4Length,
-    /// The length of an ICMPv6 message is rejected.
+    /// The length of an ICMPv6 message is refused.
     Icmpv6Length,
 }
 
 impl RefusalKind {
-    /// The number of rows in the table of rejections.
+    /// The number of rows in the table of refusals.
     pub const COUNT: usize = 12;
 
     /// The word for this kind, which is the name of its row.
@@ -63,7 +63,7 @@ impl RefusalKind {
         }
     }
 
-    /// The kind of the rejection, if the packet is rejected.
+    /// Returns the kind of the refusal, if the packet is refused.
     pub fn of(verdict: &Verdict) -> Option<RefusalKind>
         ensures { result ≡ verdict_refusal_kind verdict.now }
     {
@@ -117,7 +117,7 @@ impl RefusalKind {
     }
 }
 
-/// The kind of a rejection.
+/// The kind of a refusal.
 fn kind_of_refusal(refusal: &Refusal) -> RefusalKind
     ensures { result ≡ specs.refusal_kind refusal.now }
 {
@@ -129,7 +129,7 @@ fn kind_of_refusal(refusal: &Refusal) -> RefusalKind
     }
 }
 
-/// The kind of a rejected length of a transport.
+/// The kind of a refusal for the length of a transport.
 fn kind_of_length(proto: Proto) -> RefusalKind
     ensures { result ≡ length_kind proto }
 {

@@ -18,8 +18,8 @@ use std::marker::Model;
 
 /// The counts of the packets of captures.
 ///
-/// Each packet is counted once by its protocol, once by its verdict, once by its link type, and once by its flow. A rejected packet is also
-/// counted by the kind of its rejection.
+/// Each packet is counted once by its protocol, once by its verdict, once by its link type, and once by its flow. A refused packet is also
+/// counted by the kind of its refusal.
 #[derive(Drop)]
 pub struct Summary {
     bytes: u64,
@@ -77,12 +77,12 @@ impl Summary {
         }
     }
 
-    /// Counts a packet of these kinds, of this flow or without ports. `info` is the data about the packet in its capture. The number that
-    /// `packets` returns must be below `u64::MAX`.
+    /// Counts a packet of these kinds. `flow` is its flow, or `None` if it has no ports. `info` is the data that the capture contains about
+    /// the packet. The number that `packets` returns must be below `u64::MAX`.
     ///
     /// # Errors
     ///
-    /// `AllocError` if no memory is left, and for no other reason. The packet is then not counted, and all counts are unchanged.
+    /// `AllocError` if no memory is left, and for no other reason. Then the packet is not counted, and all counts are unchanged.
     pub fn add(
         &mut self,
         protocol: Protocol,
@@ -170,7 +170,7 @@ impl Summary {
         LinkKind::rows(&self.links)
     }
 
-    /// The rows of the table of rejections: the name and the number of packets of each.
+    /// The rows of the table of refusals: the name and the number of packets of each.
     pub fn refusals(&self) -> [(&'static str, u64); RefusalKind::COUNT]
         ensures { map (λ row. (row.0.now, row.1)) result ≡ refusal_rows self.now.refusals }
     {
@@ -198,14 +198,14 @@ impl Summary {
         self.links[link.place()]
     }
 
-    /// Whether a packet with a wrong checksum, or a rejected packet, was counted.
+    /// Whether a packet with a wrong checksum, or a refused packet, was counted.
     pub fn has_fault(&self) -> bool
         ensures { result ≡ has_fault self.now }
     {
         self.verdict(VerdictKind::Wrong) > 0 || self.verdict(VerdictKind::Refused) > 0
     }
 
-    /// The number of packets rejected for a reason of this kind.
+    /// The number of packets that were refused for a reason of this kind.
     pub fn refusal(&self, refusal: RefusalKind) -> u64
         ensures { result ≡ slice_index self.now.refusals (refusal_place refusal) }
     {

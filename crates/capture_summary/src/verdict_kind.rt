@@ -28,9 +28,9 @@ pub enum VerdictKind {
     UnknownDestination,
     /// The packet is of another protocol.
     OtherProtocol,
-    /// The record has more bytes than are read.
+    /// The packet has more bytes than the buffer can contain.
     TooLong,
-    /// The packet is rejected.
+    /// The packet is refused.
     Refused,
 }
 
@@ -76,7 +76,7 @@ impl VerdictKind {
         }
     }
 
-    /// The kind of a verdict on a checksum that is not tested. A UDP packet without a length is rejected.
+    /// Returns the kind of a verdict on a checksum that is not tested. A UDP packet without a length is refused.
     pub fn of_untested(reason: Untested) -> VerdictKind
         ensures { result ≡ specs.untested_kind reason }
     {

@@ -1,3 +1,4 @@
 pub mod AddressLemmas
 mod LineExamples
 pub mod LineLaws
+mod NameLemmas

@@ -1,4 +1,4 @@
--- Worked examples of lines and of a summary, so that a wrong definition fails before any code does.
+-- Worked examples of lines and of a summary. A wrong definition fails here before its code is written.
 use Rattle.std.proofs.Common.{◌≡◌, ◌++◌, ℕ, false, true, List, [], ◌∷◌, None, Some, codes, refl, replicate}
 use Rattle.std.specs.Char.{encode_utf8}
 use Rattle.std.specs.Fmt.{char_count, digits, padded, padded_integral, take_chars}
@@ -53,7 +53,7 @@ arp_line = (codes "ARP", refl, refl)
 -- ---- a summary
 
 -- Ethernet frames without a time: two packets of a UDP conversation, an ICMPv6 message with a wrong checksum, and two IP packets that are
--- rejected for their version
+-- refused for their version
 abbrev five_packets : SummaryTables
 five_packets = record {
   packets = 5;

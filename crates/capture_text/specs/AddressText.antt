@@ -22,7 +22,7 @@ abbrev pub source_endpoint : Addresses → ℕ → List ℕ
 source_endpoint (Ipv4 source destination) port = ipv4_endpoint source port
 source_endpoint (Ipv6 source destination) port = ipv6_endpoint source port
 
--- the final destination with its port, or `unknown` with the port if the address is not known
+-- the final destination with its port; an unknown address is the word `unknown`
 abbrev pub destination_endpoint : Addresses → ℕ → List ℕ
 destination_endpoint (Ipv4 source destination) port = ipv4_endpoint destination port
 destination_endpoint (Ipv6 source (Some destination)) port = ipv6_endpoint destination port

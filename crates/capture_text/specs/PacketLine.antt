@@ -32,16 +32,16 @@ use Rattle.capture_words.specs.TimeText.{time_text}
 use Rattle.capture_text.specs.VerdictText.{is_other_protocol, verdict_text}
 use Rattle.capture_words.specs.declared.times.Times.{Times}
 
--- the number of bytes that were captured, if it is not this length
+-- the number of bytes that were captured, unless it is the length
 abbrev pub captured_text : ℕ → ℕ → List ℕ
 captured_text len captured_len = if captured_len == len then [] else codes ", " ++ (decimal captured_len ++ codes " captured")
 
--- the length of a frame, in bytes, and how many of them were captured, or that the capture does not contain the length
+-- the length of a frame in bytes, and how many of them were captured; without a length it states that the length is unknown
 abbrev pub frame_text : Option FrameLen → List ℕ
 frame_text None = codes " length unknown: "
 frame_text (Some len) = codes " length " ++ (decimal len.original ++ (captured_text len.original len.captured ++ codes ": "))
 
--- the length of a payload, in bytes, and how many of them were captured
+-- the length of a payload in bytes, and how many of them were captured
 abbrev pub payload_text : ℕ → List ℕ → List ℕ
 payload_text payload_len payload = codes ", payload " ++ (decimal payload_len ++ captured_text payload_len (length payload))
 
@@ -61,7 +61,7 @@ IsTcpText addresses segment text =
     (header : List ℕ) × IsHeaderText segment header
     × (text ≡ ports_text addresses segment ++ (codes " TCP " ++ header))
 
--- a name, or this text if there is no name
+-- a name, or this text instead if there is no name
 abbrev pub name_or : Option (List ℕ) → List ℕ → List ℕ
 name_or (Some name) text = name
 name_or None text = text
@@ -75,7 +75,7 @@ abbrev pub known_endpoints : Addresses → Option (ℕ × ℕ) → List ℕ
 known_endpoints addresses None = addresses_text addresses
 known_endpoints addresses (Some ports) = endpoints_text addresses ports.0 ports.1
 
--- the packet that an ICMP error quotes, if its IP headers are read
+-- the packet that an ICMP error quotes, if the IP headers of that packet can be read
 abbrev pub quoted_text : Option Quoted → List ℕ
 quoted_text None = []
 quoted_text (Some quoted) =
@@ -127,7 +127,7 @@ abbrev pub network_text : NetworkProtocol → List ℕ
 network_text protocol = name_or (network_protocol_name protocol) (network_number protocol)
 
 -- This is the text of the content of a packet, with the length of its payload. It is empty if the packet is not read. If the IP headers are
--- rejected, it contains only the addresses.
+-- refused, it contains only the addresses.
 abbrev pub IsContentText : Content → List ℕ → Type 0
 IsContentText contents.Unread text = text ≡ []
 IsContentText (contents.IpHeader addresses) text = text ≡ addresses_text (by_value addresses)
@@ -142,27 +142,27 @@ hop_limit_text None = []
 hop_limit_text (Some (limits.Ipv4 limit)) = codes ", time to live " ++ decimal limit
 hop_limit_text (Some (limits.Ipv6 limit)) = codes ", hop limit " ++ decimal limit
 
--- what a verbose line has after the content of a packet
+-- the details of a verbose line, after the content of a packet
 abbrev pub details_text : Bool → Packet → List ℕ
 details_text verbose packet = if verbose then hop_limit_text packet.hop_limit else []
 
--- the verdict after the content of a packet, with a semicolon before it; nothing if the protocol is not read
+-- the verdict after the content of a packet, with a semicolon before it; it is empty if the protocol is not read
 abbrev pub verdict_part : Verdict → List ℕ
 verdict_part verdict = if is_other_protocol verdict then [] else codes "; " ++ verdict_text verdict
 
--- the end of a line: only the verdict if the packet is not read
+-- the end of a line; it is only the verdict if the packet is not read
 abbrev pub end_text : Content → Verdict → List ℕ
 end_text contents.Unread verdict = verdict_text verdict
 end_text (contents.IpHeader addresses) verdict = verdict_part verdict
 end_text (contents.NotIp protocol) verdict = verdict_part verdict
 end_text (contents.Ip addresses protocol proto transport payload_len) verdict = verdict_part verdict
 
--- the outer packet of a tunnel: its addresses and its protocol, and a bar before the packet in it
+-- the outer packet of a tunnel: its addresses, its protocol, and a bar before the inner packet
 abbrev pub tunnel_text : Tunnel → List ℕ
 tunnel_text tunnel = unread_text (by_value tunnel.addresses) tunnel.protocol.0 None None ++ codes " | "
 
--- this is the line of a packet: its number, its time, the length of its frame, its tunnels, its content, its details if the line is
--- verbose, and its verdict
+-- This is the line of a packet: its number, its time, the length of its frame, its tunnels, its content, its details if the line is
+-- verbose, and its verdict.
 abbrev pub IsLine : Times → Bool → ℕ → Option PacketTime → Option PacketTime → Option FrameLen → Packet → List ℕ → Type 0
 IsLine times verbose number first time len packet line =
     (what : List ℕ) × IsContentText packet.content what

@@ -13,21 +13,21 @@ use Rattle.capture_summary.specs.declared.count.Count.{Count}
 use Rattle.capture_summary.specs.declared.flow.Flow.{Flow}
 use Rattle.capture_summary.specs.declared.conversation_count.ConversationCount.{ConversationCount}
 
--- ---- cells and rows: a name is at the left of its column, and a number and its title are at the right
+-- ---- cells and rows: names are aligned to the left, numbers and their titles are aligned to the right
 
 -- the width of the names of rows
 abbrev pub name_width : ℕ
 name_width = 25
 
--- a name at the left of its column
+-- a name, aligned to the left in a column of this width
 abbrev pub name_cell : ℕ → List ℕ → List ℕ
 name_cell width name = styled_text (format_spec 32 1 0 width (2 ^ 64 - 1)) name
 
--- a title at the right of its column
+-- a title, aligned to the right in a column of this width
 abbrev pub title_cell : ℕ → List ℕ → List ℕ
 title_cell width title = padded (format_spec 32 3 0 width (2 ^ 64 - 1)) title
 
--- a number at the right of its column
+-- a number, aligned to the right in a column of this width
 abbrev pub number_cell : ℕ → ℕ → List ℕ
 number_cell width number = padded_integral (format_spec 32 3 0 width (2 ^ 64 - 1)) false [] (decimal number)
 
@@ -74,7 +74,7 @@ abbrev pub conversation_name : Flow → List ℕ
 conversation_name flow =
     flow_protocol_word flow.protocol ++ codes " " ++ socket_text flow.source ++ codes " <> " ++ socket_text flow.destination
 
--- the width of the longest name of these conversations, or the width of other names if it is greater
+-- the width of the longest name of these conversations, and at least the width of other names
 abbrev pub conversation_width : List ConversationCount → ℕ
 conversation_width rows = fold (λ width row. max width (length (conversation_name row.flow))) name_width rows
 
@@ -121,6 +121,6 @@ tables_text busiest tables =
     ++ (packets_table (slice_index tables.verdicts (verdict_place Refused)) (codes "refused") (refusal_rows tables.refusals)
     ++ conversations_table busiest tables.flows.without_ports tables.flows.without_room))))
 
--- the totals and the tables, with at most this number of the busiest conversations
+-- the totals and the tables, with at most `top` of the busiest conversations
 abbrev pub summary_text : ℕ → SummaryTables → List ℕ
 summary_text top tables = tables_text (busiest_of top tables.flows.rows) tables

@@ -35,7 +35,7 @@ duration_line tables span =
     codes "duration " ++ (elapsed_text span.earliest span.latest
     ++ (rates_text (rates_of tables.packets tables.bytes span) ++ codes "\n"))
 
--- the times of the packets, or nothing if no time is known
+-- the times of the packets; the text is empty if no time is known
 abbrev pub times_text : SummaryTables → Option TimeSpan → List ℕ
 times_text tables None = []
 times_text tables (Some span) =

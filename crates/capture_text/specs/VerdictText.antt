@@ -14,7 +14,7 @@ use Rattle.capture_summary.specs.declared.verdict_kind.VerdictKind.TheVariants a
 use Rattle.capture_words.specs.Numbers.{hex_padded}
 use Rattle.capture_words.specs.Refusals.{refusal_text}
 
--- why a checksum is not tested; a UDP packet without a length is rejected
+-- the reason why a checksum is not tested; a UDP packet without a length is refused
 abbrev pub untested_text : Untested → List ℕ
 untested_text reasons.Fragment = codes "checksum not looked at: a fragment"
 untested_text reasons.CutOff = codes "checksum not looked at: cut off"
@@ -23,7 +23,7 @@ untested_text reasons.OtherProtocol = codes "checksum not looked at: another pro
 untested_text reasons.ZeroLength = codes "refused: " ++ refusal_text zero_length
 untested_text reasons.TooLong = codes "checksum not looked at: too long"
 
--- the verdict on a checksum, by the word for it
+-- the word for the verdict on a checksum, after the word `checksum`
 abbrev pub word_text : VerdictKind → List ℕ
 word_text kind = codes "checksum " ++ verdict_word kind
 

@@ -1,7 +1,7 @@
 //! The report as text: the line of a packet, and the tables of a summary. Nothing is allocated.
 //!
-//! `write_packet_line` writes the line: the number of the packet, its time, the length of its frame, its addresses and its content. After a
-//! semicolon the line states whether the checksum is right. `write_summary` writes the tables. Bytes and checksums are hex digits in upper
+//! `write_packet_line` writes the line of a packet. It contains the number of the packet, its time, the length of its frame, its addresses
+//! and its content, and then the verdict on its checksum. `write_summary` writes the tables. Bytes and checksums are hex digits in upper
 //! case. All other numbers are decimal.
 #![tactic(auto)]
 

@@ -11,11 +11,10 @@ ghost use Rattle.capture_words.specs.Written.{AppendsOne};
 
 use crate::addresses::{write_addresses, write_endpoints};
 use crate::verdict::{is_other_protocol, write_verdict};
-use capture_file::PacketTime;
 use capture_packet::{
     Content, HopLimit, NetworkProtocol, Packet, QuotedPacket, Transport, Tunnel, Verdict,
 };
-use capture_summary::{FrameLen, ip_protocol_name, network_protocol_name};
+use capture_summary::{FrameLen, PacketInfo, ip_protocol_name, network_protocol_name};
 use capture_words::{Times, icmpv4, icmpv6, tcp, write_time};
 use icmp_part::{Icmpv4Slice, Icmpv6Slice};
 use ip_part::{IpAddresses, Proto};
@@ -27,7 +26,7 @@ use transport_part::TransportSlice;
 use udp_part::UdpSlice;
 
 /// Writes the line of a packet: its number, its time, the length of its frame, its tunnels, its addresses, its content, and its verdict. A
-/// bar follows each tunnel. A verbose line also has the hop limit or the time to live of the packet, if its IP header was captured.
+/// bar follows each tunnel. A verbose line also shows the hop limit or the time to live of the packet, if its IP header was captured.
 ///
 /// ```text
 /// 1 00:00:00.000000 length 74: 192.0.2.1:49152 > 192.0.2.2:53 UDP length 40, payload 32; checksum right
@@ -40,18 +39,15 @@ pub fn write_packet_line<W: Write>(
     output: &mut W,
     times: Times,
     verbose: bool,
-    number: u64,
-    first: Option<PacketTime>,
-    time: Option<PacketTime>,
-    len: Option<FrameLen>,
+    info: &PacketInfo,
     packet: &Packet,
 ) -> io::Result<()>
     ensures { OnOk result (AppendsOne (W.contents output.old) (W.contents output.new)
-        (IsLine times verbose number first time len packet.now)) }
+        (IsLine times verbose info.now.number info.now.first info.now.capture.time info.now.capture.len packet.now)) }
 {
-    write!(output, "{number} ")?;
-    write_time(output, times, first, time)?;
-    write_frame_len(output, len)?;
+    write!(output, "{} ", info.number)?;
+    write_time(output, times, info.first, info.capture.time)?;
+    write_frame_len(output, info.capture.len)?;
     write_tunnels(output, packet.tunnels.as_slice())?;
     write_content(output, &packet.content)?;
     write_details(output, verbose, packet)?;
@@ -59,7 +55,7 @@ pub fn write_packet_line<W: Write>(
     writeln!(output)
 }
 
-/// Writes the length of a frame, in bytes, and how many of them were captured, if these are not all.
+/// Writes the length of a frame in bytes. If not all of them were captured, it also writes how many were.
 fn write_frame_len<W: Write>(output: &mut W, len: Option<FrameLen>) -> io::Result<()>
     ensures { OnOk result (Appends (W.contents output.old) (W.contents output.new) (frame_text len)) }
 {
@@ -114,7 +110,7 @@ fn write_details<W: Write>(output: &mut W, verbose: bool, packet: &Packet) -> io
     }
 }
 
-/// Writes the end of a line: the verdict on a packet, after a semicolon unless the packet is not read.
+/// Writes the end of a line: the verdict on a packet. A semicolon precedes it, unless the packet is not read.
 fn write_end<W: Write>(output: &mut W, content: &Content, verdict: &Verdict) -> io::Result<()>
     ensures { OnOk result (Appends (W.contents output.old) (W.contents output.new) (end_text content.now verdict.now)) }
 {
@@ -126,7 +122,7 @@ fn write_end<W: Write>(output: &mut W, content: &Content, verdict: &Verdict) -> 
     }
 }
 
-/// Writes the verdict after the content of a packet, unless the protocol is not read.
+/// Writes the verdict after the content of a packet. It writes nothing if the protocol is not read.
 fn write_verdict_part<W: Write>(output: &mut W, verdict: &Verdict) -> io::Result<()>
     ensures { OnOk result (Appends (W.contents output.old) (W.contents output.new) (verdict_part verdict.now)) }
 {
@@ -322,7 +318,7 @@ fn write_protocol<W: Write>(
     }
 }
 
-/// Writes the length of a payload, in bytes, and how many of them were captured, if these are not all.
+/// Writes the length of a payload in bytes. If not all of them were captured, it also writes how many were.
 fn write_payload_len<W: Write>(output: &mut W, payload_len: usize, payload: &[u8]) -> io::Result<()>
     ensures { OnOk result (Appends (W.contents output.old) (W.contents output.new) (payload_text payload_len payload.now)) }
 {
@@ -330,7 +326,7 @@ fn write_payload_len<W: Write>(output: &mut W, payload_len: usize, payload: &[u8
     write_captured(output, payload_len as u64, payload.len() as u64)
 }
 
-/// Writes how many of this number of bytes were captured, if these are not all.
+/// Writes how many of `len` bytes were captured, unless all were captured.
 fn write_captured<W: Write>(output: &mut W, len: u64, captured_len: u64) -> io::Result<()>
     ensures { OnOk result (Appends (W.contents output.old) (W.contents output.new) (captured_text len captured_len)) }
 {

@@ -1,7 +1,8 @@
 //! The tables of the summary.
 
-ghost use Rattle.std.specs.Prelude.{◌≡◌, ◌++◌, codes, map, IfOk, OnOk};
+ghost use Rattle.std.specs.Prelude.{◌≡◌, ◌≤◌, ◌++◌, codes, length, map, IfOk, OnOk};
 ghost use Rattle.std.specs.Io.KnownBytes.{Appends};
+ghost use Rattle.std.specs.Net.Socket.{IsSocketAddr};
 ghost use Rattle.capture_text.specs.SummaryText as specs;
 ghost use Rattle.capture_text.specs.SummaryText.{conversations_table, counts_table, packets_table, tables_text};
 
@@ -12,17 +13,17 @@ use std::fmt::Write as _;
 use std::io;
 use std::io::{ErrorKind, Write};
 
-/// The width of the names of rows. All names fit, except the names of conversations.
+/// The width of the column of names. Every name fits into it, except names of conversations.
 const NAME_WIDTH: usize = 25;
 
-/// The maximum length of the name of a conversation, in bytes. An IPv6 address with its port is at most 58 bytes long.
+/// The room for the name of a conversation, in bytes. An IPv6 address with its port has at most 58 bytes, and a name contains two of them.
 const MOST_CONVERSATION_NAME_LEN: usize = 128;
 
 /// Writes the numbers of packets, bytes and conversations, and the times of the packets. Then it writes the tables of link types,
-/// protocols, checksums, rejections and conversations. The protocol with the most packets is first, as `Summary::protocols_by_packets`
-/// orders the rows. The last table lists the conversations in `busiest`.
+/// protocols, checksums, refusals and conversations. The protocol with the most packets is first, as `Summary::protocols_by_packets` orders
+/// the rows. The last table lists the conversations in `busiest`.
 ///
-/// A table has a name and columns of numbers, which are aligned to the right. Rows that count no packet are left out, and so are tables
+/// A table has a name and columns of numbers, which are aligned to the right. A row that counts no packet is left out, and so is a table
 /// without rows.
 ///
 /// # Errors
@@ -140,7 +141,8 @@ fn is_without_rows(busiest: &[ConversationCount], without_ports: Count, without_
     busiest.is_empty() && without_ports.packets == 0 && without_room.packets == 0
 }
 
-/// The width of the longest name of these conversations, or the width of other names if it is greater.
+/// The width of the column of names in the table of conversations: the width of the longest name, and at least the width in the other
+/// tables.
 fn conversation_width(conversations: &[ConversationCount]) -> io::Result<usize>
     ensures { IfOk result (λ width. width ≡ specs.conversation_width conversations.now) }
 {
@@ -151,9 +153,11 @@ fn conversation_width(conversations: &[ConversationCount]) -> io::Result<usize>
     Ok(width)
 }
 
-/// The name of a conversation by one of its directions, for example `UDP 192.0.2.1:49152 <> 192.0.2.2:53`.
+/// Returns the name of a conversation by one of its directions, for example `UDP 192.0.2.1:49152 <> 192.0.2.2:53`.
 fn conversation_name(flow: &Flow) -> io::Result<ArrayString<MOST_CONVERSATION_NAME_LEN>>
-    ensures { IfOk result (λ name. name.bytes ≡ specs.conversation_name flow.now) }
+    ensures name { IfOk result (λ name. name.bytes ≡ specs.conversation_name flow.now) }
+    ensures fits { IsSocketAddr flow.now.source → IsSocketAddr flow.now.destination →
+        length (specs.conversation_name flow.now) ≤ MOST_CONVERSATION_NAME_LEN }
 {
     let Flow {
         protocol,

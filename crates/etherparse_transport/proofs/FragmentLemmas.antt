@@ -1,6 +1,7 @@
 -- Laws of the fragment header directly after an IPv6 header: what `transport_in_ip_lax` reads there.
 use Rattle.std.proofs.Common.{◌≡◌, ℕ, zero, suc, ◌+◌, ◌<◌, ◌≤◌, ◌==◌, ◌&&◌, ◌||◌, not, nat_lt, Bool, true, false, if◌then◌else◌, List, [], ◌∷◌, take, drop, slice_index, slice_range, length, Option, Some, None, Result, Ok, refl, sym, ap, ◌∙◌, arith}
 use Rattle.std.specs.Prelude.{is_some}
+use Rattle.std.specs.Prelude.{is_none}
 use Rattle.std.proofs.lemmas.Bool.Decides.{nat_tests}
 use Rattle.std.proofs.lemmas.List.{get_or-drop, get_or-take, length-drop, length-take, length-take-le}
 use Rattle.net_base.specs.Bytes.{be_number, flag}
@@ -15,17 +16,15 @@ use Rattle.ip_part.specs.Ip as ip
 use Rattle.ip_part.specs.Protocols.{proto_over}
 use Rattle.ip_part.specs.declared.ip_error.IpError.{IpError}
 use Rattle.ip_part.specs.declared.proto.Proto.{Proto}
-use Rattle.ip_part.specs.declared.proto.Proto.TheVariants as protos
 use Rattle.ip_part.specs.declared.transport.TransportInIp.{TransportInIp}
 use Rattle.ip_part.proofs.HeadersLemmas.{ended}
-use Rattle.etherparse_transport.specs.Packets.{number_of}
-use Rattle.etherparse_transport.specs.Ipv6Translations.{IsIpv6Place, ipv6_has_fragment_header, ipv6_protocol, ipv6_start}
+use Rattle.etherparse_transport.specs.Ipv6Translations.{IsIpv6Place, covers_ipv6_addresses, ipv6_has_fragment_header, ipv6_protocol, ipv6_start}
 use Rattle.etherparse_transport.specs.Translations.{counted_after}
 use Rattle.etherparse_transport.specs.declared.ip.message_place.Place.{Place}
 use Rattle.etherparse_transport.proofs.BuiltLemmas.{none_first, none_if}
 use Rattle.etherparse_transport.proofs.EchoReplyLemmas.{is_number}
 use Rattle.etherparse_transport.proofs.EchoRequestLemmas.{in_front}
-use Rattle.etherparse_transport.proofs.TranslationLemmas.{first_is_last, ipv6_ended, ipv6_number, message_range, no_extension, over_ipv6_addresses, read_once}
+use Rattle.etherparse_transport.proofs.TranslationLemmas.{first_is_last, ipv6_accepts, ipv6_ended, message_range, no_hop_by_hop_options, over_ipv6_addresses, read_once}
 
 pub and_false : (b : Bool) → (b && false) ≡ false
 and_false true = refl
@@ -45,21 +44,14 @@ no_len_in_options packet other =
 pub no_jumbo_len : (packet : List ℕ) → (slice_index packet 6 == 0) ≡ false → ip.jumbo_len packet ≡ None
 no_jumbo_len packet other = ap (λ has. if has then ip.len_in_options (drop 40 packet) else None) (no_len_in_options packet other)
 
--- the number of a protocol is not the number of hop-by-hop options
-no_hop_by_hop_options : (proto : Proto) → (number_of proto == 0) ≡ false
-no_hop_by_hop_options protos.Udp = refl
-no_hop_by_hop_options protos.Tcp = refl
-no_hop_by_hop_options protos.Icmpv4 = refl
-no_hop_by_hop_options protos.Icmpv6 = refl
-
-not_options_by : (has : Bool) (packet : List ℕ) (proto : Proto) → has ≡ (slice_index packet 6 == 44)
-    → (if has then slice_index packet 40 else slice_index packet 6) ≡ number_of proto → (slice_index packet 6 == 0) ≡ false
-not_options_by true packet proto test known = ap (λ number. number == 0) (is_number (slice_index packet 6) 44 (sym test))
-not_options_by false packet proto test known = ap (λ number. number == 0) known ∙ no_hop_by_hop_options proto
+not_options_by : (has : Bool) (packet : List ℕ) → has ≡ (slice_index packet 6 == 44)
+    → is_extension (if has then slice_index packet 40 else slice_index packet 6) ≡ false → (slice_index packet 6 == 0) ≡ false
+not_options_by true packet test other = ap (λ number. number == 0) (is_number (slice_index packet 6) 44 (sym test))
+not_options_by false packet test other = no_hop_by_hop_options (slice_index packet 6) other
 
 -- such a packet has no hop-by-hop options
-pub not_options : (packet : List ℕ) (proto : Proto) → ipv6_protocol packet ≡ number_of proto → (slice_index packet 6 == 0) ≡ false
-not_options packet proto known = not_options_by (ipv6_has_fragment_header packet) packet proto refl known
+pub not_options : (packet : List ℕ) → is_extension (ipv6_protocol packet) ≡ false → (slice_index packet 6 == 0) ≡ false
+not_options packet other = not_options_by (ipv6_has_fragment_header packet) packet refl other
 
 -- ---- the fragment header
 
@@ -136,10 +128,10 @@ ended_within (suc more) headers bytes some is = ended more headers bytes is
 pub fragment_first_byte : (packet : List ℕ) → slice_index (slice_range packet 40 48) 0 ≡ slice_index packet 40
 fragment_first_byte packet = get_or-take 8 (drop 40 packet) 0 0 (omega arith) ∙ get_or-drop 40 packet 0 0
 
--- the headers of a packet whose fragment header is there, and names a protocol
-pub fragment_read : (missing : Bool) (packet : List ℕ) (proto : Proto) → version packet ≡ 6 → slice_index packet 6 ≡ 44
-    → slice_index packet 40 ≡ number_of proto → 48 ≤ length (counted missing packet) → headers_of missing packet ≡ Ok (with_fragment packet)
-fragment_read missing packet proto is number known room =
+-- the headers of a packet whose fragment header is there, and names no extension header
+pub fragment_read : (missing : Bool) (packet : List ℕ) → version packet ≡ 6 → slice_index packet 6 ≡ 44
+    → is_extension (slice_index packet 40) ≡ false → 48 ≤ length (counted missing packet) → headers_of missing packet ≡ Ok (with_fragment packet)
+fragment_read missing packet is number known room =
     let bytes : List ℕ = counted missing packet in
     let first : Headers = before_fragment packet in
     let header : take 8 (drop 40 bytes) ≡ slice_range packet 40 48 =
@@ -150,8 +142,8 @@ fragment_read missing packet proto is number known room =
     let none : extension_refusal first (drop 40 bytes) ≡ None =
     no_refusal (nat_lt (length (drop 40 bytes)) 8) (not (be_number (ip.ipv6_header packet) 4 2 == 0)) (ip.is_jumbogram packet) _ _ _ _ whole jumbo in
     let ends : is_extended (with_fragment packet) ≡ false =
-    ap (λ number. not (is_later_fragment 44 (slice_range packet 40 48)) && is_extension number) (fragment_first_byte packet ∙ known)
-    ∙ ap (λ b. not (is_later_fragment 44 (slice_range packet 40 48)) && b) (no_extension proto)
+    ap (λ number. not (is_later_fragment 44 (slice_range packet 40 48)) && is_extension number) (fragment_first_byte packet)
+    ∙ ap (λ b. not (is_later_fragment 44 (slice_range packet 40 48)) && b) known
     ∙ and_false (not (is_later_fragment 44 (slice_range packet 40 48))) in
     ap (λ first. headers_to_transport (suc (length bytes)) first bytes) (first_is packet is number)
     ∙ one_more (length bytes) first bytes refl
@@ -169,16 +161,16 @@ pub record AreIpv6Headers (has_fragment_header : Bool) (packet : List ℕ) (head
   pub is_fragment : headers.is_fragment ≡ is_one_of_fragments (slice_index packet 6) (slice_range packet 40 48)
   pub is_later_fragment : headers.is_later_fragment ≡ is_later_fragment (slice_index packet 6) (slice_range packet 40 48)
 
-headers_by : (has : Bool) (packet : List ℕ) (found : TransportInIp) (proto : Proto) (carries : Carries packet found) → has ≡ (slice_index packet 6 == 44)
-    → version packet ≡ 6 → (if has then slice_index packet 40 else slice_index packet 6) ≡ number_of proto → AreIpv6Headers has packet carries.headers
-headers_by true packet found proto carries test is known =
+headers_by : (has : Bool) (packet : List ℕ) (found : TransportInIp) (carries : Carries packet found) → has ≡ (slice_index packet 6 == 44)
+    → version packet ≡ 6 → is_extension (if has then slice_index packet 40 else slice_index packet 6) ≡ false → AreIpv6Headers has packet carries.headers
+headers_by true packet found carries test is known =
     let number : slice_index packet 6 ≡ 44 = is_number (slice_index packet 6) 44 (sym test) in
     let bytes : List ℕ = slice_range packet 40 48 in
     let room : 48 ≤ length (counted found.is_length_missing packet) =
     fragment_room found.is_length_missing packet carries.headers carries.read is number in
     let headers : carries.headers ≡ with_fragment packet =
     read_once (headers_of found.is_length_missing packet) carries.headers (with_fragment packet) carries.read
-    (fragment_read found.is_length_missing packet proto is number known room) in
+    (fragment_read found.is_length_missing packet is number known room) in
     let there : 8 ≤ length (drop 40 packet) =
     omega (arith, room, length-drop 40 packet, length-take (counted_len found.is_length_missing packet) packet) in
     record {
@@ -188,12 +180,12 @@ headers_by true packet found proto carries test is known =
       is_fragment = ap (λ headers. headers.is_fragment) headers ∙ sym (ap (λ number. is_one_of_fragments number bytes) number);
       is_later_fragment = ap (λ headers. headers.is_later_fragment) headers ∙ sym (ap (λ number. is_later_fragment number bytes) number);
     }
-headers_by false packet found proto carries test is known =
+headers_by false packet found carries test is known =
     let bytes : List ℕ = slice_range packet 40 48 in
     let next : ip.next_header packet ≡ slice_index packet 6 = ipv6_byte packet 6 (omega arith) in
     let later : Bool = not (fragment_offset bytes == 0) in
     let headers : carries.headers ≡ ip.ipv6_headers (ip.is_jumbogram packet) (ip.ipv6_header packet) =
-    first_is_last packet found carries (ipv6_ended packet proto is (next ∙ known))
+    first_is_last packet found carries (ipv6_ended packet is (ap is_extension next ∙ known))
     ∙ ap (λ v. if v == 4 then ip.ipv4_headers (ipv4_header_len packet) (ip.ipv4_header packet)
     else ip.ipv6_headers (ip.is_jumbogram packet) (ip.ipv6_header packet)) is in
     record {
@@ -204,9 +196,9 @@ headers_by false packet found proto carries test is known =
       is_later_fragment = ap (λ headers. headers.is_later_fragment) headers ∙ ap (λ b. b && later) test;
     }
 
-pub ipv6_headers_are : (packet : List ℕ) (found : TransportInIp) (proto : Proto) (carries : Carries packet found) → version packet ≡ 6
-    → ipv6_protocol packet ≡ number_of proto → AreIpv6Headers (ipv6_has_fragment_header packet) packet carries.headers
-ipv6_headers_are packet found proto carries is known = headers_by (ipv6_has_fragment_header packet) packet found proto carries refl is known
+pub ipv6_headers_are : (packet : List ℕ) (found : TransportInIp) (carries : Carries packet found) → version packet ≡ 6
+    → is_extension (ipv6_protocol packet) ≡ false → AreIpv6Headers (ipv6_has_fragment_header packet) packet carries.headers
+ipv6_headers_are packet found carries is known = headers_by (ipv6_has_fragment_header packet) packet found carries refl is known
 
 -- a packet with a fragment header is longer than both headers
 pub fragment_there : (packet : List ℕ) (found : TransportInIp) → Carries packet found → version packet ≡ 6 → slice_index packet 6 ≡ 44
@@ -221,24 +213,27 @@ fragment_there packet found carries is number =
 -- ---- the place of a message
 
 -- an accepted packet and the protocol that its header or its fragment header names
-pub record IsIpv6Found (packet : List ℕ) (found : TransportInIp) (proto : Proto) : Type 0 where
+pub record IsIpv6Found (packet : List ℕ) (found : TransportInIp) (proto : Option Proto) : Type 0 where
   pub is_ipv6 : version packet ≡ 6
   pub carries : Carries packet found
   pub missing : found.is_length_missing ≡ ip.lacks_len packet
   pub after : IsAfterHeaders packet found
-  pub known : Some proto ≡ proto_over (by_value found.addresses) (ipv6_protocol packet)
+  pub known : proto ≡ proto_over (by_value found.addresses) (ipv6_protocol packet)
+  pub has_port : Bool
+  pub accepted : (is_none proto && (has_port || covers_ipv6_addresses (ipv6_protocol packet))) ≡ false
 
 pub after_header : (has : Bool) → 40 ≤ (if has then 48 else 40)
 after_header true = omega arith
 after_header false = omega arith
 
-pub ipv6_place_is : (packet : List ℕ) (found : TransportInIp) (proto : Proto) (place : Place) → IsIpv6Found packet found proto
+pub ipv6_place_is : (packet : List ℕ) (found : TransportInIp) (proto : Option Proto) (place : Place) → IsIpv6Found packet found proto
     → place.start ≡ ipv6_start packet → place.end ≡ place.start + length found.payload.now → place.proto ≡ proto
     → place.is_later_fragment ≡ found.is_later_fragment → IsIpv6Place packet place
 ipv6_place_is packet found proto place at start end is later =
-    let known : Some proto ≡ proto_over (Ipv6 [] None) (ipv6_protocol packet) =
+    let known : proto ≡ proto_over (Ipv6 [] None) (ipv6_protocol packet) =
     at.known ∙ ap (λ addresses. proto_over addresses (ipv6_protocol packet)) (over_ipv6_addresses packet found at.after at.is_ipv6) in
-    let headers = ipv6_headers_are packet found proto at.carries at.is_ipv6 (ipv6_number [] None (ipv6_protocol packet) proto known) in
+    let headers = ipv6_headers_are packet found at.carries at.is_ipv6
+    (ipv6_accepts at.has_port [] None (ipv6_protocol packet) proto known at.accepted) in
     let len : at.carries.headers.len ≡ place.start = headers.len ∙ sym start in
     record {
       is_ipv6 = at.is_ipv6;
@@ -256,6 +251,6 @@ ipv6_place_is packet found proto place at start end is later =
         at.carries.within,
         length-take (counted_len found.is_length_missing packet) packet,
       );
-      proto = ap (λ proto. Some proto) is ∙ known;
+      proto = is ∙ known;
       later = later ∙ at.carries.is_later_fragment ∙ headers.is_later_fragment;
     }

@@ -1,5 +1,5 @@
 -- The law of IPv4 packets that are translated there and back.
-use Rattle.std.proofs.Common.{◌≡◌, ◌≢◌, ℕ, ◌+◌, ◌-◌, ◌*◌, ◌%◌, ◌^◌, ◌<◌, ◌≤◌, ◌==◌, not, Bool, false, if◌then◌else◌, List, [], ◌∷◌, take, drop, slice_index, slice_range, length, Option, Some, None, refl, sym, ap, ◌∙◌, subst, arith}
+use Rattle.std.proofs.Common.{◌≡◌, ◌≢◌, ℕ, ◌+◌, ◌-◌, ◌*◌, ◌%◌, ◌^◌, ◌<◌, ◌≤◌, ◌==◌, ◌&&◌, ◌||◌, not, Bool, false, if◌then◌else◌, List, [], ◌∷◌, take, drop, slice_index, slice_range, length, Option, Some, None, refl, sym, ap, ◌∙◌, subst, arith}
 use Rattle.std.specs.Prelude.{◌↔◌, IfSome, is_none, unwrap_or}
 use Rattle.std.specs.Int.{to_be_bytes, w16}
 use Rattle.std.proofs.lemmas.List.{length-drop, length-take}
@@ -19,22 +19,22 @@ use Rattle.net_base.specs.declared.ipv4_header.Ipv4Header.{Ipv4Header}
 use Rattle.word_sum.specs.UpdatedChecksum.{updated_checksum_of}
 use Rattle.word_sum.proofs.ChecksumLemmas.{folded-lt}
 use Rattle.word_sum.proofs.ChecksumChangeLemmas.{updated_reversed_iff}
-use Rattle.etherparse_transport.specs.Ipv4Translations.{AreIpv4Addresses, has_source_route, ipv4_addresses, ipv4_flow_message, ipv4_is_later_fragment, ipv4_message_refusal, ipv4_message_with, ipv4_opposite, ipv4_place_refusal, ipv4_proto, ipv4_quoted, ipv4_quoted_refusal, ipv4_refusal, ipv4_translated, ipv4_translated_flow, ipv4_with_message, message_in_ipv4, sum_of_ipv4, updated_header_checksum}
+use Rattle.etherparse_transport.specs.Ipv4Translations.{ipv4_message_by, ipv4_translated_with, covers_ipv4_addresses, AreIpv4Addresses, has_source_route, ipv4_addresses, ipv4_flow_message, ipv4_is_later_fragment, ipv4_message_refusal, ipv4_message_with, ipv4_opposite, ipv4_place_refusal, ipv4_proto, ipv4_quoted, ipv4_quoted_refusal, ipv4_refusal_by, ipv4_translated, ipv4_translated_flow, ipv4_with_message, message_in_ipv4, sum_of_ipv4, updated_header_checksum}
 use Rattle.etherparse_transport.specs.Translations.{message_refusal, number, quoted_in, translated_in, with_bytes, with_number, with_quote}
-use Rattle.etherparse_transport.specs.WaysBack.{ArePorts, IsChecksumRestoredIn, IsIpv4ErrorRestored, IsIpv4FlowRestored, IsIpv4Restored, IsIpv4RestoredBy, IsIpv4Translation, instead, ipv4_back_by, ipv4_flow_back, ipv4_way_back, port_in}
+use Rattle.etherparse_transport.specs.WaysBack.{AreIpv4ChecksumsRestored, IsIpv4RestoredWith, IsIpv4RestoredWithBy, ipv4_quoted_back, ArePorts, IsChecksumRestoredIn, IsIpv4ErrorRestored, IsIpv4FlowRestored, IsIpv4Restored, IsIpv4RestoredBy, IsIpv4Translation, instead, ipv4_back_by, ipv4_flow_back, ipv4_way_back, port_in}
 use Rattle.etherparse_transport.specs.declared.ip.ipv4_translation.Ipv4Translation.{Ipv4Translation}
-use Rattle.etherparse_transport.proofs.TranslationLemmas.{IsRange, ipv4_number, last_of_three, message_is_range}
+use Rattle.etherparse_transport.proofs.TranslationLemmas.{IsRange, ipv4_accepts, last_of_three, message_is_range}
 use Rattle.etherparse_transport.proofs.BuiltLemmas.{mapped_none, none_first, none_if}
 use Rattle.etherparse_transport.proofs.EchoReplyLemmas.{is_number, once}
 use Rattle.etherparse_transport.proofs.TranslationReading.{IsIpv4Flow, IsIpv4Kept, header_len_kept, ipv4_counted_len_is, ipv4_flow_kept, ipv4_flow_message_len, ipv4_header_there, ipv4_lacks_len_is, ipv4_parts_destination, ipv4_parts_kept, ipv4_parts_message, ipv4_parts_source, ipv4_within, message_kept, number_len, range_at, range_before, total_len_kept}
 use Rattle.etherparse_transport.proofs.TranslationSums.{range_len}
 use Rattle.etherparse_transport.proofs.ReplacedBytes.{bytes_drop, bytes_take, iff_along, number_again, number_here, number_put, number_same, number_small, put, put_apart, put_len, put_same, put_there, replaced_again, replaced_number, replaced_same}
 use Rattle.etherparse_transport.proofs.ThereAndBack.{address_iff, address_len, new_address_len, part_back, updated_small}
-use Rattle.etherparse_transport.proofs.TranslatedAgain.{error_accepted, ports_accepted, quote_back, quote_len, quoted_range, quotes_none, quotes_translated, some_of}
+use Rattle.etherparse_transport.proofs.TranslatedAgain.{error_accepted, ports_accepted, quote_back, quote_len, quoted_range, quotes_none, quotes_translated}
 
 -- ---- a translated packet
 
-module _ (new : Ipv4Translation) (packet message : List ℕ) (proto : Proto) (flow : IsIpv4Flow packet proto)
+module _ (new : Ipv4Translation) (packet message : List ℕ) (proto : Option Proto) (flow : IsIpv4Flow packet proto)
     (four : AreIpv4Addresses (ipv4_addresses new packet)) (same : length message ≡ length (message_in_ipv4 packet)) where
   abbrev start : ℕ
   start = ipv4_header_len packet
@@ -125,6 +125,9 @@ module _ (new : Ipv4Translation) (packet message : List ℕ) (proto : Proto) (fl
       (ipv4_parts_message start (to_be_bytes w16 sum) source destination message packet flow.five_words refl four.source four.destination there)
       same (ipv4_within packet proto flow) flow.there
 
+  pub number_is : slice_index translated 9 ≡ slice_index packet 9
+  number_is = kept.front.front 9 (omega arith)
+
   pub proto_is : ipv4_proto translated ≡ ipv4_proto packet
   proto_is = ap (proto_over (Ipv4 [] [])) (kept.front.front 9 (omega arith))
 
@@ -167,7 +170,7 @@ addresses_there packet there =
     }
 
 -- the message of a packet is where it was
-message_there : (packet : List ℕ) (proto : Proto) → IsIpv4Flow packet proto
+message_there : (packet : List ℕ) (proto : Option Proto) → IsIpv4Flow packet proto
     → take (length (message_in_ipv4 packet)) (drop (ipv4_header_len packet) packet) ≡ message_in_ipv4 packet
 message_there packet proto flow =
     let len : ℕ = ipv4_header_len packet in
@@ -177,7 +180,7 @@ message_there packet proto flow =
     ∙ message_is_range len (counted_len (lacks_len packet) packet) packet (ipv4_within packet proto flow)
 
 -- the packet with this checksum and this message
-restored_iff : (packet message : List ℕ) (checksum : ℕ) (proto : Proto) → IsIpv4Flow packet proto → IsBytes packet → checksum < 65536
+restored_iff : (packet message : List ℕ) (checksum : ℕ) (proto : Option Proto) → IsIpv4Flow packet proto → IsBytes packet → checksum < 65536
     → length message ≡ length (message_in_ipv4 packet) → (checksum ≡ number 10 packet) ↔ (number 10 packet ≢ 65535)
     → (with_number 10 checksum (put (ipv4_header_len packet) message packet) ≡ packet)
     ↔ ((number 10 packet ≢ 65535) × (message ≡ message_in_ipv4 packet))
@@ -205,7 +208,7 @@ restored_iff packet message checksum proto flow fits small same iff =
     )
 
 -- A packet with another message and other addresses, and then with a message and addresses that may be the old ones.
-pub bytes_back : (new back : Ipv4Translation) (packet message message_too : List ℕ) (proto : Proto) → IsIpv4Flow packet proto → IsBytes packet
+pub bytes_back : (new back : Ipv4Translation) (packet message message_too : List ℕ) (proto : Option Proto) → IsIpv4Flow packet proto → IsBytes packet
     → AreIpv4Addresses (ipv4_addresses new packet) → length message ≡ length (message_in_ipv4 packet)
     → AreIpv4Addresses (ipv4_addresses back (ipv4_with_message new message packet)) → length message_too ≡ length (message_in_ipv4 packet)
     → (ipv4_with_message back message_too (ipv4_with_message new message packet) ≡ packet)
@@ -266,31 +269,37 @@ address_back old None = refl
 address_back old (Some address) = refl
 
 -- a packet of a protocol that is accepted
-pub record IsIpv4FlowOf (packet : List ℕ) (proto : Proto) : Type 0 where
+pub record IsIpv4FlowOf (packet : List ℕ) (proto : Option Proto) : Type 0 where
   pub flow : IsIpv4Flow packet proto
-  pub known : ipv4_proto packet ≡ Some proto
+  pub known : ipv4_proto packet ≡ proto
   pub fits : IsBytes packet
 
 -- the addresses come back
-flow_addresses : (new : Ipv4Translation) (packet : List ℕ) (proto : Proto) → IsIpv4Flow packet proto → AreIpv4Addresses (ipv4_addresses new packet)
-    → ipv4_addresses (ipv4_flow_back new packet) (ipv4_translated_flow new packet) ≡ ipv4_header_of packet
-flow_addresses new packet proto flow four =
+addresses_back : (new : Ipv4Translation) (packet message : List ℕ) (proto : Option Proto) → IsIpv4Flow packet proto → AreIpv4Addresses (ipv4_addresses new packet)
+    → length message ≡ length (message_in_ipv4 packet)
+    → ipv4_addresses (ipv4_flow_back new packet) (ipv4_with_message new message packet) ≡ ipv4_header_of packet
+addresses_back new packet message proto flow four same =
     let old : Ipv4Header = ipv4_header_of packet in
     let back : Ipv4Translation = ipv4_flow_back new packet in
     ap {B = Ipv4Header} (λ header. record {
       source = unwrap_or back.source header.source;
       destination = unwrap_or back.destination header.destination;
-    }) (header_is new packet (ipv4_flow_message new packet) proto flow four (ipv4_flow_message_len new packet))
+    }) (header_is new packet message proto flow four same)
     ∙ ap {B = Ipv4Header} (λ source. record { source = source; destination = unwrap_or back.destination (ipv4_addresses new packet).destination })
     (address_back old.source new.source)
     ∙ ap {B = Ipv4Header} (λ destination. record { source = old.source; destination = destination }) (address_back old.destination new.destination)
 
+flow_addresses : (new : Ipv4Translation) (packet : List ℕ) (proto : Option Proto) → IsIpv4Flow packet proto → AreIpv4Addresses (ipv4_addresses new packet)
+    → ipv4_addresses (ipv4_flow_back new packet) (ipv4_translated_flow new packet) ≡ ipv4_header_of packet
+flow_addresses new packet proto flow four =
+    addresses_back new packet (ipv4_flow_message new packet) proto flow four (ipv4_flow_message_len new packet)
+
 -- and the length
-flow_len : (new : Ipv4Translation) (packet : List ℕ) (proto : Proto) → IsIpv4Flow packet proto → AreIpv4Addresses (ipv4_addresses new packet)
+flow_len : (new : Ipv4Translation) (packet : List ℕ) (proto : Option Proto) → IsIpv4Flow packet proto → AreIpv4Addresses (ipv4_addresses new packet)
     → length (ipv4_translated_flow new packet) ≡ length packet
 flow_len new packet proto flow four = (kept new packet (ipv4_flow_message new packet) proto flow four (ipv4_flow_message_len new packet)).front.len
 
-pub flow_restored : (new : Ipv4Translation) (packet : List ℕ) (proto : Proto) → IsIpv4FlowOf packet proto → AreIpv4Addresses (ipv4_addresses new packet)
+pub flow_restored : (new : Ipv4Translation) (packet : List ℕ) (proto : Option Proto) → IsIpv4FlowOf packet proto → AreIpv4Addresses (ipv4_addresses new packet)
     → ArePorts new.source_port new.destination_port
     → (ipv4_translated_flow (ipv4_flow_back new packet) (ipv4_translated_flow new packet) ≡ packet) ↔ IsIpv4FlowRestored packet
 flow_restored new packet proto of_proto four ports =
@@ -312,8 +321,8 @@ flow_restored new packet proto of_proto four ports =
     let added : ℕ = sum_of_ipv4 (ipv4_addresses new packet) in
     let with_ports : Option Proto → Option ℕ → Option ℕ → List ℕ = λ proto source destination.
     translated_in later proto added removed source destination (translated_in later proto removed added new.source_port new.destination_port (message_in_ipv4 packet)) in
-    let message_too_is : message_too ≡ with_ports (Some proto) (instead (port_in (Some proto) 0 (message_in_ipv4 packet)) new.source_port)
-    (instead (port_in (Some proto) 2 (message_in_ipv4 packet)) new.destination_port) =
+    let message_too_is : message_too ≡ with_ports proto (instead (port_in proto 0 (message_in_ipv4 packet)) new.source_port)
+    (instead (port_in proto 2 (message_in_ipv4 packet)) new.destination_port) =
     ap (λ later. translated_in later (ipv4_proto changed) (sum_of_ipv4 (ipv4_header_of changed)) (sum_of_ipv4 (ipv4_addresses back changed))
     back.source_port back.destination_port (message_in_ipv4 changed)) (later_is new packet message proto flow four same)
     ∙ ap (λ proto. translated_in later proto (sum_of_ipv4 (ipv4_header_of changed)) (sum_of_ipv4 (ipv4_addresses back changed))
@@ -335,27 +344,41 @@ flow_restored new packet proto of_proto four ports =
       λ restored. bytes.1 (addresses_is, (restored.0, message_too_is ∙ messages.1 (subst restored_in of_proto.known restored.1))),
     )
 
--- a packet whose message is found has a protocol
-pub flow_found : (packet : List ℕ) → IsBytes packet → ipv4_place_refusal packet ≡ None → (proto : Proto) × IsIpv4FlowOf packet proto
-flow_found packet fits found =
+-- the rule for the protocol, by the protocol and its number
+abbrev pub is_refused : Bool → Option Proto → ℕ → Bool
+is_refused has_port proto number = is_none proto && (has_port || covers_ipv4_addresses number)
+
+-- the protocol of a packet whose message is found is accepted
+protocol_accepted : (has_port : Bool) (packet : List ℕ) → ipv4_place_refusal has_port packet ≡ None
+    → is_refused has_port (ipv4_proto packet) (slice_index packet 9) ≡ false
+protocol_accepted has_port packet found =
+    let after_ip = none_first (option_map Ip (ip.lax_refusal packet)) _ found in
+    let after_version = none_first (refused_if (not (version packet == 4)) OtherVersion) _ after_ip.1 in
+    let after_route = none_first (refused_if (has_source_route packet) SourceRoute) _ after_version.1 in
+    none_if (is_refused has_port (ipv4_proto packet) (slice_index packet 9)) _ (none_first _ _ after_route.1).0
+
+-- a packet whose message is found
+pub flow_found : (has_port : Bool) (packet : List ℕ) → IsBytes packet → ipv4_place_refusal has_port packet ≡ None
+    → (proto : Option Proto) × IsIpv4FlowOf packet proto
+flow_found has_port packet fits found =
     let after_ip = none_first (option_map Ip (ip.lax_refusal packet)) _ found in
     let after_version = none_first (refused_if (not (version packet == 4)) OtherVersion) _ after_ip.1 in
     let after_route = none_first (refused_if (has_source_route packet) SourceRoute) _ after_version.1 in
     let accepted : ip.lax_refusal packet ≡ None = mapped_none Ip (ip.lax_refusal packet) after_ip.0 in
     let is : version packet ≡ 4 = is_number (version packet) 4 (once (version packet == 4) (none_if _ OtherVersion after_version.0)) in
-    let known = some_of (ipv4_proto packet) (none_if (is_none (ipv4_proto packet)) _ (none_first _ _ after_route.1).0) in
     let header = ipv4_header_there packet accepted is in (
-      known.0,
+      ipv4_proto packet,
       record {
         flow = record {
           accepted = accepted;
           is_ipv4 = is;
           five_words = header.0;
           no_route = none_if (has_source_route packet) SourceRoute after_route.0;
-          number = ipv4_number (slice_range packet 12 16) (slice_range packet 16 20) (slice_index packet 9) known.0 (sym known.1);
+          number = ipv4_accepts has_port (slice_range packet 12 16) (slice_range packet 16 20) (slice_index packet 9) (ipv4_proto packet) refl
+              (protocol_accepted has_port packet found);
           there = header.1;
         };
-        known = known.1;
+        known = refl;
         fits = fits;
       },
     )
@@ -379,7 +402,7 @@ new_addresses new packet is there =
     }
 
 -- a translated packet quotes no packet if the packet quotes none
-still_none : (new : Ipv4Translation) (packet : List ℕ) (proto : Proto) (of_proto : IsIpv4FlowOf packet proto) → AreIpv4Addresses (ipv4_addresses new packet)
+still_none : (new : Ipv4Translation) (packet : List ℕ) (proto : Option Proto) (of_proto : IsIpv4FlowOf packet proto) → AreIpv4Addresses (ipv4_addresses new packet)
     → ipv4_quoted packet ≡ None → ipv4_quoted (ipv4_translated_flow new packet) ≡ None
 still_none new packet proto of_proto four none =
     let flow : IsIpv4Flow packet proto = of_proto.flow in
@@ -394,7 +417,7 @@ still_none new packet proto of_proto four none =
     (sym (ap (λ proto. quoted_in later proto (message_in_ipv4 packet)) of_proto.known) ∙ none)
 
 -- a packet without a quoted packet
-no_quote_back : (new : Ipv4Translation) (packet : List ℕ) (proto : Proto) → IsIpv4FlowOf packet proto → IsIpv4Translation new
+no_quote_back : (new : Ipv4Translation) (packet : List ℕ) (proto : Option Proto) → IsIpv4FlowOf packet proto → IsIpv4Translation new
     → ipv4_quoted packet ≡ None
     → (ipv4_translated (ipv4_flow_back new packet) (ipv4_with_message new (ipv4_flow_message new packet) packet) ≡ packet) ↔ IsIpv4FlowRestored packet
 no_quote_back new packet proto of_proto is none =
@@ -408,7 +431,7 @@ no_quote_back new packet proto of_proto is none =
     (flow_restored new packet proto of_proto four is.ports)
 
 -- an ICMP error
-error_back : (new : Ipv4Translation) (packet quoted : List ℕ) (proto quoted_proto : Proto) → IsIpv4FlowOf packet proto → IsIpv4FlowOf quoted quoted_proto
+error_back : (new : Ipv4Translation) (packet quoted : List ℕ) (proto quoted_proto : Option Proto) → IsIpv4FlowOf packet proto → IsIpv4FlowOf quoted quoted_proto
     → IsIpv4Translation new → ipv4_quoted packet ≡ Some quoted → IsRange (message_in_ipv4 packet) quoted
     → (ipv4_translated (ipv4_opposite (ipv4_flow_back (ipv4_opposite new) quoted))
     (ipv4_with_message new (ipv4_message_with (Some quoted) new packet) packet) ≡ packet) ↔ IsIpv4ErrorRestored new packet quoted
@@ -507,49 +530,160 @@ quoted_bytes packet quoted fits range =
     (bytes_drop (ipv4_header_len packet) _ (bytes_take (counted_len (lacks_len packet) packet) packet fits))))
 
 -- the errors of the packet and of its message, and of the quoted packet
-back_by : (quoted : Option (List ℕ)) (new : Ipv4Translation) (packet : List ℕ) (proto : Proto) → IsIpv4FlowOf packet proto → IsIpv4Translation new
-    → ipv4_message_refusal packet ≡ None → ipv4_quoted packet ≡ quoted → ipv4_quoted_refusal quoted ≡ None
+back_by : (has_quoted_port : Bool) (quoted : Option (List ℕ)) (new : Ipv4Translation) (packet : List ℕ) (proto : Option Proto) → IsIpv4FlowOf packet proto → IsIpv4Translation new
+    → ipv4_message_refusal packet ≡ None → ipv4_quoted packet ≡ quoted → ipv4_quoted_refusal has_quoted_port quoted ≡ None
     → (ipv4_translated (ipv4_back_by quoted new packet) (ipv4_with_message new (ipv4_message_with quoted new packet) packet) ≡ packet)
     ↔ IsIpv4RestoredBy quoted new packet
-back_by None new packet proto of_proto is accepted quotes found = no_quote_back new packet proto of_proto is quotes
-back_by (Some quoted) new packet proto of_proto is accepted quotes found =
+back_by has_quoted_port None new packet proto of_proto is accepted quotes found = no_quote_back new packet proto of_proto is quotes
+back_by has_quoted_port (Some quoted) new packet proto of_proto is accepted quotes found =
     let later : Bool = ipv4_is_later_fragment packet in
     let message : List ℕ = message_in_ipv4 packet in
     let range : IsRange message quoted =
     quoted_range later proto message quoted (sym (ap (λ proto. message_refusal later proto message) of_proto.known) ∙ accepted)
     (sym (ap (λ proto. quoted_in later proto message) of_proto.known) ∙ quotes) in
     let fits : IsBytes quoted = quoted_bytes packet quoted of_proto.fits range in
-    let of_quoted = flow_found quoted fits (mapped_none (λ _. QuotedPacket) (ipv4_place_refusal quoted) found) in
+    let of_quoted = flow_found has_quoted_port quoted fits (mapped_none (λ _. QuotedPacket) (ipv4_place_refusal has_quoted_port quoted) found) in
     error_back new packet quoted proto of_quoted.0 of_proto of_quoted.1 is quotes range
 
 -- translated there and back, an IPv4 packet is the packet again exactly if its checksums come back
-pub ipv4_there_and_back : (new : Ipv4Translation) (packet : List ℕ) → IsBytes packet → IsIpv4Translation new → ipv4_refusal packet ≡ None
+pub ipv4_there_and_back : (has_port has_quoted_port : Bool) (new : Ipv4Translation) (packet : List ℕ) → IsBytes packet → IsIpv4Translation new
+    → ipv4_refusal_by has_port has_quoted_port packet ≡ None
     → (ipv4_translated (ipv4_way_back new packet) (ipv4_translated new packet) ≡ packet) ↔ IsIpv4Restored new packet
-ipv4_there_and_back new packet fits is accepted =
-    let after_place = none_first (ipv4_place_refusal packet) _ accepted in
+ipv4_there_and_back has_port has_quoted_port new packet fits is accepted =
+    let after_place = none_first (ipv4_place_refusal has_port packet) _ accepted in
     let after_message = none_first (ipv4_message_refusal packet) _ after_place.1 in
-    let of_proto = flow_found packet fits after_place.0 in
-    back_by (ipv4_quoted packet) new packet of_proto.0 of_proto.1 is after_message.0 refl (none_first (ipv4_quoted_refusal (ipv4_quoted packet)) _ after_message.1).0
+    let of_proto = flow_found has_port packet fits after_place.0 in
+    back_by has_quoted_port (ipv4_quoted packet) new packet of_proto.0 of_proto.1 is after_message.0 refl
+    (none_first (ipv4_quoted_refusal has_quoted_port (ipv4_quoted packet)) _ after_message.1).0
+
+-- ---- two translations there and back
+
+-- an ICMP error, of which the quoted packet has a translation of its own
+both_back : (new rule : Ipv4Translation) (packet quoted : List ℕ) (proto quoted_proto : Option Proto) → IsIpv4FlowOf packet proto
+    → IsIpv4FlowOf quoted quoted_proto → IsIpv4Translation new → IsIpv4Translation rule → ipv4_quoted packet ≡ Some quoted
+    → IsRange (message_in_ipv4 packet) quoted
+    → (ipv4_translated_with (ipv4_flow_back new packet) (ipv4_flow_back rule quoted)
+    (ipv4_with_message new (ipv4_message_by (Some quoted) new rule packet) packet) ≡ packet) ↔ AreIpv4ChecksumsRestored packet quoted
+both_back new rule packet quoted proto quoted_proto of_proto of_quoted is is_rule quotes range =
+    let flow : IsIpv4Flow packet proto = of_proto.flow in
+    let quoted_flow : IsIpv4Flow quoted quoted_proto = of_quoted.flow in
+    let room : 20 ≤ length packet = omega (arith, flow.five_words, flow.there) in
+    let quoted_room : 20 ≤ length quoted = omega (arith, quoted_flow.five_words, quoted_flow.there) in
+    let four : AreIpv4Addresses (ipv4_addresses new packet) = new_addresses new packet is room in
+    let old : Ipv4Header = ipv4_header_of packet in
+    let quoted_four : AreIpv4Addresses (ipv4_addresses rule quoted) = new_addresses rule quoted is_rule quoted_room in
+    let quoted_back : Ipv4Translation = ipv4_flow_back rule quoted in
+    let back : Ipv4Translation = ipv4_flow_back new packet in
+    let translated : List ℕ = ipv4_translated_flow rule quoted in
+    let translated_len : length translated ≡ length quoted = flow_len rule quoted quoted_proto quoted_flow quoted_four in
+    let translated_flow : IsIpv4Flow translated quoted_proto =
+    flow_too rule quoted (ipv4_flow_message rule quoted) quoted_proto quoted_flow quoted_four (ipv4_flow_message_len rule quoted) in
+    let restored : List ℕ = ipv4_translated_flow quoted_back translated in
+    let old_message : List ℕ = message_in_ipv4 packet in
+    let message : List ℕ = ipv4_message_by (Some quoted) new rule packet in
+    let same : length message ≡ length old_message = quote_len 0 0 quoted translated old_message (omega (arith, range.within, translated_len)) in
+    let changed : List ℕ = ipv4_with_message new message packet in
+    let later : Bool = ipv4_is_later_fragment packet in
+    let is_message : message_in_ipv4 changed ≡ message = message_is new packet message proto flow four same in
+    let quotes_too : ipv4_quoted changed ≡ Some translated =
+    quoted_is new packet message proto flow four same
+    ∙ ap (λ proto. quoted_in later proto message) of_proto.known
+    ∙ quotes_translated later proto 0 0 old_message quoted translated range translated_len
+    (sym (ap (λ proto. quoted_in later proto old_message) of_proto.known) ∙ quotes) in
+    let addresses_is : ipv4_addresses back changed ≡ old = addresses_back new packet message proto flow four same in
+    let four_too : AreIpv4Addresses (ipv4_addresses back changed) = subst AreIpv4Addresses (sym addresses_is) (addresses_there packet room) in
+    let restored_len : length restored ≡ length quoted =
+    flow_len quoted_back translated quoted_proto translated_flow
+    (subst AreIpv4Addresses (sym (flow_addresses rule quoted quoted_proto quoted_flow quoted_four)) (addresses_there quoted quoted_room)) ∙ translated_len in
+    let message_too : List ℕ = with_quote 0 0 translated restored message in
+    let same_too : length message_too ≡ length old_message =
+    quote_len 0 0 translated restored message (omega (arith, range.within, restored_len, same)) ∙ same in
+    let fits : IsBytes old_message = bytes_drop (ipv4_header_len packet) _ (bytes_take (counted_len (lacks_len packet) packet) packet of_proto.fits) in
+    let quotes_iff = quote_back 0 0 quoted translated restored old_message fits range translated_len restored_len in
+    let flow_iff = flow_restored rule quoted quoted_proto of_quoted quoted_four is_rule.ports in
+    let bytes_iff = bytes_back new back packet message message_too proto flow of_proto.fits four same four_too same_too in
+    iff_along (ipv4_translated_with back quoted_back changed) (ipv4_with_message back message_too changed) packet
+    (ap (λ quoted. ipv4_with_message back (ipv4_message_by quoted back quoted_back changed) changed) quotes_too
+    ∙ ap (λ message. ipv4_with_message back (with_quote 0 0 translated restored message) changed) is_message) (
+      λ whole.
+          let parts = bytes_iff.0 whole in
+          let quotes = quotes_iff.0 parts.1.1 in
+          record {
+            header = parts.1.0;
+            message = quotes.1;
+            quoted_packet = flow_iff.0 quotes.0;
+          },
+      λ parts. bytes_iff.1 (addresses_is, (parts.header, quotes_iff.1 (flow_iff.1 parts.quoted_packet, parts.message))),
+    )
+
+both_back_by : (has_quoted_port : Bool) (quoted : Option (List ℕ)) (new rule : Ipv4Translation) (packet : List ℕ) (proto : Option Proto)
+    → IsIpv4FlowOf packet proto → IsIpv4Translation new → ipv4_message_refusal packet ≡ None → ipv4_quoted packet ≡ quoted
+    → ipv4_quoted_refusal has_quoted_port quoted ≡ None → IfSome quoted (λ _. IsIpv4Translation rule)
+    → (ipv4_translated_with (ipv4_flow_back new packet) (ipv4_quoted_back quoted rule)
+    (ipv4_with_message new (ipv4_message_by quoted new rule packet) packet) ≡ packet) ↔ IsIpv4RestoredWithBy quoted packet
+both_back_by has_quoted_port None new rule packet proto of_proto is accepted quotes found is_rule =
+    let flow : IsIpv4Flow packet proto = of_proto.flow in
+    let four : AreIpv4Addresses (ipv4_addresses new packet) = new_addresses new packet is (omega (arith, flow.five_words, flow.there)) in
+    let back : Ipv4Translation = ipv4_flow_back new packet in
+    let changed : List ℕ = ipv4_translated_flow new packet in
+    let none_too : ipv4_quoted changed ≡ None = still_none new packet proto of_proto four quotes in
+    iff_along (ipv4_translated_with back rule changed) (ipv4_translated_flow back changed) packet
+    (ap (λ quoted. ipv4_with_message back (ipv4_message_by quoted back rule changed) changed) none_too)
+    (flow_restored new packet proto of_proto four is.ports)
+both_back_by has_quoted_port (Some quoted) new rule packet proto of_proto is accepted quotes found is_rule =
+    let later : Bool = ipv4_is_later_fragment packet in
+    let message : List ℕ = message_in_ipv4 packet in
+    let range : IsRange message quoted =
+    quoted_range later proto message quoted (sym (ap (λ proto. message_refusal later proto message) of_proto.known) ∙ accepted)
+    (sym (ap (λ proto. quoted_in later proto message) of_proto.known) ∙ quotes) in
+    let fits : IsBytes quoted = quoted_bytes packet quoted of_proto.fits range in
+    let of_quoted = flow_found has_quoted_port quoted fits (mapped_none (λ _. QuotedPacket) (ipv4_place_refusal has_quoted_port quoted) found) in
+    both_back new rule packet quoted proto of_quoted.0 of_proto of_quoted.1 is is_rule quotes range
+
+-- translated there and back by two translations, an IPv4 packet is the packet again exactly if its checksums come back
+pub ipv4_both_there_and_back : (has_port has_quoted_port : Bool) (new rule : Ipv4Translation) (packet : List ℕ) → IsBytes packet
+    → IsIpv4Translation new → IfSome (ipv4_quoted packet) (λ _. IsIpv4Translation rule) → ipv4_refusal_by has_port has_quoted_port packet ≡ None
+    → (ipv4_translated_with (ipv4_flow_back new packet) (ipv4_quoted_back (ipv4_quoted packet) rule) (ipv4_translated_with new rule packet) ≡ packet)
+    ↔ IsIpv4RestoredWith packet
+ipv4_both_there_and_back has_port has_quoted_port new rule packet fits is is_rule accepted =
+    let after_place = none_first (ipv4_place_refusal has_port packet) _ accepted in
+    let after_message = none_first (ipv4_message_refusal packet) _ after_place.1 in
+    let of_proto = flow_found has_port packet fits after_place.0 in
+    both_back_by has_quoted_port (ipv4_quoted packet) new rule packet of_proto.0 of_proto.1 is after_message.0 refl
+    (none_first (ipv4_quoted_refusal has_quoted_port (ipv4_quoted packet)) _ after_message.1).0 is_rule
 
 -- ---- the translated packet is accepted again
 
 refusal_by : {E : Type 0} (first second third : Option E) → first ≡ None → second ≡ None → third ≡ None → first_of (first ∷ second ∷ third ∷ []) ≡ None
 refusal_by first second third is is_too is_three = last_of_three first second third is is_too ∙ is_three
 
-place_accepted : (packet : List ℕ) (proto : Proto) → IsIpv4Flow packet proto → ipv4_proto packet ≡ Some proto → ipv4_place_refusal packet ≡ None
-place_accepted packet proto flow known =
+place_accepted : (has_port : Bool) (packet : List ℕ) (proto : Option Proto) → IsIpv4Flow packet proto
+    → is_refused has_port (ipv4_proto packet) (slice_index packet 9) ≡ false → ipv4_place_refusal has_port packet ≡ None
+place_accepted has_port packet proto flow covered =
     let protocol : TranslateError = Protocol (record { 0 = slice_index packet 9 }) in
-    let by : Option IpError → ℕ → Bool → Option Proto → Option TranslateError = λ refusal v has_route proto. first_of (
-    option_map Ip refusal ∷ refused_if (not (v == 4)) OtherVersion ∷ refused_if has_route SourceRoute ∷ refused_if (is_none proto) protocol ∷ []) in
-    ap (λ refusal. by refusal (version packet) (has_source_route packet) (ipv4_proto packet)) flow.accepted
-    ∙ ap (λ v. by None v (has_source_route packet) (ipv4_proto packet)) flow.is_ipv4
-    ∙ ap (λ has_route. by None 4 has_route (ipv4_proto packet)) flow.no_route
-    ∙ ap (by None 4 false) known
+    let by : Option IpError → ℕ → Bool → Bool → Option TranslateError = λ refusal v has_route refused. first_of (
+    option_map Ip refusal ∷ refused_if (not (v == 4)) OtherVersion ∷ refused_if has_route SourceRoute ∷ refused_if refused protocol ∷ []) in
+    let refused : Bool = is_refused has_port (ipv4_proto packet) (slice_index packet 9) in
+    ap (λ refusal. by refusal (version packet) (has_source_route packet) refused) flow.accepted
+    ∙ ap (λ v. by None v (has_source_route packet) refused) flow.is_ipv4
+    ∙ ap (λ has_route. by None 4 has_route refused) flow.no_route
+    ∙ ap (by None 4 false) covered
 
-again_by : (quoted : Option (List ℕ)) (new : Ipv4Translation) (packet : List ℕ) (proto : Proto) → IsIpv4FlowOf packet proto → IsIpv4Translation new
-    → ipv4_message_refusal packet ≡ None → ipv4_quoted packet ≡ quoted → ipv4_quoted_refusal quoted ≡ None
-    → ipv4_refusal (ipv4_with_message new (ipv4_message_with quoted new packet) packet) ≡ None
-again_by None new packet proto of_proto is accepted quotes found =
+-- the protocol of a translated packet is accepted
+still_accepted : (has_port : Bool) (new : Ipv4Translation) (packet message : List ℕ) (proto : Option Proto) (flow : IsIpv4Flow packet proto)
+    (four : AreIpv4Addresses (ipv4_addresses new packet)) (same : length message ≡ length (message_in_ipv4 packet))
+    → is_refused has_port (ipv4_proto packet) (slice_index packet 9) ≡ false
+    → is_refused has_port (ipv4_proto (ipv4_with_message new message packet)) (slice_index (ipv4_with_message new message packet) 9) ≡ false
+still_accepted has_port new packet message proto flow four same covered =
+    ap (λ proto. is_refused has_port proto (slice_index (ipv4_with_message new message packet) 9)) (proto_is new packet message proto flow four same)
+    ∙ ap (is_refused has_port (ipv4_proto packet)) (number_is new packet message proto flow four same) ∙ covered
+
+again_by : (has_port has_quoted_port : Bool) (quoted : Option (List ℕ)) (new rule : Ipv4Translation) (packet : List ℕ) (proto : Option Proto) → IsIpv4FlowOf packet proto → IsIpv4Translation new
+    → ipv4_message_refusal packet ≡ None → ipv4_quoted packet ≡ quoted → ipv4_quoted_refusal has_quoted_port quoted ≡ None
+    → is_refused has_port (ipv4_proto packet) (slice_index packet 9) ≡ false
+    → IfSome quoted (λ _. IsIpv4Translation rule)
+    → ipv4_refusal_by has_port has_quoted_port (ipv4_with_message new (ipv4_message_by quoted new rule packet) packet) ≡ None
+again_by has_port has_quoted_port None new rule packet proto of_proto is accepted quotes found covered is_rule =
     let flow : IsIpv4Flow packet proto = of_proto.flow in
     let four : AreIpv4Addresses (ipv4_addresses new packet) = new_addresses new packet is (omega (arith, flow.five_words, flow.there)) in
     let later : Bool = ipv4_is_later_fragment packet in
@@ -559,47 +693,51 @@ again_by None new packet proto of_proto is accepted quotes found =
     let message : List ℕ = ipv4_flow_message new packet in
     let same : length message ≡ length old = ipv4_flow_message_len new packet in
     let changed : List ℕ = ipv4_translated_flow new packet in
-    refusal_by (ipv4_place_refusal changed) (ipv4_message_refusal changed) (ipv4_quoted_refusal (ipv4_quoted changed))
-    (place_accepted changed proto (flow_too new packet message proto flow four same) (proto_is new packet message proto flow four same ∙ of_proto.known))
+    refusal_by (ipv4_place_refusal has_port changed) (ipv4_message_refusal changed) (ipv4_quoted_refusal has_quoted_port (ipv4_quoted changed))
+    (place_accepted has_port changed proto (flow_too new packet message proto flow four same)
+    (still_accepted has_port new packet message proto flow four same covered))
     (refusal_is new packet message proto flow four same
     ∙ ap (λ proto. message_refusal later proto (translated_in later proto removed added new.source_port new.destination_port old)) of_proto.known
     ∙ ports_accepted later proto removed added new.source_port new.destination_port old
     (sym (ap (λ proto. quoted_in later proto old) of_proto.known) ∙ quotes)
     (sym (ap (λ proto. message_refusal later proto old) of_proto.known) ∙ accepted))
-    (ap ipv4_quoted_refusal (still_none new packet proto of_proto four quotes))
-again_by (Some quoted) new packet proto of_proto is accepted quotes found =
+    (ap (ipv4_quoted_refusal has_quoted_port) (still_none new packet proto of_proto four quotes))
+again_by has_port has_quoted_port (Some quoted) new rule packet proto of_proto is accepted quotes found covered is_rule =
     let flow : IsIpv4Flow packet proto = of_proto.flow in
     let four : AreIpv4Addresses (ipv4_addresses new packet) = new_addresses new packet is (omega (arith, flow.five_words, flow.there)) in
     let later : Bool = ipv4_is_later_fragment packet in
     let old : List ℕ = message_in_ipv4 packet in
-    let quotes_is : quoted_in later (Some proto) old ≡ Some quoted = sym (ap (λ proto. quoted_in later proto old) of_proto.known) ∙ quotes in
-    let accepted_is : message_refusal later (Some proto) old ≡ None = sym (ap (λ proto. message_refusal later proto old) of_proto.known) ∙ accepted in
+    let quotes_is : quoted_in later proto old ≡ Some quoted = sym (ap (λ proto. quoted_in later proto old) of_proto.known) ∙ quotes in
+    let accepted_is : message_refusal later proto old ≡ None = sym (ap (λ proto. message_refusal later proto old) of_proto.known) ∙ accepted in
     let range : IsRange old quoted = quoted_range later proto old quoted accepted_is quotes_is in
-    let of_quoted = flow_found quoted (quoted_bytes packet quoted of_proto.fits range) (mapped_none (λ _. QuotedPacket) (ipv4_place_refusal quoted) found) in
+    let of_quoted = flow_found has_quoted_port quoted (quoted_bytes packet quoted of_proto.fits range) (mapped_none (λ _. QuotedPacket) (ipv4_place_refusal has_quoted_port quoted) found) in
     let quoted_flow : IsIpv4Flow quoted of_quoted.0 = of_quoted.1.flow in
-    let opposite : Ipv4Translation = ipv4_opposite new in
-    let quoted_four : AreIpv4Addresses (ipv4_addresses opposite quoted) = new_addresses opposite quoted (opposite_is new is) (omega (arith, quoted_flow.five_words, quoted_flow.there)) in
-    let translated : List ℕ = ipv4_translated_flow opposite quoted in
-    let translated_len : length translated ≡ length quoted = flow_len opposite quoted of_quoted.0 quoted_flow quoted_four in
-    let inner : List ℕ = ipv4_flow_message opposite quoted in
-    let inner_same : length inner ≡ length (message_in_ipv4 quoted) = ipv4_flow_message_len opposite quoted in
-    let message : List ℕ = ipv4_message_with (Some quoted) new packet in
+    let quoted_four : AreIpv4Addresses (ipv4_addresses rule quoted) = new_addresses rule quoted is_rule (omega (arith, quoted_flow.five_words, quoted_flow.there)) in
+    let translated : List ℕ = ipv4_translated_flow rule quoted in
+    let translated_len : length translated ≡ length quoted = flow_len rule quoted of_quoted.0 quoted_flow quoted_four in
+    let inner : List ℕ = ipv4_flow_message rule quoted in
+    let inner_same : length inner ≡ length (message_in_ipv4 quoted) = ipv4_flow_message_len rule quoted in
+    let message : List ℕ = ipv4_message_by (Some quoted) new rule packet in
     let same : length message ≡ length old = quote_len 0 0 quoted translated old (omega (arith, range.within, translated_len)) in
     let changed : List ℕ = ipv4_with_message new message packet in
-    refusal_by (ipv4_place_refusal changed) (ipv4_message_refusal changed) (ipv4_quoted_refusal (ipv4_quoted changed))
-    (place_accepted changed proto (flow_too new packet message proto flow four same) (proto_is new packet message proto flow four same ∙ of_proto.known))
+    refusal_by (ipv4_place_refusal has_port changed) (ipv4_message_refusal changed) (ipv4_quoted_refusal has_quoted_port (ipv4_quoted changed))
+    (place_accepted has_port changed proto (flow_too new packet message proto flow four same)
+    (still_accepted has_port new packet message proto flow four same covered))
     (refusal_is new packet message proto flow four same ∙ ap (λ proto. message_refusal later proto message) of_proto.known
     ∙ error_accepted later proto 0 0 old quoted translated range translated_len quotes_is accepted_is)
-    (ap ipv4_quoted_refusal (quoted_is new packet message proto flow four same ∙ ap (λ proto. quoted_in later proto message) of_proto.known
+    (ap (ipv4_quoted_refusal has_quoted_port) (quoted_is new packet message proto flow four same ∙ ap (λ proto. quoted_in later proto message) of_proto.known
     ∙ quotes_translated later proto 0 0 old quoted translated range translated_len quotes_is)
-    ∙ ap (option_map (λ _. QuotedPacket)) (place_accepted translated of_quoted.0 (flow_too opposite quoted inner of_quoted.0 quoted_flow quoted_four inner_same)
-    (proto_is opposite quoted inner of_quoted.0 quoted_flow quoted_four inner_same ∙ of_quoted.1.known)))
+    ∙ ap (option_map (λ _. QuotedPacket)) (place_accepted has_quoted_port translated of_quoted.0 (flow_too rule quoted inner of_quoted.0 quoted_flow quoted_four inner_same)
+    (still_accepted has_quoted_port rule quoted inner of_quoted.0 quoted_flow quoted_four inner_same
+    (protocol_accepted has_quoted_port quoted (mapped_none (λ _. QuotedPacket) (ipv4_place_refusal has_quoted_port quoted) found)))))
 
 -- a translated packet can be translated
-pub ipv4_again : (new : Ipv4Translation) (packet : List ℕ) → IsBytes packet → IsIpv4Translation new → ipv4_refusal packet ≡ None
-    → ipv4_refusal (ipv4_translated new packet) ≡ None
-ipv4_again new packet fits is accepted =
-    let after_place = none_first (ipv4_place_refusal packet) _ accepted in
+pub ipv4_again : (has_port has_quoted_port : Bool) (new rule : Ipv4Translation) (packet : List ℕ) → IsBytes packet → IsIpv4Translation new
+    → IfSome (ipv4_quoted packet) (λ _. IsIpv4Translation rule) → ipv4_refusal_by has_port has_quoted_port packet ≡ None
+    → ipv4_refusal_by has_port has_quoted_port (ipv4_translated_with new rule packet) ≡ None
+ipv4_again has_port has_quoted_port new rule packet fits is is_rule accepted =
+    let after_place = none_first (ipv4_place_refusal has_port packet) _ accepted in
     let after_message = none_first (ipv4_message_refusal packet) _ after_place.1 in
-    let of_proto = flow_found packet fits after_place.0 in
-    again_by (ipv4_quoted packet) new packet of_proto.0 of_proto.1 is after_message.0 refl (none_first (ipv4_quoted_refusal (ipv4_quoted packet)) _ after_message.1).0
+    let of_proto = flow_found has_port packet fits after_place.0 in
+    again_by has_port has_quoted_port (ipv4_quoted packet) new rule packet of_proto.0 of_proto.1 is after_message.0 refl
+    (none_first (ipv4_quoted_refusal has_quoted_port (ipv4_quoted packet)) _ after_message.1).0 (protocol_accepted has_port packet after_place.0) is_rule

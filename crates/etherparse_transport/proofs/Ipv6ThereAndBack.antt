@@ -1,10 +1,9 @@
 -- The law of IPv6 packets that are translated there and back.
-use Rattle.std.proofs.Common.{◌≡◌, ℕ, ◌+◌, ◌-◌, ◌≤◌, ◌==◌, ◌&&◌, not, Bool, true, false, if◌then◌else◌, List, [], ◌∷◌, take, drop, slice_index, slice_range, length, Option, Some, None, refl, sym, ap, ◌∙◌, subst, arith}
+use Rattle.std.proofs.Common.{◌≡◌, ℕ, ◌+◌, ◌-◌, ◌≤◌, ◌==◌, ◌&&◌, ◌||◌, not, Bool, true, false, if◌then◌else◌, List, [], ◌∷◌, take, drop, slice_index, slice_range, length, Option, Some, None, refl, sym, ap, ◌∙◌, subst, arith}
 use Rattle.std.specs.Prelude.{◌↔◌, IfSome, is_none, unwrap_or}
 use Rattle.std.proofs.lemmas.List.{length-drop, length-take}
 use Rattle.ip_part.specs.Addresses.{Ipv6}
-use Rattle.ip_part.specs.ExtensionHeaders.{fragment_offset}
-use Rattle.etherparse_transport.specs.Packets.{number_of}
+use Rattle.ip_part.specs.ExtensionHeaders.{fragment_offset, is_extension}
 use Rattle.ip_part.specs.Ip.{counted_len, lacks_len}
 use Rattle.ip_part.specs.Ip as ip
 use Rattle.ip_part.specs.Protocols.{proto_over}
@@ -18,11 +17,11 @@ use Rattle.std.specs.Option.{option_map}
 use Rattle.etherparse_transport.specs.declared.err.packet.translate_error.TranslateError.TheVariants.{Ip, OtherVersion, Protocol, QuotedPacket}
 use Rattle.net_base.specs.declared.ipv6_header.Ipv6Header.{Ipv6Header}
 use Rattle.word_sum.proofs.ChecksumLemmas.{folded-lt}
-use Rattle.etherparse_transport.specs.Ipv6Translations.{AreIpv6Addresses, ipv6_addresses, ipv6_flow_message, ipv6_has_fragment_header, ipv6_is_later_fragment, ipv6_message_refusal, ipv6_message_with, ipv6_opposite, ipv6_place_refusal, ipv6_proto, ipv6_protocol, ipv6_quoted, ipv6_quoted_refusal, ipv6_refusal, ipv6_start, ipv6_translated, ipv6_translated_flow, ipv6_with_message, message_in_ipv6, sum_of_ipv6}
+use Rattle.etherparse_transport.specs.Ipv6Translations.{ipv6_message_by, ipv6_translated_with, covers_ipv6_addresses, AreIpv6Addresses, ipv6_addresses, ipv6_flow_message, ipv6_has_fragment_header, ipv6_is_later_fragment, ipv6_message_refusal, ipv6_message_with, ipv6_opposite, ipv6_place_refusal, ipv6_proto, ipv6_protocol, ipv6_quoted, ipv6_quoted_refusal, ipv6_refusal_by, ipv6_start, ipv6_translated, ipv6_translated_flow, ipv6_with_message, message_in_ipv6, sum_of_ipv6}
 use Rattle.etherparse_transport.specs.Translations.{message_refusal, quoted_in, translated_in, with_bytes, with_quote}
-use Rattle.etherparse_transport.specs.WaysBack.{ArePorts, IsChecksumRestoredIn, IsIpv6ErrorRestored, IsIpv6FlowRestored, IsIpv6Restored, IsIpv6RestoredBy, IsIpv6Translation, instead, ipv6_back_by, ipv6_flow_back, ipv6_way_back, port_in}
+use Rattle.etherparse_transport.specs.WaysBack.{AreIpv6ChecksumsRestored, IsIpv6RestoredWith, IsIpv6RestoredWithBy, ipv6_quoted_back, ArePorts, IsChecksumRestoredIn, IsIpv6ErrorRestored, IsIpv6FlowRestored, IsIpv6Restored, IsIpv6RestoredBy, IsIpv6Translation, instead, ipv6_back_by, ipv6_flow_back, ipv6_way_back, port_in}
 use Rattle.etherparse_transport.specs.declared.ip.ipv6_translation.Ipv6Translation.{Ipv6Translation}
-use Rattle.etherparse_transport.proofs.TranslationLemmas.{IsRange, ipv6_number, last_of_three, message_is_range}
+use Rattle.etherparse_transport.proofs.TranslationLemmas.{IsRange, ipv6_accepts, last_of_three, message_is_range}
 use Rattle.etherparse_transport.proofs.BuiltLemmas.{mapped_none, none_first, none_if}
 use Rattle.etherparse_transport.proofs.EchoReplyLemmas.{is_number, once}
 use Rattle.etherparse_transport.proofs.TranslationReading.{IsIpv6Flow, IsIpv6Kept, StatesAlike, fragment_kept, ipv6_flow_kept, ipv6_flow_message_len, ipv6_header_there, ipv6_parts_destination, ipv6_room, protocol_kept, start_kept, states_alike, ipv6_parts_kept, ipv6_parts_message, ipv6_parts_source, ipv6_within, message_kept, range_at}
@@ -30,11 +29,11 @@ use Rattle.etherparse_transport.proofs.TranslationSums.{range_len}
 use Rattle.etherparse_transport.proofs.FragmentLemmas.{after_header}
 use Rattle.etherparse_transport.proofs.ReplacedBytes.{bytes_drop, bytes_take, iff_along, put, put_len, put_same, put_there, replaced_again, replaced_same}
 use Rattle.etherparse_transport.proofs.ThereAndBack.{address_iff, address_len, new_address_len, part_back}
-use Rattle.etherparse_transport.proofs.TranslatedAgain.{error_accepted, ports_accepted, quote_back, quote_len, quoted_range, quotes_none, quotes_translated, some_of}
+use Rattle.etherparse_transport.proofs.TranslatedAgain.{error_accepted, ports_accepted, quote_back, quote_len, quoted_range, quotes_none, quotes_translated}
 
 -- ---- a translated packet
 
-module _ (new : Ipv6Translation) (packet message : List ℕ) (proto : Proto) (flow : IsIpv6Flow packet proto)
+module _ (new : Ipv6Translation) (packet message : List ℕ) (proto : Option Proto) (flow : IsIpv6Flow packet proto)
     (sixteen : AreIpv6Addresses (ipv6_addresses new packet)) (same : length message ≡ length (message_in_ipv6 packet)) where
   abbrev start : ℕ
   start = ipv6_start packet
@@ -99,6 +98,9 @@ module _ (new : Ipv6Translation) (packet message : List ℕ) (proto : Proto) (fl
       (ipv6_parts_message start source destination message packet after sixteen.source sixteen.destination there)
       same (ipv6_within packet proto flow (omega (arith, after, flow.there))) flow.there
 
+  pub number_is : ipv6_protocol translated ≡ ipv6_protocol packet
+  number_is = protocol_kept packet translated kept
+
   pub proto_is : ipv6_proto translated ≡ ipv6_proto packet
   proto_is = ap (proto_over (Ipv6 [] None)) (protocol_kept packet translated kept)
 
@@ -131,11 +133,11 @@ addresses_there packet there =
     }
 
 -- an accepted packet contains its header
-header_there : (packet : List ℕ) (proto : Proto) → IsIpv6Flow packet proto → 40 ≤ length packet
+header_there : (packet : List ℕ) (proto : Option Proto) → IsIpv6Flow packet proto → 40 ≤ length packet
 header_there packet proto flow = omega (arith, flow.there, after_header (ipv6_has_fragment_header packet))
 
 -- the message of a packet is where it was
-message_there : (packet : List ℕ) (proto : Proto) → IsIpv6Flow packet proto
+message_there : (packet : List ℕ) (proto : Option Proto) → IsIpv6Flow packet proto
     → take (length (message_in_ipv6 packet)) (drop (ipv6_start packet) packet) ≡ message_in_ipv6 packet
 message_there packet proto flow =
     let len : ℕ = ipv6_start packet in
@@ -145,7 +147,7 @@ message_there packet proto flow =
     ∙ message_is_range len (counted_len (lacks_len packet) packet) packet (ipv6_within packet proto flow (header_there packet proto flow))
 
 -- the packet with this message
-restored_iff : (packet message : List ℕ) (proto : Proto) → IsIpv6Flow packet proto → length message ≡ length (message_in_ipv6 packet)
+restored_iff : (packet message : List ℕ) (proto : Option Proto) → IsIpv6Flow packet proto → length message ≡ length (message_in_ipv6 packet)
     → (put (ipv6_start packet) message packet ≡ packet) ↔ (message ≡ message_in_ipv6 packet)
 restored_iff packet message proto flow same =
     let start : ℕ = ipv6_start packet in
@@ -161,7 +163,7 @@ restored_iff packet message proto flow same =
     )
 
 -- A packet with another message and other addresses, and then with a message and addresses that may be the old ones.
-pub bytes_back : (new back : Ipv6Translation) (packet message message_too : List ℕ) (proto : Proto) → IsIpv6Flow packet proto
+pub bytes_back : (new back : Ipv6Translation) (packet message message_too : List ℕ) (proto : Option Proto) → IsIpv6Flow packet proto
     → AreIpv6Addresses (ipv6_addresses new packet) → length message ≡ length (message_in_ipv6 packet)
     → AreIpv6Addresses (ipv6_addresses back (ipv6_with_message new message packet)) → length message_too ≡ length (message_in_ipv6 packet)
     → (ipv6_with_message back message_too (ipv6_with_message new message packet) ≡ packet)
@@ -203,31 +205,37 @@ address_back old None = refl
 address_back old (Some address) = refl
 
 -- a packet of a protocol that is accepted
-pub record IsIpv6FlowOf (packet : List ℕ) (proto : Proto) : Type 0 where
+pub record IsIpv6FlowOf (packet : List ℕ) (proto : Option Proto) : Type 0 where
   pub flow : IsIpv6Flow packet proto
-  pub known : ipv6_proto packet ≡ Some proto
+  pub known : ipv6_proto packet ≡ proto
   pub fits : IsBytes packet
 
 -- the addresses come back
-flow_addresses : (new : Ipv6Translation) (packet : List ℕ) (proto : Proto) → IsIpv6Flow packet proto → AreIpv6Addresses (ipv6_addresses new packet)
-    → ipv6_addresses (ipv6_flow_back new packet) (ipv6_translated_flow new packet) ≡ ipv6_header_of packet
-flow_addresses new packet proto flow sixteen =
+addresses_back : (new : Ipv6Translation) (packet message : List ℕ) (proto : Option Proto) → IsIpv6Flow packet proto → AreIpv6Addresses (ipv6_addresses new packet)
+    → length message ≡ length (message_in_ipv6 packet)
+    → ipv6_addresses (ipv6_flow_back new packet) (ipv6_with_message new message packet) ≡ ipv6_header_of packet
+addresses_back new packet message proto flow sixteen same =
     let old : Ipv6Header = ipv6_header_of packet in
     let back : Ipv6Translation = ipv6_flow_back new packet in
     ap {B = Ipv6Header} (λ header. record {
       source = unwrap_or back.source header.source;
       destination = unwrap_or back.destination header.destination;
-    }) (header_is new packet (ipv6_flow_message new packet) proto flow sixteen (ipv6_flow_message_len new packet))
+    }) (header_is new packet message proto flow sixteen same)
     ∙ ap {B = Ipv6Header} (λ source. record { source = source; destination = unwrap_or back.destination (ipv6_addresses new packet).destination })
     (address_back old.source new.source)
     ∙ ap {B = Ipv6Header} (λ destination. record { source = old.source; destination = destination }) (address_back old.destination new.destination)
 
+flow_addresses : (new : Ipv6Translation) (packet : List ℕ) (proto : Option Proto) → IsIpv6Flow packet proto → AreIpv6Addresses (ipv6_addresses new packet)
+    → ipv6_addresses (ipv6_flow_back new packet) (ipv6_translated_flow new packet) ≡ ipv6_header_of packet
+flow_addresses new packet proto flow sixteen =
+    addresses_back new packet (ipv6_flow_message new packet) proto flow sixteen (ipv6_flow_message_len new packet)
+
 -- and the length
-flow_len : (new : Ipv6Translation) (packet : List ℕ) (proto : Proto) → IsIpv6Flow packet proto → AreIpv6Addresses (ipv6_addresses new packet)
+flow_len : (new : Ipv6Translation) (packet : List ℕ) (proto : Option Proto) → IsIpv6Flow packet proto → AreIpv6Addresses (ipv6_addresses new packet)
     → length (ipv6_translated_flow new packet) ≡ length packet
 flow_len new packet proto flow sixteen = (kept new packet (ipv6_flow_message new packet) proto flow sixteen (ipv6_flow_message_len new packet)).front.len
 
-pub flow_restored : (new : Ipv6Translation) (packet : List ℕ) (proto : Proto) → IsIpv6FlowOf packet proto → AreIpv6Addresses (ipv6_addresses new packet)
+pub flow_restored : (new : Ipv6Translation) (packet : List ℕ) (proto : Option Proto) → IsIpv6FlowOf packet proto → AreIpv6Addresses (ipv6_addresses new packet)
     → ArePorts new.source_port new.destination_port
     → (ipv6_translated_flow (ipv6_flow_back new packet) (ipv6_translated_flow new packet) ≡ packet) ↔ IsIpv6FlowRestored packet
 flow_restored new packet proto of_proto sixteen ports =
@@ -249,8 +257,8 @@ flow_restored new packet proto of_proto sixteen ports =
     let added : ℕ = sum_of_ipv6 (ipv6_addresses new packet) in
     let with_ports : Option Proto → Option ℕ → Option ℕ → List ℕ = λ proto source destination.
     translated_in later proto added removed source destination (translated_in later proto removed added new.source_port new.destination_port (message_in_ipv6 packet)) in
-    let message_too_is : message_too ≡ with_ports (Some proto) (instead (port_in (Some proto) 0 (message_in_ipv6 packet)) new.source_port)
-    (instead (port_in (Some proto) 2 (message_in_ipv6 packet)) new.destination_port) =
+    let message_too_is : message_too ≡ with_ports proto (instead (port_in proto 0 (message_in_ipv6 packet)) new.source_port)
+    (instead (port_in proto 2 (message_in_ipv6 packet)) new.destination_port) =
     ap (λ later. translated_in later (ipv6_proto changed) (sum_of_ipv6 (ipv6_header_of changed)) (sum_of_ipv6 (ipv6_addresses back changed))
     back.source_port back.destination_port (message_in_ipv6 changed)) (later_is new packet message proto flow sixteen same)
     ∙ ap (λ proto. translated_in later proto (sum_of_ipv6 (ipv6_header_of changed)) (sum_of_ipv6 (ipv6_addresses back changed))
@@ -275,30 +283,43 @@ start_there : (has : Bool) (len : ℕ) → 40 ≤ len → (has ≡ true → 48 �
 start_there true len long room = room refl
 start_there false len long room = long
 
--- a packet whose message is found has a protocol
-pub flow_found : (packet : List ℕ) → IsBytes packet → ipv6_place_refusal packet ≡ None → (proto : Proto) × IsIpv6FlowOf packet proto
-flow_found packet fits found =
+-- the rule for the protocol, by the protocol and its number
+abbrev pub is_refused : Bool → Option Proto → ℕ → Bool
+is_refused has_port proto number = is_none proto && (has_port || covers_ipv6_addresses number)
+
+-- the protocol of a packet whose message is found is accepted
+protocol_accepted : (has_port : Bool) (packet : List ℕ) → ipv6_place_refusal has_port packet ≡ None
+    → is_refused has_port (ipv6_proto packet) (ipv6_protocol packet) ≡ false
+protocol_accepted has_port packet found =
+    let after_ip = none_first (option_map Ip (ip.lax_refusal packet)) _ found in
+    let after_version = none_first (refused_if (not (version packet == 6)) OtherVersion) _ after_ip.1 in
+    none_if (is_refused has_port (ipv6_proto packet) (ipv6_protocol packet)) _ (none_first _ _ after_version.1).0
+
+-- a packet whose message is found
+pub flow_found : (has_port : Bool) (packet : List ℕ) → IsBytes packet → ipv6_place_refusal has_port packet ≡ None
+    → (proto : Option Proto) × IsIpv6FlowOf packet proto
+flow_found has_port packet fits found =
     let after_ip = none_first (option_map Ip (ip.lax_refusal packet)) _ found in
     let after_version = none_first (refused_if (not (version packet == 6)) OtherVersion) _ after_ip.1 in
     let accepted : ip.lax_refusal packet ≡ None = mapped_none Ip (ip.lax_refusal packet) after_ip.0 in
     let is : version packet ≡ 6 = is_number (version packet) 6 (once (version packet == 6) (none_if _ OtherVersion after_version.0)) in
-    let known = some_of (ipv6_proto packet) (none_if (is_none (ipv6_proto packet)) _ (none_first _ _ after_version.1).0) in
-    let number : ipv6_protocol packet ≡ number_of known.0 =
-    ipv6_number (slice_range packet 8 24) (Some (slice_range packet 24 40)) (ipv6_protocol packet) known.0 (sym known.1) in (
-      known.0,
+    let number : is_extension (ipv6_protocol packet) ≡ false =
+    ipv6_accepts has_port (slice_range packet 8 24) (Some (slice_range packet 24 40)) (ipv6_protocol packet) (ipv6_proto packet) refl
+    (protocol_accepted has_port packet found) in (
+      ipv6_proto packet,
       record {
         flow = record {
           accepted = accepted;
           is_ipv6 = is;
           number = number;
-          there = start_there (ipv6_has_fragment_header packet) (length packet) (ipv6_header_there packet known.0 accepted is number)
+          there = start_there (ipv6_has_fragment_header packet) (length packet) (ipv6_header_there packet (ipv6_proto packet) accepted is number)
               (λ has. omega (
                 arith,
                 ipv6_room packet accepted is (is_number (slice_index packet 6) 44 has),
                 length-take (counted_len (lacks_len packet) packet) packet,
               ));
         };
-        known = known.1;
+        known = refl;
         fits = fits;
       },
     )
@@ -322,7 +343,7 @@ new_addresses new packet is there =
     }
 
 -- a translated packet quotes no packet if the packet quotes none
-still_none : (new : Ipv6Translation) (packet : List ℕ) (proto : Proto) (of_proto : IsIpv6FlowOf packet proto) → AreIpv6Addresses (ipv6_addresses new packet)
+still_none : (new : Ipv6Translation) (packet : List ℕ) (proto : Option Proto) (of_proto : IsIpv6FlowOf packet proto) → AreIpv6Addresses (ipv6_addresses new packet)
     → ipv6_quoted packet ≡ None → ipv6_quoted (ipv6_translated_flow new packet) ≡ None
 still_none new packet proto of_proto sixteen none =
     let flow : IsIpv6Flow packet proto = of_proto.flow in
@@ -337,7 +358,7 @@ still_none new packet proto of_proto sixteen none =
     (sym (ap (λ proto. quoted_in later proto (message_in_ipv6 packet)) of_proto.known) ∙ none)
 
 -- a packet without a quoted packet
-no_quote_back : (new : Ipv6Translation) (packet : List ℕ) (proto : Proto) → IsIpv6FlowOf packet proto → IsIpv6Translation new
+no_quote_back : (new : Ipv6Translation) (packet : List ℕ) (proto : Option Proto) → IsIpv6FlowOf packet proto → IsIpv6Translation new
     → ipv6_quoted packet ≡ None
     → (ipv6_translated (ipv6_flow_back new packet) (ipv6_with_message new (ipv6_flow_message new packet) packet) ≡ packet) ↔ IsIpv6FlowRestored packet
 no_quote_back new packet proto of_proto is none =
@@ -351,7 +372,7 @@ no_quote_back new packet proto of_proto is none =
     (flow_restored new packet proto of_proto sixteen is.ports)
 
 -- an ICMP error
-error_back : (new : Ipv6Translation) (packet quoted : List ℕ) (proto quoted_proto : Proto) → IsIpv6FlowOf packet proto → IsIpv6FlowOf quoted quoted_proto
+error_back : (new : Ipv6Translation) (packet quoted : List ℕ) (proto quoted_proto : Option Proto) → IsIpv6FlowOf packet proto → IsIpv6FlowOf quoted quoted_proto
     → IsIpv6Translation new → ipv6_quoted packet ≡ Some quoted → IsRange (message_in_ipv6 packet) quoted
     → (ipv6_translated (ipv6_opposite (ipv6_flow_back (ipv6_opposite new) quoted))
     (ipv6_with_message new (ipv6_message_with (Some quoted) new packet) packet) ≡ packet) ↔ IsIpv6ErrorRestored new packet quoted
@@ -453,48 +474,164 @@ quoted_bytes packet quoted fits range =
     (bytes_drop (ipv6_start packet) _ (bytes_take (counted_len (lacks_len packet) packet) packet fits))))
 
 -- the errors of the packet and of its message, and of the quoted packet
-back_by : (quoted : Option (List ℕ)) (new : Ipv6Translation) (packet : List ℕ) (proto : Proto) → IsIpv6FlowOf packet proto → IsIpv6Translation new
-    → ipv6_message_refusal packet ≡ None → ipv6_quoted packet ≡ quoted → ipv6_quoted_refusal quoted ≡ None
+back_by : (has_quoted_port : Bool) (quoted : Option (List ℕ)) (new : Ipv6Translation) (packet : List ℕ) (proto : Option Proto) → IsIpv6FlowOf packet proto → IsIpv6Translation new
+    → ipv6_message_refusal packet ≡ None → ipv6_quoted packet ≡ quoted → ipv6_quoted_refusal has_quoted_port quoted ≡ None
     → (ipv6_translated (ipv6_back_by quoted new packet) (ipv6_with_message new (ipv6_message_with quoted new packet) packet) ≡ packet)
     ↔ IsIpv6RestoredBy quoted new packet
-back_by None new packet proto of_proto is accepted quotes found = no_quote_back new packet proto of_proto is quotes
-back_by (Some quoted) new packet proto of_proto is accepted quotes found =
+back_by has_quoted_port None new packet proto of_proto is accepted quotes found = no_quote_back new packet proto of_proto is quotes
+back_by has_quoted_port (Some quoted) new packet proto of_proto is accepted quotes found =
     let later : Bool = ipv6_is_later_fragment packet in
     let message : List ℕ = message_in_ipv6 packet in
     let range : IsRange message quoted =
     quoted_range later proto message quoted (sym (ap (λ proto. message_refusal later proto message) of_proto.known) ∙ accepted)
     (sym (ap (λ proto. quoted_in later proto message) of_proto.known) ∙ quotes) in
     let fits : IsBytes quoted = quoted_bytes packet quoted of_proto.fits range in
-    let of_quoted = flow_found quoted fits (mapped_none (λ _. QuotedPacket) (ipv6_place_refusal quoted) found) in
+    let of_quoted = flow_found has_quoted_port quoted fits (mapped_none (λ _. QuotedPacket) (ipv6_place_refusal has_quoted_port quoted) found) in
     error_back new packet quoted proto of_quoted.0 of_proto of_quoted.1 is quotes range
 
 -- translated there and back, an IPv6 packet is the packet again exactly if its checksums come back
-pub ipv6_there_and_back : (new : Ipv6Translation) (packet : List ℕ) → IsBytes packet → IsIpv6Translation new → ipv6_refusal packet ≡ None
+pub ipv6_there_and_back : (has_port has_quoted_port : Bool) (new : Ipv6Translation) (packet : List ℕ) → IsBytes packet → IsIpv6Translation new
+    → ipv6_refusal_by has_port has_quoted_port packet ≡ None
     → (ipv6_translated (ipv6_way_back new packet) (ipv6_translated new packet) ≡ packet) ↔ IsIpv6Restored new packet
-ipv6_there_and_back new packet fits is accepted =
-    let after_place = none_first (ipv6_place_refusal packet) _ accepted in
+ipv6_there_and_back has_port has_quoted_port new packet fits is accepted =
+    let after_place = none_first (ipv6_place_refusal has_port packet) _ accepted in
     let after_message = none_first (ipv6_message_refusal packet) _ after_place.1 in
-    let of_proto = flow_found packet fits after_place.0 in
-    back_by (ipv6_quoted packet) new packet of_proto.0 of_proto.1 is after_message.0 refl (none_first (ipv6_quoted_refusal (ipv6_quoted packet)) _ after_message.1).0
+    let of_proto = flow_found has_port packet fits after_place.0 in
+    back_by has_quoted_port (ipv6_quoted packet) new packet of_proto.0 of_proto.1 is after_message.0 refl
+    (none_first (ipv6_quoted_refusal has_quoted_port (ipv6_quoted packet)) _ after_message.1).0
+
+-- ---- two translations there and back
+
+-- an ICMP error, of which the quoted packet has a translation of its own
+both_back : (new rule : Ipv6Translation) (packet quoted : List ℕ) (proto quoted_proto : Option Proto) → IsIpv6FlowOf packet proto
+    → IsIpv6FlowOf quoted quoted_proto → IsIpv6Translation new → IsIpv6Translation rule → ipv6_quoted packet ≡ Some quoted
+    → IsRange (message_in_ipv6 packet) quoted
+    → (ipv6_translated_with (ipv6_flow_back new packet) (ipv6_flow_back rule quoted)
+    (ipv6_with_message new (ipv6_message_by (Some quoted) new rule packet) packet) ≡ packet) ↔ AreIpv6ChecksumsRestored packet quoted
+both_back new rule packet quoted proto quoted_proto of_proto of_quoted is is_rule quotes range =
+    let flow : IsIpv6Flow packet proto = of_proto.flow in
+    let quoted_flow : IsIpv6Flow quoted quoted_proto = of_quoted.flow in
+    let room : 40 ≤ length packet = header_there packet proto flow in
+    let quoted_room : 40 ≤ length quoted = header_there quoted quoted_proto quoted_flow in
+    let sixteen : AreIpv6Addresses (ipv6_addresses new packet) = new_addresses new packet is room in
+    let old : Ipv6Header = ipv6_header_of packet in
+    let quoted_sixteen : AreIpv6Addresses (ipv6_addresses rule quoted) = new_addresses rule quoted is_rule quoted_room in
+    let quoted_back : Ipv6Translation = ipv6_flow_back rule quoted in
+    let back : Ipv6Translation = ipv6_flow_back new packet in
+    let translated : List ℕ = ipv6_translated_flow rule quoted in
+    let translated_len : length translated ≡ length quoted = flow_len rule quoted quoted_proto quoted_flow quoted_sixteen in
+    let translated_flow : IsIpv6Flow translated quoted_proto =
+    flow_too rule quoted (ipv6_flow_message rule quoted) quoted_proto quoted_flow quoted_sixteen (ipv6_flow_message_len rule quoted) in
+    let restored : List ℕ = ipv6_translated_flow quoted_back translated in
+    let old_message : List ℕ = message_in_ipv6 packet in
+    let removed : ℕ = sum_of_ipv6 old in
+    let added : ℕ = sum_of_ipv6 (ipv6_addresses new packet) in
+    let message : List ℕ = ipv6_message_by (Some quoted) new rule packet in
+    let same : length message ≡ length old_message = quote_len removed added quoted translated old_message (omega (arith, range.within, translated_len)) in
+    let changed : List ℕ = ipv6_with_message new message packet in
+    let later : Bool = ipv6_is_later_fragment packet in
+    let is_message : message_in_ipv6 changed ≡ message = message_is new packet message proto flow sixteen same in
+    let quotes_too : ipv6_quoted changed ≡ Some translated =
+    quoted_is new packet message proto flow sixteen same
+    ∙ ap (λ proto. quoted_in later proto message) of_proto.known
+    ∙ quotes_translated later proto removed added old_message quoted translated range translated_len
+    (sym (ap (λ proto. quoted_in later proto old_message) of_proto.known) ∙ quotes) in
+    let addresses_is : ipv6_addresses back changed ≡ old = addresses_back new packet message proto flow sixteen same in
+    let sixteen_too : AreIpv6Addresses (ipv6_addresses back changed) = subst AreIpv6Addresses (sym addresses_is) (addresses_there packet room) in
+    let restored_len : length restored ≡ length quoted =
+    flow_len quoted_back translated quoted_proto translated_flow
+    (subst AreIpv6Addresses (sym (flow_addresses rule quoted quoted_proto quoted_flow quoted_sixteen)) (addresses_there quoted quoted_room)) ∙ translated_len in
+    let is_header : ipv6_header_of changed ≡ ipv6_addresses new packet = header_is new packet message proto flow sixteen same in
+    let removed_too : ℕ = sum_of_ipv6 (ipv6_addresses back changed) in
+    let message_too : List ℕ = with_quote added removed_too translated restored message in
+    let same_too : length message_too ≡ length old_message =
+    quote_len added removed_too translated restored message (omega (arith, range.within, restored_len, same)) ∙ same in
+    let fits : IsBytes old_message = bytes_drop (ipv6_start packet) _ (bytes_take (counted_len (lacks_len packet) packet) packet of_proto.fits) in
+    let quotes_iff = quote_back removed added quoted translated restored old_message fits range translated_len restored_len in
+    let flow_iff = flow_restored rule quoted quoted_proto of_quoted quoted_sixteen is_rule.ports in
+    let bytes_iff = bytes_back new back packet message message_too proto flow sixteen same sixteen_too same_too in
+    let message_too_is : message_too ≡ with_quote added removed translated restored message =
+    ap (λ header. with_quote added (sum_of_ipv6 header) translated restored message) addresses_is in
+    iff_along (ipv6_translated_with back quoted_back changed) (ipv6_with_message back message_too changed) packet
+    (ap (λ quoted. ipv6_with_message back (ipv6_message_by quoted back quoted_back changed) changed) quotes_too
+    ∙ ap (λ header. ipv6_with_message back (with_quote (sum_of_ipv6 header) removed_too translated restored (message_in_ipv6 changed)) changed) is_header
+    ∙ ap (λ message. ipv6_with_message back (with_quote added removed_too translated restored message) changed) is_message) (
+      λ whole.
+          let quotes = quotes_iff.0 (sym message_too_is ∙ (bytes_iff.0 whole).1) in
+          record {
+            message = quotes.1;
+            quoted_packet = flow_iff.0 quotes.0;
+          },
+      λ parts. bytes_iff.1 (addresses_is, message_too_is ∙ quotes_iff.1 (flow_iff.1 parts.quoted_packet, parts.message)),
+    )
+
+both_back_by : (has_quoted_port : Bool) (quoted : Option (List ℕ)) (new rule : Ipv6Translation) (packet : List ℕ) (proto : Option Proto)
+    → IsIpv6FlowOf packet proto → IsIpv6Translation new → ipv6_message_refusal packet ≡ None → ipv6_quoted packet ≡ quoted
+    → ipv6_quoted_refusal has_quoted_port quoted ≡ None → IfSome quoted (λ _. IsIpv6Translation rule)
+    → (ipv6_translated_with (ipv6_flow_back new packet) (ipv6_quoted_back quoted rule)
+    (ipv6_with_message new (ipv6_message_by quoted new rule packet) packet) ≡ packet) ↔ IsIpv6RestoredWithBy quoted packet
+both_back_by has_quoted_port None new rule packet proto of_proto is accepted quotes found is_rule =
+    let flow : IsIpv6Flow packet proto = of_proto.flow in
+    let sixteen : AreIpv6Addresses (ipv6_addresses new packet) = new_addresses new packet is (header_there packet proto flow) in
+    let back : Ipv6Translation = ipv6_flow_back new packet in
+    let changed : List ℕ = ipv6_translated_flow new packet in
+    let none_too : ipv6_quoted changed ≡ None = still_none new packet proto of_proto sixteen quotes in
+    iff_along (ipv6_translated_with back rule changed) (ipv6_translated_flow back changed) packet
+    (ap (λ quoted. ipv6_with_message back (ipv6_message_by quoted back rule changed) changed) none_too)
+    (flow_restored new packet proto of_proto sixteen is.ports)
+both_back_by has_quoted_port (Some quoted) new rule packet proto of_proto is accepted quotes found is_rule =
+    let later : Bool = ipv6_is_later_fragment packet in
+    let message : List ℕ = message_in_ipv6 packet in
+    let range : IsRange message quoted =
+    quoted_range later proto message quoted (sym (ap (λ proto. message_refusal later proto message) of_proto.known) ∙ accepted)
+    (sym (ap (λ proto. quoted_in later proto message) of_proto.known) ∙ quotes) in
+    let fits : IsBytes quoted = quoted_bytes packet quoted of_proto.fits range in
+    let of_quoted = flow_found has_quoted_port quoted fits (mapped_none (λ _. QuotedPacket) (ipv6_place_refusal has_quoted_port quoted) found) in
+    both_back new rule packet quoted proto of_quoted.0 of_proto of_quoted.1 is is_rule quotes range
+
+-- translated there and back by two translations, an IPv6 packet is the packet again exactly if its checksums come back
+pub ipv6_both_there_and_back : (has_port has_quoted_port : Bool) (new rule : Ipv6Translation) (packet : List ℕ) → IsBytes packet
+    → IsIpv6Translation new → IfSome (ipv6_quoted packet) (λ _. IsIpv6Translation rule) → ipv6_refusal_by has_port has_quoted_port packet ≡ None
+    → (ipv6_translated_with (ipv6_flow_back new packet) (ipv6_quoted_back (ipv6_quoted packet) rule) (ipv6_translated_with new rule packet) ≡ packet)
+    ↔ IsIpv6RestoredWith packet
+ipv6_both_there_and_back has_port has_quoted_port new rule packet fits is is_rule accepted =
+    let after_place = none_first (ipv6_place_refusal has_port packet) _ accepted in
+    let after_message = none_first (ipv6_message_refusal packet) _ after_place.1 in
+    let of_proto = flow_found has_port packet fits after_place.0 in
+    both_back_by has_quoted_port (ipv6_quoted packet) new rule packet of_proto.0 of_proto.1 is after_message.0 refl
+    (none_first (ipv6_quoted_refusal has_quoted_port (ipv6_quoted packet)) _ after_message.1).0 is_rule
 
 -- ---- the translated packet is accepted again
 
 refusal_by : {E : Type 0} (first second third : Option E) → first ≡ None → second ≡ None → third ≡ None → first_of (first ∷ second ∷ third ∷ []) ≡ None
 refusal_by first second third is is_too is_three = last_of_three first second third is is_too ∙ is_three
 
-place_accepted : (packet : List ℕ) (proto : Proto) → IsIpv6Flow packet proto → ipv6_proto packet ≡ Some proto → ipv6_place_refusal packet ≡ None
-place_accepted packet proto flow known =
+place_accepted : (has_port : Bool) (packet : List ℕ) (proto : Option Proto) → IsIpv6Flow packet proto
+    → is_refused has_port (ipv6_proto packet) (ipv6_protocol packet) ≡ false → ipv6_place_refusal has_port packet ≡ None
+place_accepted has_port packet proto flow covered =
     let protocol : TranslateError = Protocol (record { 0 = ipv6_protocol packet }) in
-    let by : Option IpError → ℕ → Option Proto → Option TranslateError = λ refusal v proto. first_of (
-    option_map Ip refusal ∷ refused_if (not (v == 6)) OtherVersion ∷ refused_if (is_none proto) protocol ∷ []) in
-    ap (λ refusal. by refusal (version packet) (ipv6_proto packet)) flow.accepted
-    ∙ ap (λ v. by None v (ipv6_proto packet)) flow.is_ipv6
-    ∙ ap (by None 6) known
+    let by : Option IpError → ℕ → Bool → Option TranslateError = λ refusal v refused. first_of (
+    option_map Ip refusal ∷ refused_if (not (v == 6)) OtherVersion ∷ refused_if refused protocol ∷ []) in
+    let refused : Bool = is_refused has_port (ipv6_proto packet) (ipv6_protocol packet) in
+    ap (λ refusal. by refusal (version packet) refused) flow.accepted
+    ∙ ap (λ v. by None v refused) flow.is_ipv6
+    ∙ ap (by None 6) covered
 
-again_by : (quoted : Option (List ℕ)) (new : Ipv6Translation) (packet : List ℕ) (proto : Proto) → IsIpv6FlowOf packet proto → IsIpv6Translation new
-    → ipv6_message_refusal packet ≡ None → ipv6_quoted packet ≡ quoted → ipv6_quoted_refusal quoted ≡ None
-    → ipv6_refusal (ipv6_with_message new (ipv6_message_with quoted new packet) packet) ≡ None
-again_by None new packet proto of_proto is accepted quotes found =
+-- the protocol of a translated packet is accepted
+still_accepted : (has_port : Bool) (new : Ipv6Translation) (packet message : List ℕ) (proto : Option Proto) (flow : IsIpv6Flow packet proto)
+    (sixteen : AreIpv6Addresses (ipv6_addresses new packet)) (same : length message ≡ length (message_in_ipv6 packet))
+    → is_refused has_port (ipv6_proto packet) (ipv6_protocol packet) ≡ false
+    → is_refused has_port (ipv6_proto (ipv6_with_message new message packet)) (ipv6_protocol (ipv6_with_message new message packet)) ≡ false
+still_accepted has_port new packet message proto flow sixteen same covered =
+    ap (λ proto. is_refused has_port proto (ipv6_protocol (ipv6_with_message new message packet))) (proto_is new packet message proto flow sixteen same)
+    ∙ ap (is_refused has_port (ipv6_proto packet)) (number_is new packet message proto flow sixteen same) ∙ covered
+
+again_by : (has_port has_quoted_port : Bool) (quoted : Option (List ℕ)) (new rule : Ipv6Translation) (packet : List ℕ) (proto : Option Proto) → IsIpv6FlowOf packet proto → IsIpv6Translation new
+    → ipv6_message_refusal packet ≡ None → ipv6_quoted packet ≡ quoted → ipv6_quoted_refusal has_quoted_port quoted ≡ None
+    → is_refused has_port (ipv6_proto packet) (ipv6_protocol packet) ≡ false
+    → IfSome quoted (λ _. IsIpv6Translation rule)
+    → ipv6_refusal_by has_port has_quoted_port (ipv6_with_message new (ipv6_message_by quoted new rule packet) packet) ≡ None
+again_by has_port has_quoted_port None new rule packet proto of_proto is accepted quotes found covered is_rule =
     let flow : IsIpv6Flow packet proto = of_proto.flow in
     let sixteen : AreIpv6Addresses (ipv6_addresses new packet) = new_addresses new packet is (header_there packet proto flow) in
     let later : Bool = ipv6_is_later_fragment packet in
@@ -504,47 +641,51 @@ again_by None new packet proto of_proto is accepted quotes found =
     let message : List ℕ = ipv6_flow_message new packet in
     let same : length message ≡ length old = ipv6_flow_message_len new packet in
     let changed : List ℕ = ipv6_translated_flow new packet in
-    refusal_by (ipv6_place_refusal changed) (ipv6_message_refusal changed) (ipv6_quoted_refusal (ipv6_quoted changed))
-    (place_accepted changed proto (flow_too new packet message proto flow sixteen same) (proto_is new packet message proto flow sixteen same ∙ of_proto.known))
+    refusal_by (ipv6_place_refusal has_port changed) (ipv6_message_refusal changed) (ipv6_quoted_refusal has_quoted_port (ipv6_quoted changed))
+    (place_accepted has_port changed proto (flow_too new packet message proto flow sixteen same)
+    (still_accepted has_port new packet message proto flow sixteen same covered))
     (refusal_is new packet message proto flow sixteen same
     ∙ ap (λ proto. message_refusal later proto (translated_in later proto removed added new.source_port new.destination_port old)) of_proto.known
     ∙ ports_accepted later proto removed added new.source_port new.destination_port old
     (sym (ap (λ proto. quoted_in later proto old) of_proto.known) ∙ quotes)
     (sym (ap (λ proto. message_refusal later proto old) of_proto.known) ∙ accepted))
-    (ap ipv6_quoted_refusal (still_none new packet proto of_proto sixteen quotes))
-again_by (Some quoted) new packet proto of_proto is accepted quotes found =
+    (ap (ipv6_quoted_refusal has_quoted_port) (still_none new packet proto of_proto sixteen quotes))
+again_by has_port has_quoted_port (Some quoted) new rule packet proto of_proto is accepted quotes found covered is_rule =
     let flow : IsIpv6Flow packet proto = of_proto.flow in
     let sixteen : AreIpv6Addresses (ipv6_addresses new packet) = new_addresses new packet is (header_there packet proto flow) in
     let later : Bool = ipv6_is_later_fragment packet in
     let old : List ℕ = message_in_ipv6 packet in
-    let quotes_is : quoted_in later (Some proto) old ≡ Some quoted = sym (ap (λ proto. quoted_in later proto old) of_proto.known) ∙ quotes in
-    let accepted_is : message_refusal later (Some proto) old ≡ None = sym (ap (λ proto. message_refusal later proto old) of_proto.known) ∙ accepted in
+    let quotes_is : quoted_in later proto old ≡ Some quoted = sym (ap (λ proto. quoted_in later proto old) of_proto.known) ∙ quotes in
+    let accepted_is : message_refusal later proto old ≡ None = sym (ap (λ proto. message_refusal later proto old) of_proto.known) ∙ accepted in
     let range : IsRange old quoted = quoted_range later proto old quoted accepted_is quotes_is in
-    let of_quoted = flow_found quoted (quoted_bytes packet quoted of_proto.fits range) (mapped_none (λ _. QuotedPacket) (ipv6_place_refusal quoted) found) in
+    let of_quoted = flow_found has_quoted_port quoted (quoted_bytes packet quoted of_proto.fits range) (mapped_none (λ _. QuotedPacket) (ipv6_place_refusal has_quoted_port quoted) found) in
     let quoted_flow : IsIpv6Flow quoted of_quoted.0 = of_quoted.1.flow in
-    let opposite : Ipv6Translation = ipv6_opposite new in
-    let quoted_sixteen : AreIpv6Addresses (ipv6_addresses opposite quoted) = new_addresses opposite quoted (opposite_is new is) (header_there quoted of_quoted.0 quoted_flow) in
-    let translated : List ℕ = ipv6_translated_flow opposite quoted in
-    let translated_len : length translated ≡ length quoted = flow_len opposite quoted of_quoted.0 quoted_flow quoted_sixteen in
-    let inner : List ℕ = ipv6_flow_message opposite quoted in
-    let inner_same : length inner ≡ length (message_in_ipv6 quoted) = ipv6_flow_message_len opposite quoted in
-    let message : List ℕ = ipv6_message_with (Some quoted) new packet in
+    let quoted_sixteen : AreIpv6Addresses (ipv6_addresses rule quoted) = new_addresses rule quoted is_rule (header_there quoted of_quoted.0 quoted_flow) in
+    let translated : List ℕ = ipv6_translated_flow rule quoted in
+    let translated_len : length translated ≡ length quoted = flow_len rule quoted of_quoted.0 quoted_flow quoted_sixteen in
+    let inner : List ℕ = ipv6_flow_message rule quoted in
+    let inner_same : length inner ≡ length (message_in_ipv6 quoted) = ipv6_flow_message_len rule quoted in
+    let message : List ℕ = ipv6_message_by (Some quoted) new rule packet in
     let same : length message ≡ length old = quote_len (sum_of_ipv6 (ipv6_header_of packet)) (sum_of_ipv6 (ipv6_addresses new packet)) quoted translated old (omega (arith, range.within, translated_len)) in
     let changed : List ℕ = ipv6_with_message new message packet in
-    refusal_by (ipv6_place_refusal changed) (ipv6_message_refusal changed) (ipv6_quoted_refusal (ipv6_quoted changed))
-    (place_accepted changed proto (flow_too new packet message proto flow sixteen same) (proto_is new packet message proto flow sixteen same ∙ of_proto.known))
+    refusal_by (ipv6_place_refusal has_port changed) (ipv6_message_refusal changed) (ipv6_quoted_refusal has_quoted_port (ipv6_quoted changed))
+    (place_accepted has_port changed proto (flow_too new packet message proto flow sixteen same)
+    (still_accepted has_port new packet message proto flow sixteen same covered))
     (refusal_is new packet message proto flow sixteen same ∙ ap (λ proto. message_refusal later proto message) of_proto.known
     ∙ error_accepted later proto (sum_of_ipv6 (ipv6_header_of packet)) (sum_of_ipv6 (ipv6_addresses new packet)) old quoted translated range translated_len quotes_is accepted_is)
-    (ap ipv6_quoted_refusal (quoted_is new packet message proto flow sixteen same ∙ ap (λ proto. quoted_in later proto message) of_proto.known
+    (ap (ipv6_quoted_refusal has_quoted_port) (quoted_is new packet message proto flow sixteen same ∙ ap (λ proto. quoted_in later proto message) of_proto.known
     ∙ quotes_translated later proto (sum_of_ipv6 (ipv6_header_of packet)) (sum_of_ipv6 (ipv6_addresses new packet)) old quoted translated range translated_len quotes_is)
-    ∙ ap (option_map (λ _. QuotedPacket)) (place_accepted translated of_quoted.0 (flow_too opposite quoted inner of_quoted.0 quoted_flow quoted_sixteen inner_same)
-    (proto_is opposite quoted inner of_quoted.0 quoted_flow quoted_sixteen inner_same ∙ of_quoted.1.known)))
+    ∙ ap (option_map (λ _. QuotedPacket)) (place_accepted has_quoted_port translated of_quoted.0 (flow_too rule quoted inner of_quoted.0 quoted_flow quoted_sixteen inner_same)
+    (still_accepted has_quoted_port rule quoted inner of_quoted.0 quoted_flow quoted_sixteen inner_same
+    (protocol_accepted has_quoted_port quoted (mapped_none (λ _. QuotedPacket) (ipv6_place_refusal has_quoted_port quoted) found)))))
 
 -- a translated packet can be translated
-pub ipv6_again : (new : Ipv6Translation) (packet : List ℕ) → IsBytes packet → IsIpv6Translation new → ipv6_refusal packet ≡ None
-    → ipv6_refusal (ipv6_translated new packet) ≡ None
-ipv6_again new packet fits is accepted =
-    let after_place = none_first (ipv6_place_refusal packet) _ accepted in
+pub ipv6_again : (has_port has_quoted_port : Bool) (new rule : Ipv6Translation) (packet : List ℕ) → IsBytes packet → IsIpv6Translation new
+    → IfSome (ipv6_quoted packet) (λ _. IsIpv6Translation rule) → ipv6_refusal_by has_port has_quoted_port packet ≡ None
+    → ipv6_refusal_by has_port has_quoted_port (ipv6_translated_with new rule packet) ≡ None
+ipv6_again has_port has_quoted_port new rule packet fits is is_rule accepted =
+    let after_place = none_first (ipv6_place_refusal has_port packet) _ accepted in
     let after_message = none_first (ipv6_message_refusal packet) _ after_place.1 in
-    let of_proto = flow_found packet fits after_place.0 in
-    again_by (ipv6_quoted packet) new packet of_proto.0 of_proto.1 is after_message.0 refl (none_first (ipv6_quoted_refusal (ipv6_quoted packet)) _ after_message.1).0
+    let of_proto = flow_found has_port packet fits after_place.0 in
+    again_by has_port has_quoted_port (ipv6_quoted packet) new rule packet of_proto.0 of_proto.1 is after_message.0 refl
+    (none_first (ipv6_quoted_refusal has_quoted_port (ipv6_quoted packet)) _ after_message.1).0 (protocol_accepted has_port packet after_place.0) is_rule

@@ -3,11 +3,13 @@ pub mod CanonicalLemmas
 pub mod EchoReplyLemmas
 pub mod EchoRequestLemmas
 pub mod FragmentLemmas
+pub mod FrontLemmas
 pub mod Ipv4ThereAndBack
 pub mod Ipv6ThereAndBack
 pub mod PacketLemmas
 pub mod ReplacedBytes
 pub mod ReplyToLemmas
+mod SourceRouteLemmas
 pub mod ThereAndBack
 pub mod TranslatedAgain
 pub mod TranslationLemmas
@@ -15,3 +17,4 @@ pub mod TranslationReading
 pub mod TranslationSums
 pub mod UpdatedAlike
 pub mod WorkedExamples
+pub mod WrittenChecksumLemmas

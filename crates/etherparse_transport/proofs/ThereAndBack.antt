@@ -4,16 +4,17 @@ use Rattle.std.specs.Prelude.{◌↔◌, IfSome, ⊤, unwrap_or}
 use Rattle.std.proofs.Math.Logic.{⊎_elim}
 use Rattle.std.proofs.lemmas.Bool.Decides.{nat_tests}
 use Rattle.net_base.specs.Bytes.{IsBytes}
-use Rattle.word_sum.specs.Checksum.{complement, zero_as_all_ones}
+use Rattle.word_sum.specs.Checksum.{complement, folded, total, zero_as_all_ones}
 use Rattle.word_sum.specs.UpdatedChecksum.{updated_checksum_of, updated_udp_checksum_of}
 use Rattle.word_sum.proofs.ChecksumLemmas.{folded-lt}
-use Rattle.word_sum.proofs.ChecksumChangeLemmas.{udp_checksum_of-remainder, updated_reversed_iff, updated_udp_reversed}
-use Rattle.etherparse_transport.specs.Translations.{added_ports, and_word, is_echo, new_identifier, number, port_or, removed_ports, translated_echo, translated_in, translated_message, translated_tcp, translated_udp, updated_echo_checksum, with_number, with_ports, with_updated_checksum}
+use Rattle.word_sum.proofs.ChecksumChangeLemmas.{folded-remainder, udp_checksum_of-remainder, updated_reversed_iff, updated_udp_reversed}
+use Rattle.etherparse_transport.specs.Translations.{added_ports, and_word, is_query, is_reply, is_request, new_identifier, number, port_or, removed_ports, rest_of_message, translated_in, translated_message, translated_query, translated_tcp, translated_udp, updated_query_checksum, with_identifier, with_number, with_ports, with_updated_checksum}
 use Rattle.etherparse_transport.specs.WaysBack.{IsChecksumRestored, IsChecksumRestoredIn, instead, lost_checksum, place_in, port_in}
 use Rattle.ip_part.specs.declared.proto.Proto.{Proto}
 use Rattle.ip_part.specs.declared.proto.Proto.TheVariants as protos
 use Rattle.etherparse_transport.proofs.TranslationReading.{number_len, ports_len}
-use Rattle.etherparse_transport.proofs.TranslationSums.{echo_type, number_after, number_before, other_by}
+use Rattle.etherparse_transport.proofs.EchoReplyLemmas.{is_number}
+use Rattle.etherparse_transport.proofs.TranslationSums.{first_counts, folded_some, icmpv6_type, number_after, number_before, other_by, stored_number_total}
 use Rattle.etherparse_transport.proofs.ReplacedBytes.{checksum_back, iff_along, number_again, number_apart, number_here, number_missing, number_same, number_small}
 
 -- ---- the ports
@@ -164,18 +165,44 @@ udp_back old new source destination packet fits small small_too =
 
 -- ---- ICMP
 
--- the checksum of an echo message whose first byte is 0 or another byte
-echo_reversed : (is_zero : Bool) (checksum removed added result : ℕ) → checksum < 65536 → removed < 65536 → added < 65536
-    → result ≡ (if is_zero then zero_as_all_ones (updated_checksum_of checksum removed added) else updated_checksum_of checksum removed added)
-    → ((if is_zero then zero_as_all_ones (updated_checksum_of result added removed) else updated_checksum_of result added removed) ≡ checksum)
-    ↔ (checksum ≢ (if is_zero then 0 else 65535))
-echo_reversed false checksum removed added result small small_too small_three equation =
+-- the stored checksum of a query, of which all other bytes are 0 or not
+abbrev stored_by : Bool → ℕ → ℕ
+stored_by is_zero checksum = if is_zero then zero_as_all_ones checksum else checksum
+
+stored_small : (is_zero : Bool) (checksum removed added : ℕ) → stored_by is_zero (updated_checksum_of checksum removed added) < 65536
+stored_small false checksum removed added = updated_small checksum removed added
+stored_small true checksum removed added = grind (arith, nat_tests)
+
+-- the number that is stored, modulo 65535
+stored_remainder : (is_zero : Bool) (checksum removed added : ℕ)
+    → stored_by is_zero (updated_checksum_of checksum removed added) % 65535
+    ≡ (65535 - (complement checksum + complement removed + added) % 65535) % 65535
+stored_remainder true checksum removed added = ap (λ n. n % 65535) (udp_checksum_of-remainder (complement checksum + complement removed + added))
+stored_remainder false checksum removed added =
+    let sum : ℕ = complement checksum + complement removed + added in
+    omega (arith, folded-remainder sum, folded-lt sum)
+
+-- The checksum that is stored on the way back. If the message to which it goes back is zero, 0 is lost, and otherwise all ones.
+query_reversed : (is_zero is_zero_back : Bool) (checksum removed added result : ℕ) → checksum < 65536 → removed < 65536 → added < 65536
+    → (is_zero ≡ true → added ≡ 0) → result ≡ stored_by is_zero (updated_checksum_of checksum removed added)
+    → (stored_by is_zero_back (updated_checksum_of result added removed) ≡ checksum) ↔ (checksum ≢ (if is_zero_back then 0 else 65535))
+query_reversed false false checksum removed added result small small_too small_three zero equation =
     updated_reversed_iff checksum removed added result small small_too small_three equation
-echo_reversed true checksum removed added result small small_too small_three equation =
+query_reversed true false checksum removed added result small small_too small_three zero equation =
+    let nothing : added ≡ 0 = zero refl in
     let stored : result ≡ 65535 - (complement checksum + complement removed + added) % 65535 =
     equation ∙ udp_checksum_of-remainder (complement checksum + complement removed + added) in
+    let sum : ℕ = complement result + complement added + removed in
+    let remainder = folded-remainder sum in
+    let fits = folded-lt sum in
+    let some : folded sum ≢ 0 = folded_some sum (λ none. omega (arith, none, nothing)) in
+    (λ same ones. omega (arith, stored, remainder, fits, some, same, ones, nothing), λ other. omega (arith, stored, remainder, fits, some, other, nothing, small, small_too))
+query_reversed is_zero true checksum removed added result small small_too small_three zero equation =
+    let stored : result % 65535 ≡ (65535 - (complement checksum + complement removed + added) % 65535) % 65535 =
+    ap (λ n. n % 65535) equation ∙ stored_remainder is_zero checksum removed added in
+    let fits : result < 65536 = omega (arith, equation, stored_small is_zero checksum removed added) in
     let back = udp_checksum_of-remainder (complement result + complement added + removed) in
-    (λ same none. omega (arith, stored, back, same, none), λ some. back ∙ omega (arith, stored, some))
+    (λ same none. omega (arith, back, same, none), λ some. back ∙ omega (arith, stored, some, fits, small, small_too, small_three))
 
 -- two numbers are replaced twice
 two_back : (first second value sum sum_too : ℕ) (bytes : List ℕ) → IsBytes bytes → first + 2 ≤ second
@@ -193,63 +220,60 @@ before_both sum value k bytes before =
     other_by (nat_le 4 (length between)) 2 sum k between refl (inl before)
     ∙ other_by (nat_le 6 (length bytes)) 4 value k bytes refl (inl (omega (arith, before)))
 
--- an echo message stays an echo message of its type
-echo_kept : (request reply sum value : ℕ) (message : List ℕ)
-    → is_echo request reply (with_number 2 sum (with_number 4 value message)) ≡ is_echo request reply message
-echo_kept request reply sum value message =
+-- a query stays a query of its type
+query_kept : (proto : Proto) (sum value : ℕ) (message : List ℕ)
+    → is_query proto (with_number 2 sum (with_number 4 value message)) ≡ is_query proto message
+query_kept proto sum value message =
     let changed : List ℕ = with_number 2 sum (with_number 4 value message) in
-    let by : ℕ → ℕ → ℕ → Bool = λ len type code. nat_le 6 len && ((type == request || type == reply) && code == 0) in
-    ap (λ len. by len (slice_index changed 0) (slice_index changed 1)) (number_len 2 sum (with_number 4 value message) ∙ number_len 4 value message)
-    ∙ ap (λ type. by (length message) type (slice_index changed 1)) (before_both sum value 0 message (omega arith))
-    ∙ ap (by (length message) (slice_index message 0)) (before_both sum value 1 message (omega arith))
+    let by : ℕ → ℕ → Bool = λ len type. nat_le 6 len && (is_request proto type || is_reply proto type) in
+    ap (λ len. by len (slice_index changed 0)) (number_len 2 sum (with_number 4 value message) ∙ number_len 4 value message)
+    ∙ ap (by (length message)) (before_both sum value 0 message (omega arith))
 
-echo_kept_by_sum : (request reply sum : ℕ) (message : List ℕ) → is_echo request reply (with_number 2 sum message) ≡ is_echo request reply message
-echo_kept_by_sum request reply sum message =
+query_kept_by_sum : (proto : Proto) (sum : ℕ) (message : List ℕ) → is_query proto (with_number 2 sum message) ≡ is_query proto message
+query_kept_by_sum proto sum message =
     let changed : List ℕ = with_number 2 sum message in
     let there : Bool = nat_le 4 (length message) in
-    let by : ℕ → ℕ → ℕ → Bool = λ len type code. nat_le 6 len && ((type == request || type == reply) && code == 0) in
-    ap (λ len. by len (slice_index changed 0) (slice_index changed 1)) (number_len 2 sum message)
-    ∙ ap (λ type. by (length message) type (slice_index changed 1)) (other_by there 2 sum 0 message refl (inl (omega arith)))
-    ∙ ap (by (length message) (slice_index message 0)) (other_by there 2 sum 1 message refl (inl (omega arith)))
+    let by : ℕ → ℕ → Bool = λ len type. nat_le 6 len && (is_request proto type || is_reply proto type) in
+    ap (λ len. by len (slice_index changed 0)) (number_len 2 sum message)
+    ∙ ap (by (length message)) (other_by there 2 sum 0 message refl (inl (omega arith)))
 
-echo_small : (is_zero : Bool) (checksum removed added : ℕ)
-    → (if is_zero then zero_as_all_ones (updated_checksum_of checksum removed added) else updated_checksum_of checksum removed added) < 65536
-echo_small false checksum removed added = updated_small checksum removed added
-echo_small true checksum removed added = grind (arith, nat_tests)
-
-echo_back : (old new : ℕ) (identifier : Option ℕ) (message : List ℕ) → IsBytes message → IfSome identifier (λ identifier. identifier < 65536)
+query_back : (old new : ℕ) (identifier : Option ℕ) (message : List ℕ) → IsBytes message → IfSome identifier (λ identifier. identifier < 65536)
     → 6 ≤ length message
-    → (translated_echo new old (instead (number 4 message) identifier) (translated_echo old new identifier message) ≡ message)
+    → ((rest_of_message (with_identifier identifier message) == 0) ≡ true → and_word new (port_or identifier 4 message) ≡ 0)
+    → (translated_query new old (instead (number 4 message) identifier) (translated_query old new identifier message) ≡ message)
     ↔ (number 2 message ≢ lost_checksum message)
-echo_back old new identifier message fits small room =
+query_back old new identifier message fits small room zero =
     let value : ℕ = port_or identifier 4 message in
     let removed : ℕ = and_word old (number 4 message) in
     let added : ℕ = and_word new value in
-    let sum_by : Bool → ℕ → ℕ → ℕ → ℕ = λ is_zero checksum removed added.
-    if is_zero then zero_as_all_ones (updated_checksum_of checksum removed added) else updated_checksum_of checksum removed added in
-    let is_zero : Bool = slice_index message 0 == 0 in
-    let sum : ℕ = sum_by is_zero (number 2 message) removed added in
     let between : List ℕ = with_number 4 value message in
+    let is_zero : Bool = rest_of_message between == 0 in
+    let sum : ℕ = stored_by is_zero (updated_checksum_of (number 2 message) removed added) in
     let back : List ℕ = with_number 2 sum between in
     let identifier_too : Option ℕ = instead (number 4 message) identifier in
     let between_len : length between ≡ length message = number_len 4 value message in
     let there : number 4 back ≡ number 4 between = number_after 2 sum 4 between (omega arith) in
     let there_is : number 4 back ≡ value = there ∙ number_here 4 value message (omega (arith, room)) (port_small identifier 4 message fits small) in
     let value_back : port_or identifier_too 4 back ≡ number 4 message = port_back identifier 4 message back fits there in
-    let first : slice_index back 0 ≡ slice_index message 0 = before_both sum value 0 message (omega arith) in
     let sum_there : number 2 back ≡ sum =
-    number_here 2 sum between (omega (arith, room, between_len)) (echo_small is_zero (number 2 message) removed added) in
-    let sum_too : ℕ = sum_by (slice_index back 0 == 0) (number 2 back) (and_word new (number 4 back)) (and_word old (port_or identifier_too 4 back)) in
+    number_here 2 sum between (omega (arith, room, between_len)) (stored_small is_zero (number 2 message) removed added) in
+    let restored : (n : ℕ) → with_number 2 n (with_number 4 (number 4 message) back) ≡ with_number 2 n message = λ n.
+    two_back 2 4 value sum n message fits (omega arith) in
+    let is_zero_back : Bool = rest_of_message (with_number 4 (port_or identifier_too 4 back) back) == 0 in
+    let is_zero_back_is : is_zero_back ≡ (rest_of_message message == 0) =
+    ap (λ n. rest_of_message (with_number 4 n back) == 0) value_back ∙ ap (λ bytes. total bytes == 0) (restored 0) in
+    let sum_by : Bool → ℕ → ℕ → ℕ → ℕ = λ is_zero checksum removed added. stored_by is_zero (updated_checksum_of checksum removed added) in
+    let sum_too : ℕ = sum_by is_zero_back (number 2 back) (and_word new (number 4 back)) (and_word old (port_or identifier_too 4 back)) in
     iff_along _ (with_number 2 sum_too message) message
-    (ap (λ n. with_number 2 sum_too (with_number 4 n back)) value_back ∙ two_back 2 4 value sum sum_too message fits (omega arith))
+    (ap (λ n. with_number 2 sum_too (with_number 4 n back)) value_back ∙ restored sum_too)
     (checksum_back 2 sum_too message fits
-    (echo_small (slice_index back 0 == 0) (number 2 back) (and_word new (number 4 back)) (and_word old (port_or identifier_too 4 back)))
-    (λ whole. iff_along sum_too (sum_by is_zero sum added removed) (number 2 message)
-    (ap (λ byte. sum_by (byte == 0) (number 2 back) (and_word new (number 4 back)) (and_word old (port_or identifier_too 4 back))) first
-    ∙ ap (λ n. sum_by is_zero n (and_word new (number 4 back)) (and_word old (port_or identifier_too 4 back))) sum_there
-    ∙ ap (λ n. sum_by is_zero sum (and_word new n) (and_word old (port_or identifier_too 4 back))) there_is
-    ∙ ap (λ n. sum_by is_zero sum added (and_word old n)) value_back)
-    (echo_reversed is_zero (number 2 message) removed added sum (number_small 2 message fits) (folded-lt _) (folded-lt _) refl))
+    (stored_small is_zero_back (number 2 back) (and_word new (number 4 back)) (and_word old (port_or identifier_too 4 back)))
+    (λ whole. iff_along sum_too (sum_by (rest_of_message message == 0) sum added removed) (number 2 message)
+    (ap (λ is_zero. sum_by is_zero (number 2 back) (and_word new (number 4 back)) (and_word old (port_or identifier_too 4 back))) is_zero_back_is
+    ∙ ap (λ n. sum_by (rest_of_message message == 0) n (and_word new (number 4 back)) (and_word old (port_or identifier_too 4 back))) sum_there
+    ∙ ap (λ n. sum_by (rest_of_message message == 0) sum (and_word new n) (and_word old (port_or identifier_too 4 back))) there_is
+    ∙ ap (λ n. sum_by (rest_of_message message == 0) sum added (and_word old n)) value_back)
+    (query_reversed is_zero (rest_of_message message == 0) (number 2 message) removed added sum (number_small 2 message fits) (folded-lt _) (folded-lt _) zero refl))
     (λ short. absurd (omega (arith, room, short))))
 
 -- the identifier that is put back
@@ -263,16 +287,35 @@ identifier_small : (is_request : Bool) (source destination : Option ℕ) → IfS
 identifier_small true source destination small small_too = small
 identifier_small false source destination small small_too = small_too
 
-identifier_back : (request sum value : ℕ) (source destination : Option ℕ) (message : List ℕ)
-    → new_identifier request (instead (number 4 message) source) (instead (number 4 message) destination) (with_number 2 sum (with_number 4 value message))
-    ≡ instead (number 4 message) (new_identifier request source destination message)
-identifier_back request sum value source destination message =
+identifier_back : (proto : Proto) (sum value : ℕ) (source destination : Option ℕ) (message : List ℕ)
+    → new_identifier proto (instead (number 4 message) source) (instead (number 4 message) destination) (with_number 2 sum (with_number 4 value message))
+    ≡ instead (number 4 message) (new_identifier proto source destination message)
+identifier_back proto sum value source destination message =
     let old : ℕ = number 4 message in
-    ap (λ byte. if byte == request then instead old source else instead old destination) (before_both sum value 0 message (omega arith))
-    ∙ identifier_by (slice_index message 0 == request) old source destination
+    ap (λ byte. if is_request proto byte then instead old source else instead old destination) (before_both sum value 0 message (omega arith))
+    ∙ identifier_by (is_request proto (slice_index message 0)) old source destination
 
-echo_there : (request reply : ℕ) (message : List ℕ) → is_echo request reply message ≡ true → 6 ≤ length message
-echo_there request reply message is = grind (arith, nat_tests)
+front : (a b : Bool) → (a && b) ≡ true → a ≡ true
+front true b is = refl
+front false b is = is
+
+query_there : (proto : Proto) (message : List ℕ) → is_query proto message ≡ true → 6 ≤ length message
+query_there proto message is =
+    let test : nat_le 6 (length message) ≡ true = front (nat_le 6 (length message)) _ is in
+    grind (arith, nat_tests)
+
+-- in a message of zeros the new identifier is 0
+zero_identifier : (value : ℕ) (message : List ℕ) → 6 ≤ length message → value < 65536 → (rest_of_message (with_number 4 value message) == 0) ≡ true
+    → value ≡ 0
+zero_identifier value message room small is =
+    let between : List ℕ = with_number 4 value message in
+    let rest : List ℕ = with_number 2 0 between in
+    let none : total rest ≡ 0 = is_number (total rest) 0 is in
+    let between_len : length between ≡ length message = number_len 4 value message in
+    let rest_len : length rest ≡ length message = number_len 2 0 between ∙ between_len in
+    let there : number 4 rest ≡ value =
+    number_after 2 0 4 between (omega arith) ∙ number_here 4 value message (omega (arith, room)) small in
+    omega (arith, there, none, stored_number_total 4 0 rest refl (omega arith) (omega (arith, room, rest_len)))
 
 -- other messages
 updated_back : (old new : ℕ) (message : List ℕ) → IsBytes message → old < 65536 → new < 65536
@@ -290,60 +333,80 @@ updated_back old new message fits small small_too =
 
 -- ---- the message
 
-icmpv4_back : (is_an_echo : Bool) (source destination : Option ℕ) (message : List ℕ) → is_an_echo ≡ is_echo 8 0 message → IsBytes message
+icmpv4_back : (is_a_query : Bool) (source destination : Option ℕ) (message : List ℕ) → is_a_query ≡ is_query protos.Icmpv4 message → IsBytes message
     → IfSome source (λ port. port < 65536) → IfSome destination (λ port. port < 65536)
     → (translated_message protos.Icmpv4 0 0 (instead (number 4 message) source) (instead (number 4 message) destination)
-    (if is_an_echo then translated_echo 0 0 (new_identifier 8 source destination message) message else message) ≡ message)
+    (if is_a_query then translated_query 0 0 (new_identifier protos.Icmpv4 source destination message) message else message) ≡ message)
     ↔ IsChecksumRestored protos.Icmpv4 message
+unfolding folded
 icmpv4_back false source destination message test fits small small_too =
-    let back : List ℕ = translated_echo 0 0 (new_identifier 8 (instead (number 4 message) source) (instead (number 4 message) destination) message) message in
+    let back : List ℕ =
+    translated_query 0 0 (new_identifier protos.Icmpv4 (instead (number 4 message) source) (instead (number 4 message) destination) message) message in
     (λ same is. absurd (cc (test, is)), λ p. ap (λ b. if b then back else message) (sym test))
 icmpv4_back true source destination message test fits small small_too =
     let old : ℕ = number 4 message in
-    let identifier : Option ℕ = new_identifier 8 source destination message in
+    let identifier : Option ℕ = new_identifier protos.Icmpv4 source destination message in
     let value : ℕ = port_or identifier 4 message in
-    let sum : ℕ = updated_echo_checksum message (updated_checksum_of (number 2 message) (and_word 0 old) (and_word 0 value)) in
-    let changed : List ℕ = with_number 2 sum (with_number 4 value message) in
-    let identifier_too : Option ℕ = new_identifier 8 (instead old source) (instead old destination) changed in
-    let iff = echo_back 0 0 identifier message fits (identifier_small (slice_index message 0 == 8) source destination small small_too)
-    (echo_there 8 0 message (sym test)) in
-    let whole = iff_along _ (translated_echo 0 0 (instead old identifier) changed) message
-    (ap (λ b. if b then translated_echo 0 0 identifier_too changed else changed) (echo_kept 8 0 sum value message ∙ sym test)
-    ∙ ap (λ identifier. translated_echo 0 0 identifier changed) (identifier_back 8 sum value source destination message)) iff in
+    let between : List ℕ = with_number 4 value message in
+    let sum : ℕ = updated_query_checksum between (updated_checksum_of (number 2 message) (and_word 0 old) (and_word 0 value)) in
+    let changed : List ℕ = with_number 2 sum between in
+    let identifier_too : Option ℕ = new_identifier protos.Icmpv4 (instead old source) (instead old destination) changed in
+    let room : 6 ≤ length message = query_there protos.Icmpv4 message (sym test) in
+    let small_identifier = identifier_small (is_request protos.Icmpv4 (slice_index message 0)) source destination small small_too in
+    let iff = query_back 0 0 identifier message fits small_identifier room
+    (λ zero. ap (and_word 0) (zero_identifier value message room (port_small identifier 4 message fits small_identifier) zero)) in
+    let whole = iff_along _ (translated_query 0 0 (instead old identifier) changed) message
+    (ap (λ b. if b then translated_query 0 0 identifier_too changed else changed) (query_kept protos.Icmpv4 sum value message ∙ sym test)
+    ∙ ap (λ identifier. translated_query 0 0 identifier changed) (identifier_back protos.Icmpv4 sum value source destination message)) iff in
     (λ same is. whole.0 same, λ p. whole.1 (p (sym test)))
 
--- no echo message over IPv6 begins with 0
-lost_icmpv6 : (message : List ℕ) → is_echo 128 129 message ≡ true → lost_checksum message ≡ 65535
-lost_icmpv6 message is =
-    ⊎_elim (λ type. ap {B = ℕ} (λ byte. if byte == 0 then 0 else 65535) type) (λ type. ap {B = ℕ} (λ byte. if byte == 0 then 0 else 65535) type)
-    (echo_type 128 129 message is)
+-- no query over IPv6 begins with 0
+first_icmpv6 : (message : List ℕ) → is_query protos.Icmpv6 message ≡ true → slice_index message 0 ≢ 0
+first_icmpv6 message is none = ⊎_elim (λ type. omega (arith, type, none)) (λ type. omega (arith, type, none)) (icmpv6_type message is)
 
-icmpv6_back : (is_an_echo : Bool) (old new : ℕ) (source destination : Option ℕ) (message : List ℕ) → is_an_echo ≡ is_echo 128 129 message → IsBytes message
-    → IfSome source (λ port. port < 65536) → IfSome destination (λ port. port < 65536) → old < 65536 → new < 65536
+rest_icmpv6 : (message : List ℕ) → slice_index message 0 ≢ 0 → (rest_of_message message == 0) ≡ false
+rest_icmpv6 message some =
+    let first : slice_index (with_number 2 0 message) 0 ≡ slice_index message 0 =
+    other_by (nat_le 4 (length message)) 2 0 0 message refl (inl (omega arith)) in
+    let other : total (with_number 2 0 message) ≢ 0 = first_counts (with_number 2 0 message) (λ none. some (sym first ∙ none)) in
+    grind (arith, nat_tests)
+
+lost_icmpv6 : (message : List ℕ) → is_query protos.Icmpv6 message ≡ true → lost_checksum message ≡ 65535
+lost_icmpv6 message is = ap {B = ℕ} (λ b. if b then 0 else 65535) (rest_icmpv6 message (first_icmpv6 message is))
+
+icmpv6_back : (is_a_query : Bool) (old new : ℕ) (source destination : Option ℕ) (message : List ℕ) → is_a_query ≡ is_query protos.Icmpv6 message
+    → IsBytes message → IfSome source (λ port. port < 65536) → IfSome destination (λ port. port < 65536) → old < 65536 → new < 65536
     → (translated_message protos.Icmpv6 new old (instead (number 4 message) source) (instead (number 4 message) destination)
-    (if is_an_echo then translated_echo old new (new_identifier 128 source destination message) message else with_updated_checksum old new message) ≡ message)
+    (if is_a_query then translated_query old new (new_identifier protos.Icmpv6 source destination message) message
+    else with_updated_checksum old new message) ≡ message)
     ↔ IsChecksumRestored protos.Icmpv6 message
 icmpv6_back false old new source destination message test fits small small_too old_small new_small =
     let sum : ℕ = updated_checksum_of (number 2 message) old new in
     let changed : List ℕ = with_number 2 sum message in
-    let identifier_too : Option ℕ = new_identifier 128 (instead (number 4 message) source) (instead (number 4 message) destination) changed in
+    let identifier_too : Option ℕ =
+    new_identifier protos.Icmpv6 (instead (number 4 message) source) (instead (number 4 message) destination) changed in
     iff_along _ (with_updated_checksum new old changed) message
-    (ap (λ b. if b then translated_echo new old identifier_too changed else with_updated_checksum new old changed)
-    (echo_kept_by_sum 128 129 sum message ∙ sym test))
+    (ap (λ b. if b then translated_query new old identifier_too changed else with_updated_checksum new old changed)
+    (query_kept_by_sum protos.Icmpv6 sum message ∙ sym test))
     (updated_back old new message fits old_small new_small)
 icmpv6_back true old new source destination message test fits small small_too old_small new_small =
     let word : ℕ = number 4 message in
-    let identifier : Option ℕ = new_identifier 128 source destination message in
+    let identifier : Option ℕ = new_identifier protos.Icmpv6 source destination message in
     let value : ℕ = port_or identifier 4 message in
-    let sum : ℕ = updated_echo_checksum message (updated_checksum_of (number 2 message) (and_word old word) (and_word new value)) in
-    let changed : List ℕ = with_number 2 sum (with_number 4 value message) in
-    let identifier_too : Option ℕ = new_identifier 128 (instead word source) (instead word destination) changed in
-    iff_along _ (translated_echo new old (instead word identifier) changed) message
-    (ap (λ b. if b then translated_echo new old identifier_too changed else with_updated_checksum new old changed) (echo_kept 128 129 sum value message ∙ sym test)
-    ∙ ap (λ identifier. translated_echo new old identifier changed) (identifier_back 128 sum value source destination message))
-    (subst (λ lost. (translated_echo new old (instead word identifier) changed ≡ message) ↔ (number 2 message ≢ lost)) (lost_icmpv6 message (sym test))
-    (echo_back old new identifier message fits (identifier_small (slice_index message 0 == 128) source destination small small_too)
-    (echo_there 128 129 message (sym test))))
+    let between : List ℕ = with_number 4 value message in
+    let sum : ℕ = updated_query_checksum between (updated_checksum_of (number 2 message) (and_word old word) (and_word new value)) in
+    let changed : List ℕ = with_number 2 sum between in
+    let identifier_too : Option ℕ = new_identifier protos.Icmpv6 (instead word source) (instead word destination) changed in
+    let first : slice_index between 0 ≢ 0 = λ none.
+    first_icmpv6 message (sym test) (sym (other_by (nat_le 6 (length message)) 4 value 0 message refl (inl (omega arith))) ∙ none) in
+    iff_along _ (translated_query new old (instead word identifier) changed) message
+    (ap (λ b. if b then translated_query new old identifier_too changed else with_updated_checksum new old changed)
+    (query_kept protos.Icmpv6 sum value message ∙ sym test)
+    ∙ ap (λ identifier. translated_query new old identifier changed) (identifier_back protos.Icmpv6 sum value source destination message))
+    (subst (λ lost. (translated_query new old (instead word identifier) changed ≡ message) ↔ (number 2 message ≢ lost)) (lost_icmpv6 message (sym test))
+    (query_back old new identifier message fits
+    (identifier_small (is_request protos.Icmpv6 (slice_index message 0)) source destination small small_too)
+    (query_there protos.Icmpv6 message (sym test)) (λ zero. absurd (cc (rest_icmpv6 between first, zero)))))
 
 pub message_back : (proto : Proto) (old new : ℕ) (source destination : Option ℕ) (message : List ℕ) → IsBytes message
     → IfSome source (λ port. port < 65536) → IfSome destination (λ port. port < 65536) → old < 65536 → new < 65536
@@ -355,20 +418,30 @@ message_back protos.Udp old new source destination message fits small small_too 
 message_back protos.Tcp old new source destination message fits small small_too old_small new_small =
     tcp_back old new source destination message fits small small_too
 message_back protos.Icmpv4 old new source destination message fits small small_too old_small new_small =
-    icmpv4_back (is_echo 8 0 message) source destination message refl fits small small_too
+    icmpv4_back (is_query protos.Icmpv4 message) source destination message refl fits small small_too
 message_back protos.Icmpv6 old new source destination message fits small small_too old_small new_small =
-    icmpv6_back (is_echo 128 129 message) old new source destination message refl fits small small_too old_small new_small
+    icmpv6_back (is_query protos.Icmpv6 message) old new source destination message refl fits small small_too old_small new_small
 
 -- the message in a packet whose later fragments have no ports
-pub part_back : (is_later_fragment : Bool) (proto : Proto) (old new : ℕ) (source destination : Option ℕ) (message : List ℕ) → IsBytes message
+part_back_of : (is_later_fragment : Bool) (proto : Proto) (old new : ℕ) (source destination : Option ℕ) (message : List ℕ) → IsBytes message
     → IfSome source (λ port. port < 65536) → IfSome destination (λ port. port < 65536) → old < 65536 → new < 65536
     → (translated_in is_later_fragment (Some proto) new old (instead (port_in (Some proto) 0 message) source) (instead (port_in (Some proto) 2 message) destination)
     (translated_in is_later_fragment (Some proto) old new source destination message) ≡ message)
     ↔ IsChecksumRestoredIn is_later_fragment (Some proto) message
-part_back true proto old new source destination message fits small small_too old_small new_small = (λ same is. absurd (cc is), λ p. refl)
-part_back false proto old new source destination message fits small small_too old_small new_small =
+part_back_of true proto old new source destination message fits small small_too old_small new_small = (λ same is. absurd (cc is), λ p. refl)
+part_back_of false proto old new source destination message fits small small_too old_small new_small =
     let iff = message_back proto old new source destination message fits small small_too old_small new_small in
     (λ same is. iff.0 same, λ p. iff.1 (p refl))
+
+-- the message of a packet, of which only the addresses may be replaced
+pub part_back : (is_later_fragment : Bool) (proto : Option Proto) (old new : ℕ) (source destination : Option ℕ) (message : List ℕ) → IsBytes message
+    → IfSome source (λ port. port < 65536) → IfSome destination (λ port. port < 65536) → old < 65536 → new < 65536
+    → (translated_in is_later_fragment proto new old (instead (port_in proto 0 message) source) (instead (port_in proto 2 message) destination)
+    (translated_in is_later_fragment proto old new source destination message) ≡ message)
+    ↔ IsChecksumRestoredIn is_later_fragment proto message
+part_back is_later_fragment None old new source destination message fits small small_too old_small new_small = (λ same. tt, λ true. refl)
+part_back is_later_fragment (Some proto) old new source destination message fits small small_too old_small new_small =
+    part_back_of is_later_fragment proto old new source destination message fits small small_too old_small new_small
 
 -- ---- the addresses
 

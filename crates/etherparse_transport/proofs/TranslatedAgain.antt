@@ -17,7 +17,7 @@ use Rattle.word_sum.specs.Checksum.{folded, total}
 use Rattle.word_sum.specs.UpdatedChecksum.{updated_checksum_of}
 use Rattle.word_sum.proofs.ChecksumLemmas.{folded-lt}
 use Rattle.word_sum.proofs.ChecksumChangeLemmas.{updated_reversed_iff}
-use Rattle.etherparse_transport.specs.Translations.{is_echo, message_refusal, new_identifier, number, quoted_in, translated_echo, translated_in, translated_message, with_bytes, with_number, with_quote, with_updated_checksum}
+use Rattle.etherparse_transport.specs.Translations.{is_query, is_reply, is_request, message_refusal, new_identifier, number, quoted_in, translated_in, translated_message, translated_query, with_bytes, with_number, with_quote, with_updated_checksum}
 use Rattle.ip_part.specs.declared.proto.Proto.{Proto}
 use Rattle.ip_part.specs.declared.proto.Proto.TheVariants as protos
 use Rattle.etherparse_transport.proofs.TranslationReading.{drop_after, drop_here, index_before, length_kept, message_kept, number_len, range_at, translated_len}
@@ -112,7 +112,7 @@ quote_back old new quoted translated quoted_too message fits range same same_too
 
 -- which bytes an error quotes, by its type and its length field
 abbrev quote_by : Bool → Bool → ℕ → List ℕ → Option (List ℕ)
-quote_by counts all n bytes = if counts then Some (if n == 0 then bytes else take n bytes) else (if all then Some bytes else None)
+quote_by counts all n bytes = if counts then Some (if nat_lt n 128 then bytes else take n bytes) else (if all then Some bytes else None)
 
 some_is : (first second : List ℕ) → Some first ≡ Some second → first ≡ second
 some_is first second same = ap (λ option. unwrap_or option first) same
@@ -132,19 +132,19 @@ counted_quote false n bytes changed quoted translated is same part =
 quote_kept : (counts all : Bool) (n : ℕ) (bytes changed quoted translated : List ℕ) → changed ≡ translated ++ drop (length translated) bytes
     → length translated ≡ length quoted → quote_by counts all n bytes ≡ Some quoted → quote_by counts all n changed ≡ Some translated
 quote_kept true all n bytes changed quoted translated is same quotes =
-    ap (λ quoted. Some quoted) (counted_quote (n == 0) n bytes changed quoted translated is same (some_is _ quoted quotes))
+    ap (λ quoted. Some quoted) (counted_quote (nat_lt n 128) n bytes changed quoted translated is same (some_is _ quoted quotes))
 quote_kept false true n bytes changed quoted translated is same quotes =
     ap (λ quoted. Some quoted) (whole_quote bytes changed quoted translated is same (some_is bytes quoted quotes))
 quote_kept false false n bytes changed quoted translated is same quotes = absurd (cc quotes)
 
 -- an error quotes the translated packet
-pub quotes_translated : (is_later_fragment : Bool) (proto : Proto) (old new : ℕ) (message quoted translated : List ℕ) → IsRange message quoted
+quotes_translated_of : (is_later_fragment : Bool) (proto : Proto) (old new : ℕ) (message quoted translated : List ℕ) → IsRange message quoted
     → length translated ≡ length quoted → quoted_in is_later_fragment (Some proto) message ≡ Some quoted
     → quoted_in is_later_fragment (Some proto) (with_quote old new quoted translated message) ≡ Some translated
-quotes_translated true proto old new message quoted translated range same quotes = absurd (cc quotes)
-quotes_translated false protos.Udp old new message quoted translated range same quotes = absurd (cc quotes)
-quotes_translated false protos.Tcp old new message quoted translated range same quotes = absurd (cc quotes)
-quotes_translated false protos.Icmpv4 old new message quoted translated range same quotes =
+quotes_translated_of true proto old new message quoted translated range same quotes = absurd (cc quotes)
+quotes_translated_of false protos.Udp old new message quoted translated range same quotes = absurd (cc quotes)
+quotes_translated_of false protos.Tcp old new message quoted translated range same quotes = absurd (cc quotes)
+quotes_translated_of false protos.Icmpv4 old new message quoted translated range same quotes =
     let there : 8 + length translated ≤ length message = omega (arith, range.within, same) in
     let changed : List ℕ = with_quote old new quoted translated message in
     let type : ℕ = slice_index message 0 in
@@ -154,15 +154,15 @@ quotes_translated false protos.Icmpv4 old new message quoted translated range sa
     (quote_byte old new 5 quoted translated message there (inr (omega arith)) (omega arith))
     ∙ quote_kept (type == 3 || (type == 11 || type == 12)) (type == 4 || type == 5) (slice_index message 5 * 4) (drop 8 message) (drop 8 changed)
     quoted translated (quote_there old new quoted translated message there) same quotes
-quotes_translated false protos.Icmpv6 old new message quoted translated range same quotes =
+quotes_translated_of false protos.Icmpv6 old new message quoted translated range same quotes =
     let there : 8 + length translated ≤ length message = omega (arith, range.within, same) in
     let changed : List ℕ = with_quote old new quoted translated message in
     let type : ℕ = slice_index message 0 in
-    ap (λ type. quote_by (type == 1 || type == 3) (type == 2 || type == 4) (slice_index changed 4 * 8) (drop 8 changed))
+    ap (λ type. quote_by (type == 1 || type == 3) (nat_lt type 128) (slice_index changed 4 * 8) (drop 8 changed))
     (quote_byte old new 0 quoted translated message there (inl (omega arith)) (omega arith))
-    ∙ ap (λ n. quote_by (type == 1 || type == 3) (type == 2 || type == 4) (n * 8) (drop 8 changed))
+    ∙ ap (λ n. quote_by (type == 1 || type == 3) (nat_lt type 128) (n * 8) (drop 8 changed))
     (quote_byte old new 4 quoted translated message there (inr (omega arith)) (omega arith))
-    ∙ quote_kept (type == 1 || type == 3) (type == 2 || type == 4) (slice_index message 4 * 8) (drop 8 message) (drop 8 changed)
+    ∙ quote_kept (type == 1 || type == 3) (nat_lt type 128) (slice_index message 4 * 8) (drop 8 message) (drop 8 changed)
     quoted translated (quote_there old new quoted translated message there) same quotes
 
 -- ---- a message without a quoted packet
@@ -172,48 +172,48 @@ none_by true all n n_too bytes changed none = absurd (cc none)
 none_by false true n n_too bytes changed none = absurd (cc none)
 none_by false false n n_too bytes changed none = refl
 
-icmpv4_byte : (k : ℕ) (is_an_echo : Bool) (identifier : Option ℕ) (message : List ℕ) → k < 2
-    → slice_index (if is_an_echo then translated_echo 0 0 identifier message else message) k ≡ slice_index message k
+icmpv4_byte : (k : ℕ) (is_a_query : Bool) (identifier : Option ℕ) (message : List ℕ) → k < 2
+    → slice_index (if is_a_query then translated_query 0 0 identifier message else message) k ≡ slice_index message k
 icmpv4_byte k false identifier message before = refl
 icmpv4_byte k true identifier message before = before_both _ _ k message before
 
-icmpv6_byte : (k : ℕ) (is_an_echo : Bool) (old new : ℕ) (identifier : Option ℕ) (message : List ℕ) → k < 2
-    → slice_index (if is_an_echo then translated_echo old new identifier message else with_updated_checksum old new message) k ≡ slice_index message k
+icmpv6_byte : (k : ℕ) (is_a_query : Bool) (old new : ℕ) (identifier : Option ℕ) (message : List ℕ) → k < 2
+    → slice_index (if is_a_query then translated_query old new identifier message else with_updated_checksum old new message) k ≡ slice_index message k
 icmpv6_byte k false old new identifier message before = other_by (nat_le 4 (length message)) 2 _ k message refl (inl before)
 icmpv6_byte k true old new identifier message before = before_both _ _ k message before
 
 -- a translated message quotes no packet if the message quotes none
-pub quotes_none : (is_later_fragment : Bool) (proto : Proto) (old new : ℕ) (source destination : Option ℕ) (message : List ℕ)
+quotes_none_of : (is_later_fragment : Bool) (proto : Proto) (old new : ℕ) (source destination : Option ℕ) (message : List ℕ)
     → quoted_in is_later_fragment (Some proto) message ≡ None
     → quoted_in is_later_fragment (Some proto) (translated_in is_later_fragment (Some proto) old new source destination message) ≡ None
-quotes_none true proto old new source destination message none = refl
-quotes_none false protos.Udp old new source destination message none = refl
-quotes_none false protos.Tcp old new source destination message none = refl
-quotes_none false protos.Icmpv4 old new source destination message none =
+quotes_none_of true proto old new source destination message none = refl
+quotes_none_of false protos.Udp old new source destination message none = refl
+quotes_none_of false protos.Tcp old new source destination message none = refl
+quotes_none_of false protos.Icmpv4 old new source destination message none =
     let changed : List ℕ = translated_message protos.Icmpv4 old new source destination message in
     let type : ℕ = slice_index message 0 in
     ap (λ type. quote_by (type == 3 || (type == 11 || type == 12)) (type == 4 || type == 5) (slice_index changed 5 * 4) (drop 8 changed))
-    (icmpv4_byte 0 (is_echo 8 0 message) (new_identifier 8 source destination message) message (omega arith))
+    (icmpv4_byte 0 (is_query protos.Icmpv4 message) (new_identifier protos.Icmpv4 source destination message) message (omega arith))
     ∙ none_by (type == 3 || (type == 11 || type == 12)) (type == 4 || type == 5) (slice_index message 5 * 4) (slice_index changed 5 * 4) (drop 8 message) (drop 8 changed) none
-quotes_none false protos.Icmpv6 old new source destination message none =
+quotes_none_of false protos.Icmpv6 old new source destination message none =
     let changed : List ℕ = translated_message protos.Icmpv6 old new source destination message in
     let type : ℕ = slice_index message 0 in
-    ap (λ type. quote_by (type == 1 || type == 3) (type == 2 || type == 4) (slice_index changed 4 * 8) (drop 8 changed))
-    (icmpv6_byte 0 (is_echo 128 129 message) old new (new_identifier 128 source destination message) message (omega arith))
-    ∙ none_by (type == 1 || type == 3) (type == 2 || type == 4) (slice_index message 4 * 8) (slice_index changed 4 * 8) (drop 8 message) (drop 8 changed) none
+    ap (λ type. quote_by (type == 1 || type == 3) (nat_lt type 128) (slice_index changed 4 * 8) (drop 8 changed))
+    (icmpv6_byte 0 (is_query protos.Icmpv6 message) old new (new_identifier protos.Icmpv6 source destination message) message (omega arith))
+    ∙ none_by (type == 1 || type == 3) (nat_lt type 128) (slice_index message 4 * 8) (slice_index changed 4 * 8) (drop 8 message) (drop 8 changed) none
 
 long_enough : (len min : ℕ) → nat_lt len min ≡ false → min ≤ len
 long_enough len min whole = grind (arith, nat_tests)
 
 -- the quoted packet of an accepted error is a range of it
-pub quoted_range : (is_later_fragment : Bool) (proto : Proto) (message quoted : List ℕ) → message_refusal is_later_fragment (Some proto) message ≡ None
+quoted_range_of : (is_later_fragment : Bool) (proto : Proto) (message quoted : List ℕ) → message_refusal is_later_fragment (Some proto) message ≡ None
     → quoted_in is_later_fragment (Some proto) message ≡ Some quoted → IsRange message quoted
-quoted_range true proto message quoted accepted quotes = absurd (cc quotes)
-quoted_range false protos.Udp message quoted accepted quotes = absurd (cc quotes)
-quoted_range false protos.Tcp message quoted accepted quotes = absurd (cc quotes)
-quoted_range false protos.Icmpv4 message quoted accepted quotes =
+quoted_range_of true proto message quoted accepted quotes = absurd (cc quotes)
+quoted_range_of false protos.Udp message quoted accepted quotes = absurd (cc quotes)
+quoted_range_of false protos.Tcp message quoted accepted quotes = absurd (cc quotes)
+quoted_range_of false protos.Icmpv4 message quoted accepted quotes =
     icmpv4_quoted_range message quoted (long_enough (length message) 8 (none_if (nat_lt (length message) 8) _ (none_first _ _ accepted).0)) quotes
-quoted_range false protos.Icmpv6 message quoted accepted quotes =
+quoted_range_of false protos.Icmpv6 message quoted accepted quotes =
     icmpv6_quoted_range message quoted (long_enough (length message) 8 (none_if (nat_lt (length message) 8) _ (none_first _ _ accepted).0)) quotes
 
 -- ---- a message that is accepted again
@@ -230,11 +230,10 @@ IsAlikeOf protos.Tcp message changed = length changed ≡ length message
 IsAlikeOf protos.Icmpv4 message changed = IsAlike message changed
 IsAlikeOf protos.Icmpv6 message changed = IsAlike message changed
 
-echo_alike : (request reply : ℕ) (message changed : List ℕ) → IsAlike message changed → is_echo request reply changed ≡ is_echo request reply message
-echo_alike request reply message changed alike =
-    let by : ℕ → ℕ → ℕ → Bool = λ len type code. nat_le 6 len && ((type == request || type == reply) && code == 0) in
-    ap (λ len. by len (slice_index changed 0) (slice_index changed 1)) alike.len
-    ∙ ap (λ type. by (length message) type (slice_index changed 1)) alike.type ∙ ap (by (length message) (slice_index message 0)) alike.code
+query_alike : (proto : Proto) (message changed : List ℕ) → IsAlike message changed → is_query proto changed ≡ is_query proto message
+query_alike proto message changed alike =
+    let by : ℕ → ℕ → Bool = λ len type. nat_le 6 len && (is_request proto type || is_reply proto type) in
+    ap (λ len. by len (slice_index changed 0)) alike.len ∙ ap (by (length message)) alike.type
 
 icmpv4_alike : (message changed : List ℕ) → IsAlike message changed → icmpv4.refusal changed ≡ icmpv4.refusal message
 icmpv4_alike message changed alike =
@@ -261,25 +260,27 @@ accepted_alike true proto message changed alike quotes = refl
 accepted_alike false protos.Udp message changed alike quotes =
     ap (λ len. first_of (refused_if (nat_lt len 8) (HeaderCutOff 8 len) ∷ None ∷ [])) alike
 accepted_alike false protos.Tcp message changed alike quotes =
-    ap (λ len. first_of (refused_if (nat_lt len 20) (HeaderCutOff 20 len) ∷ None ∷ [])) alike
+    ap (λ len. first_of (refused_if (nat_lt len 8) (HeaderCutOff 8 len) ∷ None ∷ [])) alike
 accepted_alike false protos.Icmpv4 message changed alike quotes =
-    let by : ℕ → Bool → Option LenError → Bool → Option TranslateError = λ len is_an_echo refusal is_no_error. first_of (
+    let by : ℕ → Bool → Option LenError → ℕ → Bool → Option TranslateError = λ len is_a_query refusal type is_no_error. first_of (
     refused_if (nat_lt len 8) (HeaderCutOff 8 len)
-    ∷ refused_if (not is_an_echo && (is_some refusal || is_no_error)) IcmpMessage
+    ∷ refused_if (not is_a_query && (is_some refusal || ((type == 5) || is_no_error))) IcmpMessage
     ∷ []) in
-    ap (λ len. by len (is_echo 8 0 changed) (icmpv4.refusal changed) (is_none (quoted_by_icmpv4 changed))) alike.len
-    ∙ ap (λ is_an_echo. by (length message) is_an_echo (icmpv4.refusal changed) (is_none (quoted_by_icmpv4 changed))) (echo_alike 8 0 message changed alike)
-    ∙ ap (λ refusal. by (length message) (is_echo 8 0 message) refusal (is_none (quoted_by_icmpv4 changed))) (icmpv4_alike message changed alike)
-    ∙ ap (by (length message) (is_echo 8 0 message) (icmpv4.refusal message)) quotes
+    let type : ℕ = slice_index changed 0 in
+    ap (λ len. by len (is_query protos.Icmpv4 changed) (icmpv4.refusal changed) type (is_none (quoted_by_icmpv4 changed))) alike.len
+    ∙ ap (λ is_a_query. by (length message) is_a_query (icmpv4.refusal changed) type (is_none (quoted_by_icmpv4 changed))) (query_alike protos.Icmpv4 message changed alike)
+    ∙ ap (λ refusal. by (length message) (is_query protos.Icmpv4 message) refusal type (is_none (quoted_by_icmpv4 changed))) (icmpv4_alike message changed alike)
+    ∙ ap (λ type. by (length message) (is_query protos.Icmpv4 message) (icmpv4.refusal message) type (is_none (quoted_by_icmpv4 changed))) alike.type
+    ∙ ap (by (length message) (is_query protos.Icmpv4 message) (icmpv4.refusal message) (slice_index message 0)) quotes
 accepted_alike false protos.Icmpv6 message changed alike quotes =
-    let by : ℕ → Bool → Option LenError → Bool → Option TranslateError = λ len is_an_echo refusal is_no_error. first_of (
+    let by : ℕ → Bool → Option LenError → Bool → Option TranslateError = λ len is_a_query refusal is_no_error. first_of (
     refused_if (nat_lt len 8) (HeaderCutOff 8 len)
-    ∷ refused_if (not is_an_echo && (is_some refusal || is_no_error)) IcmpMessage
+    ∷ refused_if (not is_a_query && (is_some refusal || is_no_error)) IcmpMessage
     ∷ []) in
-    ap (λ len. by len (is_echo 128 129 changed) (icmpv6.refusal changed) (is_none (quoted_by_icmpv6 changed))) alike.len
-    ∙ ap (λ is_an_echo. by (length message) is_an_echo (icmpv6.refusal changed) (is_none (quoted_by_icmpv6 changed))) (echo_alike 128 129 message changed alike)
-    ∙ ap (λ refusal. by (length message) (is_echo 128 129 message) refusal (is_none (quoted_by_icmpv6 changed))) (icmpv6_alike message changed alike)
-    ∙ ap (by (length message) (is_echo 128 129 message) (icmpv6.refusal message)) quotes
+    ap (λ len. by len (is_query protos.Icmpv6 changed) (icmpv6.refusal changed) (is_none (quoted_by_icmpv6 changed))) alike.len
+    ∙ ap (λ is_a_query. by (length message) is_a_query (icmpv6.refusal changed) (is_none (quoted_by_icmpv6 changed))) (query_alike protos.Icmpv6 message changed alike)
+    ∙ ap (λ refusal. by (length message) (is_query protos.Icmpv6 message) refusal (is_none (quoted_by_icmpv6 changed))) (icmpv6_alike message changed alike)
+    ∙ ap (by (length message) (is_query protos.Icmpv6 message) (icmpv6.refusal message)) quotes
 
 alike_of : (proto : Proto) (message changed : List ℕ) → IsAlike message changed → IsAlikeOf proto message changed
 alike_of protos.Udp message changed alike = alike.len
@@ -292,36 +293,36 @@ ports_alike : (proto : Proto) (old new : ℕ) (source destination : Option ℕ) 
 ports_alike protos.Udp old new source destination message = translated_len protos.Udp old new source destination message
 ports_alike protos.Tcp old new source destination message = translated_len protos.Tcp old new source destination message
 ports_alike protos.Icmpv4 old new source destination message =
-    let identifier : Option ℕ = new_identifier 8 source destination message in
+    let identifier : Option ℕ = new_identifier protos.Icmpv4 source destination message in
     record {
       len = translated_len protos.Icmpv4 old new source destination message;
-      type = icmpv4_byte 0 (is_echo 8 0 message) identifier message (omega arith);
-      code = icmpv4_byte 1 (is_echo 8 0 message) identifier message (omega arith);
+      type = icmpv4_byte 0 (is_query protos.Icmpv4 message) identifier message (omega arith);
+      code = icmpv4_byte 1 (is_query protos.Icmpv4 message) identifier message (omega arith);
     }
 ports_alike protos.Icmpv6 old new source destination message =
-    let identifier : Option ℕ = new_identifier 128 source destination message in
+    let identifier : Option ℕ = new_identifier protos.Icmpv6 source destination message in
     record {
       len = translated_len protos.Icmpv6 old new source destination message;
-      type = icmpv6_byte 0 (is_echo 128 129 message) old new identifier message (omega arith);
-      code = icmpv6_byte 1 (is_echo 128 129 message) old new identifier message (omega arith);
+      type = icmpv6_byte 0 (is_query protos.Icmpv6 message) old new identifier message (omega arith);
+      code = icmpv6_byte 1 (is_query protos.Icmpv6 message) old new identifier message (omega arith);
     }
 
 -- a message with new ports
-pub ports_accepted : (is_later_fragment : Bool) (proto : Proto) (old new : ℕ) (source destination : Option ℕ) (message : List ℕ)
+ports_accepted_of : (is_later_fragment : Bool) (proto : Proto) (old new : ℕ) (source destination : Option ℕ) (message : List ℕ)
     → quoted_in is_later_fragment (Some proto) message ≡ None → message_refusal is_later_fragment (Some proto) message ≡ None
     → message_refusal is_later_fragment (Some proto) (translated_in is_later_fragment (Some proto) old new source destination message) ≡ None
-ports_accepted true proto old new source destination message none accepted = refl
-ports_accepted false proto old new source destination message none accepted =
+ports_accepted_of true proto old new source destination message none accepted = refl
+ports_accepted_of false proto old new source destination message none accepted =
     let changed : List ℕ = translated_message proto old new source destination message in
     accepted_alike false proto message changed (ports_alike proto old new source destination message)
-    (ap (λ quoted. is_none quoted) (quotes_none false proto old new source destination message none ∙ sym none)) ∙ accepted
+    (ap (λ quoted. is_none quoted) (quotes_none_of false proto old new source destination message none ∙ sym none)) ∙ accepted
 
 -- an error with a translated packet
-pub error_accepted : (is_later_fragment : Bool) (proto : Proto) (old new : ℕ) (message quoted translated : List ℕ) → IsRange message quoted
+error_accepted_of : (is_later_fragment : Bool) (proto : Proto) (old new : ℕ) (message quoted translated : List ℕ) → IsRange message quoted
     → length translated ≡ length quoted → quoted_in is_later_fragment (Some proto) message ≡ Some quoted
     → message_refusal is_later_fragment (Some proto) message ≡ None
     → message_refusal is_later_fragment (Some proto) (with_quote old new quoted translated message) ≡ None
-error_accepted is_later_fragment proto old new message quoted translated range same quotes accepted =
+error_accepted_of is_later_fragment proto old new message quoted translated range same quotes accepted =
     let there : 8 + length translated ≤ length message = omega (arith, range.within, same) in
     let changed : List ℕ = with_quote old new quoted translated message in
     accepted_alike is_later_fragment proto message changed
@@ -330,11 +331,41 @@ error_accepted is_later_fragment proto old new message quoted translated range s
       type = quote_byte old new 0 quoted translated message there (inl (omega arith)) (omega arith);
       code = quote_byte old new 1 quoted translated message there (inl (omega arith)) (omega arith);
     }))
-    (ap (λ quoted. is_none quoted) (quotes_translated is_later_fragment proto old new message quoted translated range same quotes)
+    (ap (λ quoted. is_none quoted) (quotes_translated_of is_later_fragment proto old new message quoted translated range same quotes)
     ∙ sym (ap (λ quoted. is_none quoted) quotes)) ∙ accepted
 
--- ---- options
+-- ---- a message of any protocol
 
-pub some_of : {T : Type 0} (option : Option T) → is_none option ≡ false → (value : T) × (option ≡ Some value)
-some_of None some = absurd (cc some)
-some_of (Some value) some = (value, refl)
+pub quotes_translated : (is_later_fragment : Bool) (proto : Option Proto) (old new : ℕ) (message quoted translated : List ℕ) → IsRange message quoted
+    → length translated ≡ length quoted → quoted_in is_later_fragment proto message ≡ Some quoted
+    → quoted_in is_later_fragment proto (with_quote old new quoted translated message) ≡ Some translated
+quotes_translated is_later_fragment None old new message quoted translated range same quotes = absurd (cc quotes)
+quotes_translated is_later_fragment (Some proto) old new message quoted translated range same quotes =
+    quotes_translated_of is_later_fragment proto old new message quoted translated range same quotes
+
+pub quotes_none : (is_later_fragment : Bool) (proto : Option Proto) (old new : ℕ) (source destination : Option ℕ) (message : List ℕ)
+    → quoted_in is_later_fragment proto message ≡ None
+    → quoted_in is_later_fragment proto (translated_in is_later_fragment proto old new source destination message) ≡ None
+quotes_none is_later_fragment None old new source destination message none = refl
+quotes_none is_later_fragment (Some proto) old new source destination message none =
+    quotes_none_of is_later_fragment proto old new source destination message none
+
+pub quoted_range : (is_later_fragment : Bool) (proto : Option Proto) (message quoted : List ℕ) → message_refusal is_later_fragment proto message ≡ None
+    → quoted_in is_later_fragment proto message ≡ Some quoted → IsRange message quoted
+quoted_range is_later_fragment None message quoted accepted quotes = absurd (cc quotes)
+quoted_range is_later_fragment (Some proto) message quoted accepted quotes = quoted_range_of is_later_fragment proto message quoted accepted quotes
+
+pub ports_accepted : (is_later_fragment : Bool) (proto : Option Proto) (old new : ℕ) (source destination : Option ℕ) (message : List ℕ)
+    → quoted_in is_later_fragment proto message ≡ None → message_refusal is_later_fragment proto message ≡ None
+    → message_refusal is_later_fragment proto (translated_in is_later_fragment proto old new source destination message) ≡ None
+ports_accepted is_later_fragment None old new source destination message none accepted = refl
+ports_accepted is_later_fragment (Some proto) old new source destination message none accepted =
+    ports_accepted_of is_later_fragment proto old new source destination message none accepted
+
+pub error_accepted : (is_later_fragment : Bool) (proto : Option Proto) (old new : ℕ) (message quoted translated : List ℕ) → IsRange message quoted
+    → length translated ≡ length quoted → quoted_in is_later_fragment proto message ≡ Some quoted
+    → message_refusal is_later_fragment proto message ≡ None
+    → message_refusal is_later_fragment proto (with_quote old new quoted translated message) ≡ None
+error_accepted is_later_fragment None old new message quoted translated range same quotes accepted = absurd (cc quotes)
+error_accepted is_later_fragment (Some proto) old new message quoted translated range same quotes accepted =
+    error_accepted_of is_later_fragment proto old new message quoted translated range same quotes accepted

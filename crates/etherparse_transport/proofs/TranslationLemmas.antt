@@ -1,5 +1,5 @@
 -- Laws of the translation of packets.
-use Rattle.std.proofs.Common.{◌≡◌, ℕ, ◌+◌, ◌-◌, ◌*◌, ◌%◌, ◌^◌, ◌≤◌, ◌==◌, ◌&&◌, not, Bool, true, false, if◌then◌else◌, List, [], ◌∷◌, ◌++◌, take, drop, slice_index, slice_range, length, Option, Some, None, Result, Ok, Err, refl, sym, ap, ◌∙◌, subst, arith}
+use Rattle.std.proofs.Common.{◌≡◌, ℕ, ◌+◌, ◌-◌, ◌*◌, ◌%◌, ◌^◌, ◌≤◌, ◌==◌, ◌&&◌, ◌||◌, not, Bool, true, false, if◌then◌else◌, List, [], ◌∷◌, ◌++◌, take, drop, slice_index, slice_range, length, Option, Some, None, Result, Ok, Err, refl, sym, ap, ◌∙◌, subst, arith}
 use Rattle.std.proofs.lemmas.Bool.Decides.{nat_tests}
 use Rattle.std.proofs.lemmas.List.{drop-drop, drop-take, get_or-take, length-take, length-drop, length-take-le, take-append-drop, take_all, take_at}
 use borrow.Rule.Slice.PartMut.{put_mid}
@@ -23,8 +23,8 @@ use Rattle.etherparse_transport.proofs.BuiltLemmas.{none_first, none_if}
 use Rattle.etherparse_transport.proofs.EchoReplyLemmas.{is_number}
 use Rattle.etherparse_transport.proofs.UpdatedAlike.{translated_alike}
 use Rattle.etherparse_transport.specs.Packets.{number_of}
-use Rattle.etherparse_transport.specs.Ipv4Translations.{IsIpv4Place, has_source_route, ipv4_addresses, ipv4_flow_message, ipv4_is_later_fragment, ipv4_message_refusal, ipv4_place_refusal, ipv4_proto, ipv4_quoted, ipv4_quoted_refusal, ipv4_refusal, message_in_ipv4, sum_of_ipv4}
-use Rattle.etherparse_transport.specs.Ipv6Translations.{IsIpv6Place, ipv6_addresses, ipv6_flow_message, ipv6_is_later_fragment, ipv6_message_refusal, ipv6_place_refusal, ipv6_proto, ipv6_protocol, ipv6_quoted, ipv6_quoted_refusal, ipv6_refusal, message_in_ipv6, sum_of_ipv6}
+use Rattle.etherparse_transport.specs.Ipv4Translations.{IsIpv4Place, has_source_route, ipv4_addresses, ipv4_flow_message, ipv4_is_later_fragment, ipv4_message_refusal, ipv4_place_refusal, ipv4_proto, ipv4_quoted, ipv4_quoted_refusal, ipv4_refusal_by, covers_ipv4_addresses, message_in_ipv4, sum_of_ipv4}
+use Rattle.etherparse_transport.specs.Ipv6Translations.{IsIpv6Place, ipv6_addresses, ipv6_flow_message, ipv6_is_later_fragment, ipv6_message_refusal, ipv6_place_refusal, ipv6_proto, ipv6_protocol, ipv6_quoted, ipv6_quoted_refusal, ipv6_refusal_by, covers_ipv6_addresses, message_in_ipv6, sum_of_ipv6}
 use Rattle.etherparse_transport.specs.Translations.{AreUpdatedAlike, counted_after, message_refusal, quoted_in, translated_in, with_bytes}
 use Rattle.std.specs.Prelude.{is_none, nat_lt}
 use Rattle.std.specs.Option.{option_map}
@@ -64,6 +64,23 @@ no_authentication protos.Tcp = refl
 no_authentication protos.Icmpv4 = refl
 no_authentication protos.Icmpv6 = refl
 
+-- the first test and the second test of some fail
+first_false : (first rest : Bool) → (first || rest) ≡ false → first ≡ false
+first_false true rest is = is
+first_false false rest is = refl
+
+second_false : (first rest : Bool) → (first || rest) ≡ false → rest ≡ false
+second_false true rest is = absurd (cc is)
+second_false false rest is = is
+
+-- the number of an accepted protocol over IPv4 is not the number of an authentication header
+pub ipv4_accepts : (has_port : Bool) (source destination : List ℕ) (number : ℕ) (proto : Option Proto) → proto ≡ proto_over (Ipv4 source destination) number
+    → (is_none proto && (has_port || covers_ipv4_addresses number)) ≡ false → (number == 51) ≡ false
+ipv4_accepts has_port source destination number None is accepted =
+    first_false (number == 51) _ (second_false has_port (covers_ipv4_addresses number) accepted)
+ipv4_accepts has_port source destination number (Some proto) is accepted =
+    ap (λ number. number == 51) (ipv4_number source destination number proto is) ∙ no_authentication proto
+
 -- the headers of a success
 headers_or : Headers → Result Headers IpError → Headers
 headers_or other (Ok headers) = headers
@@ -82,13 +99,12 @@ first_is_last packet found carries last =
     ap (headers_or (first_headers packet)) (sym carries.read
     ∙ ended (length (counted found.is_length_missing packet)) (first_headers packet) (counted found.is_length_missing packet) last)
 
-ipv4_headers_len : (packet : List ℕ) (found : TransportInIp) (proto : Proto) (carries : Carries packet found) → version packet ≡ 4
-    → slice_index (ip.ipv4_header packet) 9 ≡ number_of proto → carries.headers.len ≡ ipv4_header_len packet
-ipv4_headers_len packet found proto carries is known =
+ipv4_headers_len : (packet : List ℕ) (found : TransportInIp) (carries : Carries packet found) → version packet ≡ 4
+    → (slice_index (ip.ipv4_header packet) 9 == 51) ≡ false → carries.headers.len ≡ ipv4_header_len packet
+ipv4_headers_len packet found carries is other =
     let four : Headers = ip.ipv4_headers (ipv4_header_len packet) (ip.ipv4_header packet) in
     let first : first_headers packet ≡ four =
     ap (λ v. if v == 4 then four else ip.ipv6_headers (ip.is_jumbogram packet) (ip.ipv6_header packet)) is in
-    let other : (slice_index (ip.ipv4_header packet) 9 == 51) ≡ false = ap (λ number. number == 51) known ∙ no_authentication proto in
     let last : is_extended four ≡ false =
     ap (λ b. (b && (ipv4_fragment_offset (ip.ipv4_header packet) == 0)) && is_extension (slice_index (ip.ipv4_header packet) 9)) other in
     ap (λ headers. headers.len) (first_is_last packet found carries (ap is_extended first ∙ last) ∙ first)
@@ -123,18 +139,18 @@ put_is place end bytes new len =
 
 -- ---- the message of a packet
 
-pub ipv4_flow_message_is : (new : Ipv4Translation) (packet bytes : List ℕ) (is_later_fragment : Bool) (proto : Proto) (removed added : ℕ)
-    → bytes ≡ message_in_ipv4 packet → is_later_fragment ≡ ipv4_is_later_fragment packet → Some proto ≡ ipv4_proto packet
+pub ipv4_flow_message_is : (new : Ipv4Translation) (packet bytes : List ℕ) (is_later_fragment : Bool) (proto : Option Proto) (removed added : ℕ)
+    → bytes ≡ message_in_ipv4 packet → is_later_fragment ≡ ipv4_is_later_fragment packet → proto ≡ ipv4_proto packet
     → removed ≡ sum_of_ipv4 (ipv4_header_of packet) → added ≡ sum_of_ipv4 (ipv4_addresses new packet)
-    → translated_in is_later_fragment (Some proto) removed added new.source_port new.destination_port bytes ≡ ipv4_flow_message new packet
+    → translated_in is_later_fragment proto removed added new.source_port new.destination_port bytes ≡ ipv4_flow_message new packet
 ipv4_flow_message_is new packet bytes is_later_fragment proto removed added message later known is is_too =
     let message_of : Bool → Option Proto → ℕ → ℕ → List ℕ → List ℕ = λ later proto removed added bytes.
     translated_in later proto removed added new.source_port new.destination_port bytes in
     let later_is : Bool = ipv4_is_later_fragment packet in
-    ap (message_of is_later_fragment (Some proto) removed added) message
-    ∙ ap (λ later. message_of later (Some proto) removed added (message_in_ipv4 packet)) later
-    ∙ ap (λ removed. message_of later_is (Some proto) removed added (message_in_ipv4 packet)) is
-    ∙ ap (λ added. message_of later_is (Some proto) (sum_of_ipv4 (ipv4_header_of packet)) added (message_in_ipv4 packet)) is_too
+    ap (message_of is_later_fragment proto removed added) message
+    ∙ ap (λ later. message_of later proto removed added (message_in_ipv4 packet)) later
+    ∙ ap (λ removed. message_of later_is proto removed added (message_in_ipv4 packet)) is
+    ∙ ap (λ added. message_of later_is proto (sum_of_ipv4 (ipv4_header_of packet)) added (message_in_ipv4 packet)) is_too
     ∙ ap (λ proto. message_of later_is proto (sum_of_ipv4 (ipv4_header_of packet)) (sum_of_ipv4 (ipv4_addresses new packet)) (message_in_ipv4 packet)) known
 
 -- ---- the quoted packet
@@ -179,10 +195,10 @@ quoted_or other None = other
 quoted_or other (Some quoted) = quoted
 
 quoted_by_kind : (counts all : Bool) (n : ℕ) (message quoted : List ℕ) → 8 ≤ length message
-    → (if counts then Some (if n == 0 then drop 8 message else take n (drop 8 message)) else (if all then Some (drop 8 message) else None)) ≡ Some quoted
+    → (if counts then Some (if nat_lt n 128 then drop 8 message else take n (drop 8 message)) else (if all then Some (drop 8 message) else None)) ≡ Some quoted
     → IsRange message quoted
 unfolding quoted_or
-quoted_by_kind true all n message quoted long is = subst (IsRange message) (ap (quoted_or []) is) (quoted_counted (n == 0) n message long)
+quoted_by_kind true all n message quoted long is = subst (IsRange message) (ap (quoted_or []) is) (quoted_counted (nat_lt n 128) n message long)
 quoted_by_kind false true n message quoted long is = subst (IsRange message) (ap (quoted_or []) is) (all_range message long)
 quoted_by_kind false false n message quoted long is = absurd (cc is)
 
@@ -204,22 +220,24 @@ ipv4_later_is packet found over five =
     ∙ ap (λ low. not (((0 * 256 + slice_index packet 6) * 256 + low) % 2 ^ 13 == 0)) (get_or-take n packet 7 0 (omega (arith, five)))
 
 -- an accepted packet and the protocol that its header names
-pub record IsIpv4Found (packet : List ℕ) (found : TransportInIp) (proto : Proto) : Type 0 where
+pub record IsIpv4Found (packet : List ℕ) (found : TransportInIp) (proto : Option Proto) : Type 0 where
   pub carries : Carries packet found
   pub missing : found.is_length_missing ≡ ip.lacks_len packet
   pub begins : BeginsWithIpv4Header packet
   pub over : IsOverIpv4 packet found
-  pub known : Some proto ≡ proto_over (by_value found.addresses) (slice_index (ip.ipv4_header packet) 9)
+  pub known : proto ≡ proto_over (by_value found.addresses) (slice_index (ip.ipv4_header packet) 9)
+  pub has_port : Bool
+  pub accepted : (is_none proto && (has_port || covers_ipv4_addresses (slice_index (ip.ipv4_header packet) 9))) ≡ false
 
-pub ipv4_place_is : (packet : List ℕ) (found : TransportInIp) (proto : Proto) (place : Place) → IsIpv4Found packet found proto
+pub ipv4_place_is : (packet : List ℕ) (found : TransportInIp) (proto : Option Proto) (place : Place) → IsIpv4Found packet found proto
     → place.start ≡ length (ip.ipv4_header packet) → place.end ≡ place.start + length found.payload.now → place.proto ≡ proto
     → place.is_later_fragment ≡ found.is_later_fragment → IsIpv4Place packet place
 ipv4_place_is packet found proto place at start_is end is later =
     let start : place.start ≡ ipv4_header_len packet = start_is ∙ length-take-le (ipv4_header_len packet) packet at.begins.whole in
-    let known : Some proto ≡ proto_over (Ipv4 [] []) (slice_index (ip.ipv4_header packet) 9) =
+    let known : proto ≡ proto_over (Ipv4 [] []) (slice_index (ip.ipv4_header packet) 9) =
     at.known ∙ ap (λ addresses. proto_over addresses (slice_index (ip.ipv4_header packet) 9)) at.over.addresses in
     let len : at.carries.headers.len ≡ place.start =
-    ipv4_headers_len packet found proto at.carries at.begins.is_version_4 (ipv4_number [] [] _ proto known) ∙ sym start in
+    ipv4_headers_len packet found at.carries at.begins.is_version_4 (ipv4_accepts at.has_port [] [] _ proto known at.accepted) ∙ sym start in
     record {
       is_ipv4 = at.begins.is_version_4;
       start = start;
@@ -236,14 +254,14 @@ ipv4_place_is packet found proto place at start_is end is later =
         at.carries.within,
         length-take (counted_len found.is_length_missing packet) packet,
       );
-      proto = ap (λ proto. Some proto) is ∙ known
+      proto = is ∙ known
           ∙ ap (proto_over (Ipv4 [] [])) (get_or-take (ipv4_header_len packet) packet 9 0 (omega (arith, at.begins.five_words)));
       later = later ∙ ipv4_later_is packet found at.over at.begins.five_words;
     }
 
 -- the rules for a message and its quoted packet, by the place of the message
-pub record IsIpv4Left (packet : List ℕ) (quoted : Option (List ℕ)) : Type 0 where
-  pub refusal : ipv4_refusal packet ≡ ipv4_quoted_refusal quoted
+pub record IsIpv4Left (has_port has_quoted_port : Bool) (packet : List ℕ) (quoted : Option (List ℕ)) : Type 0 where
+  pub refusal : ipv4_refusal_by has_port has_quoted_port packet ≡ ipv4_quoted_refusal has_quoted_port quoted
   pub quoted_is : ipv4_quoted packet ≡ quoted
 
 first_of_one : {E : Type 0} (rule : Option E) → first_of (rule ∷ []) ≡ rule
@@ -254,65 +272,69 @@ pub last_of_three : {E : Type 0} (first second third : Option E) → first ≡ N
 last_of_three first second third is is_too =
     ap (λ first. first_of (first ∷ second ∷ third ∷ [])) is ∙ ap (λ second. first_of (second ∷ third ∷ [])) is_too ∙ first_of_one third
 
-pub ipv4_left : (packet : List ℕ) (place : Place) (quoted : Option (List ℕ)) → IsIpv4Place packet place → ipv4_place_refusal packet ≡ None
-    → message_refusal place.is_later_fragment (Some place.proto) (slice_range packet place.start place.end) ≡ None
-    → quoted_in place.is_later_fragment (Some place.proto) (slice_range packet place.start place.end) ≡ quoted
-    → IsIpv4Left packet quoted
-ipv4_left packet place quoted at found accepted quotes =
+pub ipv4_left : (has_port has_quoted_port : Bool) (packet : List ℕ) (place : Place) (quoted : Option (List ℕ)) → IsIpv4Place packet place
+    → ipv4_place_refusal has_port packet ≡ None
+    → message_refusal place.is_later_fragment place.proto (slice_range packet place.start place.end) ≡ None
+    → quoted_in place.is_later_fragment place.proto (slice_range packet place.start place.end) ≡ quoted
+    → IsIpv4Left has_port has_quoted_port packet quoted
+ipv4_left has_port has_quoted_port packet place quoted at found accepted quotes =
     let message : List ℕ = message_in_ipv4 packet in
     let later : Bool = ipv4_is_later_fragment packet in
     let no_error : ipv4_message_refusal packet ≡ None =
-    sym (ap (message_refusal place.is_later_fragment (Some place.proto)) at.message
-    ∙ ap (λ later. message_refusal later (Some place.proto) message) at.later
+    sym (ap (message_refusal place.is_later_fragment place.proto) at.message
+    ∙ ap (λ later. message_refusal later place.proto message) at.later
     ∙ ap (λ proto. message_refusal later proto message) at.proto) ∙ accepted in
     let quoted_is : ipv4_quoted packet ≡ quoted =
-    sym (ap (quoted_in place.is_later_fragment (Some place.proto)) at.message
-    ∙ ap (λ later. quoted_in later (Some place.proto) message) at.later
+    sym (ap (quoted_in place.is_later_fragment place.proto) at.message
+    ∙ ap (λ later. quoted_in later place.proto message) at.later
     ∙ ap (λ proto. quoted_in later proto message) at.proto) ∙ quotes in
     record {
-      refusal = last_of_three (ipv4_place_refusal packet) (ipv4_message_refusal packet) (ipv4_quoted_refusal (ipv4_quoted packet)) found no_error
-          ∙ ap ipv4_quoted_refusal quoted_is;
+      refusal = last_of_three (ipv4_place_refusal has_port packet) (ipv4_message_refusal packet)
+          (ipv4_quoted_refusal has_quoted_port (ipv4_quoted packet)) found no_error
+          ∙ ap (ipv4_quoted_refusal has_quoted_port) quoted_is;
       quoted_is = quoted_is;
     }
 
 -- ---- IPv6
 
-pub ipv6_flow_message_is : (new : Ipv6Translation) (packet bytes : List ℕ) (is_later_fragment : Bool) (proto : Proto) (removed added : ℕ)
-    → bytes ≡ message_in_ipv6 packet → is_later_fragment ≡ ipv6_is_later_fragment packet → Some proto ≡ ipv6_proto packet
+pub ipv6_flow_message_is : (new : Ipv6Translation) (packet bytes : List ℕ) (is_later_fragment : Bool) (proto : Option Proto) (removed added : ℕ)
+    → bytes ≡ message_in_ipv6 packet → is_later_fragment ≡ ipv6_is_later_fragment packet → proto ≡ ipv6_proto packet
     → AreUpdatedAlike removed added (sum_of_ipv6 (ipv6_header_of packet)) (sum_of_ipv6 (ipv6_addresses new packet))
-    → translated_in is_later_fragment (Some proto) removed added new.source_port new.destination_port bytes ≡ ipv6_flow_message new packet
+    → translated_in is_later_fragment proto removed added new.source_port new.destination_port bytes ≡ ipv6_flow_message new packet
 ipv6_flow_message_is new packet bytes is_later_fragment proto removed added message later known alike =
     let message_of : Bool → Option Proto → ℕ → ℕ → List ℕ → List ℕ = λ later proto removed added bytes.
     translated_in later proto removed added new.source_port new.destination_port bytes in
     let later_is : Bool = ipv6_is_later_fragment packet in
-    ap (message_of is_later_fragment (Some proto) removed added) message
-    ∙ ap (λ later. message_of later (Some proto) removed added (message_in_ipv6 packet)) later
+    ap (message_of is_later_fragment proto removed added) message
+    ∙ ap (λ later. message_of later proto removed added (message_in_ipv6 packet)) later
     ∙ ap (λ proto. message_of later_is proto removed added (message_in_ipv6 packet)) known
     ∙ translated_alike later_is (ipv6_proto packet) removed added _ _ new.source_port new.destination_port (message_in_ipv6 packet) alike
 
 -- the rules for a message and its quoted packet, by the place of the message
-pub record IsIpv6Left (packet : List ℕ) (quoted : Option (List ℕ)) : Type 0 where
-  pub refusal : ipv6_refusal packet ≡ ipv6_quoted_refusal quoted
+pub record IsIpv6Left (has_port has_quoted_port : Bool) (packet : List ℕ) (quoted : Option (List ℕ)) : Type 0 where
+  pub refusal : ipv6_refusal_by has_port has_quoted_port packet ≡ ipv6_quoted_refusal has_quoted_port quoted
   pub quoted_is : ipv6_quoted packet ≡ quoted
 
-pub ipv6_left : (packet : List ℕ) (place : Place) (quoted : Option (List ℕ)) → IsIpv6Place packet place → ipv6_place_refusal packet ≡ None
-    → message_refusal place.is_later_fragment (Some place.proto) (slice_range packet place.start place.end) ≡ None
-    → quoted_in place.is_later_fragment (Some place.proto) (slice_range packet place.start place.end) ≡ quoted
-    → IsIpv6Left packet quoted
-ipv6_left packet place quoted at found accepted quotes =
+pub ipv6_left : (has_port has_quoted_port : Bool) (packet : List ℕ) (place : Place) (quoted : Option (List ℕ)) → IsIpv6Place packet place
+    → ipv6_place_refusal has_port packet ≡ None
+    → message_refusal place.is_later_fragment place.proto (slice_range packet place.start place.end) ≡ None
+    → quoted_in place.is_later_fragment place.proto (slice_range packet place.start place.end) ≡ quoted
+    → IsIpv6Left has_port has_quoted_port packet quoted
+ipv6_left has_port has_quoted_port packet place quoted at found accepted quotes =
     let message : List ℕ = message_in_ipv6 packet in
     let later : Bool = ipv6_is_later_fragment packet in
     let no_error : ipv6_message_refusal packet ≡ None =
-    sym (ap (message_refusal place.is_later_fragment (Some place.proto)) at.message
-    ∙ ap (λ later. message_refusal later (Some place.proto) message) at.later
+    sym (ap (message_refusal place.is_later_fragment place.proto) at.message
+    ∙ ap (λ later. message_refusal later place.proto message) at.later
     ∙ ap (λ proto. message_refusal later proto message) at.proto) ∙ accepted in
     let quoted_is : ipv6_quoted packet ≡ quoted =
-    sym (ap (quoted_in place.is_later_fragment (Some place.proto)) at.message
-    ∙ ap (λ later. quoted_in later (Some place.proto) message) at.later
+    sym (ap (quoted_in place.is_later_fragment place.proto) at.message
+    ∙ ap (λ later. quoted_in later place.proto message) at.later
     ∙ ap (λ proto. quoted_in later proto message) at.proto) ∙ quotes in
     record {
-      refusal = last_of_three (ipv6_place_refusal packet) (ipv6_message_refusal packet) (ipv6_quoted_refusal (ipv6_quoted packet)) found no_error
-          ∙ ap ipv6_quoted_refusal quoted_is;
+      refusal = last_of_three (ipv6_place_refusal has_port packet) (ipv6_message_refusal packet)
+          (ipv6_quoted_refusal has_quoted_port (ipv6_quoted packet)) found no_error
+          ∙ ap (ipv6_quoted_refusal has_quoted_port) quoted_is;
       quoted_is = quoted_is;
     }
 
@@ -327,13 +349,26 @@ no_extension protos.Tcp = refl
 no_extension protos.Icmpv4 = refl
 no_extension protos.Icmpv6 = refl
 
+-- the number of an accepted protocol over IPv6 is not the number of an extension header
+pub ipv6_accepts : (has_port : Bool) (source : List ℕ) (destination : Option (List ℕ)) (number : ℕ) (proto : Option Proto)
+    → proto ≡ proto_over (Ipv6 source destination) number → (is_none proto && (has_port || covers_ipv6_addresses number)) ≡ false
+    → is_extension number ≡ false
+ipv6_accepts has_port source destination number None is accepted =
+    first_false (is_extension number) _ (second_false has_port (covers_ipv6_addresses number) accepted)
+ipv6_accepts has_port source destination number (Some proto) is accepted =
+    ap is_extension (ipv6_number source destination number proto is) ∙ no_extension proto
+
+-- it is not the number of hop-by-hop options
+pub no_hop_by_hop_options : (number : ℕ) → is_extension number ≡ false → (number == 0) ≡ false
+no_hop_by_hop_options number other = first_false (number == 0) _ other
+
 -- no extension header comes after the IPv6 header
-pub ipv6_ended : (packet : List ℕ) (proto : Proto) → version packet ≡ 6 → ip.next_header packet ≡ number_of proto
+pub ipv6_ended : (packet : List ℕ) → version packet ≡ 6 → is_extension (ip.next_header packet) ≡ false
     → is_extended (first_headers packet) ≡ false
-ipv6_ended packet proto is known =
+ipv6_ended packet is other =
     ap (λ v. is_extended (if v == 4 then ip.ipv4_headers (ipv4_header_len packet) (ip.ipv4_header packet)
     else ip.ipv6_headers (ip.is_jumbogram packet) (ip.ipv6_header packet))) is
-    ∙ ap is_extension known ∙ no_extension proto
+    ∙ other
 
 -- the second rule accepts, since no rule refuses
 second_accepts : {E : Type 0} (first second : Bool) (error error_too : E) (rules : List (Option E))
@@ -373,10 +408,11 @@ not_version_4 true packet test accepted other =
     }))
 
 -- a packet that is read, and that does not begin with an IPv4 header, has another version
-pub no_version_4 : (packet : List ℕ) → ip.lax_refusal packet ≡ None → ¬ BeginsWithIpv4Header packet → ipv4_place_refusal packet ≡ Some OtherVersion
-no_version_4 packet accepted other =
+pub no_version_4 : (has_port : Bool) (packet : List ℕ) → ip.lax_refusal packet ≡ None → ¬ BeginsWithIpv4Header packet → ipv4_place_refusal has_port packet ≡ Some OtherVersion
+no_version_4 has_port packet accepted other =
     let last : List (Option TranslateError) = refused_if (has_source_route packet) SourceRoute
-    ∷ refused_if (is_none (ipv4_proto packet)) (Protocol (record { 0 = slice_index packet 9 })) ∷ [] in
+    ∷ refused_if (is_none (ipv4_proto packet) && (has_port || covers_ipv4_addresses (slice_index packet 9))) (Protocol (record { 0 = slice_index packet 9 }))
+    ∷ [] in
     ap (λ refusal. first_of (option_map Ip refusal ∷ refused_if (not (version packet == 4)) OtherVersion ∷ last)) accepted
     ∙ ap (λ is. first_of (None ∷ refused_if (not is) OtherVersion ∷ last)) (not_version_4 (version packet == 4) packet refl accepted other)
 
@@ -395,9 +431,10 @@ not_version_6 true packet test accepted other =
     absurd (other (record { whole = grind (arith, nat_tests, whole); is_version_6 = is }))
 
 -- a packet that is read, and that does not begin with an IPv6 header, has another version
-pub other_version : (packet : List ℕ) → ip.lax_refusal packet ≡ None → ¬ BeginsWithIpv6Header packet → ipv6_place_refusal packet ≡ Some OtherVersion
-other_version packet accepted other =
-    let last : Option TranslateError = refused_if (is_none (ipv6_proto packet)) (Protocol (record { 0 = ipv6_protocol packet })) in
+pub other_version : (has_port : Bool) (packet : List ℕ) → ip.lax_refusal packet ≡ None → ¬ BeginsWithIpv6Header packet → ipv6_place_refusal has_port packet ≡ Some OtherVersion
+other_version has_port packet accepted other =
+    let last : Option TranslateError =
+    refused_if (is_none (ipv6_proto packet) && (has_port || covers_ipv6_addresses (ipv6_protocol packet))) (Protocol (record { 0 = ipv6_protocol packet })) in
     ap (λ refusal. first_of (option_map Ip refusal ∷ refused_if (not (version packet == 6)) OtherVersion ∷ last ∷ [])) accepted
     ∙ ap (λ is. first_of (None ∷ refused_if (not is) OtherVersion ∷ last ∷ [])) (not_version_6 (version packet == 6) packet refl accepted other)
 
@@ -411,16 +448,19 @@ over_ipv6_addresses packet found after is =
     else Ipv6 (source_by (slice_range (ip.ipv6_header packet) 8 24) after.extensions)
     (destination_by (Some (slice_range (ip.ipv6_header packet) 24 40)) after.extensions)) is
 
-pub ipv6_no_proto : (packet : List ℕ) (found : TransportInIp) (number : IpNumber) → ip.lax_refusal packet ≡ None → version packet ≡ 6
-    → IsAfterHeaders packet found → number.0 ≡ ipv6_protocol packet → proto_over (by_value found.addresses) number.0 ≡ None
-    → ipv6_place_refusal packet ≡ Some (Protocol number)
-ipv6_no_proto packet found number accepted is after number_is other =
-    let none : ipv6_proto packet ≡ None =
-    sym (ap (λ addresses. proto_over addresses number.0) (over_ipv6_addresses packet found after is) ∙ ap (proto_over (Ipv6 [] None)) number_is) ∙ other in
+-- a protocol that is refused
+pub ipv6_no_proto : (has_port : Bool) (packet : List ℕ) (found : TransportInIp) (number : IpNumber) (proto : Option Proto) → ip.lax_refusal packet ≡ None
+    → version packet ≡ 6 → IsAfterHeaders packet found → number.0 ≡ ipv6_protocol packet → proto ≡ proto_over (by_value found.addresses) number.0
+    → (is_none proto && (has_port || covers_ipv6_addresses number.0)) ≡ true → ipv6_place_refusal has_port packet ≡ Some (Protocol number)
+ipv6_no_proto has_port packet found number proto accepted is after number_is known refused =
+    let proto_is : ipv6_proto packet ≡ proto =
+    sym (known ∙ ap (λ addresses. proto_over addresses number.0) (over_ipv6_addresses packet found after is) ∙ ap (proto_over (Ipv6 [] None)) number_is) in
+    let rule : Option Proto → ℕ → Option TranslateError = λ proto number.
+    refused_if (is_none proto && (has_port || covers_ipv6_addresses number)) (Protocol (record { 0 = number })) in
     let last : Option TranslateError → Option TranslateError = λ rule. first_of (None ∷ None ∷ rule ∷ []) in
     ap (λ refusal. first_of (option_map Ip refusal ∷ refused_if (not (version packet == 6)) OtherVersion
-    ∷ refused_if (is_none (ipv6_proto packet)) (Protocol (record { 0 = ipv6_protocol packet })) ∷ [])) accepted
-    ∙ ap (λ v. first_of (None ∷ refused_if (not (v == 6)) OtherVersion
-    ∷ refused_if (is_none (ipv6_proto packet)) (Protocol (record { 0 = ipv6_protocol packet })) ∷ [])) is
-    ∙ ap (λ proto. last (refused_if (is_none proto) (Protocol (record { 0 = ipv6_protocol packet })))) none
-    ∙ ap (λ n. Some (Protocol (record { 0 = n }))) (sym number_is)
+    ∷ rule (ipv6_proto packet) (ipv6_protocol packet) ∷ [])) accepted
+    ∙ ap (λ v. first_of (None ∷ refused_if (not (v == 6)) OtherVersion ∷ rule (ipv6_proto packet) (ipv6_protocol packet) ∷ [])) is
+    ∙ ap (λ proto. last (rule proto (ipv6_protocol packet))) proto_is
+    ∙ ap (λ n. last (rule proto n)) (sym number_is)
+    ∙ ap (λ b. last (refused_if b (Protocol (record { 0 = number.0 })))) refused

@@ -20,14 +20,15 @@ use Rattle.ip_part.proofs.HeadersLemmas.{ended}
 use Rattle.net_base.specs.Bytes.{flag}
 use Rattle.net_base.specs.IpHeaders.{ipv4_fragment_offset, ipv4_header_len, version}
 use Rattle.net_base.specs.Refusals.{first_of, refused_if}
-use Rattle.etherparse_transport.specs.Packets.{number_of}
 use Rattle.ip_part.specs.declared.proto.Proto.TheVariants as protos
 use Rattle.net_base.specs.StoredChecksum.{with_checksum}
 use Rattle.std.specs.Int.{to_be_bytes, w16}
-use Rattle.etherparse_transport.specs.Translations.{IsReadWith, is_echo, new_identifier, translated_echo, translated_in, translated_message, with_bytes, with_number, with_ports, with_updated_checksum}
+use Rattle.etherparse_transport.specs.Translations.{IsReadWith, is_query, new_identifier, translated_in, translated_message, translated_query, with_bytes, with_number, with_ports, with_updated_checksum}
 use Rattle.std.specs.Option.{option_map}
-use Rattle.etherparse_transport.specs.Ipv4Translations.{AreIpv4Addresses, IsIpv4Place, ipv4_addresses, ipv4_between, ipv4_flow_message, ipv4_is_later_fragment, ipv4_place_refusal, ipv4_proto, ipv4_with_message, has_source_route, message_in_ipv4, updated_header_checksum}
-use Rattle.etherparse_transport.specs.Ipv6Translations.{AreIpv6Addresses, IsIpv6Place, ipv6_addresses, ipv6_between, ipv6_flow_message, ipv6_has_fragment_header, ipv6_is_later_fragment, ipv6_place_refusal, ipv6_proto, ipv6_protocol, ipv6_start, ipv6_with_message, message_in_ipv6}
+use Rattle.etherparse_transport.proofs.SourceRouteLemmas.{no_route as route_read_too}
+use Rattle.etherparse_transport.specs.SourceRoutes.{contain_source_route}
+use Rattle.etherparse_transport.specs.Ipv4Translations.{AreIpv4Addresses, IsIpv4Place, ipv4_addresses, ipv4_between, ipv4_flow_message, ipv4_is_later_fragment, ipv4_place_refusal, ipv4_proto, ipv4_with_message, covers_ipv4_addresses, has_source_route, message_in_ipv4, updated_header_checksum}
+use Rattle.etherparse_transport.specs.Ipv6Translations.{AreIpv6Addresses, IsIpv6Place, covers_ipv6_addresses, ipv6_addresses, ipv6_between, ipv6_flow_message, ipv6_has_fragment_header, ipv6_is_later_fragment, ipv6_place_refusal, ipv6_proto, ipv6_protocol, ipv6_start, ipv6_with_message, message_in_ipv6}
 use Rattle.etherparse_transport.specs.declared.ip.ipv4_translation.Ipv4Translation.{Ipv4Translation}
 use Rattle.etherparse_transport.specs.declared.ip.ipv6_translation.Ipv6Translation.{Ipv6Translation}
 use Rattle.etherparse_transport.specs.declared.ip.message_place.Place.{Place}
@@ -36,7 +37,7 @@ use Rattle.etherparse_transport.proofs.BuiltLemmas.{mapped_none, none_first, non
 use Rattle.etherparse_transport.proofs.EchoReplyLemmas.{is_number, once}
 use Rattle.etherparse_transport.proofs.EchoRequestLemmas.{in_front}
 use Rattle.etherparse_transport.proofs.FragmentLemmas.{fragment_first_byte, fragment_read, fragment_room, ipv6_byte, ipv6_headers_are, no_jumbo_len, no_len_in_options, not_options}
-use Rattle.etherparse_transport.proofs.TranslationLemmas.{first_is_last, ipv4_number, ipv6_ended, ipv6_number, no_authentication}
+use Rattle.etherparse_transport.proofs.TranslationLemmas.{first_is_last, ipv4_accepts, ipv6_accepts, ipv6_ended}
 use borrow.Rule.Slice.PartMut.{put_mid}
 
 -- ---- replaced bytes
@@ -114,12 +115,12 @@ pub record IsKept (count : ℕ) (packet changed : List ℕ) : Type 0 where
   pub front : (k : ℕ) → k < count → slice_index changed k ≡ slice_index packet k
 
 -- an accepted packet without a source route
-pub record IsIpv4Flow (packet : List ℕ) (proto : Proto) : Type 0 where
+pub record IsIpv4Flow (packet : List ℕ) (proto : Option Proto) : Type 0 where
   pub accepted : lax_refusal packet ≡ None
   pub is_ipv4 : version packet ≡ 4
   pub five_words : 20 ≤ ipv4_header_len packet
   pub no_route : has_source_route packet ≡ false
-  pub number : slice_index packet 9 ≡ number_of proto
+  pub number : (slice_index packet 9 == 51) ≡ false
   pub there : ipv4_header_len packet ≤ length packet
 
 -- a packet with the length, the first ten bytes and the options of another packet
@@ -186,13 +187,12 @@ ipv4_header_accepted packet changed is is_too len header_len total_len =
     ∙ sym (ipv4_header_refusal_is packet is)
 
 -- no extension header comes next
-ipv4_ended : (packet : List ℕ) (proto : Proto) → IsIpv4Flow packet proto → is_extended (first_headers packet) ≡ false
+ipv4_ended : (packet : List ℕ) (proto : Option Proto) → IsIpv4Flow packet proto → is_extended (first_headers packet) ≡ false
 ipv4_ended packet proto flow =
     let four : Headers = ip.ipv4_headers (ipv4_header_len packet) (ip.ipv4_header packet) in
-    let number : slice_index (ip.ipv4_header packet) 9 ≡ number_of proto = header_byte packet flow.five_words 9 (omega arith) ∙ flow.number in
     ap (λ v. is_extended (if v == 4 then four else ip.ipv6_headers (ip.is_jumbogram packet) (ip.ipv6_header packet))) flow.is_ipv4
     ∙ ap (λ b. (b && (ipv4_fragment_offset (ip.ipv4_header packet) == 0)) && is_extension (slice_index (ip.ipv4_header packet) 9))
-    (ap (λ number. number == 51) number ∙ no_authentication proto)
+    (ap (λ number. number == 51) (header_byte packet flow.five_words 9 (omega arith)) ∙ flow.number)
 
 -- the packet is accepted if its header is
 accepted_by : (packet : List ℕ) → header_refusal packet ≡ None → is_extended (first_headers packet) ≡ false → lax_refusal packet ≡ None
@@ -200,7 +200,7 @@ accepted_by packet accepted last =
     ap (λ refusal. first_of (refusal ∷ error_of (headers_of (lacks_len packet) packet) ∷ [])) accepted
     ∙ ap (λ read. first_of (None ∷ error_of read ∷ [])) (ended (length (counted (lacks_len packet) packet)) (first_headers packet) (counted (lacks_len packet) packet) last)
 
-pub ipv4_flow_kept : (packet changed : List ℕ) (proto : Proto) → IsIpv4Kept packet changed → IsIpv4Flow packet proto → IsIpv4Flow changed proto
+pub ipv4_flow_kept : (packet changed : List ℕ) (proto : Option Proto) → IsIpv4Kept packet changed → IsIpv4Flow packet proto → IsIpv4Flow changed proto
 ipv4_flow_kept packet changed proto kept flow =
     let is : version changed ≡ 4 = ap (λ byte. byte / 16) (kept.front.front 0 (omega arith)) ∙ flow.is_ipv4 in
     let header_len : ipv4_header_len changed ≡ ipv4_header_len packet = header_len_kept packet changed kept in
@@ -209,23 +209,23 @@ ipv4_flow_kept packet changed proto kept flow =
     let header : header_refusal changed ≡ None =
     ipv4_header_accepted packet changed flow.is_ipv4 is kept.front.len header_len total_len
     ∙ (none_first (header_refusal packet) _ flow.accepted).0 in
-    let number : slice_index changed 9 ≡ number_of proto = kept.front.front 9 (omega arith) ∙ flow.number in
+    let number : (slice_index changed 9 == 51) ≡ false = ap (λ number. number == 51) (kept.front.front 9 (omega arith)) ∙ flow.number in
     let last : is_extended (first_headers changed) ≡ false =
     ap (λ v. is_extended (if v == 4 then ip.ipv4_headers (ipv4_header_len changed) (ip.ipv4_header changed)
     else ip.ipv6_headers (ip.is_jumbogram changed) (ip.ipv6_header changed))) is
     ∙ ap (λ b. (b && (ipv4_fragment_offset (ip.ipv4_header changed) == 0)) && is_extension (slice_index (ip.ipv4_header changed) 9))
-    (ap (λ number. number == 51) (header_byte changed five 9 (omega arith) ∙ number) ∙ no_authentication proto) in
+    (ap (λ number. number == 51) (header_byte changed five 9 (omega arith)) ∙ number) in
     record {
       accepted = accepted_by changed header last;
       is_ipv4 = is;
       five_words = five;
-      no_route = ap (λ bytes. is_some (find options.is_source_route (options_of ipv4_option bytes))) (options_kept packet changed kept flow.five_words)
+      no_route = ap contain_source_route (options_kept packet changed kept flow.five_words)
           ∙ flow.no_route;
       number = number;
       there = omega (arith, kept.front.len, header_len, flow.there);
     }
 
-ipv4_headers_are : (packet : List ℕ) (proto : Proto) (found : TransportInIp) (carries : Carries packet found) → IsIpv4Flow packet proto
+ipv4_headers_are : (packet : List ℕ) (proto : Option Proto) (found : TransportInIp) (carries : Carries packet found) → IsIpv4Flow packet proto
     → carries.headers ≡ ip.ipv4_headers (ipv4_header_len packet) (ip.ipv4_header packet)
 ipv4_headers_are packet proto found carries flow =
     first_is_last packet found carries (ipv4_ended packet proto flow)
@@ -252,10 +252,11 @@ ipv4_destination_is : (packet : List ℕ) → 20 ≤ ipv4_header_len packet → 
     → ip.ipv4_destination (ip.ipv4_header packet) ≡ slice_range packet 16 20
 ipv4_destination_is packet five no_route =
     ap (options.routed (slice_range (ip.ipv4_header packet) 16 20))
-    (none_there (find options.is_source_route (options_of ipv4_option (drop 20 (ip.ipv4_header packet)))) no_route)
+    (none_there (find options.is_source_route (options_of ipv4_option (drop 20 (ip.ipv4_header packet))))
+    (route_read_too (drop 20 (ip.ipv4_header packet)) no_route))
     ∙ in_front (ipv4_header_len packet) 16 4 packet (omega (arith, five))
 
-pub ipv4_reading : (packet changed source destination message : List ℕ) (proto : Proto) → IsIpv4Kept packet changed → IsIpv4Flow packet proto
+pub ipv4_reading : (packet changed source destination message : List ℕ) (proto : Option Proto) → IsIpv4Kept packet changed → IsIpv4Flow packet proto
     → slice_range changed 12 16 ≡ source → slice_range changed 16 20 ≡ destination
     → drop (ipv4_header_len packet) changed ≡ message ++ drop (ipv4_header_len packet + length message) packet
     → length message ≡ length (drop (ipv4_header_len packet) (counted (lacks_len packet) packet)) → ipv4_header_len packet ≤ counted_len (lacks_len packet) packet
@@ -392,23 +393,24 @@ number_len place value bytes = number_by (nat_le (place + 2) (length bytes)) pla
 pub ports_len : (source destination : Option ℕ) (message : List ℕ) → length (with_ports source destination message) ≡ length message
 ports_len source destination message = number_len 2 _ (with_number 0 _ message) ∙ number_len 0 _ message
 
-echo_len : (is_echo : Bool) (old new : ℕ) (identifier : Option ℕ) (message : List ℕ)
-    → length (if is_echo then translated_echo old new identifier message else message) ≡ length message
-echo_len false old new identifier message = refl
-echo_len true old new identifier message = number_len 2 _ (with_number 4 _ message) ∙ number_len 4 _ message
+query_len : (is_a_query : Bool) (old new : ℕ) (identifier : Option ℕ) (message : List ℕ)
+    → length (if is_a_query then translated_query old new identifier message else message) ≡ length message
+query_len false old new identifier message = refl
+query_len true old new identifier message = number_len 2 _ (with_number 4 _ message) ∙ number_len 4 _ message
 
-echo_or_other_len : (is_echo : Bool) (old new : ℕ) (identifier : Option ℕ) (message : List ℕ)
-    → length (if is_echo then translated_echo old new identifier message else with_updated_checksum old new message) ≡ length message
-echo_or_other_len false old new identifier message = number_len 2 _ message
-echo_or_other_len true old new identifier message = number_len 2 _ (with_number 4 _ message) ∙ number_len 4 _ message
+query_or_other_len : (is_a_query : Bool) (old new : ℕ) (identifier : Option ℕ) (message : List ℕ)
+    → length (if is_a_query then translated_query old new identifier message else with_updated_checksum old new message) ≡ length message
+query_or_other_len false old new identifier message = number_len 2 _ message
+query_or_other_len true old new identifier message = number_len 2 _ (with_number 4 _ message) ∙ number_len 4 _ message
 
 pub translated_len : (proto : Proto) (old new : ℕ) (source destination : Option ℕ) (message : List ℕ)
     → length (translated_message proto old new source destination message) ≡ length message
 translated_len protos.Udp old new source destination message = number_len 6 _ (with_ports source destination message) ∙ ports_len source destination message
 translated_len protos.Tcp old new source destination message = number_len 16 _ (with_ports source destination message) ∙ ports_len source destination message
-translated_len protos.Icmpv4 old new source destination message = echo_len (is_echo 8 0 message) 0 0 (new_identifier 8 source destination message) message
+translated_len protos.Icmpv4 old new source destination message =
+    query_len (is_query protos.Icmpv4 message) 0 0 (new_identifier protos.Icmpv4 source destination message) message
 translated_len protos.Icmpv6 old new source destination message =
-    echo_or_other_len (is_echo 128 129 message) old new (new_identifier 128 source destination message) message
+    query_or_other_len (is_query protos.Icmpv6 message) old new (new_identifier protos.Icmpv6 source destination message) message
 
 part_len : (is_later_fragment : Bool) (proto : Option Proto) (old new : ℕ) (source destination : Option ℕ) (message : List ℕ)
     → length (translated_in is_later_fragment proto old new source destination message) ≡ length message
@@ -421,8 +423,8 @@ part_len false (Some proto) old new source destination message = translated_len 
 pub ipv4_flow_message_len : (new : Ipv4Translation) (packet : List ℕ) → length (ipv4_flow_message new packet) ≡ length (message_in_ipv4 packet)
 ipv4_flow_message_len new packet = part_len (ipv4_is_later_fragment packet) (ipv4_proto packet) _ _ new.source_port new.destination_port (message_in_ipv4 packet)
 
-ipv4_flow_of : (packet : List ℕ) (place : Place) → ipv4_place_refusal packet ≡ None → IsIpv4Place packet place → IsIpv4Flow packet place.proto
-ipv4_flow_of packet place found at =
+ipv4_flow_of : (has_port : Bool) (packet : List ℕ) (place : Place) → ipv4_place_refusal has_port packet ≡ None → IsIpv4Place packet place → IsIpv4Flow packet place.proto
+ipv4_flow_of has_port packet place found at =
     let after_ip = none_first (option_map Ip (lax_refusal packet)) _ found in
     let after_version = none_first (refused_if (not (version packet == 4)) OtherVersion) _ after_ip.1 in
     let after_route = none_first (refused_if (has_source_route packet) SourceRoute) _ after_version.1 in
@@ -431,7 +433,8 @@ ipv4_flow_of packet place found at =
       is_ipv4 = is_number (version packet) 4 (once (version packet == 4) (none_if _ OtherVersion after_version.0));
       five_words = omega (arith, at.start, at.header);
       no_route = none_if (has_source_route packet) SourceRoute after_route.0;
-      number = ipv4_number (slice_range packet 12 16) (slice_range packet 16 20) (slice_index packet 9) place.proto at.proto;
+      number = ipv4_accepts has_port (slice_range packet 12 16) (slice_range packet 16 20) (slice_index packet 9) (ipv4_proto packet) refl
+          (none_if (is_none (ipv4_proto packet) && (has_port || covers_ipv4_addresses (slice_index packet 9))) _ (none_first _ _ after_route.1).0);
       there = omega (arith, at.start, at.ordered, at.there);
     }
 
@@ -456,7 +459,7 @@ unfolding ipv4_refusal_by
 within_by true len header_len total_len is there accepted = there
 within_by false len header_len total_len is there accepted = grind (arith, nat_tests)
 
-pub ipv4_within : (packet : List ℕ) (proto : Proto) → IsIpv4Flow packet proto → ipv4_header_len packet ≤ counted_len (lacks_len packet) packet
+pub ipv4_within : (packet : List ℕ) (proto : Option Proto) → IsIpv4Flow packet proto → ipv4_header_len packet ≤ counted_len (lacks_len packet) packet
 ipv4_within packet proto flow =
     let total : ℕ = ip.total_len packet in
     let accepted = sym (ipv4_header_refusal_is packet flow.is_ipv4) ∙ (none_first (header_refusal packet) _ flow.accepted).0 in
@@ -465,11 +468,11 @@ ipv4_within packet proto flow =
     ∙ ap (λ missing. if missing then length packet else total) (ipv4_lacks_len_is packet flow.is_ipv4) in
     subst (λ n. ipv4_header_len packet ≤ n) (sym counts) (within_by (total == 0) (length packet) (ipv4_header_len packet) total refl flow.there accepted)
 
-pub ipv4_read : (new : Ipv4Translation) (packet changed message : List ℕ) (place : Place) → ipv4_place_refusal packet ≡ None → IsIpv4Place packet place
+pub ipv4_read : (has_port : Bool) (new : Ipv4Translation) (packet changed message : List ℕ) (place : Place) → ipv4_place_refusal has_port packet ≡ None → IsIpv4Place packet place
     → AreIpv4Addresses (ipv4_addresses new packet) → length message ≡ length (message_in_ipv4 packet) → changed ≡ ipv4_with_message new message packet
     → IsReadWith packet changed (ipv4_between new packet) message
-ipv4_read new packet changed message place found at four same is =
-    let flow : IsIpv4Flow packet place.proto = ipv4_flow_of packet place found at in
+ipv4_read has_port new packet changed message place found at four same is =
+    let flow : IsIpv4Flow packet place.proto = ipv4_flow_of has_port packet place found at in
     let source : List ℕ = (ipv4_addresses new packet).source in
     let destination : List ℕ = (ipv4_addresses new packet).destination in
     let n : ℕ = counted_len (lacks_len packet) packet in
@@ -494,10 +497,10 @@ if_ok (Err error) p q r all = p
 -- ---- IPv6
 
 -- an accepted packet whose message comes after its header or its fragment header
-pub record IsIpv6Flow (packet : List ℕ) (proto : Proto) : Type 0 where
+pub record IsIpv6Flow (packet : List ℕ) (proto : Option Proto) : Type 0 where
   pub accepted : lax_refusal packet ≡ None
   pub is_ipv6 : version packet ≡ 6
-  pub number : ipv6_protocol packet ≡ number_of proto
+  pub number : is_extension (ipv6_protocol packet) ≡ false
   pub there : ipv6_start packet ≤ length packet
 
 -- a packet with the length, the first eight bytes and the fragment header of another packet
@@ -540,11 +543,11 @@ ipv6_header_by : (is_empty : Bool) (len : ℕ)
 ipv6_header_by true len accepted = absurd (cc accepted)
 ipv6_header_by false len accepted = grind (arith, nat_tests)
 
-pub ipv6_header_there : (packet : List ℕ) (proto : Proto) → lax_refusal packet ≡ None → version packet ≡ 6 → ipv6_protocol packet ≡ number_of proto
+pub ipv6_header_there : (packet : List ℕ) (proto : Option Proto) → lax_refusal packet ≡ None → version packet ≡ 6 → is_extension (ipv6_protocol packet) ≡ false
     → 40 ≤ length packet
 ipv6_header_there packet proto accepted is number =
     ipv6_header_by (length packet == 0) (length packet)
-    (sym (ipv6_header_refusal_is packet is (not_options packet proto number)) ∙ (none_first (header_refusal packet) _ accepted).0)
+    (sym (ipv6_header_refusal_is packet is (not_options packet number)) ∙ (none_first (header_refusal packet) _ accepted).0)
 
 -- a result without an error
 ok_of : {T E : Type 0} (result : Result T E) → error_of result ≡ None → (value : T) × (result ≡ Ok value)
@@ -559,28 +562,28 @@ ipv6_room packet accepted is number =
     let read = ok_of (headers_of (lacks_len packet) packet) (none_first (error_of (headers_of (lacks_len packet) packet)) [] after_header.1).0 in
     fragment_room (lacks_len packet) packet read.0 read.1 is number
 
-accepted_by_start : (has : Bool) (packet : List ℕ) (proto : Proto) → has ≡ (slice_index packet 6 == 44) → version packet ≡ 6
-    → (if has then slice_index packet 40 else slice_index packet 6) ≡ number_of proto → header_refusal packet ≡ None
+accepted_by_start : (has : Bool) (packet : List ℕ) (proto : Option Proto) → has ≡ (slice_index packet 6 == 44) → version packet ≡ 6
+    → is_extension (if has then slice_index packet 40 else slice_index packet 6) ≡ false → header_refusal packet ≡ None
     → (slice_index packet 6 ≡ 44 → 48 ≤ length (counted (lacks_len packet) packet)) → lax_refusal packet ≡ None
 accepted_by_start true packet proto test is known accepted room =
     let number : slice_index packet 6 ≡ 44 = is_number (slice_index packet 6) 44 (sym test) in
     ap (λ refusal. first_of (refusal ∷ error_of (headers_of (lacks_len packet) packet) ∷ [])) accepted
-    ∙ ap (λ read. first_of (None ∷ error_of read ∷ [])) (fragment_read (lacks_len packet) packet proto is number known (room number))
+    ∙ ap (λ read. first_of (None ∷ error_of read ∷ [])) (fragment_read (lacks_len packet) packet is number known (room number))
 accepted_by_start false packet proto test is known accepted room =
-    accepted_by packet accepted (ipv6_ended packet proto is (ipv6_byte packet 6 (omega arith) ∙ known))
+    accepted_by packet accepted (ipv6_ended packet is (ap is_extension (ipv6_byte packet 6 (omega arith)) ∙ known))
 
-ipv6_lacks_len_is : (packet : List ℕ) (proto : Proto) → version packet ≡ 6 → ipv6_protocol packet ≡ number_of proto
+ipv6_lacks_len_is : (packet : List ℕ) (proto : Option Proto) → version packet ≡ 6 → is_extension (ipv6_protocol packet) ≡ false
     → lacks_len packet ≡ is_none (if ip.payload_len packet == 0 && not (ip.next_header packet == 59) then None else Some (40 + ip.payload_len packet))
 ipv6_lacks_len_is packet proto is known =
     ap (λ v. is_none (if v == 4 then ip.ipv4_stated_len packet
     else ip.ipv6_stated_len (ip.jumbo_len packet) (ip.payload_len packet) (ip.next_header packet))) is
-    ∙ ap (λ jumbo. is_none (ip.ipv6_stated_len jumbo (ip.payload_len packet) (ip.next_header packet))) (no_jumbo_len packet (not_options packet proto known))
+    ∙ ap (λ jumbo. is_none (ip.ipv6_stated_len jumbo (ip.payload_len packet) (ip.next_header packet))) (no_jumbo_len packet (not_options packet known))
 
-ipv6_counted_len_is : (missing : Bool) (packet : List ℕ) (proto : Proto) → version packet ≡ 6 → ipv6_protocol packet ≡ number_of proto
+ipv6_counted_len_is : (missing : Bool) (packet : List ℕ) (proto : Option Proto) → version packet ≡ 6 → is_extension (ipv6_protocol packet) ≡ false
     → counted_len missing packet ≡ (if missing then length packet else 40 + ip.payload_len packet)
 ipv6_counted_len_is missing packet proto is known =
     ap (λ v. if missing then length packet else if v == 4 then ip.total_len packet else 40 + unwrap_or (ip.jumbo_len packet) (ip.payload_len packet)) is
-    ∙ ap (λ jumbo. if missing then length packet else 40 + unwrap_or jumbo (ip.payload_len packet)) (no_jumbo_len packet (not_options packet proto known))
+    ∙ ap (λ jumbo. if missing then length packet else 40 + unwrap_or jumbo (ip.payload_len packet)) (no_jumbo_len packet (not_options packet known))
 
 -- the kept bytes state the same length
 pub record StatesAlike (packet changed : List ℕ) : Type 0 where
@@ -589,7 +592,7 @@ pub record StatesAlike (packet changed : List ℕ) : Type 0 where
   pub lacks : lacks_len changed ≡ lacks_len packet
   pub counts : (missing : Bool) → counted_len missing changed ≡ counted_len missing packet
 
-pub states_alike : (packet changed : List ℕ) (proto : Proto) → IsIpv6Kept packet changed → version packet ≡ 6 → ipv6_protocol packet ≡ number_of proto
+pub states_alike : (packet changed : List ℕ) (proto : Option Proto) → IsIpv6Kept packet changed → version packet ≡ 6 → is_extension (ipv6_protocol packet) ≡ false
     → StatesAlike packet changed
 states_alike packet changed proto kept is number =
     let is_too : version changed ≡ 6 = ap (λ byte. byte / 16) (kept.front.front 0 (omega arith)) ∙ is in
@@ -600,25 +603,25 @@ states_alike packet changed proto kept is number =
     record {
       is_ipv6 = is_too;
       known = known;
-      lacks = ipv6_lacks_len_is changed proto is_too (known ∙ number)
+      lacks = ipv6_lacks_len_is changed proto is_too (ap is_extension known ∙ number)
           ∙ ap (λ n. is_none (if n == 0 && not (ip.next_header changed == 59) then None else Some (40 + n))) payload_len
           ∙ ap (λ number. is_none (if ip.payload_len packet == 0 && not (number == 59) then None else Some (40 + ip.payload_len packet))) (byte 6 (omega arith))
           ∙ sym (ipv6_lacks_len_is packet proto is number);
       counts = λ missing.
-          ipv6_counted_len_is missing changed proto is_too (known ∙ number)
+          ipv6_counted_len_is missing changed proto is_too (ap is_extension known ∙ number)
           ∙ ap (λ n. if missing then n else 40 + ip.payload_len changed) kept.front.len ∙ ap (λ n. if missing then length packet else 40 + n) payload_len
           ∙ sym (ipv6_counted_len_is missing packet proto is number);
     }
 
-pub ipv6_flow_kept : (packet changed : List ℕ) (proto : Proto) → IsIpv6Kept packet changed → IsIpv6Flow packet proto → IsIpv6Flow changed proto
+pub ipv6_flow_kept : (packet changed : List ℕ) (proto : Option Proto) → IsIpv6Kept packet changed → IsIpv6Flow packet proto → IsIpv6Flow changed proto
 ipv6_flow_kept packet changed proto kept flow =
     let alike : StatesAlike packet changed = states_alike packet changed proto kept flow.is_ipv6 flow.number in
-    let number : ipv6_protocol changed ≡ number_of proto = alike.known ∙ flow.number in
+    let number : is_extension (ipv6_protocol changed) ≡ false = ap is_extension alike.known ∙ flow.number in
     let by : ℕ → Option IpError = λ len.
     if len == 0 then Some (HeaderCutOff 1 0) else first_of (refused_if (nat_lt len 40) (HeaderCutOff 40 len) ∷ None ∷ []) in
     let header : header_refusal changed ≡ None =
-    ipv6_header_refusal_is changed alike.is_ipv6 (not_options changed proto number) ∙ ap by kept.front.len
-    ∙ sym (ipv6_header_refusal_is packet flow.is_ipv6 (not_options packet proto flow.number)) ∙ (none_first (header_refusal packet) _ flow.accepted).0 in
+    ipv6_header_refusal_is changed alike.is_ipv6 (not_options changed number) ∙ ap by kept.front.len
+    ∙ sym (ipv6_header_refusal_is packet flow.is_ipv6 (not_options packet flow.number)) ∙ (none_first (header_refusal packet) _ flow.accepted).0 in
     let room : slice_index changed 6 ≡ 44 → 48 ≤ length (counted (lacks_len changed) changed) = λ is.
     omega (
       arith,
@@ -636,7 +639,7 @@ ipv6_flow_kept packet changed proto kept flow =
       there = omega (arith, kept.front.len, start_kept packet changed kept, flow.there);
     }
 
-pub ipv6_reading : (packet changed source destination message : List ℕ) (proto : Proto) → IsIpv6Kept packet changed → IsIpv6Flow packet proto
+pub ipv6_reading : (packet changed source destination message : List ℕ) (proto : Option Proto) → IsIpv6Kept packet changed → IsIpv6Flow packet proto
     → slice_range changed 8 24 ≡ source → slice_range changed 24 40 ≡ destination
     → drop (ipv6_start packet) changed ≡ message ++ drop (ipv6_start packet + length message) packet
     → length message ≡ length (drop (ipv6_start packet) (counted (lacks_len packet) packet)) → ipv6_start packet ≤ counted_len (lacks_len packet) packet
@@ -655,8 +658,8 @@ ipv6_reading packet changed source destination message proto kept flow source_is
     record {
       accepted = flow_too.accepted;
       found = λ was found carries missing carries_too missing_too.
-          let headers = ipv6_headers_are packet was proto carries flow.is_ipv6 flow.number in
-          let headers_too = ipv6_headers_are changed found proto carries_too flow_too.is_ipv6 flow_too.number in
+          let headers = ipv6_headers_are packet was carries flow.is_ipv6 flow.number in
+          let headers_too = ipv6_headers_are changed found carries_too flow_too.is_ipv6 flow_too.number in
           let missing_is : found.is_length_missing ≡ was.is_length_missing = missing_too ∙ alike.lacks ∙ sym missing in
           record {
             addresses = carries_too.addresses ∙ headers_too.addresses
@@ -742,14 +745,15 @@ pub ipv6_flow_message_len : (new : Ipv6Translation) (packet : List ℕ) → leng
 ipv6_flow_message_len new packet =
     part_len (ipv6_is_later_fragment packet) (ipv6_proto packet) _ _ new.source_port new.destination_port (message_in_ipv6 packet)
 
-ipv6_flow_of : (packet : List ℕ) (place : Place) → ipv6_place_refusal packet ≡ None → IsIpv6Place packet place → IsIpv6Flow packet place.proto
-ipv6_flow_of packet place found at =
+ipv6_flow_of : (has_port : Bool) (packet : List ℕ) (place : Place) → ipv6_place_refusal has_port packet ≡ None → IsIpv6Place packet place → IsIpv6Flow packet place.proto
+ipv6_flow_of has_port packet place found at =
     let after_ip = none_first (option_map Ip (lax_refusal packet)) _ found in
     let after_version = none_first (refused_if (not (version packet == 6)) OtherVersion) _ after_ip.1 in
     record {
       accepted = mapped_none Ip (lax_refusal packet) after_ip.0;
       is_ipv6 = is_number (version packet) 6 (once (version packet == 6) (none_if _ OtherVersion after_version.0));
-      number = ipv6_number (slice_range packet 8 24) (Some (slice_range packet 24 40)) (ipv6_protocol packet) place.proto at.proto;
+      number = ipv6_accepts has_port (slice_range packet 8 24) (Some (slice_range packet 24 40)) (ipv6_protocol packet) (ipv6_proto packet) refl
+          (none_if (is_none (ipv6_proto packet) && (has_port || covers_ipv6_addresses (ipv6_protocol packet))) _ (none_first _ _ after_version.1).0);
       there = omega (arith, at.start, at.ordered, at.there);
     }
 
@@ -762,7 +766,7 @@ within_by_start true n within room = room refl
 within_by_start false n within room = within
 
 -- the counted bytes contain the headers
-pub ipv6_within : (packet : List ℕ) (proto : Proto) → IsIpv6Flow packet proto → 40 ≤ length packet → ipv6_start packet ≤ counted_len (lacks_len packet) packet
+pub ipv6_within : (packet : List ℕ) (proto : Option Proto) → IsIpv6Flow packet proto → 40 ≤ length packet → ipv6_start packet ≤ counted_len (lacks_len packet) packet
 ipv6_within packet proto flow there =
     within_by_start (ipv6_has_fragment_header packet) (counted_len (lacks_len packet) packet)
     (subst (λ n. 40 ≤ n) (sym (ipv6_counted_len_is (lacks_len packet) packet proto flow.is_ipv6 flow.number))
@@ -773,11 +777,11 @@ ipv6_within packet proto flow there =
       length-take (counted_len (lacks_len packet) packet) packet,
     ))
 
-pub ipv6_read : (new : Ipv6Translation) (packet changed message : List ℕ) (place : Place) → ipv6_place_refusal packet ≡ None → IsIpv6Place packet place
+pub ipv6_read : (has_port : Bool) (new : Ipv6Translation) (packet changed message : List ℕ) (place : Place) → ipv6_place_refusal has_port packet ≡ None → IsIpv6Place packet place
     → AreIpv6Addresses (ipv6_addresses new packet) → length message ≡ length (message_in_ipv6 packet) → changed ≡ ipv6_with_message new message packet
     → IsReadWith packet changed (ipv6_between new packet) message
-ipv6_read new packet changed message place found at four same is =
-    let flow : IsIpv6Flow packet place.proto = ipv6_flow_of packet place found at in
+ipv6_read has_port new packet changed message place found at four same is =
+    let flow : IsIpv6Flow packet place.proto = ipv6_flow_of has_port packet place found at in
     let source : List ℕ = (ipv6_addresses new packet).source in
     let destination : List ℕ = (ipv6_addresses new packet).destination in
     let n : ℕ = counted_len (lacks_len packet) packet in

@@ -1,7 +1,8 @@
 -- Laws of the sums of translated messages: what the replaced words change, and that a receiver's check gives the same result.
-use Rattle.std.proofs.Common.{◌≡◌, ◌≢◌, ◌⊎◌, ℕ, ◌+◌, ◌-◌, ◌/◌, ◌%◌, ◌<◌, ◌≤◌, ◌*◌, ◌==◌, ◌&&◌, ◌||◌, nat_le, zero, suc, Bool, true, false, if◌then◌else◌, List, [], ◌∷◌, ◌++◌, take, drop, slice_index, slice_range, length, Option, Some, None, Result, Ok, Err, inl, inr, refl, sym, ap, ◌∙◌, subst, arith}
+use Rattle.std.proofs.Common.{◌≡◌, ◌≢◌, ◌⊎◌, ℕ, ◌+◌, ◌-◌, ◌/◌, ◌%◌, ◌<◌, ◌≤◌, ◌*◌, ◌==◌, ◌&&◌, ◌||◌, nat_le, nat_lt, zero, suc, Bool, true, false, if◌then◌else◌, List, [], ◌∷◌, ◌++◌, take, drop, slice_index, slice_range, length, Option, Some, None, Result, Ok, Err, inl, inr, refl, sym, ap, ◌∙◌, subst, arith}
 use Rattle.std.specs.Prelude.{IfOk, ◌↔◌}
 use Rattle.std.specs.Int.{to_be_bytes, w16, w32}
+use Rattle.std.proofs.Math.Logic.{⊎_elim}
 use Rattle.std.proofs.lemmas.Bool.Decides.{nat_tests}
 use Rattle.std.proofs.lemmas.List.{drop-drop, drop-take, get_or-take, length-drop, length-take-le, take-append-drop, take-take}
 use lib.Seq.{drop-cons}
@@ -20,8 +21,8 @@ use Rattle.net_base.specs.declared.ipv4_header.Ipv4Header.{Ipv4Header}
 use Rattle.net_base.specs.declared.ipv6_header.Ipv6Header.{Ipv6Header}
 use Rattle.word_sum.specs.UpdatedChecksum.{TurnsIntoBy, updated_checksum_of}
 use Rattle.etherparse_transport.specs.Ipv4Translations.{AreIpv4Addresses, IsHeaderAccepted, IsIpv4Accepted, IsIpv4Place, ipv4_addresses, ipv4_flow_message, ipv4_is_later_fragment, ipv4_quoted, ipv4_pseudo_header_of, sum_of_ipv4, IsIpv4ErrorAccepted, ipv4_proto, message_in_ipv4}
-use Rattle.etherparse_transport.specs.Ipv6Translations.{AreIpv6Addresses, IsIpv6Accepted, IsIpv6Place, ipv6_addresses, ipv6_flow_message, ipv6_is_later_fragment, ipv6_quoted, ipv6_pseudo_header_of, message_in_ipv6, sum_of_ipv6, IsIpv6ErrorAccepted, ipv6_proto}
-use Rattle.etherparse_transport.specs.Translations.{AreUpdatedAlike, HaveSums, IsAcceptedAlike, IsUpdated, is_echo, number, quoted_by, quoted_in, with_bytes, with_number}
+use Rattle.etherparse_transport.specs.Ipv6Translations.{AreIpv6Addresses, IsIpv6Accepted, IsIpv6Place, ipv6_addresses, ipv6_flow_message, ipv6_is_later_fragment, ipv6_quoted, ipv6_pseudo_header_of, message_in_ipv6, sum_of_ipv6, IsIpv6ErrorAccepted}
+use Rattle.etherparse_transport.specs.Translations.{AreUpdatedAlike, HaveSums, IsAcceptedAlike, IsUpdated, is_query, is_reply, is_request, number, rest_of_message, quoted_by, quoted_in, with_bytes, with_number}
 use Rattle.etherparse_transport.specs.declared.ip.ipv4_translation.Ipv4Translation.{Ipv4Translation}
 use Rattle.etherparse_transport.specs.declared.ip.ipv6_translation.Ipv6Translation.{Ipv6Translation}
 use Rattle.etherparse_transport.specs.declared.ip.message_place.Place.{Place}
@@ -146,24 +147,43 @@ first_counts [] some none = some refl
 first_counts (first ∷ []) some none = some (omega (arith, none))
 first_counts (first ∷ (second ∷ rest)) some none = some (omega (arith, none))
 
--- an echo message whose first byte or whose checksum is not 0
-some_by : (is_zero : Bool) (message changed : List ℕ) (without result : ℕ) → is_zero ≡ (slice_index message 0 == 0)
-    → slice_index changed 0 ≡ slice_index message 0 → total changed ≡ without + result → (slice_index message 0 ≡ 0 → result ≢ 0) → total changed ≢ 0
-some_by true message changed without result test same is some none =
-    some (grind (arith, nat_tests)) (omega (arith, is, none))
-some_by false message changed without result test same is some none =
-    let other : slice_index message 0 ≢ 0 = grind (arith, nat_tests) in
-    first_counts changed (λ zero. other (sym same ∙ zero)) none
+-- a sum of two parts is not 0 if the second is not 0 as soon as the first is
+pub sum_some : (first second : ℕ) → (first ≡ 0 → second ≢ 0) → first + second ≢ 0
+sum_some first second some none = some (omega (arith, none)) (omega (arith, none))
 
-pub echo_some : (message : List ℕ) (identifier checksum without result : ℕ)
-    → total (with_number 2 checksum (with_number 4 identifier message)) ≡ without + result → (slice_index message 0 ≡ 0 → result ≢ 0)
-    → total (with_number 2 checksum (with_number 4 identifier message)) ≢ 0
-echo_some message identifier checksum without result is some =
-    let between : List ℕ = with_number 4 identifier message in
-    some_by (slice_index message 0 == 0) message (with_number 2 checksum between) without result refl
-    (other_by (nat_le 4 (length between)) 2 checksum 0 between refl (inl (omega arith))
-    ∙ other_by (nat_le 6 (length message)) 4 identifier 0 message refl (inl (omega arith)))
-    is some
+-- ---- messages of zeros
+
+pub folded_some : (n : ℕ) → n ≢ 0 → folded n ≢ 0
+unfolding folded
+folded_some zero some none = some refl
+folded_some (suc n) some none = absurd (omega (arith, none))
+
+-- the sum of an ICMP message except its checksum, by the parts before and after it
+pub rest_parts : (message : List ℕ) → 4 ≤ length message → rest_of_message message ≡ total (take 2 message) + total (drop 4 message)
+rest_parts message there =
+    let test : nat_le 4 (length message) ≡ true = grind (arith, nat_tests) in
+    ap (λ b. total (if b then with_checksum 2 message 0 else message)) test
+    ∙ total-append (take 2 message) (to_be_bytes w16 0 ++ drop 4 message) (ap (λ n. n % 2) (length-take-le 2 message (omega (arith, there))))
+    ∙ ap (λ n. total (take 2 message) + n) (omega arith)
+
+folded_nothing : folded 0 ≡ 0
+unfolding folded
+folded_nothing = refl
+
+-- the checksum of two parts is all ones exactly if their sum is 0
+pub zero_test : (start one two result first second rest : ℕ) → start ≡ 0 → one ≡ folded (start + first) → two ≡ folded (one + second)
+    → result ≡ complement two → rest ≡ first + second → (result == 65535) ≡ (rest == 0)
+zero_test start one two result first second zero begins is_one is_two is parts =
+    let none : start + first ≡ 0 = omega (arith, begins, parts) in
+    let none_too : one + second ≡ 0 = omega (arith, parts, is_one ∙ ap folded none ∙ folded_nothing) in
+    ap (λ n. n == 65535) (is ∙ ap complement (is_two ∙ ap folded none_too ∙ folded_nothing))
+zero_test start one two result first second (suc rest) begins is_one is_two is parts =
+    let some : one + second ≢ 0 = λ none.
+    folded_some (start + first) (λ zero. omega (arith, zero, none, parts)) (sym is_one ∙ omega (arith, none)) in
+    let some_too : two ≢ 0 = λ none. folded_some (one + second) some (sym is_two ∙ none) in
+    let small : two < 65536 = subst (λ n. n < 65536) (sym is_two) (folded-lt (one + second)) in
+    let other : result ≢ 65535 = λ same. some_too (omega (arith, is, same, small)) in
+    grind (arith, nat_tests)
 
 -- ---- pseudo headers
 
@@ -248,10 +268,6 @@ ipv6_have_sums protos.Icmpv6 old new len four four_too =
 
 -- ---- a receiver's check of a translated IPv4 packet
 
-proto_or : Proto → Option Proto → Proto
-proto_or other None = other
-proto_or other (Some proto) = proto
-
 -- a range within the packet has its length
 pub range_len : (from n : ℕ) (packet : List ℕ) → from + n ≤ length packet → length (take n (drop from packet)) ≡ n
 range_len from n packet there = length-take-le n (drop from packet) (omega (arith, there, length-drop from packet))
@@ -259,10 +275,9 @@ range_len from n packet there = length-take-le n (drop from packet) (omega (arit
 pub ipv4_verifies : (new : Ipv4Translation) (packet bytes translated : List ℕ) (place : Place) (removed added : ℕ)
     → IsIpv4Place packet place → bytes ≡ message_in_ipv4 packet → translated ≡ ipv4_flow_message new packet
     → removed ≡ sum_of_ipv4 (ipv4_header_of packet) → added ≡ sum_of_ipv4 (ipv4_addresses new packet) → AreIpv4Addresses (ipv4_addresses new packet)
-    → (place.is_later_fragment ≡ false → (before after : ℕ) → HaveSums place.proto removed added before after → IsUpdated place.proto bytes
-    → IsAcceptedAlike before after bytes translated)
+    → (place.is_later_fragment ≡ false → (proto : Proto) → place.proto ≡ Some proto → (before after : ℕ) → HaveSums proto removed added before after
+    → IsUpdated proto bytes → IsAcceptedAlike before after bytes translated)
     → IsIpv4Accepted new packet (ipv4_flow_message new packet)
-unfolding proto_or
 ipv4_verifies new packet bytes translated place removed added at bytes_is translated_is removed_is added_is four alike = λ proto known later updated.
     let len : ℕ = length (message_in_ipv4 packet) in
     let old : Ipv4Header = ipv4_header_of packet in
@@ -272,17 +287,14 @@ ipv4_verifies new packet bytes translated place removed added at bytes_is transl
     } in
     let before : ℕ = total (ipv4_pseudo_header_of proto old len) in
     let after : ℕ = total (ipv4_pseudo_header_of proto (ipv4_addresses new packet) len) in
-    let same : place.proto ≡ proto = ap (proto_or place.proto) (at.proto ∙ known) in
     let sums : HaveSums proto (sum_of_ipv4 old) (sum_of_ipv4 (ipv4_addresses new packet)) before after =
     ipv4_have_sums proto old (ipv4_addresses new packet) len old_four four in
-    let sums_too : HaveSums place.proto removed added before after =
-    subst (λ proto. HaveSums proto removed added before after) (sym same)
-    (subst (λ removed. HaveSums proto removed added before after) (sym removed_is)
-    (subst (λ added. HaveSums proto (sum_of_ipv4 old) added before after) (sym added_is) sums)) in
-    let updated_too : IsUpdated place.proto bytes =
-    subst (λ proto. IsUpdated proto bytes) (sym same) (subst (IsUpdated proto) (sym bytes_is) updated) in
+    let sums_too : HaveSums proto removed added before after =
+    subst (λ removed. HaveSums proto removed added before after) (sym removed_is)
+    (subst (λ added. HaveSums proto (sum_of_ipv4 old) added before after) (sym added_is) sums) in
+    let updated_too : IsUpdated proto bytes = subst (IsUpdated proto) (sym bytes_is) updated in
     subst (IsAcceptedAlike before after (message_in_ipv4 packet)) translated_is
-    (subst (λ bytes. IsAcceptedAlike before after bytes translated) bytes_is (alike (at.later ∙ later) before after sums_too updated_too))
+    (subst (λ bytes. IsAcceptedAlike before after bytes translated) bytes_is (alike (at.later ∙ later) proto (at.proto ∙ known) before after sums_too updated_too))
 
 -- ---- a receiver's check of a translated IPv6 packet
 
@@ -290,10 +302,9 @@ pub ipv6_verifies : (new : Ipv6Translation) (packet bytes translated : List ℕ)
     → IsIpv6Place packet place → bytes ≡ message_in_ipv6 packet → translated ≡ ipv6_flow_message new packet
     → AreUpdatedAlike removed added (sum_of_ipv6 (ipv6_header_of packet)) (sum_of_ipv6 (ipv6_addresses new packet))
     → AreIpv6Addresses (ipv6_addresses new packet)
-    → (place.is_later_fragment ≡ false → (before after : ℕ) → HaveSums place.proto removed added before after → IsUpdated place.proto bytes
-    → IsAcceptedAlike before after bytes translated)
+    → (place.is_later_fragment ≡ false → (proto : Proto) → place.proto ≡ Some proto → (before after : ℕ) → HaveSums proto removed added before after
+    → IsUpdated proto bytes → IsAcceptedAlike before after bytes translated)
     → IsIpv6Accepted new packet (ipv6_flow_message new packet)
-unfolding proto_or
 ipv6_verifies new packet bytes translated place removed added at bytes_is translated_is is_alike four alike = λ proto known later updated.
     let len : ℕ = length (message_in_ipv6 packet) in
     let old : Ipv6Header = ipv6_header_of packet in
@@ -303,55 +314,74 @@ ipv6_verifies new packet bytes translated place removed added at bytes_is transl
     } in
     let before : ℕ = total (ipv6_pseudo_header_of proto old len) in
     let after : ℕ = total (ipv6_pseudo_header_of proto (ipv6_addresses new packet) len) in
-    let same : place.proto ≡ proto = ap (proto_or place.proto) (at.proto ∙ known) in
     let sums : HaveSums proto (sum_of_ipv6 old) (sum_of_ipv6 (ipv6_addresses new packet)) before after =
     ipv6_have_sums proto old (ipv6_addresses new packet) len old_four four in
-    let sums_too : HaveSums place.proto removed added before after =
-    subst (λ proto. HaveSums proto removed added before after) (sym same)
-    (sums_alike proto removed added (sum_of_ipv6 old) (sum_of_ipv6 (ipv6_addresses new packet)) before after is_alike sums) in
-    let updated_too : IsUpdated place.proto bytes =
-    subst (λ proto. IsUpdated proto bytes) (sym same) (subst (IsUpdated proto) (sym bytes_is) updated) in
+    let sums_too : HaveSums proto removed added before after =
+    sums_alike proto removed added (sum_of_ipv6 old) (sum_of_ipv6 (ipv6_addresses new packet)) before after is_alike sums in
+    let updated_too : IsUpdated proto bytes = subst (IsUpdated proto) (sym bytes_is) updated in
     subst (IsAcceptedAlike before after (message_in_ipv6 packet)) translated_is
-    (subst (λ bytes. IsAcceptedAlike before after bytes translated) bytes_is (alike (at.later ∙ later) before after sums_too updated_too))
+    (subst (λ bytes. IsAcceptedAlike before after bytes translated) bytes_is (alike (at.later ∙ later) proto (at.proto ∙ known) before after sums_too updated_too))
 
--- ---- an echo message quotes no packet
+-- ---- a query quotes no packet
 
-middle : (a b c : Bool) → (a && (b && c)) ≡ true → b ≡ true
-middle true true c is = refl
-middle true false c is = absurd (grind arith)
-middle false b c is = absurd (grind arith)
+last : (a b : Bool) → (a && b) ≡ true → b ≡ true
+last true b is = is
+last false b is = absurd (cc is)
 
-either : (n first second : ℕ) (is_first : Bool) → is_first ≡ (n == first) → (is_first || (n == second)) ≡ true → (n ≡ first) ⊎ (n ≡ second)
-either n first second true test is = inl (is_number n first (sym test))
-either n first second false test is = inr (is_number n second is)
+-- one of two numbers, by the test of the first
+either_by : (n first : ℕ) (is_first : Bool) (rest : Bool) → is_first ≡ (n == first) → (is_first || rest) ≡ true → (n ≡ first) ⊎ (rest ≡ true)
+either_by n first true rest test is = inl (is_number n first (sym test))
+either_by n first false rest test is = inr is
 
-icmpv4_none : (message : List ℕ) → (slice_index message 0 ≡ 8) ⊎ (slice_index message 0 ≡ 0) → quoted_by_icmpv4 message ≡ None
-icmpv4_none message (inl is) =
-    ap (λ type. if type == 3 || (type == 11 || type == 12) then Some (counted (slice_index message 5 * 4) (drop 8 message))
-    else (if type == 4 || type == 5 then Some (drop 8 message) else None)) is
-icmpv4_none message (inr is) =
-    ap (λ type. if type == 3 || (type == 11 || type == 12) then Some (counted (slice_index message 5 * 4) (drop 8 message))
-    else (if type == 4 || type == 5 then Some (drop 8 message) else None)) is
+either : (n first : ℕ) (rest : Bool) → ((n == first) || rest) ≡ true → (n ≡ first) ⊎ (rest ≡ true)
+either n first rest is = either_by n first (n == first) rest refl is
+
+-- a property of each of four numbers
+one_of_four : (P : ℕ → Type 0) (n a b c d : ℕ) → (n == a || (n == b || (n == c || n == d))) ≡ true → P a → P b → P c → P d → P n
+one_of_four P n a b c d is at_a at_b at_c at_d =
+    ⊎_elim (λ same. subst P (sym same) at_a)
+    (λ is. ⊎_elim (λ same. subst P (sym same) at_b)
+    (λ is. ⊎_elim (λ same. subst P (sym same) at_c) (λ is. subst P (sym (is_number n d is)) at_d)
+    (either n c (n == d) is)) (either n b (n == c || n == d) is)) (either n a (n == b || (n == c || n == d)) is)
+
+-- a request or a reply
+request_or_reply : (is_a_request is_a_reply : Bool) → (is_a_request || is_a_reply) ≡ true → (is_a_request ≡ true) ⊎ (is_a_reply ≡ true)
+request_or_reply true is_a_reply is = inl refl
+request_or_reply false is_a_reply is = inr is
+
+abbrev icmpv4_quote : List ℕ → ℕ → Option (List ℕ)
+icmpv4_quote message type =
+    if type == 3 || (type == 11 || type == 12) then Some (counted (slice_index message 5 * 4) (drop 8 message))
+    else (if type == 4 || type == 5 then Some (drop 8 message) else None)
+
+icmpv4_none : (message : List ℕ) → is_query protos.Icmpv4 message ≡ true → quoted_by_icmpv4 message ≡ None
+icmpv4_none message is =
+    let type : ℕ = slice_index message 0 in
+    ⊎_elim (λ request. one_of_four (λ type. icmpv4_quote message type ≡ None) type 8 13 15 17 request refl refl refl refl)
+    (λ reply. one_of_four (λ type. icmpv4_quote message type ≡ None) type 0 14 16 18 reply refl refl refl refl)
+    (request_or_reply (is_request protos.Icmpv4 type) (is_reply protos.Icmpv4 type) (last _ _ is))
+
+icmpv4_zero : (message : List ℕ) → slice_index message 0 ≡ 0 → quoted_by_icmpv4 message ≡ None
+icmpv4_zero message is = ap (icmpv4_quote message) is
+
+pub icmpv6_type : (message : List ℕ) → is_query protos.Icmpv6 message ≡ true → (slice_index message 0 ≡ 128) ⊎ (slice_index message 0 ≡ 129)
+icmpv6_type message is =
+    let type : ℕ = slice_index message 0 in
+    ⊎_elim (λ request. inl request) (λ reply. inr (is_number type 129 reply)) (either type 128 (type == 129) (last _ _ is))
 
 icmpv6_none : (message : List ℕ) → (slice_index message 0 ≡ 128) ⊎ (slice_index message 0 ≡ 129) → quoted_by_icmpv6 message ≡ None
 icmpv6_none message (inl is) =
     ap (λ type. if type == 1 || type == 3 then Some (counted (slice_index message 4 * 8) (drop 8 message))
-    else (if type == 2 || type == 4 then Some (drop 8 message) else None)) is
+    else (if nat_lt type 128 then Some (drop 8 message) else None)) is
 icmpv6_none message (inr is) =
     ap (λ type. if type == 1 || type == 3 then Some (counted (slice_index message 4 * 8) (drop 8 message))
-    else (if type == 2 || type == 4 then Some (drop 8 message) else None)) is
-
-pub echo_type : (request reply : ℕ) (message : List ℕ) → is_echo request reply message ≡ true
-    → (slice_index message 0 ≡ request) ⊎ (slice_index message 0 ≡ reply)
-echo_type request reply message is =
-    either (slice_index message 0) request reply (slice_index message 0 == request) refl
-    (middle (nat_le 6 (length message)) (slice_index message 0 == request || slice_index message 0 == reply) (slice_index message 1 == 0) is)
+    else (if nat_lt type 128 then Some (drop 8 message) else None)) is
 
 no_quote : (proto : Proto) (message : List ℕ) → IsUpdated proto message → quoted_by proto message ≡ None
 no_quote protos.Udp message updated = refl
 no_quote protos.Tcp message updated = refl
-no_quote protos.Icmpv4 message updated = icmpv4_none message (echo_type 8 0 message updated.1)
-no_quote protos.Icmpv6 message updated = icmpv6_none message (echo_type 128 129 message updated.1)
+no_quote protos.Icmpv4 message updated = icmpv4_none message updated.1
+no_quote protos.Icmpv6 message updated = icmpv6_none message (icmpv6_type message updated.1)
 
 pub ipv4_accepted : (new : Ipv4Translation) (packet quoted translated : List ℕ) → ipv4_quoted packet ≡ Some quoted → IsIpv4Accepted new packet translated
 ipv4_accepted new packet quoted translated quotes = λ proto known later updated.
@@ -369,30 +399,33 @@ ipv6_accepted new packet quoted translated quotes = λ proto known later updated
     ∙ no_quote proto message updated in
     absurd (cc (none, quotes))
 
-icmpv6_zero : (message : List ℕ) → slice_index message 0 ≡ 0 → quoted_by_icmpv6 message ≡ None
-icmpv6_zero message is =
-    ap (λ type. if type == 1 || type == 3 then Some (counted (slice_index message 4 * 8) (drop 8 message))
-    else (if type == 2 || type == 4 then Some (drop 8 message) else None)) is
+-- the number of an IPv4 packet is not the number of ICMPv6
+no_icmpv6 : (is_udp is_tcp is_icmp : Bool) → (if is_udp then Some protos.Udp else if is_tcp then Some protos.Tcp else if is_icmp then Some protos.Icmpv4 else None)
+    ≢ Some protos.Icmpv6
+no_icmpv6 true is_tcp is_icmp is = cc is
+no_icmpv6 false true is_icmp is = cc is
+no_icmpv6 false false true is = cc is
+no_icmpv6 false false false is = cc is
 
--- the type of a message that quotes a packet is not 0
-pub quotes_some : (is_later_fragment : Bool) (proto : Option Proto) (message quoted : List ℕ)
+-- the type of an ICMPv4 message that quotes a packet is not 0
+quotes_some : (is_later_fragment : Bool) (proto : Option Proto) (message quoted : List ℕ) → proto ≢ Some protos.Icmpv6
     → quoted_in is_later_fragment proto message ≡ Some quoted → slice_index message 0 ≢ 0
-quotes_some is_later_fragment None message quoted quotes = absurd (cc quotes)
-quotes_some true (Some proto) message quoted quotes = absurd (cc quotes)
-quotes_some false (Some protos.Udp) message quoted quotes = absurd (cc quotes)
-quotes_some false (Some protos.Tcp) message quoted quotes = absurd (cc quotes)
-quotes_some false (Some protos.Icmpv4) message quoted quotes = λ zero. absurd (cc (icmpv4_none message (inr zero), quotes))
-quotes_some false (Some protos.Icmpv6) message quoted quotes = λ zero. absurd (cc (icmpv6_zero message zero, quotes))
+quotes_some is_later_fragment None message quoted other quotes = absurd (cc quotes)
+quotes_some true (Some proto) message quoted other quotes = absurd (cc quotes)
+quotes_some false (Some protos.Udp) message quoted other quotes = absurd (cc quotes)
+quotes_some false (Some protos.Tcp) message quoted other quotes = absurd (cc quotes)
+quotes_some false (Some protos.Icmpv4) message quoted other quotes = λ zero. absurd (cc (icmpv4_zero message zero, quotes))
+quotes_some false (Some protos.Icmpv6) message quoted other quotes = absurd (other refl)
 
 pub ipv4_error_accepted : (packet quoted translated : List ℕ) → ipv4_quoted packet ≡ Some quoted
     → (slice_index (message_in_ipv4 packet) 0 ≢ 0 → IsAcceptedAlike 0 0 (message_in_ipv4 packet) translated) → IsIpv4ErrorAccepted packet translated
 ipv4_error_accepted packet quoted translated quotes accepted = λ other is.
-    accepted (quotes_some (ipv4_is_later_fragment packet) (ipv4_proto packet) (message_in_ipv4 packet) quoted quotes)
+    accepted (quotes_some (ipv4_is_later_fragment packet) (ipv4_proto packet) (message_in_ipv4 packet) quoted (no_icmpv6 _ _ _) quotes)
 
 pub ipv6_error_accepted : (new : Ipv6Translation) (packet quoted translated : List ℕ) → 40 ≤ length packet → ipv6_quoted packet ≡ Some quoted
     → AreIpv6Addresses (ipv6_addresses new packet)
     → ((before after : ℕ) → TurnsIntoBy (sum_of_ipv6 (ipv6_header_of packet)) (sum_of_ipv6 (ipv6_addresses new packet)) before after
-    → slice_index (message_in_ipv6 packet) 0 ≢ 0 → IsAcceptedAlike before after (message_in_ipv6 packet) translated)
+    → before ≢ 0 → after ≢ 0 → IsAcceptedAlike before after (message_in_ipv6 packet) translated)
     → IsIpv6ErrorAccepted new packet translated
 ipv6_error_accepted new packet quoted translated there quotes four accepted = λ other is.
     let len : ℕ = length (message_in_ipv6 packet) in
@@ -401,9 +434,9 @@ ipv6_error_accepted new packet quoted translated there quotes four accepted = λ
       source = range_len 8 16 packet (omega (arith, there));
       destination = range_len 24 16 packet (omega (arith, there));
     } in
+    let sums = ipv6_have_sums protos.Icmpv6 old (ipv6_addresses new packet) len old_four four in
     accepted (total (ipv6_pseudo_header_of protos.Icmpv6 old len)) (total (ipv6_pseudo_header_of protos.Icmpv6 (ipv6_addresses new packet) len))
-    (ipv6_have_sums protos.Icmpv6 old (ipv6_addresses new packet) len old_four four).0
-    (quotes_some (ipv6_is_later_fragment packet) (ipv6_proto packet) (message_in_ipv6 packet) quoted quotes)
+    sums.0 sums.1 sums.2
 
 -- facts of a success that follow from others
 pub if_ok_then : {T E : Type 0} {P Q : Type 0} (result : Result T E) → IfOk result (λ value. P) → (P → Q) → IfOk result (λ value. Q)
@@ -414,6 +447,12 @@ pub if_ok_both : {T E : Type 0} {P Q R : Type 0} (result : Result T E) → IfOk 
     → IfOk result (λ value. R)
 if_ok_both (Ok value) p q then_r = then_r p q
 if_ok_both (Err error) p q then_r = tt
+
+-- four facts of a success
+pub if_ok_four : {T E : Type 0} {P Q R S U : Type 0} (result : Result T E) → IfOk result (λ value. P) → IfOk result (λ value. Q)
+    → IfOk result (λ value. R) → IfOk result (λ value. S) → (P → Q → R → S → U) → IfOk result (λ value. U)
+if_ok_four (Ok value) p q r s then_u = then_u p q r s
+if_ok_four (Err error) p q r s then_u = tt
 
 -- without an error there was no reason for one
 pub if_ok_accepted : {T E : Type 0} (result : Result T E) (refusal : Option E) → RefusesExactly result refusal → IfOk result (λ value. refusal ≡ None)
@@ -681,11 +720,6 @@ updated_alike checksum removed added removed_too added_too small small_too some 
       ),
     ))
 
-pub folded_some : (n : ℕ) → n ≢ 0 → folded n ≢ 0
-unfolding folded
-folded_some zero some none = some refl
-folded_some (suc n) some none = absurd (omega (arith, none))
-
 -- The checksum of an error, by the sums of the words that are replaced in the quoted packet, is the checksum by the sums of all its bytes.
 pub quote_alike : (checksum old new quoted translated removed added : ℕ) → removed < 65536 → added ≢ 0 → translated ≢ 0
     → (new + translated + removed) % 65535 ≡ (old + quoted + added) % 65535
@@ -715,11 +749,9 @@ first_put start n bytes new some there =
 -- an error with an updated checksum, first with the translated packet instead of the quoted packet
 pub error_alike : (before after : ℕ) (message between translated : List ℕ) (quoted changed : ℕ) → total between + quoted ≡ total message + changed
     → (after + changed + total translated) % 65535 ≡ (before + quoted + total between) % 65535
-    → slice_index message 0 ≢ 0 → slice_index translated 0 ≡ slice_index message 0 → IsAcceptedAlike before after message translated
-error_alike before after message between translated quoted changed replaced same some first =
-    both_accepted (before + total message) (after + total translated) (omega (arith, replaced, same))
-    (λ none. first_counts message some (omega (arith, none)))
-    (λ none. first_counts translated (λ zero. some (sym first ∙ zero)) (omega (arith, none)))
+    → before + total message ≢ 0 → after + total translated ≢ 0 → IsAcceptedAlike before after message translated
+error_alike before after message between translated quoted changed replaced same some some_too =
+    both_accepted (before + total message) (after + total translated) (omega (arith, replaced, same)) some some_too
 
 -- ---- the addresses of an IPv6 packet
 

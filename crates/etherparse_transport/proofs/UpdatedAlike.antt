@@ -7,7 +7,7 @@ use Rattle.word_sum.specs.Checksum.{complement, folded, sum_of_pieces, total, ze
 use Rattle.word_sum.specs.UpdatedChecksum.{TurnsIntoBy, updated_checksum_of}
 use Rattle.word_sum.proofs.ChecksumChangeLemmas.{folded-remainder, remainder_alike}
 use Rattle.word_sum.proofs.ChecksumLemmas.{folded-lt, folded-some, folded_equal_iff}
-use Rattle.etherparse_transport.specs.Translations.{AreUpdatedAlike, HaveSums, IsSameChange, added_ports, is_echo, new_identifier, number, port_or, removed_ports, translated_echo, translated_in, translated_message, updated_echo_checksum, with_number, with_ports, with_updated_checksum}
+use Rattle.etherparse_transport.specs.Translations.{AreUpdatedAlike, HaveSums, IsSameChange, added_ports, is_query, new_identifier, number, port_or, removed_ports, translated_in, translated_message, translated_query, updated_query_checksum, with_identifier, with_number, with_ports, with_updated_checksum}
 
 -- only nothing sums up to 0
 pub nothing : (n : ℕ) → folded n ≡ 0 → n ≡ 0
@@ -67,16 +67,16 @@ message_alike protos.Tcp removed added removed_too added_too source destination 
     (updated (number 16 message) _ _ _ _ (ports_alike removed added removed_too added_too source destination message same))
 message_alike protos.Icmpv4 removed added removed_too added_too source destination message same = refl
 message_alike protos.Icmpv6 removed added removed_too added_too source destination message same =
-    let identifier : Option ℕ = new_identifier 128 source destination message in
+    let identifier : Option ℕ = new_identifier protos.Icmpv6 source destination message in
     let word : ℕ → ℕ = λ word. total (to_be_bytes w16 word) in
-    let echo : translated_echo removed added identifier message ≡ translated_echo removed_too added_too identifier message =
-    ap (λ checksum. with_number 2 (updated_echo_checksum message checksum) (with_number 4 (port_or identifier 4 message) message))
+    let query : translated_query removed added identifier message ≡ translated_query removed_too added_too identifier message =
+    ap (λ checksum. with_number 2 (updated_query_checksum (with_identifier identifier message) checksum) (with_identifier identifier message))
     (updated (number 2 message) _ _ _ _
     (with_words removed added removed_too added_too (word (number 4 message)) (word (port_or identifier 4 message)) same)) in
     let other : with_updated_checksum removed added message ≡ with_updated_checksum removed_too added_too message =
     ap (λ checksum. with_number 2 checksum message) (updated (number 2 message) removed added removed_too added_too same) in
-    ap (λ echo. if is_echo 128 129 message then echo else with_updated_checksum removed added message) echo
-    ∙ ap (λ other. if is_echo 128 129 message then translated_echo removed_too added_too identifier message else other) other
+    ap (λ query. if is_query protos.Icmpv6 message then query else with_updated_checksum removed added message) query
+    ∙ ap (λ other. if is_query protos.Icmpv6 message then translated_query removed_too added_too identifier message else other) other
 
 -- the translated message
 pub translated_alike : (is_later_fragment : Bool) (proto : Option Proto) (removed added removed_too added_too : ℕ) (source destination : Option ℕ)

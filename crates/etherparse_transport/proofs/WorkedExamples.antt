@@ -124,12 +124,12 @@ header_lost : there_and_back (udp_packet 0xFFFF 0xFFFF) ≡ udp_packet 0 0xFFFF
 unfolding there_and_back folded
 header_lost = refl
 
--- but the 0 of an echo reply comes back as all ones
-reply_lost : there_and_back (echo_reply 0) ≡ echo_reply 0xFFFF
+-- all ones of an echo reply come back as 0, and its 0 comes back
+reply_lost : there_and_back (echo_reply 0xFFFF) ≡ echo_reply 0
 unfolding there_and_back folded
 reply_lost = refl
 
-reply_restored : there_and_back (echo_reply 0xFFFF) ≡ echo_reply 0xFFFF
+reply_restored : there_and_back (echo_reply 0) ≡ echo_reply 0
 unfolding there_and_back folded
 reply_restored = refl
 

@@ -37,13 +37,21 @@ is_group_ipv4 address = from_be_bytes w32 address == 0xFFFFFFFF || slice_index a
 abbrev pub is_group_ipv6 : List ℕ → Bool
 is_group_ipv6 address = slice_index address 0 == 0xFF
 
--- an address of one host: neither the unspecified address, 0.0.0.0, nor an address of several hosts
-abbrev pub is_host_ipv4 : List ℕ → Bool
-is_host_ipv4 address = not (from_be_bytes w32 address == 0) && not (is_group_ipv4 address)
+-- an address of the host itself, which no other host sends or receives: its first byte is 127 (RFC 1122, section 3.2.1.3)
+abbrev pub is_loopback_ipv4 : List ℕ → Bool
+is_loopback_ipv4 address = slice_index address 0 == 127
 
--- an address of one host: neither the unspecified address, which is 0 (RFC 4291, section 2.5.2), nor an address of several hosts
+-- the same over IPv6: ::1 (RFC 4291, section 2.5.3)
+abbrev pub is_loopback_ipv6 : List ℕ → Bool
+is_loopback_ipv6 address = from_be_bytes w128 address == 1
+
+-- an address of one host: neither the unspecified address, 0.0.0.0, nor a loopback address, nor an address of several hosts
+abbrev pub is_host_ipv4 : List ℕ → Bool
+is_host_ipv4 address = not (from_be_bytes w32 address == 0) && (not (is_loopback_ipv4 address) && not (is_group_ipv4 address))
+
+-- an address of one host: neither the unspecified address, which is 0 (RFC 4291, section 2.5.2), nor ::1, nor an address of several hosts
 abbrev pub is_host_ipv6 : List ℕ → Bool
-is_host_ipv6 address = not (from_be_bytes w128 address == 0) && not (is_group_ipv6 address)
+is_host_ipv6 address = not (from_be_bytes w128 address == 0) && (not (is_loopback_ipv6 address) && not (is_group_ipv6 address))
 
 -- ---- the lengths of headers
 

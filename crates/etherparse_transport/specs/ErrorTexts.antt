@@ -10,8 +10,12 @@ use Rattle.etherparse_transport.specs.declared.err.packet.translate_error.Transl
 use Rattle.etherparse_transport.specs.declared.err.packet.translate_error.TranslateError.TheVariants as translate
 use Rattle.etherparse_transport.specs.declared.err.packet.transport_checksum_error.TransportChecksumError.{TransportChecksumError}
 use Rattle.etherparse_transport.specs.declared.err.packet.transport_checksum_error.TransportChecksumError.TheVariants as checksum
+use Rattle.etherparse_transport.specs.declared.err.packet.write_checksum_error.WriteChecksumError.{WriteChecksumError}
+use Rattle.etherparse_transport.specs.declared.err.packet.write_checksum_error.WriteChecksumError.TheVariants as write
 use Rattle.ip_part.specs.ErrorTexts.{ip_text}
-use Rattle.net_base.specs.ErrorTexts.{len_text, value_text}
+use Rattle.net_base.specs.ErrorTexts.{header_slice_text, len_text, value_text}
+use Rattle.transport_part.specs.declared.checksum_verdict.Untested.{Untested}
+use Rattle.transport_part.specs.declared.checksum_verdict.Untested.TheVariants as reasons
 
 -- an echo request that is not answered
 abbrev pub answer_echo_text : AnswerEchoError → List ℕ
@@ -45,10 +49,25 @@ translate_text (translate.Protocol protocol) = concat (
 translate_text (translate.HeaderCutOff required_len len) = concat (
     codes "Translation Error: the transport header has at least " ∷ decimal required_len
     ∷ codes " bytes, and the packet contains " ∷ decimal len ∷ codes "." ∷ [])
-translate_text translate.IcmpMessage = codes "Translation Error: the ICMP message is no echo message and no error."
+translate_text translate.IcmpMessage = codes "Translation Error: the ICMP message is no query and no error, or a redirect."
 translate_text translate.QuotedPacket = codes "Translation Error: the packet that the ICMP error is about can't be translated."
 
 -- a checksum that is not calculated
 abbrev pub transport_checksum_text : TransportChecksumError → List ℕ
 transport_checksum_text (checksum.PayloadLen error) = value_text error
 transport_checksum_text checksum.Icmpv6InIpv4 = codes "ICMPv6 Error: a checksum over IPv4 does not exist."
+
+-- a checksum that is not tested
+abbrev pub untested_text : Untested → List ℕ
+untested_text reasons.Fragment = codes "Checksum Error: the packet is a fragment."
+untested_text reasons.CutOff = codes "Checksum Error: the packet is cut off."
+untested_text reasons.UnknownDestination = codes "Checksum Error: the final destination is unknown."
+untested_text reasons.OtherProtocol = codes "Checksum Error: the protocol has no known checksum."
+untested_text reasons.ZeroLength = codes "Checksum Error: the length field of the UDP packet is 0."
+untested_text reasons.TooLong = codes "Checksum Error: the packet is too long for its pseudo header."
+
+-- a packet into which no checksum is written
+abbrev pub write_checksum_text : WriteChecksumError → List ℕ
+write_checksum_text (write.Ip error) = ip_text error
+write_checksum_text (write.Transport error) = header_slice_text error
+write_checksum_text (write.Untested why) = untested_text why

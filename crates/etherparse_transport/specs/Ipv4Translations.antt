@@ -1,12 +1,11 @@
 -- The translation of an IPv4 packet, as an address translator makes it (RFC 3022; RFC 5508 for ICMP): new addresses, the checksum of the
 -- header updated by them (RFC 1624), and the translated message.
-use Rattle.std.specs.Prelude.{◌≡◌, ◌≤◌, ◌↔◌, ℕ, ◌+◌, ◌==◌, Bool, false, is_none, is_some, not, List, [], ◌∷◌, drop, length, slice_index, slice_range, take, Option, Some, None, unwrap_or}
+use Rattle.std.specs.Prelude.{◌≡◌, ◌≤◌, ◌↔◌, ℕ, ◌+◌, ◌==◌, ◌&&◌, ◌||◌, Bool, false, is_none, not, List, [], ◌∷◌, drop, length, slice_index, slice_range, take, Option, Some, None, unwrap_or}
 use Rattle.std.specs.Int.{to_be_bytes, w16}
-use Rattle.std.specs.List.{find}
 use Rattle.std.specs.Option.{option_map}
 use Rattle.ip_part.specs.Addresses.{Addresses, Ipv4}
+use Rattle.ip_part.specs.ExtensionHeaders.{authentication, host_identity}
 use Rattle.ip_part.specs.Ip as ip
-use Rattle.ip_part.specs.Options.{ipv4_option, is_source_route, options_of}
 use Rattle.ip_part.specs.Protocols.{proto_over}
 use Rattle.ip_part.specs.declared.proto.Proto.{Proto}
 use Rattle.ip_part.specs.declared.proto.Proto.TheVariants as protos
@@ -17,7 +16,8 @@ use Rattle.net_base.specs.Refusals.{first_of, refused_if}
 use Rattle.net_base.specs.declared.ipv4_header.Ipv4Header.{Ipv4Header}
 use Rattle.word_sum.specs.Checksum.{Verifies, sum_of_pieces, total}
 use Rattle.word_sum.specs.UpdatedChecksum.{updated_checksum_of}
-use Rattle.etherparse_transport.specs.Translations.{IsUpdated, counted_after, message_refusal, number, quoted_in, translated_in, with_bytes, with_quote}
+use Rattle.etherparse_transport.specs.SourceRoutes.{contain_source_route}
+use Rattle.etherparse_transport.specs.Translations.{IsUpdated, counted_after, has_port, message_refusal, number, quoted_in, translated_in, with_bytes, with_quote}
 use Rattle.etherparse_transport.specs.declared.ip.ipv4_translation.Ipv4Translation.{Ipv4Translation}
 use Rattle.etherparse_transport.specs.declared.ip.message_place.Place.{Place}
 use Rattle.etherparse_transport.specs.declared.err.packet.translate_error.TranslateError.{TranslateError}
@@ -104,20 +104,34 @@ ipv4_opposite new = record {
   destination_port = new.source_port;
 }
 
+-- the translation of the quoted packet: a passed translation, or otherwise the opposite of the translation of the packet
+abbrev pub ipv4_of_quoted : Ipv4Translation → Option Ipv4Translation → Ipv4Translation
+ipv4_of_quoted new None = ipv4_opposite new
+ipv4_of_quoted new (Some of_quoted) = of_quoted
+
 -- ---- errors
 
 -- a loose or strict source route among the options, which come after the first 20 bytes of the header (RFC 791, section 3.1)
 abbrev pub has_source_route : List ℕ → Bool
-has_source_route packet = is_some (find is_source_route (options_of ipv4_option (drop 20 (ip.ipv4_header packet))))
+has_source_route packet = contain_source_route (drop 20 (ip.ipv4_header packet))
+
+-- The protocols over IPv4 whose checksum or authentication covers the addresses, except UDP and TCP: DCCP (33; RFC 4340, section 9.1), AH (51;
+-- RFC 4302, section 3.3.3), VRRP (112; RFC 5798, section 5.2.8), UDP-Lite (136; RFC 3828, section 3.1) and HIP (139; RFC 7401, section 5.1.1).
+-- ICMPv6 (58) has a pseudo header of IPv6 (RFC 4443, section 2.3), and no meaning over IPv4.
+abbrev pub covers_ipv4_addresses : ℕ → Bool
+covers_ipv4_addresses number =
+    number == authentication
+    || (number == icmpv6_number || (number == 33 || (number == 112 || (number == 136 || number == host_identity))))
 
 -- An IPv4 packet whose message is not found directly after its header, or whose addresses are not all in the header: the errors of
--- `transport_in_ip_lax`, another version, a source route, and a protocol other than UDP, TCP and ICMPv4.
-abbrev pub ipv4_place_refusal : List ℕ → Option TranslateError
-ipv4_place_refusal packet = first_of (
+-- `transport_in_ip_lax`, another version, a source route, and a protocol other than UDP, TCP and ICMPv4 if it covers addresses, or if a port
+-- is replaced.
+abbrev pub ipv4_place_refusal : Bool → List ℕ → Option TranslateError
+ipv4_place_refusal has_port packet = first_of (
     option_map Ip (ip.lax_refusal packet)
     ∷ refused_if (not (version packet == 4)) OtherVersion
     ∷ refused_if (has_source_route packet) SourceRoute
-    ∷ refused_if (is_none (ipv4_proto packet)) (Protocol (record { 0 = slice_index packet 9 }))
+    ∷ refused_if (is_none (ipv4_proto packet) && (has_port || covers_ipv4_addresses (slice_index packet 9))) (Protocol (record { 0 = slice_index packet 9 }))
     ∷ [])
 
 -- where the message of an IPv4 packet is, and what it is
@@ -128,7 +142,7 @@ pub record IsIpv4Place (packet : List ℕ) (place : Place) : Type 0 where
   pub header : 20 ≤ place.start
   pub ordered : place.start ≤ place.end
   pub there : place.end ≤ length packet
-  pub proto : Some place.proto ≡ ipv4_proto packet
+  pub proto : place.proto ≡ ipv4_proto packet
   pub later : place.is_later_fragment ≡ ipv4_is_later_fragment packet
 
 -- the errors of the message of an IPv4 packet
@@ -140,20 +154,41 @@ abbrev pub ipv4_quoted : List ℕ → Option (List ℕ)
 ipv4_quoted packet = quoted_in (ipv4_is_later_fragment packet) (ipv4_proto packet) (message_in_ipv4 packet)
 
 -- a quoted packet that can't be translated
-abbrev pub ipv4_quoted_refusal : Option (List ℕ) → Option TranslateError
-ipv4_quoted_refusal None = None
-ipv4_quoted_refusal (Some quoted) = option_map (λ _. QuotedPacket) (ipv4_place_refusal quoted)
+abbrev pub ipv4_quoted_refusal : Bool → Option (List ℕ) → Option TranslateError
+ipv4_quoted_refusal has_port None = None
+ipv4_quoted_refusal has_port (Some quoted) = option_map (λ _. QuotedPacket) (ipv4_place_refusal has_port quoted)
 
 -- the errors in this order: of the packet, of its message, and of the packet that an ICMP error is about
-abbrev pub ipv4_refusal : List ℕ → Option TranslateError
-ipv4_refusal packet = first_of (ipv4_place_refusal packet ∷ ipv4_message_refusal packet ∷ ipv4_quoted_refusal (ipv4_quoted packet) ∷ [])
+abbrev pub ipv4_refusal_by : Bool → Bool → List ℕ → Option TranslateError
+ipv4_refusal_by has_port has_quoted_port packet = first_of (
+    ipv4_place_refusal has_port packet ∷ ipv4_message_refusal packet ∷ ipv4_quoted_refusal has_quoted_port (ipv4_quoted packet) ∷ [])
+
+-- the same for the translations of the packet and of the packet that it quotes, each of which replaces a port or only addresses
+abbrev pub ipv4_refusal_with : Ipv4Translation → Ipv4Translation → List ℕ → Option TranslateError
+ipv4_refusal_with new of_quoted packet =
+    ipv4_refusal_by (has_port new.source_port new.destination_port) (has_port of_quoted.source_port of_quoted.destination_port) packet
+
+-- the same with one translation
+abbrev pub ipv4_refusal : Ipv4Translation → List ℕ → Option TranslateError
+ipv4_refusal new packet = ipv4_refusal_with new (ipv4_opposite new) packet
 
 -- ---- the translated packet
 
--- the message of an IPv4 packet that quotes this packet, or has no quoted packet
+-- the message of an IPv4 packet that quotes this packet, which has a translation of its own, or that has no quoted packet
+abbrev pub ipv4_message_by : Option (List ℕ) → Ipv4Translation → Ipv4Translation → List ℕ → List ℕ
+ipv4_message_by None new of_quoted packet = ipv4_flow_message new packet
+ipv4_message_by (Some quoted) new of_quoted packet = with_quote 0 0 quoted (ipv4_translated_flow of_quoted quoted) (message_in_ipv4 packet)
+
+-- the same with the opposite translation of the quoted packet
 abbrev pub ipv4_message_with : Option (List ℕ) → Ipv4Translation → List ℕ → List ℕ
-ipv4_message_with None new packet = ipv4_flow_message new packet
-ipv4_message_with (Some quoted) new packet = with_quote 0 0 quoted (ipv4_translated_flow (ipv4_opposite new) quoted) (message_in_ipv4 packet)
+ipv4_message_with quoted new packet = ipv4_message_by quoted new (ipv4_opposite new) packet
+
+-- the translated message and the translated packet, with a translation of the quoted packet
+abbrev pub ipv4_message_of_both : Ipv4Translation → Ipv4Translation → List ℕ → List ℕ
+ipv4_message_of_both new of_quoted packet = ipv4_message_by (ipv4_quoted packet) new of_quoted packet
+
+abbrev pub ipv4_translated_with : Ipv4Translation → Ipv4Translation → List ℕ → List ℕ
+ipv4_translated_with new of_quoted packet = ipv4_with_message new (ipv4_message_of_both new of_quoted packet) packet
 
 -- the translated message
 abbrev pub ipv4_translated_message : Ipv4Translation → List ℕ → List ℕ

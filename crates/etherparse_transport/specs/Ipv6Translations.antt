@@ -1,20 +1,20 @@
 -- The translation of an IPv6 packet, as an address translator makes it (RFC 3022; RFC 5508 for ICMP): new addresses and the
 -- translated message. An IPv6 header has no checksum.
-use Rattle.std.specs.Prelude.{◌≡◌, ◌≤◌, ◌↔◌, ℕ, ◌+◌, ◌==◌, Bool, false, if◌then◌else◌, is_none, not, List, [], ◌∷◌, length, slice_index, slice_range, Option, Some, None, unwrap_or}
+use Rattle.std.specs.Prelude.{◌≡◌, ◌≤◌, ◌↔◌, ℕ, ◌+◌, ◌==◌, ◌&&◌, ◌||◌, Bool, false, if◌then◌else◌, is_none, not, List, [], ◌∷◌, length, slice_index, slice_range, Option, Some, None, unwrap_or}
 use Rattle.std.specs.Option.{option_map}
 use Rattle.ip_part.specs.Addresses.{Addresses, Ipv6}
-use Rattle.ip_part.specs.ExtensionHeaders.{fragment, is_later_fragment}
+use Rattle.ip_part.specs.ExtensionHeaders.{fragment, is_extension, is_later_fragment}
 use Rattle.ip_part.specs.Ip as ip
 use Rattle.ip_part.specs.Protocols.{proto_over}
 use Rattle.ip_part.specs.declared.proto.Proto.{Proto}
 use Rattle.ip_part.specs.declared.proto.Proto.TheVariants as protos
 use Rattle.net_base.specs.IpHeaders.{ipv6_header_of, version}
-use Rattle.net_base.specs.IpNumbers.{icmpv6_number, tcp_number, udp_number}
+use Rattle.net_base.specs.IpNumbers.{icmpv4_number, icmpv6_number, tcp_number, udp_number}
 use Rattle.net_base.specs.PseudoHeader.{ipv6_pseudo_header}
 use Rattle.net_base.specs.Refusals.{first_of, refused_if}
 use Rattle.net_base.specs.declared.ipv6_header.Ipv6Header.{Ipv6Header}
 use Rattle.word_sum.specs.Checksum.{Verifies, sum_of_pieces, total}
-use Rattle.etherparse_transport.specs.Translations.{IsUpdated, counted_after, message_refusal, quoted_in, translated_in, with_bytes, with_quote}
+use Rattle.etherparse_transport.specs.Translations.{IsUpdated, counted_after, has_port, message_refusal, quoted_in, translated_in, with_bytes, with_quote}
 use Rattle.etherparse_transport.specs.declared.ip.ipv6_translation.Ipv6Translation.{Ipv6Translation}
 use Rattle.etherparse_transport.specs.declared.ip.message_place.Place.{Place}
 use Rattle.etherparse_transport.specs.declared.err.packet.translate_error.TranslateError.{TranslateError}
@@ -102,15 +102,28 @@ ipv6_opposite new = record {
   destination_port = new.source_port;
 }
 
+-- the translation of the quoted packet: a passed translation, or otherwise the opposite of the translation of the packet
+abbrev pub ipv6_of_quoted : Ipv6Translation → Option Ipv6Translation → Ipv6Translation
+ipv6_of_quoted new None = ipv6_opposite new
+ipv6_of_quoted new (Some of_quoted) = of_quoted
+
 -- ---- errors
 
+-- The extension headers, which may contain another address or precede a message that covers addresses, and the protocols over IPv6 whose
+-- checksum covers the addresses, except UDP, TCP and ICMPv6: DCCP (33; RFC 4340, section 9.1), OSPF (89; RFC 5340, section A.3.1), PIM (103;
+-- RFC 7761, section 4.9), VRRP (112; RFC 5798, section 5.2.8) and UDP-Lite (136; RFC 3828, section 3.1). ICMPv4 (1) has no meaning over IPv6.
+abbrev pub covers_ipv6_addresses : ℕ → Bool
+covers_ipv6_addresses number =
+    is_extension number
+    || (number == icmpv4_number || (number == 33 || (number == 89 || (number == 103 || (number == 112 || number == 136)))))
+
 -- An IPv6 packet whose message is not found directly after its header or its fragment header: the errors of `transport_in_ip_lax`, another
--- version, and a number there other than UDP, TCP and ICMPv6, for example another extension header.
-abbrev pub ipv6_place_refusal : List ℕ → Option TranslateError
-ipv6_place_refusal packet = first_of (
+-- version, and a number there other than UDP, TCP and ICMPv6 if it covers addresses, or if a port is replaced.
+abbrev pub ipv6_place_refusal : Bool → List ℕ → Option TranslateError
+ipv6_place_refusal has_port packet = first_of (
     option_map Ip (ip.lax_refusal packet)
     ∷ refused_if (not (version packet == 6)) OtherVersion
-    ∷ refused_if (is_none (ipv6_proto packet)) (Protocol (record { 0 = ipv6_protocol packet }))
+    ∷ refused_if (is_none (ipv6_proto packet) && (has_port || covers_ipv6_addresses (ipv6_protocol packet))) (Protocol (record { 0 = ipv6_protocol packet }))
     ∷ [])
 
 -- where the message of an IPv6 packet is, and what it is
@@ -121,7 +134,7 @@ pub record IsIpv6Place (packet : List ℕ) (place : Place) : Type 0 where
   pub header : 40 ≤ place.start
   pub ordered : place.start ≤ place.end
   pub there : place.end ≤ length packet
-  pub proto : Some place.proto ≡ ipv6_proto packet
+  pub proto : place.proto ≡ ipv6_proto packet
   pub later : place.is_later_fragment ≡ ipv6_is_later_fragment packet
 
 -- the errors of the message of an IPv6 packet
@@ -133,22 +146,43 @@ abbrev pub ipv6_quoted : List ℕ → Option (List ℕ)
 ipv6_quoted packet = quoted_in (ipv6_is_later_fragment packet) (ipv6_proto packet) (message_in_ipv6 packet)
 
 -- a quoted packet that can't be translated
-abbrev pub ipv6_quoted_refusal : Option (List ℕ) → Option TranslateError
-ipv6_quoted_refusal None = None
-ipv6_quoted_refusal (Some quoted) = option_map (λ _. QuotedPacket) (ipv6_place_refusal quoted)
+abbrev pub ipv6_quoted_refusal : Bool → Option (List ℕ) → Option TranslateError
+ipv6_quoted_refusal has_port None = None
+ipv6_quoted_refusal has_port (Some quoted) = option_map (λ _. QuotedPacket) (ipv6_place_refusal has_port quoted)
 
 -- the errors in this order: of the packet, of its message, and of the packet that an ICMP error is about
-abbrev pub ipv6_refusal : List ℕ → Option TranslateError
-ipv6_refusal packet = first_of (ipv6_place_refusal packet ∷ ipv6_message_refusal packet ∷ ipv6_quoted_refusal (ipv6_quoted packet) ∷ [])
+abbrev pub ipv6_refusal_by : Bool → Bool → List ℕ → Option TranslateError
+ipv6_refusal_by has_port has_quoted_port packet = first_of (
+    ipv6_place_refusal has_port packet ∷ ipv6_message_refusal packet ∷ ipv6_quoted_refusal has_quoted_port (ipv6_quoted packet) ∷ [])
+
+-- the same for the translations of the packet and of the packet that it quotes, each of which replaces a port or only addresses
+abbrev pub ipv6_refusal_with : Ipv6Translation → Ipv6Translation → List ℕ → Option TranslateError
+ipv6_refusal_with new of_quoted packet =
+    ipv6_refusal_by (has_port new.source_port new.destination_port) (has_port of_quoted.source_port of_quoted.destination_port) packet
+
+-- the same with one translation
+abbrev pub ipv6_refusal : Ipv6Translation → List ℕ → Option TranslateError
+ipv6_refusal new packet = ipv6_refusal_with new (ipv6_opposite new) packet
 
 -- ---- the translated packet
 
--- the message of an IPv6 packet that quotes this packet, or has no quoted packet
-abbrev pub ipv6_message_with : Option (List ℕ) → Ipv6Translation → List ℕ → List ℕ
-ipv6_message_with None new packet = ipv6_flow_message new packet
-ipv6_message_with (Some quoted) new packet =
+-- the message of an IPv6 packet that quotes this packet, which has a translation of its own, or that has no quoted packet
+abbrev pub ipv6_message_by : Option (List ℕ) → Ipv6Translation → Ipv6Translation → List ℕ → List ℕ
+ipv6_message_by None new of_quoted packet = ipv6_flow_message new packet
+ipv6_message_by (Some quoted) new of_quoted packet =
     with_quote (sum_of_ipv6 (ipv6_header_of packet)) (sum_of_ipv6 (ipv6_addresses new packet))
-    quoted (ipv6_translated_flow (ipv6_opposite new) quoted) (message_in_ipv6 packet)
+    quoted (ipv6_translated_flow of_quoted quoted) (message_in_ipv6 packet)
+
+-- the same with the opposite translation of the quoted packet
+abbrev pub ipv6_message_with : Option (List ℕ) → Ipv6Translation → List ℕ → List ℕ
+ipv6_message_with quoted new packet = ipv6_message_by quoted new (ipv6_opposite new) packet
+
+-- the translated message and the translated packet, with a translation of the quoted packet
+abbrev pub ipv6_message_of_both : Ipv6Translation → Ipv6Translation → List ℕ → List ℕ
+ipv6_message_of_both new of_quoted packet = ipv6_message_by (ipv6_quoted packet) new of_quoted packet
+
+abbrev pub ipv6_translated_with : Ipv6Translation → Ipv6Translation → List ℕ → List ℕ
+ipv6_translated_with new of_quoted packet = ipv6_with_message new (ipv6_message_of_both new of_quoted packet) packet
 
 -- the translated message
 abbrev pub ipv6_translated_message : Ipv6Translation → List ℕ → List ℕ

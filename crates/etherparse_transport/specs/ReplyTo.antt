@@ -52,6 +52,13 @@ GoesBack (Ipv4 source destination) (Ipv4 responder receiver) = (receiver ≡ sou
 GoesBack (Ipv6 source (Some destination)) (Ipv6 responder (Some receiver)) = (receiver ≡ source) × MayAnswerIpv6 destination responder
 GoesBack request reply = ⊥
 
+-- The reply goes to the source of the request, from the address of any host. A host replies to an anycast address from a unicast address,
+-- which the request does not name (RFC 4443, section 4.2).
+abbrev pub GoesToSource : Addresses → Addresses → Type 0
+GoesToSource (Ipv4 source destination) (Ipv4 responder receiver) = (receiver ≡ source) × IsTrue (is_host_ipv4 responder)
+GoesToSource (Ipv6 source destination) (Ipv6 responder (Some receiver)) = (receiver ≡ source) × IsTrue (is_host_ipv6 responder)
+GoesToSource request reply = ⊥
+
 -- ---- the messages
 
 -- a slice accepts the message, which has this type and code 0
@@ -86,15 +93,23 @@ Answers (Ipv6 responder None) request reply = ⊥
 
 -- ---- the reply
 
--- The second packet is the reply to the first. It goes back, its message is the reply to the request, and the checksum of its IPv4 header
--- is right, since a host discards it otherwise (RFC 1122, section 3.2.1.2). The checksums of the request are not tested.
-pub record IsReplyTo (request reply : List ℕ) : Type 0 where
+-- The second packet is the reply to the first, between these addresses. Its message is the reply to the request, and the checksum of its
+-- IPv4 header is right, since a host discards it otherwise (RFC 1122, section 3.2.1.2). The checksums of the request are not tested.
+pub record IsReplyBetween (AreItsAddresses : Addresses → Addresses → Type 0) (request reply : List ℕ) : Type 0 where
   pub request_addresses : Addresses
   pub reply_addresses : Addresses
   pub request_message : List ℕ
   pub reply_message : List ℕ
   pub request_carries : CarriesIcmp request request_addresses request_message
   pub reply_carries : CarriesIcmp reply reply_addresses reply_message
-  pub goes_back : GoesBack request_addresses reply_addresses
+  pub goes_back : AreItsAddresses request_addresses reply_addresses
   pub answers : Answers reply_addresses request_message reply_message
   pub header_checksum : BeginsWithIpv4Header reply → Verifies [] (ip.ipv4_header reply)
+
+-- the reply comes from where the request went
+abbrev pub IsReplyTo : List ℕ → List ℕ → Type 0
+IsReplyTo request reply = IsReplyBetween GoesBack request reply
+
+-- the reply comes from any host
+abbrev pub IsReplyFromAny : List ℕ → List ℕ → Type 0
+IsReplyFromAny request reply = IsReplyBetween GoesToSource request reply

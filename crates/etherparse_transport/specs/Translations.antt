@@ -1,6 +1,6 @@
 -- The translation of the message in an IP packet, as an address translator makes it (RFC 3022; RFC 5508 for ICMP): new ports or a new
 -- identifier, and the checksum updated by what was replaced (RFC 1624).
-use Rattle.std.specs.Prelude.{◌≡◌, ◌≢◌, ◌≤◌, ◌↔◌, ◌⊎◌, ◌%◌, true, ℕ, ◌+◌, ◌==◌, ◌&&◌, ◌||◌, Bool, is_none, is_some, nat_le, nat_lt, not, if◌then◌else◌, List, [], ◌∷◌, ◌++◌, drop, length, slice_index, take, Option, Some, None, unwrap_or}
+use Rattle.std.specs.Prelude.{◌≡◌, ◌≢◌, ◌≤◌, ◌↔◌, ◌⊎◌, ◌%◌, true, false, ℕ, ◌+◌, ◌==◌, ◌&&◌, ◌||◌, Bool, is_none, is_some, nat_le, nat_lt, not, if◌then◌else◌, List, [], ◌∷◌, ◌++◌, drop, length, slice_index, take, Option, Some, None, unwrap_or}
 use Rattle.std.specs.Int.{to_be_bytes, w16}
 use Rattle.icmp_part.specs.Icmpv4Format as icmpv4
 use Rattle.icmp_part.specs.Icmpv6Format as icmpv6
@@ -88,31 +88,54 @@ translated_tcp old new source destination segment =
     (removed_ports old segment) (added_ports new source destination segment))
     (with_ports source destination segment)
 
--- ---- ICMP echo
+-- ---- ICMP queries
 
--- the place of the identifier (RFC 792; RFC 4443, section 4)
+-- the types of the requests that contain an identifier: echo, timestamp and information (RFC 792), address mask (RFC 950), and echo over IPv6
+-- (RFC 4443, section 4.1)
+abbrev pub is_request : Proto → ℕ → Bool
+is_request protos.Udp type = false
+is_request protos.Tcp type = false
+is_request protos.Icmpv4 type = type == 8 || (type == 13 || (type == 15 || type == 17))
+is_request protos.Icmpv6 type = type == 128
+
+-- the types of their replies
+abbrev pub is_reply : Proto → ℕ → Bool
+is_reply protos.Udp type = false
+is_reply protos.Tcp type = false
+is_reply protos.Icmpv4 type = type == 0 || (type == 14 || (type == 16 || type == 18))
+is_reply protos.Icmpv6 type = type == 129
+
+-- the place of the identifier (RFC 792; RFC 950; RFC 4443, section 4)
 abbrev pub identifier_place : ℕ
 identifier_place = 4
 
--- Only an echo reply over IPv4 begins with 0. If it consists of zeros, its checksum is all ones, and the update yields 0 (RFC 1624).
-abbrev pub updated_echo_checksum : List ℕ → ℕ → ℕ
-updated_echo_checksum message checksum = if slice_index message 0 == 0 then zero_as_all_ones checksum else checksum
+-- the sum of the words of an ICMP message except its checksum
+abbrev pub rest_of_message : List ℕ → ℕ
+rest_of_message message = total (with_number icmp_checksum_place 0 message)
 
--- an echo message with the new identifier, and with its checksum updated by addresses and identifier
-abbrev pub translated_echo : ℕ → ℕ → Option ℕ → List ℕ → List ℕ
-translated_echo old new identifier message =
-    with_number icmp_checksum_place (updated_echo_checksum message (updated_checksum_of (number icmp_checksum_place message)
+-- An echo reply over IPv4 may consist of zeros. Then its checksum is all ones, and the update yields 0 (RFC 1624).
+abbrev pub updated_query_checksum : List ℕ → ℕ → ℕ
+updated_query_checksum message checksum = if rest_of_message message == 0 then zero_as_all_ones checksum else checksum
+
+-- a query with the new identifier
+abbrev pub with_identifier : Option ℕ → List ℕ → List ℕ
+with_identifier identifier message = with_number identifier_place (port_or identifier identifier_place message) message
+
+-- a query with the new identifier, and with its checksum updated by addresses and identifier
+abbrev pub translated_query : ℕ → ℕ → Option ℕ → List ℕ → List ℕ
+translated_query old new identifier message =
+    with_number icmp_checksum_place (updated_query_checksum (with_identifier identifier message)
+    (updated_checksum_of (number icmp_checksum_place message)
     (and_word old (number identifier_place message)) (and_word new (port_or identifier identifier_place message))))
-    (with_number identifier_place (port_or identifier identifier_place message) message)
+    (with_identifier identifier message)
 
--- an echo message with this type of a request or this type of a reply, whose code is 0, up to its identifier (RFC 792; RFC 4443, section 4)
-abbrev pub is_echo : ℕ → ℕ → List ℕ → Bool
-is_echo request reply message =
-    nat_le 6 (length message) && ((slice_index message 0 == request || slice_index message 0 == reply) && slice_index message 1 == 0)
+-- a request or a reply up to its identifier, with any code
+abbrev pub is_query : Proto → List ℕ → Bool
+is_query proto message = nat_le 6 (length message) && (is_request proto (slice_index message 0) || is_reply proto (slice_index message 0))
 
 -- The identifier of a request belongs to the source, and the identifier of a reply to the destination (RFC 5508, section 3.1).
-abbrev pub new_identifier : ℕ → Option ℕ → Option ℕ → List ℕ → Option ℕ
-new_identifier request source destination message = if slice_index message 0 == request then source else destination
+abbrev pub new_identifier : Proto → Option ℕ → Option ℕ → List ℕ → Option ℕ
+new_identifier proto source destination message = if is_request proto (slice_index message 0) then source else destination
 
 -- an ICMP message with the checksum updated by removed and added words
 abbrev pub with_updated_checksum : ℕ → ℕ → List ℕ → List ℕ
@@ -127,9 +150,9 @@ abbrev pub translated_message : Proto → ℕ → ℕ → Option ℕ → Option 
 translated_message protos.Udp old new source destination message = translated_udp old new source destination message
 translated_message protos.Tcp old new source destination message = translated_tcp old new source destination message
 translated_message protos.Icmpv4 old new source destination message =
-    if is_echo 8 0 message then translated_echo 0 0 (new_identifier 8 source destination message) message else message
+    if is_query protos.Icmpv4 message then translated_query 0 0 (new_identifier protos.Icmpv4 source destination message) message else message
 translated_message protos.Icmpv6 old new source destination message =
-    if is_echo 128 129 message then translated_echo old new (new_identifier 128 source destination message) message
+    if is_query protos.Icmpv6 message then translated_query old new (new_identifier protos.Icmpv6 source destination message) message
     else with_updated_checksum old new message
 
 -- ---- the addresses
@@ -172,19 +195,25 @@ quoted_in is_later_fragment (Some proto) message = if is_later_fragment then Non
 
 -- ---- errors
 
--- the length of the shortest header of a protocol, in bytes
-abbrev pub min_header_len : Proto → ℕ
-min_header_len protos.Udp = 8
-min_header_len protos.Tcp = 20
-min_header_len protos.Icmpv4 = 8
-min_header_len protos.Icmpv6 = 8
+-- a translation with a new port or identifier
+abbrev pub has_port : Option ℕ → Option ℕ → Bool
+has_port source destination = is_some source || is_some destination
 
--- an ICMP message that is no echo message, and that its slice refuses or that is no error
+-- The bytes of a transport header that are needed, which contain the ports or the identifier (RFC 792: 64 bits of data). Only the checksum of
+-- TCP comes after them, which is updated if it is there.
+abbrev pub needed_len : ℕ
+needed_len = 8
+
+-- a redirect, whose bytes 4 to 7 contain another address, of a router in the network of its receiver (RFC 792)
+abbrev pub is_redirect : List ℕ → Bool
+is_redirect message = slice_index message 0 == 5
+
+-- an ICMP message that is no query, and that its slice refuses, or that is a redirect or no error
 abbrev pub icmp_refusal : Proto → List ℕ → Option TranslateError
 icmp_refusal protos.Udp message = None
 icmp_refusal protos.Tcp message = None
-icmp_refusal protos.Icmpv4 message = refused_if (not (is_echo 8 0 message) && (is_some (icmpv4.refusal message) || is_none (quoted_by_icmpv4 message))) IcmpMessage
-icmp_refusal protos.Icmpv6 message = refused_if (not (is_echo 128 129 message) && (is_some (icmpv6.refusal message) || is_none (quoted_by_icmpv6 message))) IcmpMessage
+icmp_refusal protos.Icmpv4 message = refused_if (not (is_query protos.Icmpv4 message) && (is_some (icmpv4.refusal message) || (is_redirect message || is_none (quoted_by_icmpv4 message)))) IcmpMessage
+icmp_refusal protos.Icmpv6 message = refused_if (not (is_query protos.Icmpv6 message) && (is_some (icmpv6.refusal message) || is_none (quoted_by_icmpv6 message))) IcmpMessage
 
 -- a header that is cut off, and then such an ICMP message; a later fragment has no header
 abbrev pub message_refusal : Bool → Option Proto → List ℕ → Option TranslateError
@@ -192,7 +221,7 @@ message_refusal is_later_fragment None message = None
 message_refusal is_later_fragment (Some proto) message =
     if is_later_fragment then None
     else first_of (
-    refused_if (nat_lt (length message) (min_header_len proto)) (HeaderCutOff (min_header_len proto) (length message))
+    refused_if (nat_lt (length message) needed_len) (HeaderCutOff needed_len (length message))
     ∷ icmp_refusal proto message
     ∷ [])
 
@@ -228,13 +257,13 @@ HaveSums protos.Icmpv4 removed added before after = (before ≡ 0) × (after ≡
 HaveSums protos.Icmpv6 removed added before after = TurnsIntoBy removed added before after × (before ≢ 0) × (after ≢ 0)
 
 -- A message whose checksum is updated: it contains its checksum and its ports or identifier, up to byte 7 in UDP, 17 in TCP, and 5 in ICMP.
--- A UDP packet has a checksum, and an ICMP message is an echo message. RFC 1624 can't tell the two zeros apart in an echo reply over IPv4
--- that consists of zeros, the checksum included.
+-- A UDP packet has a checksum, and an ICMP message is a query. RFC 1624 can't tell the two zeros apart in an echo reply over IPv4 that
+-- consists of zeros, the checksum included.
 abbrev pub IsUpdated : Proto → List ℕ → Type 0
 IsUpdated protos.Udp packet = (8 ≤ length packet) × (number udp_checksum_place packet ≢ 0)
 IsUpdated protos.Tcp segment = 18 ≤ length segment
-IsUpdated protos.Icmpv4 message = (6 ≤ length message) × (is_echo 8 0 message ≡ true) × (total message ≢ 0)
-IsUpdated protos.Icmpv6 message = (6 ≤ length message) × (is_echo 128 129 message ≡ true)
+IsUpdated protos.Icmpv4 message = (6 ≤ length message) × (is_query protos.Icmpv4 message ≡ true) × (total message ≢ 0)
+IsUpdated protos.Icmpv6 message = (6 ≤ length message) × (is_query protos.Icmpv6 message ≡ true)
 
 -- with pseudo headers of these sums, a receiver accepts the translated message exactly if it accepts the message
 abbrev pub IsAcceptedAlike : ℕ → ℕ → List ℕ → List ℕ → Type 0

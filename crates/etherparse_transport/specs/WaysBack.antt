@@ -1,7 +1,7 @@
 -- The way back of a translation, which puts back what the translation replaces, and the packets that it restores. An update keeps a
 -- checksum only modulo 65535 (RFC 1624), so that it yields one of the two zeros, 0 and 65535. The other zero is lost, even if nothing is
 -- replaced.
-use Rattle.std.specs.Prelude.{◌≡◌, ◌≢◌, ⊤, true, false, ℕ, ◌<◌, ◌==◌, Bool, if◌then◌else◌, List, length, slice_index, IfSome, Option, Some, None}
+use Rattle.std.specs.Prelude.{◌≡◌, ◌≢◌, ⊤, true, false, ℕ, ◌<◌, ◌==◌, Bool, if◌then◌else◌, List, length, IfSome, Option, Some, None}
 use Rattle.std.specs.Option.{option_map}
 use Rattle.ip_part.specs.declared.proto.Proto.{Proto}
 use Rattle.ip_part.specs.declared.proto.Proto.TheVariants as protos
@@ -10,13 +10,13 @@ use Rattle.net_base.specs.StoredChecksum.{icmp_checksum_place, tcp_checksum_plac
 use Rattle.word_sum.specs.Checksum.{all_ones}
 use Rattle.etherparse_transport.specs.Ipv4Translations.{header_checksum_place, ipv4_is_later_fragment, ipv4_opposite, ipv4_proto, ipv4_quoted, message_in_ipv4}
 use Rattle.etherparse_transport.specs.Ipv6Translations.{ipv6_is_later_fragment, ipv6_opposite, ipv6_proto, ipv6_quoted, message_in_ipv6}
-use Rattle.etherparse_transport.specs.Translations.{destination_port_place, identifier_place, is_echo, number, source_port_place}
+use Rattle.etherparse_transport.specs.Translations.{destination_port_place, identifier_place, is_query, number, rest_of_message, source_port_place}
 use Rattle.etherparse_transport.specs.declared.ip.ipv4_translation.Ipv4Translation.{Ipv4Translation}
 use Rattle.etherparse_transport.specs.declared.ip.ipv6_translation.Ipv6Translation.{Ipv6Translation}
 
 -- ---- the message
 
--- the place of a port, or of the identifier of an echo message
+-- the place of a port, or of the identifier of a query
 abbrev pub place_in : Proto → ℕ → ℕ
 place_in protos.Udp place = place
 place_in protos.Tcp place = place
@@ -32,16 +32,16 @@ port_in (Some proto) place message = number (place_in proto place) message
 abbrev pub instead : {T : Type 0} → T → Option T → Option T
 instead old new = option_map (λ _. old) new
 
--- the zero that an ICMPv4 echo message loses: 0 in a reply, whose type is 0, and otherwise 65535
+-- the zero that an ICMPv4 query loses: 0 in an echo reply whose other bytes are 0, and otherwise 65535
 abbrev pub lost_checksum : List ℕ → ℕ
-lost_checksum message = if slice_index message 0 == 0 then 0 else all_ones
+lost_checksum message = if rest_of_message message == 0 then 0 else all_ones
 
 -- The checksum of a message is restored. A UDP checksum always is, since 0 means that there is none (RFC 768). Of ICMPv4, only the checksum
--- of an echo message is updated.
+-- of a query is updated.
 abbrev pub IsChecksumRestored : Proto → List ℕ → Type 0
 IsChecksumRestored protos.Udp message = ⊤
 IsChecksumRestored protos.Tcp message = number tcp_checksum_place message ≢ all_ones
-IsChecksumRestored protos.Icmpv4 message = is_echo 8 0 message ≡ true → number icmp_checksum_place message ≢ lost_checksum message
+IsChecksumRestored protos.Icmpv4 message = is_query protos.Icmpv4 message ≡ true → number icmp_checksum_place message ≢ lost_checksum message
 IsChecksumRestored protos.Icmpv6 message = number icmp_checksum_place message ≢ all_ones
 
 -- the same in a packet, whose later fragments contain no checksum
@@ -80,6 +80,11 @@ ipv4_back_by (Some quoted) new packet = ipv4_opposite (ipv4_flow_back (ipv4_oppo
 abbrev pub ipv4_way_back : Ipv4Translation → List ℕ → Ipv4Translation
 ipv4_way_back new packet = ipv4_back_by (ipv4_quoted packet) new packet
 
+-- the way back of the packet that is quoted, if one is, by its own translation
+abbrev pub ipv4_quoted_back : Option (List ℕ) → Ipv4Translation → Ipv4Translation
+ipv4_quoted_back None of_quoted = of_quoted
+ipv4_quoted_back (Some quoted) of_quoted = ipv4_flow_back of_quoted quoted
+
 -- the checksums of the header and of the message are restored
 abbrev pub IsIpv4FlowRestored : List ℕ → Type 0
 IsIpv4FlowRestored packet = (number header_checksum_place packet ≢ all_ones)
@@ -102,6 +107,21 @@ IsIpv4RestoredBy (Some quoted) new packet = IsIpv4ErrorRestored new packet quote
 -- the way back restores the packet
 abbrev pub IsIpv4Restored : Ipv4Translation → List ℕ → Type 0
 IsIpv4Restored new packet = IsIpv4RestoredBy (ipv4_quoted packet) new packet
+
+-- With a translation of its own for the quoted packet no address is lost: only checksums are.
+pub record AreIpv4ChecksumsRestored (packet quoted : List ℕ) : Type 0 where
+  pub header : number header_checksum_place packet ≢ all_ones
+  pub message : number icmp_checksum_place (message_in_ipv4 packet) ≢ all_ones
+  pub quoted_packet : IsIpv4FlowRestored quoted
+
+-- the same for a packet that quotes this packet, or none
+abbrev pub IsIpv4RestoredWithBy : Option (List ℕ) → List ℕ → Type 0
+IsIpv4RestoredWithBy None packet = IsIpv4FlowRestored packet
+IsIpv4RestoredWithBy (Some quoted) packet = AreIpv4ChecksumsRestored packet quoted
+
+-- the ways back of both translations restore the packet
+abbrev pub IsIpv4RestoredWith : List ℕ → Type 0
+IsIpv4RestoredWith packet = IsIpv4RestoredWithBy (ipv4_quoted packet) packet
 
 -- ---- IPv6
 
@@ -129,6 +149,11 @@ ipv6_back_by (Some quoted) new packet = ipv6_opposite (ipv6_flow_back (ipv6_oppo
 abbrev pub ipv6_way_back : Ipv6Translation → List ℕ → Ipv6Translation
 ipv6_way_back new packet = ipv6_back_by (ipv6_quoted packet) new packet
 
+-- the way back of the packet that is quoted, if one is, by its own translation
+abbrev pub ipv6_quoted_back : Option (List ℕ) → Ipv6Translation → Ipv6Translation
+ipv6_quoted_back None of_quoted = of_quoted
+ipv6_quoted_back (Some quoted) of_quoted = ipv6_flow_back of_quoted quoted
+
 -- the checksum of the message is restored; an IPv6 header has none
 abbrev pub IsIpv6FlowRestored : List ℕ → Type 0
 IsIpv6FlowRestored packet = IsChecksumRestoredIn (ipv6_is_later_fragment packet) (ipv6_proto packet) (message_in_ipv6 packet)
@@ -148,3 +173,17 @@ IsIpv6RestoredBy (Some quoted) new packet = IsIpv6ErrorRestored new packet quote
 -- the way back restores the packet
 abbrev pub IsIpv6Restored : Ipv6Translation → List ℕ → Type 0
 IsIpv6Restored new packet = IsIpv6RestoredBy (ipv6_quoted packet) new packet
+
+-- With a translation of its own for the quoted packet no address is lost: only checksums are.
+pub record AreIpv6ChecksumsRestored (packet quoted : List ℕ) : Type 0 where
+  pub message : number icmp_checksum_place (message_in_ipv6 packet) ≢ all_ones
+  pub quoted_packet : IsIpv6FlowRestored quoted
+
+-- the same for a packet that quotes this packet, or none
+abbrev pub IsIpv6RestoredWithBy : Option (List ℕ) → List ℕ → Type 0
+IsIpv6RestoredWithBy None packet = IsIpv6FlowRestored packet
+IsIpv6RestoredWithBy (Some quoted) packet = AreIpv6ChecksumsRestored packet quoted
+
+-- the ways back of both translations restore the packet
+abbrev pub IsIpv6RestoredWith : List ℕ → Type 0
+IsIpv6RestoredWith packet = IsIpv6RestoredWithBy (ipv6_quoted packet) packet

@@ -1,6 +1,7 @@
 //! From an IP packet to its transport (RFC 791, section 3.1; RFC 8200, sections 3 and 4), to its protocol and a typed
 //! slice, and to the verdict on its checksum; and back from a transport header and a payload to a packet. `answer_echo` turns an echo
 //! request into its reply, and `is_reply_to` recognises the reply. `translate_ipv4` and `translate_ipv6` replace addresses and ports.
+//! `write_checksum` writes the right checksum into a packet.
 
 mod echo_reply;
 mod ip_header;
@@ -8,10 +9,12 @@ mod ipv4_translation;
 mod ipv6_translation;
 mod message_place;
 mod reply_to;
+mod source_route;
 mod translated_ipv4;
 mod translated_ipv6;
 mod translated_message;
 mod write_packet;
+mod written_checksum;
 
 pub use echo_reply::{answer_echo, answer_echo_ipv4, answer_echo_ipv6};
 pub use ip_part::{
@@ -20,8 +23,9 @@ pub use ip_part::{
 };
 pub use ipv4_translation::Ipv4Translation;
 pub use ipv6_translation::Ipv6Translation;
-pub use reply_to::is_reply_to;
-pub use translated_ipv4::translate_ipv4;
-pub use translated_ipv6::translate_ipv6;
+pub use reply_to::{is_reply_from_any, is_reply_to};
+pub use translated_ipv4::{translate_ipv4, translate_ipv4_with_quoted};
+pub use translated_ipv6::{translate_ipv6, translate_ipv6_with_quoted};
 pub use transport_part::ip::{checksum_verdict, proto_in_ip, transport_slice};
 pub use write_packet::{write_packet_ipv4, write_packet_ipv6};
+pub use written_checksum::write_checksum;

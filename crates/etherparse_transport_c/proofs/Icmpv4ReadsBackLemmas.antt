@@ -101,7 +101,7 @@ problem_listed (problem.PointerIndicatesError at) = refl
 problem_listed other = refl
 
 -- what is read of a message that is not raw says the message
-said_again : (message : Icmpv4Type) (checksum : ℕ) → FieldsFit message → (message_fields message).kind ≢ numbers.icmpv4_unknown
+said_again : (message : Icmpv4Type) (checksum : ℕ) → FieldsFit message → (message_fields message).kind ≢ numbers.icmpv4_kind_unknown
     → message_in (header_read message (icmpv4_header message checksum)) ≡ Some message
 said_again (Unknown type code fields) checksum fit some = absurd (some refl)
 said_again (DestinationUnreachable header) checksum fit some = ap (option_map DestinationUnreachable) (dest_listed header fit)
@@ -117,7 +117,7 @@ said_again other checksum fit some = refl
 -- what was found of a message that is not raw is the message, and of every message the checksum
 abbrev Finds : Icmpv4Type → ℕ → Icmpv4Header → Type 0
 Finds message checksum found =
-    (found.checksum ≡ checksum) × ((message_fields message).kind ≢ numbers.icmpv4_unknown → found ≡ icmpv4_header message checksum)
+    (found.checksum ≡ checksum) × ((message_fields message).kind ≢ numbers.icmpv4_kind_unknown → found ≡ icmpv4_header message checksum)
 
 same_header : (fields : EtherparseIcmpv4Header) (message : Icmpv4Type) (found : Icmpv4Header) → message_in fields ≡ Some message → FieldsFit message
     → length fields.bytes4to7 ≡ 4 → Finds message fields.checksum found → IsSameHeader fields (header_read message found)
@@ -127,7 +127,7 @@ same_header fields message found is fit four finds =
       checksum = finds.0;
       kind = λ some. ap (λ h. (message_fields h.icmp_type).kind) (finds.1 (λ none. some (sym kind ∙ none))) ∙ kind;
       message = λ some.
-          let listed : (message_fields message).kind ≢ numbers.icmpv4_unknown = λ none. some (sym kind ∙ none) in
+          let listed : (message_fields message).kind ≢ numbers.icmpv4_kind_unknown = λ none. some (sym kind ∙ none) in
           ap (λ h. message_in (header_read message h)) (finds.1 listed) ∙ said_again message fields.checksum fit listed ∙ sym is;
       raw = λ none.
           let raw : Unknown fields.type_u8 fields.code_u8 fields.bytes4to7 ≡ message =

@@ -112,7 +112,7 @@ neighbor_flags true true false = (refl, refl, refl)
 neighbor_flags true true true = (refl, refl, refl)
 
 -- what is read of a message that is not raw says the message
-said_again : (message : Icmpv6Type) (checksum : ℕ) → (message_fields message).kind ≢ numbers.icmpv6_unknown
+said_again : (message : Icmpv6Type) (checksum : ℕ) → (message_fields message).kind ≢ numbers.icmpv6_kind_unknown
     → message_in (header_read message (icmpv6_header message checksum)) ≡ Some message
 said_again (Unknown type code fields) checksum some = absurd (some refl)
 said_again (DestinationUnreachable code) checksum some = ap (option_map DestinationUnreachable) (dest_listed code)
@@ -128,7 +128,7 @@ said_again (NeighborAdvertisement header) checksum some =
 said_again other checksum some = refl
 
 -- a message that is not raw is read as it was
-stays : (message : Icmpv6Type) → (message_fields message).kind ≢ numbers.icmpv6_unknown → message_reads_back message ≡ message
+stays : (message : Icmpv6Type) → (message_fields message).kind ≢ numbers.icmpv6_kind_unknown → message_reads_back message ≡ message
 stays (Unknown type code fields) some = absurd (some refl)
 stays other some = refl
 
@@ -142,7 +142,7 @@ same_header fields message is four =
       checksum = refl;
       kind = λ some. ap (λ m. (message_fields m).kind) (stays message (λ none. some (sym kind ∙ none))) ∙ kind;
       message = λ some.
-          let listed : (message_fields message).kind ≢ numbers.icmpv6_unknown = λ none. some (sym kind ∙ none) in
+          let listed : (message_fields message).kind ≢ numbers.icmpv6_kind_unknown = λ none. some (sym kind ∙ none) in
           ap (λ m. message_in (header_read message (icmpv6_header m fields.checksum))) (stays message listed)
           ∙ said_again message fields.checksum listed ∙ sym is;
       raw = λ none.

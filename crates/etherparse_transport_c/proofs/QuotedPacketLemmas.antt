@@ -1,7 +1,7 @@
 -- A quoted packet is found again by its place and its length.
 use Rattle.std.proofs.Common.{◌≡◌, ℕ, zero, suc, Bool, true, false, List, [], ◌∷◌, length, take, drop, Option, Some, None, refl, sym, ap, ◌∙◌, subst, arith}
 use Rattle.std.proofs.lemmas.List.{take_all}
-use Rattle.std.specs.Prelude.{⊤, ◌*◌, ◌==◌, ◌||◌, if◌then◌else◌, slice_index}
+use Rattle.std.specs.Prelude.{⊤, ◌*◌, ◌==◌, ◌||◌, if◌then◌else◌, nat_lt, slice_index}
 use Rattle.icmp_part.specs.QuotedPackets.{quoted_by_icmpv4, quoted_by_icmpv6}
 
 -- a quoted packet that is the front of these bytes
@@ -35,7 +35,7 @@ found_in_icmpv4 message packet =
     let type = slice_index message 0 in
     let len = slice_index message 5 * 4 in
     again (drop 8 message) packet (quoted_by_icmpv4 message)
-    (front len (drop 8 message) (type == 3 || (type == 11 || type == 12)) (type == 4 || type == 5) (len == 0))
+    (front len (drop 8 message) (type == 3 || (type == 11 || type == 12)) (type == 4 || type == 5) (nat_lt len 128))
 
 pub found_in_icmpv6 : (message packet : List ℕ) → quoted_by_icmpv6 message ≡ Some packet
     → quoted_by_icmpv6 message ≡ Some (take (length packet) (drop 8 message))
@@ -43,4 +43,4 @@ found_in_icmpv6 message packet =
     let type = slice_index message 0 in
     let len = slice_index message 4 * 8 in
     again (drop 8 message) packet (quoted_by_icmpv6 message)
-    (front len (drop 8 message) (type == 1 || type == 3) (type == 2 || type == 4) (len == 0))
+    (front len (drop 8 message) (type == 1 || type == 3) (nat_lt type 128) (nat_lt len 128))

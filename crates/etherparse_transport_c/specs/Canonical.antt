@@ -1,4 +1,4 @@
--- The canonical header as C has it.
+-- The canonical header in the interface to C.
 use Rattle.std.specs.Prelude.{ℕ, ◌==◌, if◌then◌else◌, List, [], length, take, Option, Some, None}
 use Rattle.std.specs.Option.{option_map}
 use Rattle.ip_part.specs.declared.proto.Proto.{Proto}
@@ -9,7 +9,7 @@ use Rattle.etherparse_transport_c.specs.Errors.{first_refusal, no_room, of_heade
 use Rattle.etherparse_transport_c.specs.Numbers as numbers
 use Rattle.etherparse_transport_c.specs.declared.error.EtherparseError.{EtherparseError}
 
--- the protocols by the numbers that IP has for them
+-- the protocol with this number in IP headers, if it is one of the four
 abbrev pub protocol_of : ℕ → Option Proto
 protocol_of number =
     if number == numbers.protocol_icmpv4 then Some Icmpv4
@@ -18,12 +18,12 @@ protocol_of number =
     else if number == numbers.protocol_icmpv6 then Some Icmpv6
     else None
 
--- the canonical header of accepted bytes
+-- the canonical header of accepted bytes; without a protocol there is none
 abbrev pub canonical_bytes : Option Proto → List ℕ → List ℕ
 canonical_bytes None bytes = []
 canonical_bytes (Some protocol) bytes = take ((layout_of protocol bytes).header_len) (formats.canonical protocol bytes)
 
--- no such protocol; the header is refused; a buffer that is too small: in this order
+-- the first of these refusals that applies: an unknown protocol, a refused header, a buffer that is too small
 abbrev pub refusal : ℕ → Option Proto → List ℕ → ℕ → Option EtherparseError
 refusal number None bytes room = Some (of_protocol number)
 refusal number (Some protocol) bytes room =

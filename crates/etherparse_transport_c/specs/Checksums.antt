@@ -2,6 +2,6 @@
 use Rattle.std.specs.Prelude.{ℕ, List}
 use Rattle.net_base.specs.StoredChecksum as stored
 
--- a packet with this checksum in its place, which begins at the place: `with_checksum` of net_base, but that it doesn't unfold by itself
+-- A packet in which this checksum is stored at this place. It is `with_checksum` of net_base, in a form that is unfolded only on request.
 unfoldable pub with_checksum : ℕ → List ℕ → ℕ → List ℕ
 with_checksum place packet checksum = stored.with_checksum place packet checksum

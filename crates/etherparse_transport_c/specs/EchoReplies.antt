@@ -1,4 +1,4 @@
--- Why an echo request is refused, and what the test of a reply returns, as C has it.
+-- Refusals of echo requests, and the result of the test of a reply, in the interface to C.
 use Rattle.std.specs.Prelude.{◌≡◌, ◌⊎◌, ℕ, List, Option, Some}
 use Rattle.std.specs.Option.{option_map}
 use Rattle.etherparse_transport.specs.EchoReplies.{answer_refusal, ipv4_answer_refusal, ipv6_answer_refusal}
@@ -7,19 +7,19 @@ use Rattle.etherparse_transport_c.specs.Errors.{of_answer_echo}
 use Rattle.etherparse_transport_c.specs.Numbers as numbers
 use Rattle.etherparse_transport_c.specs.declared.error.EtherparseError.{EtherparseError}
 
--- why a packet of either version is refused, if the reply comes from the destination of the request
+-- the refusal of a packet of either version, if the reply comes from the destination of the request
 abbrev pub refusal : List ℕ → Option EtherparseError
 refusal packet = option_map of_answer_echo (answer_refusal packet)
 
--- why an IPv4 packet is refused, if the reply comes from this source
+-- the refusal of an IPv4 packet, if the reply comes from this source
 abbrev pub ipv4_refusal : List ℕ → List ℕ → Option EtherparseError
 ipv4_refusal source packet = option_map of_answer_echo (ipv4_answer_refusal (Some source) packet)
 
--- the same of an IPv6 packet
+-- the refusal of an IPv6 packet, if the reply comes from this source
 abbrev pub ipv6_refusal : List ℕ → List ℕ → Option EtherparseError
 ipv6_refusal source packet = option_map of_answer_echo (ipv6_answer_refusal (Some source) packet)
 
--- the status of the test of a reply: the second packet is the reply to the first, or it is not
+-- the status of the test of a reply, which states whether the second packet is the reply to the first
 abbrev pub ReplyTells : List ℕ → List ℕ → ℕ → Type 0
 ReplyTells request reply status =
     ((status ≡ numbers.status_ok) × IsReplyTo request reply) ⊎ ((status ≡ numbers.status_echo_no_reply) × (IsReplyTo request reply → ⊥))

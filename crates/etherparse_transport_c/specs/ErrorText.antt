@@ -28,24 +28,26 @@ use Rattle.net_base.specs.declared.tcp_option_write_error.TcpOptionWriteError.Th
 use Rattle.etherparse_transport_c.specs.Numbers as numbers
 use Rattle.etherparse_transport_c.specs.declared.error.EtherparseError.{EtherparseError}
 
--- ---- the texts in C of the errors that have another text elsewhere
+-- ---- texts in C that differ from the texts of the library
 
--- of each wrong checksum
+-- the text of every wrong checksum
 abbrev pub wrong_checksum_text : List ℕ
 wrong_checksum_text = codes "Checksum Error: the checksum is wrong."
 
--- a wrong checksum of an echo request has the status, and so the text, of each wrong checksum
+-- The text of a refused echo request. A wrong checksum has the text of every wrong checksum, since it has the same status.
 abbrev pub echo_text_in_c : AnswerEchoError → List ℕ
 echo_text_in_c echo.Checksum = wrong_checksum_text
 echo_text_in_c error = answer_echo_text error
 
--- the other IP version has the status, and so the text, of each version that a call does not accept
+-- The text of a packet that is not translated. The other IP version has the text of every version that a call does not accept, since it has
+-- the same status.
 abbrev pub translate_text_in_c : ℕ → TranslateError → List ℕ
 translate_text_in_c other_version translate.OtherVersion = ip_text (ip.Version other_version)
 translate_text_in_c other_version error = translate_text error
 
--- ---- the error that some numbers tell; None where they are none that a call tells
+-- ---- the library's error that an error of C contains, or `None` for numbers that no call returns
 
+-- the layer with this number
 abbrev pub layer_at : ℕ → Option Layer
 layer_at number =
     if number == numbers.layer_udp_header then Some layers.UdpHeader
@@ -57,12 +59,14 @@ layer_at number =
     else if number == numbers.layer_icmpv6 then Some layers.Icmpv6
     else None
 
+-- the source of a length with this number
 abbrev pub len_source_at : ℕ → Option LenSource
 len_source_at number =
     if number == numbers.len_source_slice then Some Slice
     else if number == numbers.len_source_udp_header_len then Some UdpHeaderLen
     else None
 
+-- the kind of value with this number
 abbrev pub value_type_at : ℕ → Option ValueType
 value_type_at number =
     if number == numbers.value_udp_payload_length_ipv4 then Some values.UdpPayloadLengthIpv4
@@ -72,10 +76,11 @@ value_type_at number =
     else if number == numbers.value_icmpv6_payload_length then Some values.Icmpv6PayloadLength
     else None
 
--- a number that is a byte
+-- a number, if it fits into a byte
 abbrev pub byte_in : ℕ → Option ℕ
 byte_in number = if nat_lt number 256 then Some number else None
 
+-- the error of a length
 abbrev pub len_error_in : EtherparseError → Option LenError
 len_error_in error = option_and_then
     (λ layer. option_map
@@ -89,14 +94,17 @@ len_error_in error = option_and_then
     (len_source_at error.len_source))
     (layer_at error.layer)
 
+-- the error of a value that is too big
 abbrev pub value_error_in : EtherparseError → Option (ValueTooBigError ℕ)
 value_error_in error = option_map
     (λ value_type. record { actual = error.actual; max_allowed = error.max_allowed; value_type = value_type })
     (value_type_at error.value_type)
 
+-- the fault of a TCP header
 abbrev pub header_error_in : EtherparseError → Option HeaderError
 header_error_in error = option_map DataOffsetTooSmall (byte_in error.data_offset)
 
+-- the fault of an option of the known kinds
 abbrev pub option_error_in : EtherparseError → Option TcpOptionReadError
 option_error_in error = option_and_then
     (λ kind.
@@ -106,6 +114,7 @@ option_error_in error = option_and_then
     else Some (UnknownId kind))
     (byte_in error.option_kind)
 
+-- the reason why an IP packet is refused
 abbrev pub ip_error_in : EtherparseError → Option IpError
 ip_error_in error =
     if error.status == numbers.status_ip_header_cut_off then Some (ip.HeaderCutOff error.required_len error.len)
@@ -122,7 +131,7 @@ ip_error_in error =
     else if error.status == numbers.status_ip_jumbo_payload_fragment then Some (ip.JumboPayloadFragment error.layer_start_offset)
     else None
 
--- an echo request that was refused, where the status is the whole reason
+-- the reason why an echo request is refused; only the status is used
 abbrev pub answer_echo_error_in : EtherparseError → Option AnswerEchoError
 answer_echo_error_in error =
     if error.status == numbers.status_echo_fragment then Some echo.Fragment
@@ -133,7 +142,7 @@ answer_echo_error_in error =
     else if error.status == numbers.status_echo_reply_source then Some echo.ReplySource
     else None
 
--- a packet that was not translated, by a status between those of a protocol and of a quoted packet
+-- the reason why a packet is not translated; only statuses of protocol, header, message and quoted packet are listed here
 abbrev pub translate_error_in : EtherparseError → Option TranslateError
 translate_error_in error =
     if error.status == numbers.status_translate_protocol then option_map (λ number. translate.Protocol (record { 0 = number })) (byte_in error.actual)
@@ -144,8 +153,8 @@ translate_error_in error =
 
 -- ---- the text of an error
 
--- of an error that only the library for C has, of a source route, whose status is after the other statuses of a translation, and of
--- numbers that no call tells
+-- The text of an error that the library does not have: an error of only the library for C, a source route, or numbers that no call returns.
+-- The status of a source route comes after the other statuses of a translation.
 abbrev pub own_text : EtherparseError → List ℕ
 own_text error =
     if error.status == numbers.status_ok then codes "No error."
@@ -168,12 +177,12 @@ own_text error =
     else if error.status == numbers.status_translate_source_route then translate_text translate.SourceRoute
     else codes "Unknown error."
 
--- of an error of the library, or another where the numbers tell none
+-- the text of the library's error if there is one, and another text otherwise
 abbrev pub text_or : {E : Type 0} → List ℕ → (E → List ℕ) → Option E → List ℕ
 text_or other text None = other
 text_or other text (Some error) = text error
 
--- of any error
+-- the text of any error
 abbrev pub text_of : EtherparseError → List ℕ
 text_of error =
     if error.status == numbers.status_length then text_or (own_text error) len_text (len_error_in error)

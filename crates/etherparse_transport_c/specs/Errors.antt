@@ -1,4 +1,4 @@
--- How errors cross to C: the stable number of each variant, and one record for every kind of error.
+-- Errors in the interface to C: the stable number of each variant, and one record for all kinds of errors.
 use Rattle.std.specs.Prelude.{◌≡◌, ◌⊎◌, ℕ, Bool, true, false, if◌then◌else◌, ◌==◌, nat_lt, List, ◌++◌, length, drop, Option, None, Some}
 use Rattle.etherparse_transport.specs.declared.err.packet.answer_echo_error.AnswerEchoError.{AnswerEchoError}
 use Rattle.etherparse_transport.specs.declared.err.packet.answer_echo_error.AnswerEchoError.TheVariants as echo
@@ -42,12 +42,12 @@ layer_number layers.Icmpv4Timestamp = numbers.layer_icmpv4_timestamp
 layer_number layers.Icmpv4TimestampReply = numbers.layer_icmpv4_timestamp_reply
 layer_number layers.Icmpv6 = numbers.layer_icmpv6
 
--- the number in C of what a length is read from
+-- the number in C of the source of a length
 abbrev pub len_source_number : LenSource → ℕ
 len_source_number Slice = numbers.len_source_slice
 len_source_number UdpHeaderLen = numbers.len_source_udp_header_len
 
--- the number in C of a value that can be too big
+-- the number in C of a kind of value that can be too big
 abbrev pub value_type_number : ValueType → ℕ
 value_type_number values.UdpPayloadLengthIpv4 = numbers.value_udp_payload_length_ipv4
 value_type_number values.UdpPayloadLengthIpv6 = numbers.value_udp_payload_length_ipv6
@@ -57,7 +57,7 @@ value_type_number values.Icmpv6PayloadLength = numbers.value_icmpv6_payload_leng
 
 -- ---- errors
 
--- no field is set
+-- an error in which every field is 0
 abbrev pub nothing : EtherparseError
 nothing = record {
   status = 0;
@@ -74,7 +74,7 @@ nothing = record {
   max_allowed = 0;
 }
 
--- a length
+-- a wrong length
 abbrev pub of_len : LenError → EtherparseError
 of_len error = record nothing {
   status = numbers.status_length;
@@ -85,12 +85,12 @@ of_len error = record nothing {
   layer_start_offset = error.layer_start_offset;
 }
 
--- a TCP header
+-- a refused TCP header
 abbrev pub of_header_slice : HeaderSliceError → EtherparseError
 of_header_slice (Len error) = of_len error
 of_header_slice (Content (DataOffsetTooSmall data_offset)) = record nothing { status = numbers.status_data_offset; data_offset = data_offset }
 
--- a value above its limit
+-- a value that is too big
 abbrev pub of_value : ValueTooBigError ℕ → EtherparseError
 of_value error = record nothing {
   status = numbers.status_value_too_big;
@@ -103,7 +103,7 @@ of_value error = record nothing {
 abbrev pub of_buffer : ℕ → ℕ → EtherparseError
 of_buffer required_len len = record nothing { status = numbers.status_buffer_too_small; required_len = required_len; len = len }
 
--- flags of a TCP header, one of which is none of the nine
+-- flags of a TCP header that contain a bit that is none of the nine flags
 abbrev pub of_flags : ℕ → EtherparseError
 of_flags flags = record nothing { status = numbers.status_flags_unknown; actual = flags; max_allowed = numbers.tcp_flags }
 
@@ -111,21 +111,21 @@ of_flags flags = record nothing { status = numbers.status_flags_unknown; actual 
 abbrev pub of_protocol : ℕ → EtherparseError
 of_protocol number = record nothing { status = numbers.status_protocol_unknown; actual = number }
 
--- a status alone
+-- an error that consists only of a status
 abbrev pub of_status : ℕ → EtherparseError
 of_status status = record nothing { status = status }
 
--- options to be written
+-- TCP options that can't be written
 abbrev pub of_options : TcpOptionWriteError → EtherparseError
 of_options (NotEnoughSpace len) = record nothing { status = numbers.status_options_too_long; required_len = max_options_len; len = len }
 
--- the fault of an option
+-- the fault of an option of the known kinds
 abbrev pub of_option : TcpOptionReadError → EtherparseError
 of_option (UnexpectedEndOfSlice kind expected left) = record nothing { status = numbers.status_option_cut_off; option_kind = kind; required_len = expected; len = left }
 of_option (UnexpectedSize kind size) = record nothing { status = numbers.status_option_size; option_kind = kind; option_size = size }
 of_option (UnknownId kind) = record nothing { status = numbers.status_option_unknown; option_kind = kind }
 
--- the fault of an option of any kind; one without a length byte needs two bytes and has one
+-- the fault of an option of any kind; if the length byte is missing, two bytes are required and one is present
 abbrev pub of_raw_option : TcpRawOptionError → EtherparseError
 of_raw_option (NoLengthByte kind) = record nothing { status = numbers.status_option_cut_off; option_kind = kind; required_len = 2; len = 1 }
 of_raw_option (LengthBelowTwo kind size) = record nothing { status = numbers.status_option_size; option_kind = kind; option_size = size }
@@ -136,16 +136,16 @@ of_raw_option (LengthBeyondEnd kind size left) =
 abbrev pub of_option_kind : ℕ → EtherparseError
 of_option_kind kind = record nothing { status = numbers.status_option_unknown; option_kind = kind }
 
--- values that an option of this kind cannot have
+-- values that no option of this kind can have
 abbrev pub of_option_values : ℕ → EtherparseError
 of_option_values kind = record nothing { status = numbers.status_option_values; option_kind = kind }
 
--- a length of an IP packet, and the one that would have been accepted
+-- a wrong length of an IP packet, and the length that would have been accepted
 abbrev pub of_ip_length : ℕ → ℕ → ℕ → EtherparseError
 of_ip_length status required_len len = record nothing { status = status; required_len = required_len; len = len }
 
--- an IP packet. A stated header length would have to be 20 at the least, a total length to count the header, and a jumbo payload length
--- to be 65,536; the version is a value, and so are the number of an extension header, and a payload length that would have to be 0.
+-- A refused IP packet. The required length is 20 for a header length, the length of the header for a total length, and 65,536 for a jumbo
+-- payload length. The field `actual` contains the version, the number of an extension header, or a payload length that is not 0.
 abbrev pub of_ip : IpError → EtherparseError
 of_ip (ip.HeaderCutOff required_len len) = of_ip_length numbers.status_ip_header_cut_off required_len len
 of_ip (ip.Version version) = record nothing { status = numbers.status_ip_version; actual = version }
@@ -161,7 +161,7 @@ of_ip (ip.JumboPayloadUnexpected payload_len) =
 of_ip (ip.JumboPayloadFragment offset) =
     record nothing { status = numbers.status_ip_jumbo_payload_fragment; layer_start_offset = offset }
 
--- an echo request without a reply. A wrong checksum of the message has the status of every wrong checksum.
+-- a refused echo request; a wrong checksum of the message has the status of every wrong checksum
 abbrev pub of_answer_echo : AnswerEchoError → EtherparseError
 of_answer_echo (echo.Ip error) = of_ip error
 of_answer_echo echo.Fragment = of_status numbers.status_echo_fragment
@@ -173,7 +173,7 @@ of_answer_echo echo.Checksum = of_status numbers.status_checksum_wrong
 of_answer_echo echo.RequestSource = of_status numbers.status_echo_request_source
 of_answer_echo echo.ReplySource = of_status numbers.status_echo_reply_source
 
--- a packet that is not translated. A packet of the other IP version has the status of every version that a call does not accept.
+-- a packet that is not translated; the other IP version has the status of every version that a call does not accept
 abbrev pub of_translate : ℕ → TranslateError → EtherparseError
 of_translate other_version (translate.Ip error) = of_ip error
 of_translate other_version translate.OtherVersion = of_ip (ip.Version other_version)
@@ -185,42 +185,44 @@ of_translate other_version (translate.HeaderCutOff required_len len) =
 of_translate other_version translate.IcmpMessage = of_status numbers.status_translate_icmp_message
 of_translate other_version translate.QuotedPacket = of_status numbers.status_translate_quoted_packet
 
--- ---- answers
+-- ---- results of calls
 
--- the status: 0, or that of the refusal
+-- the status of a call: 0, or the status of the refusal
 abbrev pub status_of : Option EtherparseError → ℕ
 status_of None = numbers.status_ok
 status_of (Some error) = error.status
 
--- the call leaves this error behind the caller's pointer, unless that is NULL
+-- after the call the memory that the pointer points to contains this error, unless the pointer is NULL
 abbrev pub Leaves : ErrorPlace → Answer → EtherparseError → Type 0
 Leaves place answer error = (answer.pointer ≡ place.pointer) × (answer.error ≡ error)
 
--- what stands behind a pointer after the call: what was made, or where the call refused what stood there before
+-- the value that a pointer points to after the call: the new value, or the value before if the call refused
 abbrev pub unless_refused : {A : Type 0} → Option EtherparseError → A → A → A
 unless_refused None made before = made
 unless_refused (Some error) made before = before
 
--- so many bytes don't fit a buffer of this length
+-- the refusal of a buffer that is too short for this number of bytes
 abbrev pub no_room : ℕ → ℕ → Option EtherparseError
 no_room needed len = refused_if (nat_lt len needed) (of_buffer needed len)
 
--- bytes at the front of a buffer, and after them what stood there before
+-- a buffer with these bytes at its front; the bytes after them are unchanged
 unfoldable pub at_front : List ℕ → List ℕ → List ℕ
 at_front bytes buffer = bytes ++ drop (length bytes) buffer
 
--- the status of a test of a checksum: the call refused; there is no checksum; it is right; it is wrong
+-- The status of the test of a checksum. If the packet is refused, it is the status of the refusal. Otherwise the checksum is absent, right
+-- or wrong.
 abbrev pub Tells : Option EtherparseError → Bool → Type 0 → ℕ → Type 0
 Tells (Some error) absent Valid status = status ≡ error.status
 Tells None true Valid status = status ≡ numbers.status_checksum_absent
 Tells None false Valid status = ((status ≡ numbers.status_ok) × Valid) ⊎ ((status ≡ numbers.status_checksum_wrong) × (Valid → ⊥))
 
--- what `error` contains after a test that returned this status: why the packet was refused; or else the status alone, unless it is OK
+-- The error after a test that returned this status. It is the refusal if the packet was refused. Otherwise it consists only of the status,
+-- and after `OK` it is unchanged.
 abbrev pub test_error : Option EtherparseError → ℕ → EtherparseError → EtherparseError
 test_error (Some error) status before = error
 test_error None status before = if status == numbers.status_ok then before else of_status status
 
--- a test answers this status and no other
+-- a test returns this status, and can return no other status
 abbrev pub Answers : (ℕ → Type 0) → ℕ → Type 0
 Answers Told status = Told status × ((other : ℕ) → Told other → other ≡ status)
 

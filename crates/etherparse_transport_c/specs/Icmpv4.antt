@@ -1,4 +1,4 @@
--- ICMPv4 as C has it.
+-- ICMPv4 in the interface to C.
 use Rattle.std.specs.Prelude.{◌≡◌, ◌≢◌, ⊤, ℕ, false, ◌-◌, ◌==◌, if◌then◌else◌, List, [], ◌∷◌, ◌++◌, length, drop, slice_get, slice_index, slice_range, replicate, take, Option, Some, None, Result, Ok, Err}
 use Rattle.std.specs.Int.{to_be_bytes, w16}
 use Rattle.std.specs.Option.{option_map}
@@ -19,10 +19,10 @@ use Rattle.etherparse_transport_c.specs.declared.error.EtherparseError.{Etherpar
 use Rattle.etherparse_transport_c.specs.declared.icmpv4.EtherparseIcmpv4Header.{EtherparseIcmpv4Header}
 use Rattle.etherparse_transport_c.specs.declared.icmpv4.EtherparseIcmpv4Packet.{EtherparseIcmpv4Packet}
 
--- no field is set
+-- a header in which every field is 0
 abbrev pub nothing : EtherparseIcmpv4Header
 nothing = record {
-  kind = numbers.icmpv4_unknown;
+  kind = numbers.icmpv4_kind_unknown;
   originate_timestamp = 0;
   receive_timestamp = 0;
   transmit_timestamp = 0;
@@ -36,11 +36,11 @@ nothing = record {
   bytes4to7 = replicate 4 0;
 }
 
--- the two numbers of an echo message
+-- the fields of an echo message or reply
 abbrev pub echo_fields : ℕ → IcmpEchoHeader → EtherparseIcmpv4Header
 echo_fields kind echo = record nothing { kind = kind; id = echo.id; sequence_number = echo.seq }
 
--- the five of a timestamp message
+-- the fields of a timestamp message or reply
 abbrev pub timestamp_fields : ℕ → TimestampMessage → EtherparseIcmpv4Header
 timestamp_fields kind message = record nothing {
   kind = kind;
@@ -51,23 +51,23 @@ timestamp_fields kind message = record nothing {
   transmit_timestamp = message.transmit_timestamp;
 }
 
--- the number of each kind, and the fields that it has; the code says which of the kind's variants it is
+-- The number of a kind and the fields that only this kind has. The code determines the variant of a kind.
 abbrev pub message_fields : Icmpv4Type → EtherparseIcmpv4Header
-message_fields (Unknown type code fields) = record nothing { kind = numbers.icmpv4_unknown }
-message_fields (EchoReply echo) = echo_fields numbers.icmpv4_echo_reply echo
-message_fields (DestinationUnreachable header) = record nothing { kind = numbers.icmpv4_destination_unreachable; next_hop_mtu = icmpv4.next_hop_mtu header }
-message_fields (Redirect header) = record nothing { kind = numbers.icmpv4_redirect }
-message_fields (EchoRequest echo) = echo_fields numbers.icmpv4_echo_request echo
-message_fields (TimeExceeded code) = record nothing { kind = numbers.icmpv4_time_exceeded }
-message_fields (ParameterProblem header) = record nothing { kind = numbers.icmpv4_parameter_problem; pointer = icmpv4.pointer header }
-message_fields (TimestampRequest message) = timestamp_fields numbers.icmpv4_timestamp_request message
-message_fields (TimestampReply message) = timestamp_fields numbers.icmpv4_timestamp_reply message
+message_fields (Unknown type code fields) = record nothing { kind = numbers.icmpv4_kind_unknown }
+message_fields (EchoReply echo) = echo_fields numbers.icmpv4_kind_echo_reply echo
+message_fields (DestinationUnreachable header) = record nothing { kind = numbers.icmpv4_kind_destination_unreachable; next_hop_mtu = icmpv4.next_hop_mtu header }
+message_fields (Redirect header) = record nothing { kind = numbers.icmpv4_kind_redirect }
+message_fields (EchoRequest echo) = echo_fields numbers.icmpv4_kind_echo_request echo
+message_fields (TimeExceeded code) = record nothing { kind = numbers.icmpv4_kind_time_exceeded }
+message_fields (ParameterProblem header) = record nothing { kind = numbers.icmpv4_kind_parameter_problem; pointer = icmpv4.pointer header }
+message_fields (TimestampRequest message) = timestamp_fields numbers.icmpv4_kind_timestamp_request message
+message_fields (TimestampReply message) = timestamp_fields numbers.icmpv4_kind_timestamp_reply message
 
--- why a packet is refused
+-- the refusal of a message
 abbrev pub refusal : List ℕ → Option EtherparseError
 refusal bytes = option_map of_len (icmpv4.refusal bytes)
 
--- the kind of these fields with its fields, and the fields that a header of any kind has
+-- a header with the fields that every kind has, from `common`, and the fields of its kind, from `fields`
 abbrev pub with_common : EtherparseIcmpv4Header → EtherparseIcmpv4Header → EtherparseIcmpv4Header
 with_common common fields = record fields {
   checksum = common.checksum;
@@ -76,7 +76,7 @@ with_common common fields = record fields {
   bytes4to7 = common.bytes4to7;
 }
 
--- what is read of a packet: the header, and where the payload is
+-- the result of reading a message: its header, and the place and length of its payload
 abbrev pub packet_of : List ℕ → EtherparseIcmpv4Packet
 packet_of bytes = record {
   header = record (message_fields (icmpv4.icmp_type_of bytes)) {
@@ -89,23 +89,25 @@ packet_of bytes = record {
   payload_len = length bytes - (icmpv4.layout_of bytes).header_len;
 }
 
--- the status of the test of a packet
+-- the status of the test of a message
 abbrev pub TestTells : List ℕ → ℕ → Type 0
 TestTells bytes status = Tells (refusal bytes) false (IsValidIcmpv4 bytes) status
 
 -- ---- writing
 
--- bytes in which a header has this MTU of the next hop, and this pointer
+-- the first bytes of a header with this MTU of the next hop
 abbrev pub with_next_hop_mtu : ℕ → List ℕ
 with_next_hop_mtu mtu = replicate 6 0 ++ to_be_bytes w16 mtu
 
+-- the first bytes of a header with this pointer
 abbrev pub with_pointer : ℕ → List ℕ
 with_pointer pointer = replicate 4 0 ++ (pointer ∷ [])
 
--- the numbers of an echo message, and of a timestamp message
+-- the numbers of an echo message
 abbrev pub echo_in : EtherparseIcmpv4Header → IcmpEchoHeader
 echo_in fields = record { id = fields.id; seq = fields.sequence_number }
 
+-- the numbers of a timestamp message
 abbrev pub timestamp_in : EtherparseIcmpv4Header → TimestampMessage
 timestamp_in fields = record {
   id = fields.id;
@@ -115,34 +117,34 @@ timestamp_in fields = record {
   transmit_timestamp = fields.transmit_timestamp;
 }
 
--- the message of some fields; None where its kind is not known, or the code of that kind
+-- the message with these fields, or `None` if its kind, or the code of this kind, is unknown
 abbrev pub message_in : EtherparseIcmpv4Header → Option Icmpv4Type
 message_in fields =
-    if fields.kind == numbers.icmpv4_unknown then Some (Unknown fields.type_u8 fields.code_u8 fields.bytes4to7)
-    else if fields.kind == numbers.icmpv4_echo_reply then Some (EchoReply (echo_in fields))
-    else if fields.kind == numbers.icmpv4_destination_unreachable then option_map DestinationUnreachable (listed icmpv4.dest_unreachable_formats fields.code_u8 (with_next_hop_mtu fields.next_hop_mtu))
-    else if fields.kind == numbers.icmpv4_redirect then option_map (λ code. Redirect (record { code = code; gateway_internet_address = fields.bytes4to7 })) (slice_get icmpv4.redirect_codes fields.code_u8)
-    else if fields.kind == numbers.icmpv4_echo_request then Some (EchoRequest (echo_in fields))
-    else if fields.kind == numbers.icmpv4_time_exceeded then option_map TimeExceeded (slice_get icmpv4.time_exceeded_codes fields.code_u8)
-    else if fields.kind == numbers.icmpv4_parameter_problem then option_map ParameterProblem (listed icmpv4.parameter_problem_formats fields.code_u8 (with_pointer fields.pointer))
-    else if fields.kind == numbers.icmpv4_timestamp_request then Some (TimestampRequest (timestamp_in fields))
-    else if fields.kind == numbers.icmpv4_timestamp_reply then Some (TimestampReply (timestamp_in fields))
+    if fields.kind == numbers.icmpv4_kind_unknown then Some (Unknown fields.type_u8 fields.code_u8 fields.bytes4to7)
+    else if fields.kind == numbers.icmpv4_kind_echo_reply then Some (EchoReply (echo_in fields))
+    else if fields.kind == numbers.icmpv4_kind_destination_unreachable then option_map DestinationUnreachable (listed icmpv4.dest_unreachable_formats fields.code_u8 (with_next_hop_mtu fields.next_hop_mtu))
+    else if fields.kind == numbers.icmpv4_kind_redirect then option_map (λ code. Redirect (record { code = code; gateway_internet_address = fields.bytes4to7 })) (slice_get icmpv4.redirect_codes fields.code_u8)
+    else if fields.kind == numbers.icmpv4_kind_echo_request then Some (EchoRequest (echo_in fields))
+    else if fields.kind == numbers.icmpv4_kind_time_exceeded then option_map TimeExceeded (slice_get icmpv4.time_exceeded_codes fields.code_u8)
+    else if fields.kind == numbers.icmpv4_kind_parameter_problem then option_map ParameterProblem (listed icmpv4.parameter_problem_formats fields.code_u8 (with_pointer fields.pointer))
+    else if fields.kind == numbers.icmpv4_kind_timestamp_request then Some (TimestampRequest (timestamp_in fields))
+    else if fields.kind == numbers.icmpv4_kind_timestamp_reply then Some (TimestampReply (timestamp_in fields))
     else None
 
--- the bytes of a header with this checksum
+-- the bytes of a header with this message and checksum
 abbrev pub header_bytes : ℕ → Option Icmpv4Type → List ℕ
 header_bytes checksum None = []
 header_bytes checksum (Some message) = icmpv4.wire (record { icmp_type = message; checksum = checksum })
 
--- why a header is not written: no message; a buffer that is too small
+-- the refusal to write a header: there is no message with these fields, or the buffer is too small
 abbrev pub write_refusal : ℕ → Option Icmpv4Type → ℕ → Option EtherparseError
 write_refusal checksum None room = Some (of_status numbers.status_message_unknown)
 write_refusal checksum (Some message) room = no_room (length (header_bytes checksum (Some message))) room
 
--- ---- what is written, and then read
+-- ---- reading a written header
 
--- a header that was written of this message, as it is read: checksum, and message with its fields, as the library reads them; and type,
--- code and four bytes as they were written
+-- The header that is read after this message was written. Checksum and message are as the library reads them. Type, code and the four bytes
+-- after the checksum are as they were written.
 abbrev pub header_read : Icmpv4Type → Icmpv4Header → EtherparseIcmpv4Header
 header_read message found = record (message_fields found.icmp_type) {
   checksum = found.checksum;
@@ -151,7 +153,7 @@ header_read message found = record (message_fields found.icmp_type) {
   bytes4to7 = take 4 (icmpv4.written message).fields;
 }
 
--- a packet that begins with a header of this message is refused by this error, or read as this header, with this payload after it
+-- The packet begins with a header of this message. It is refused with this error, or this header is read, with this payload after it.
 abbrev pub IsReadAs : Icmpv4Type → List ℕ → Result (Icmpv4Header × List ℕ) LenError → Type 0
 IsReadAs message packet (Err error) = refusal packet ≡ Some (of_len error)
 IsReadAs message packet (Ok found) = (refusal packet ≡ None) × (packet_of packet ≡ record {
@@ -160,19 +162,19 @@ IsReadAs message packet (Ok found) = (refusal packet ≡ None) × (packet_of pac
   payload_len = length found.1;
 })
 
--- a packet that begins with a header of some fields is read as what the library reads of the header and the bytes after it: the
--- message itself, but a raw one as the message that its type and code say; and a timestamp message that is not 20 bytes long is
--- refused
+-- The packet begins with a header of this message and checksum. It is read as the library reads such a header and the bytes after it. That
+-- is the same message, except if an unknown message has a listed type and code: it is read as the listed message. A timestamp message that
+-- is not 20 bytes long is refused.
 abbrev pub ReadsBack : ℕ → Option Icmpv4Type → List ℕ → Type 0
 ReadsBack checksum None packet = ⊤
 ReadsBack checksum (Some message) packet =
     IsReadAs message packet (reads_back message checksum (drop (length (header_bytes checksum (Some message))) packet))
 
--- the fields that were read are the same header as those that were written: checksum, kind, and whatever the kind has; of a raw one
--- type, code and four bytes
+-- The header that was read is the header that was written: it has the same checksum, the same kind, and the same fields of this kind. If
+-- the kind is unknown, it has the same type, code and four bytes.
 pub record IsSameHeader (fields read : EtherparseIcmpv4Header) : Type 0 where
   pub checksum : read.checksum ≡ fields.checksum
-  pub kind : fields.kind ≢ numbers.icmpv4_unknown → read.kind ≡ fields.kind
-  pub message : fields.kind ≢ numbers.icmpv4_unknown → message_in read ≡ message_in fields
-  pub raw : fields.kind ≡ numbers.icmpv4_unknown
+  pub kind : fields.kind ≢ numbers.icmpv4_kind_unknown → read.kind ≡ fields.kind
+  pub message : fields.kind ≢ numbers.icmpv4_kind_unknown → message_in read ≡ message_in fields
+  pub raw : fields.kind ≡ numbers.icmpv4_kind_unknown
       → (read.type_u8 ≡ fields.type_u8) × (read.code_u8 ≡ fields.code_u8) × (read.bytes4to7 ≡ fields.bytes4to7)

@@ -1,4 +1,4 @@
--- ICMPv6 as C has it.
+-- ICMPv6 in the interface to C.
 use Rattle.std.specs.Prelude.{◌≡◌, ◌≢◌, ⊤, ℕ, Bool, false, not, bit_and, ◌-◌, ◌==◌, if◌then◌else◌, List, [], length, drop, slice_get, slice_index, slice_range, replicate, take, Option, Some, None, Result, Ok, Err}
 use Rattle.std.specs.Option.{option_map}
 use Rattle.net_base.specs.Bytes.{be_number}
@@ -18,10 +18,10 @@ use Rattle.etherparse_transport_c.specs.declared.error.EtherparseError.{Etherpar
 use Rattle.etherparse_transport_c.specs.declared.icmpv6.EtherparseIcmpv6Header.{EtherparseIcmpv6Header}
 use Rattle.etherparse_transport_c.specs.declared.icmpv6.EtherparseIcmpv6Packet.{EtherparseIcmpv6Packet}
 
--- no field is set
+-- a header in which every field is 0
 abbrev pub nothing : EtherparseIcmpv6Header
 nothing = record {
-  kind = numbers.icmpv6_unknown;
+  kind = numbers.icmpv6_kind_unknown;
   mtu = 0;
   pointer = 0;
   checksum = 0;
@@ -35,45 +35,46 @@ nothing = record {
   bytes4to7 = replicate 4 0;
 }
 
--- a message that is nothing but its kind
+-- a message that has no field except its kind
 abbrev pub bare : ℕ → EtherparseIcmpv6Header
 bare kind = record nothing { kind = kind }
 
--- the two numbers of an echo message
+-- the fields of an echo request or reply
 abbrev pub echo_fields : ℕ → IcmpEchoHeader → EtherparseIcmpv6Header
 echo_fields kind echo = record (bare kind) { id = echo.id; sequence_number = echo.seq }
 
--- the flags of advertisements, at their bits in the packet
+-- the flags of a router advertisement, at their bits in the packet
 abbrev pub router_flags : RouterAdvertisementHeader → ℕ
 router_flags header = icmpv6.router_advertisement_flags header
 
+-- the flags of a neighbor advertisement, at their bits in the packet
 abbrev pub neighbor_flags : NeighborAdvertisementHeader → ℕ
 neighbor_flags header = icmpv6.neighbor_advertisement_flags header
 
--- the number of each kind, and the fields that it has; the code says which of the kind's variants it is
+-- The number of a kind and the fields that only this kind has. The code determines the variant of a kind.
 abbrev pub message_fields : Icmpv6Type → EtherparseIcmpv6Header
-message_fields (Unknown type code fields) = bare numbers.icmpv6_unknown
-message_fields (DestinationUnreachable code) = bare numbers.icmpv6_destination_unreachable
-message_fields (PacketTooBig mtu) = record (bare numbers.icmpv6_packet_too_big) { mtu = mtu }
-message_fields (TimeExceeded code) = bare numbers.icmpv6_time_exceeded
-message_fields (ParameterProblem header) = record (bare numbers.icmpv6_parameter_problem) { pointer = header.pointer }
-message_fields (EchoRequest echo) = echo_fields numbers.icmpv6_echo_request echo
-message_fields (EchoReply echo) = echo_fields numbers.icmpv6_echo_reply echo
-message_fields RouterSolicitation = bare numbers.icmpv6_router_solicitation
-message_fields (RouterAdvertisement header) = record (bare numbers.icmpv6_router_advertisement) {
+message_fields (Unknown type code fields) = bare numbers.icmpv6_kind_unknown
+message_fields (DestinationUnreachable code) = bare numbers.icmpv6_kind_destination_unreachable
+message_fields (PacketTooBig mtu) = record (bare numbers.icmpv6_kind_packet_too_big) { mtu = mtu }
+message_fields (TimeExceeded code) = bare numbers.icmpv6_kind_time_exceeded
+message_fields (ParameterProblem header) = record (bare numbers.icmpv6_kind_parameter_problem) { pointer = header.pointer }
+message_fields (EchoRequest echo) = echo_fields numbers.icmpv6_kind_echo_request echo
+message_fields (EchoReply echo) = echo_fields numbers.icmpv6_kind_echo_reply echo
+message_fields RouterSolicitation = bare numbers.icmpv6_kind_router_solicitation
+message_fields (RouterAdvertisement header) = record (bare numbers.icmpv6_kind_router_advertisement) {
   cur_hop_limit = header.cur_hop_limit;
   flags = router_flags header;
   router_lifetime = header.router_lifetime;
 }
-message_fields NeighborSolicitation = bare numbers.icmpv6_neighbor_solicitation
-message_fields (NeighborAdvertisement header) = record (bare numbers.icmpv6_neighbor_advertisement) { flags = neighbor_flags header }
-message_fields Redirect = bare numbers.icmpv6_redirect
+message_fields NeighborSolicitation = bare numbers.icmpv6_kind_neighbor_solicitation
+message_fields (NeighborAdvertisement header) = record (bare numbers.icmpv6_kind_neighbor_advertisement) { flags = neighbor_flags header }
+message_fields Redirect = bare numbers.icmpv6_kind_redirect
 
--- why a packet is refused
+-- the refusal of a message
 abbrev pub refusal : List ℕ → Option EtherparseError
 refusal bytes = option_map of_len (icmpv6.refusal bytes)
 
--- the kind of these fields with its fields, and the fields that a header of any kind has
+-- a header with the fields that every kind has, from `common`, and the fields of its kind, from `fields`
 abbrev pub with_common : EtherparseIcmpv6Header → EtherparseIcmpv6Header → EtherparseIcmpv6Header
 with_common common fields = record fields {
   checksum = common.checksum;
@@ -82,7 +83,7 @@ with_common common fields = record fields {
   bytes4to7 = common.bytes4to7;
 }
 
--- what is read of a packet: the header, and where the payload is
+-- the result of reading a message: its header, and the place and length of its payload
 abbrev pub packet_of : List ℕ → EtherparseIcmpv6Packet
 packet_of bytes = record {
   header = record (message_fields (icmpv6.icmp_type_of bytes)) {
@@ -95,7 +96,7 @@ packet_of bytes = record {
   payload_len = length bytes - 8;
 }
 
--- the status of the test of a packet
+-- the status of the test of a message
 abbrev pub TestTells : List ℕ → List ℕ → List ℕ → ℕ → Type 0
 TestTells source destination bytes status = Tells (refusal bytes) false (IsValidIcmpv6 source destination bytes) status
 
@@ -105,11 +106,11 @@ TestTells source destination bytes status = Tells (refusal bytes) false (IsValid
 abbrev pub echo_in : EtherparseIcmpv6Header → IcmpEchoHeader
 echo_in fields = record { id = fields.id; seq = fields.sequence_number }
 
--- a flag of the number
+-- the flag with this bit is set
 abbrev pub is_set : ℕ → ℕ → Bool
 is_set flags bit = not (bit_and flags bit == 0)
 
--- the fields of a router advertisement, and the flags of a neighbor advertisement
+-- the fields of a router advertisement
 abbrev pub router_in : EtherparseIcmpv6Header → RouterAdvertisementHeader
 router_in fields = record {
   cur_hop_limit = fields.cur_hop_limit;
@@ -118,6 +119,7 @@ router_in fields = record {
   router_lifetime = fields.router_lifetime;
 }
 
+-- the flags of a neighbor advertisement
 abbrev pub neighbor_in : EtherparseIcmpv6Header → NeighborAdvertisementHeader
 neighbor_in fields = record {
   router = is_set fields.flags numbers.icmpv6_neighbor_router;
@@ -125,37 +127,37 @@ neighbor_in fields = record {
   override_flag = is_set fields.flags numbers.icmpv6_neighbor_override;
 }
 
--- the message of some fields; None where its kind is not known, or the code of that kind
+-- the message with these fields, or `None` if its kind, or the code of this kind, is unknown
 abbrev pub message_in : EtherparseIcmpv6Header → Option Icmpv6Type
 message_in fields =
-    if fields.kind == numbers.icmpv6_unknown then Some (Unknown fields.type_u8 fields.code_u8 fields.bytes4to7)
-    else if fields.kind == numbers.icmpv6_destination_unreachable then option_map DestinationUnreachable (slice_get icmpv6.dest_unreachable_codes fields.code_u8)
-    else if fields.kind == numbers.icmpv6_packet_too_big then Some (PacketTooBig fields.mtu)
-    else if fields.kind == numbers.icmpv6_time_exceeded then option_map TimeExceeded (slice_get icmpv6.time_exceeded_codes fields.code_u8)
-    else if fields.kind == numbers.icmpv6_parameter_problem then option_map (λ code. ParameterProblem (record { code = code; pointer = fields.pointer })) (slice_get icmpv6.parameter_problem_codes fields.code_u8)
-    else if fields.kind == numbers.icmpv6_echo_request then Some (EchoRequest (echo_in fields))
-    else if fields.kind == numbers.icmpv6_echo_reply then Some (EchoReply (echo_in fields))
-    else if fields.kind == numbers.icmpv6_router_solicitation then Some RouterSolicitation
-    else if fields.kind == numbers.icmpv6_router_advertisement then Some (RouterAdvertisement (router_in fields))
-    else if fields.kind == numbers.icmpv6_neighbor_solicitation then Some NeighborSolicitation
-    else if fields.kind == numbers.icmpv6_neighbor_advertisement then Some (NeighborAdvertisement (neighbor_in fields))
-    else if fields.kind == numbers.icmpv6_redirect then Some Redirect
+    if fields.kind == numbers.icmpv6_kind_unknown then Some (Unknown fields.type_u8 fields.code_u8 fields.bytes4to7)
+    else if fields.kind == numbers.icmpv6_kind_destination_unreachable then option_map DestinationUnreachable (slice_get icmpv6.dest_unreachable_codes fields.code_u8)
+    else if fields.kind == numbers.icmpv6_kind_packet_too_big then Some (PacketTooBig fields.mtu)
+    else if fields.kind == numbers.icmpv6_kind_time_exceeded then option_map TimeExceeded (slice_get icmpv6.time_exceeded_codes fields.code_u8)
+    else if fields.kind == numbers.icmpv6_kind_parameter_problem then option_map (λ code. ParameterProblem (record { code = code; pointer = fields.pointer })) (slice_get icmpv6.parameter_problem_codes fields.code_u8)
+    else if fields.kind == numbers.icmpv6_kind_echo_request then Some (EchoRequest (echo_in fields))
+    else if fields.kind == numbers.icmpv6_kind_echo_reply then Some (EchoReply (echo_in fields))
+    else if fields.kind == numbers.icmpv6_kind_router_solicitation then Some RouterSolicitation
+    else if fields.kind == numbers.icmpv6_kind_router_advertisement then Some (RouterAdvertisement (router_in fields))
+    else if fields.kind == numbers.icmpv6_kind_neighbor_solicitation then Some NeighborSolicitation
+    else if fields.kind == numbers.icmpv6_kind_neighbor_advertisement then Some (NeighborAdvertisement (neighbor_in fields))
+    else if fields.kind == numbers.icmpv6_kind_redirect then Some Redirect
     else None
 
--- the bytes of a header with this checksum
+-- the bytes of a header with this message and checksum
 abbrev pub header_bytes : ℕ → Option Icmpv6Type → List ℕ
 header_bytes checksum None = []
 header_bytes checksum (Some message) = icmpv6.wire (record { icmp_type = message; checksum = checksum })
 
--- why a header is not written: no message; a buffer that is too small
+-- the refusal to write a header: there is no message with these fields, or the buffer is too small
 abbrev pub write_refusal : ℕ → Option Icmpv6Type → ℕ → Option EtherparseError
 write_refusal checksum None room = Some (of_status numbers.status_message_unknown)
 write_refusal checksum (Some message) room = no_room (length (header_bytes checksum (Some message))) room
 
--- ---- what is written, and then read
+-- ---- reading a written header
 
--- a header that was written of this message, as it is read: checksum, and message with its fields, as the library reads them; and type,
--- code and four bytes as they were written
+-- The header that is read after this message was written. Checksum and message are as the library reads them. Type, code and the four bytes
+-- after the checksum are as they were written.
 abbrev pub header_read : Icmpv6Type → Icmpv6Header → EtherparseIcmpv6Header
 header_read message found = record (message_fields found.icmp_type) {
   checksum = found.checksum;
@@ -164,7 +166,7 @@ header_read message found = record (message_fields found.icmp_type) {
   bytes4to7 = take 4 (icmpv6.written message).fields;
 }
 
--- a packet that begins with a header of this message is refused by this error, or read as this header, with this payload after it
+-- The packet begins with a header of this message. It is refused with this error, or this header is read, with this payload after it.
 abbrev pub IsReadAs : Icmpv6Type → List ℕ → Result (Icmpv6Header × List ℕ) LenError → Type 0
 IsReadAs message packet (Err error) = refusal packet ≡ Some (of_len error)
 IsReadAs message packet (Ok found) = (refusal packet ≡ None) × (packet_of packet ≡ record {
@@ -173,18 +175,19 @@ IsReadAs message packet (Ok found) = (refusal packet ≡ None) × (packet_of pac
   payload_len = length found.1;
 })
 
--- a packet that begins with a header of some fields is read as what the library reads of the header and the bytes after it: the
--- message itself, but a raw one as the message that its type and code say; and it is refused where it is too long
+-- The packet begins with a header of this message and checksum. It is read as the library reads such a header and the bytes after it. That
+-- is the same message, except if an unknown message has a listed type and code: it is read as the listed message. A packet that is too long
+-- is refused.
 abbrev pub ReadsBack : ℕ → Option Icmpv6Type → List ℕ → Type 0
 ReadsBack checksum None packet = ⊤
 ReadsBack checksum (Some message) packet =
     IsReadAs message packet (reads_back message checksum (drop (length (header_bytes checksum (Some message))) packet))
 
--- the fields that were read are the same header as those that were written: checksum, kind, and whatever the kind has; of a raw one
--- type, code and four bytes
+-- The header that was read is the header that was written: it has the same checksum, the same kind, and the same fields of this kind. If
+-- the kind is unknown, it has the same type, code and four bytes.
 pub record IsSameHeader (fields read : EtherparseIcmpv6Header) : Type 0 where
   pub checksum : read.checksum ≡ fields.checksum
-  pub kind : fields.kind ≢ numbers.icmpv6_unknown → read.kind ≡ fields.kind
-  pub message : fields.kind ≢ numbers.icmpv6_unknown → message_in read ≡ message_in fields
-  pub raw : fields.kind ≡ numbers.icmpv6_unknown
+  pub kind : fields.kind ≢ numbers.icmpv6_kind_unknown → read.kind ≡ fields.kind
+  pub message : fields.kind ≢ numbers.icmpv6_kind_unknown → message_in read ≡ message_in fields
+  pub raw : fields.kind ≡ numbers.icmpv6_kind_unknown
       → (read.type_u8 ≡ fields.type_u8) × (read.code_u8 ≡ fields.code_u8) × (read.bytes4to7 ≡ fields.bytes4to7)

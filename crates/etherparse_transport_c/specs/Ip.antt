@@ -1,4 +1,4 @@
--- The transport in an IP packet as C has it.
+-- The transport in an IP packet, in the interface to C.
 use Rattle.std.specs.Prelude.{◌≡◌, ◌≤◌, ℕ, Bool, true, false, ◌+◌, ◌-◌, List, ◌++◌, length, replicate, slice_range, Option, Some, None, Result, Ok, Err}
 use Rattle.std.specs.Int.{from_bool}
 use Rattle.std.specs.Option.{option_map}
@@ -12,34 +12,37 @@ use Rattle.etherparse_transport_c.specs.Errors.{of_ip}
 use Rattle.etherparse_transport_c.specs.declared.error.EtherparseError.{EtherparseError}
 use Rattle.etherparse_transport_c.specs.declared.ip.EtherparseIpTransport.{EtherparseIpTransport}
 
--- why a packet is refused, and why one that is perhaps cut off
+-- the refusal of a packet
 abbrev pub refusal : List ℕ → Option EtherparseError
 refusal packet = option_map of_ip (ip.refusal packet)
 
+-- the refusal of a packet that may be cut off or state no length
 abbrev pub lax_refusal : List ℕ → Option EtherparseError
 lax_refusal packet = option_map of_ip (ip.lax_refusal packet)
 
 -- ---- addresses
 
--- the version that has addresses of this kind
+-- the IP version of these addresses
 abbrev pub version_of : Addresses → ℕ
 version_of (Ipv4 source destination) = 4
 version_of (Ipv6 source destination) = 6
 
--- an IPv4 address in 16 bytes: the first four have it, and the other twelve are 0
+-- an IPv4 address in 16 bytes: the first four contain the address, and the other twelve are 0
 abbrev pub ipv4_address : List ℕ → List ℕ
 ipv4_address address = address ++ replicate 12 0
 
+-- the source in 16 bytes
 abbrev pub source_of : Addresses → List ℕ
 source_of (Ipv4 source destination) = ipv4_address source
 source_of (Ipv6 source destination) = source
 
--- a destination that is not known is 0
+-- the final destination in 16 bytes; it is 0 if it is not known
 abbrev pub destination_of : Addresses → List ℕ
 destination_of (Ipv4 source destination) = ipv4_address destination
 destination_of (Ipv6 source (Some destination)) = destination
 destination_of (Ipv6 source None) = replicate 16 0
 
+-- the final destination is known
 abbrev pub has_destination : Addresses → Bool
 has_destination (Ipv4 source destination) = true
 has_destination (Ipv6 source (Some destination)) = true
@@ -47,8 +50,8 @@ has_destination (Ipv6 source None) = false
 
 -- ---- the transport
 
--- what is read of a packet with these headers: what they say, and where the payload is, which comes after them and ends with the last
--- byte that the IP header counts
+-- The result of reading a packet with these headers. The payload begins after the headers, and ends with the last byte that the IP header
+-- counts.
 abbrev pub transport_in : Bool → List ℕ → Headers → EtherparseIpTransport
 transport_in is_length_missing packet headers = record {
   version = version_of headers.addresses;
@@ -63,12 +66,12 @@ transport_in is_length_missing packet headers = record {
   is_length_missing = from_bool is_length_missing;
 }
 
--- the same of headers that can be read; a packet of other headers is refused
+-- the result of reading a packet, if its headers can be read; a refused packet leaves the value before
 abbrev pub found : Bool → List ℕ → Result Headers IpError → EtherparseIpTransport → EtherparseIpTransport
 found is_length_missing packet (Ok headers) before = transport_in is_length_missing packet headers
 found is_length_missing packet (Err error) before = before
 
--- the payload is a part of the packet: it ends with the counted bytes, and its bytes are those that the packet carries
+-- the payload is a part of the packet: it ends with the counted bytes, and is the payload that the packet carries
 pub record HasPayload (is_length_missing : Bool) (packet : List ℕ) (transport : EtherparseIpTransport) : Type 0 where
   pub ends : transport.payload_offset + transport.payload_len ≡ length (counted is_length_missing packet)
   pub within : transport.payload_offset + transport.payload_len ≤ length packet

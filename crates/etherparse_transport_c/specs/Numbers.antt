@@ -1,8 +1,8 @@
--- The numbers of the interface to C. Each stands here once and is stable: none is ever given another meaning, and later versions may
--- add numbers. In C a name has the prefix `ETHERPARSE_`. `status_ok` is `ETHERPARSE_OK`, without `STATUS_`.
+-- The numbers of the interface to C. Each number is defined only here. No number ever gets another meaning, and later versions may add
+-- numbers. In C a name has the prefix `ETHERPARSE_`. `status_ok` is `ETHERPARSE_OK`, without `STATUS_`.
 use Rattle.std.specs.Prelude.{ℕ}
 
--- ---- statuses: what a call answers. 25 to 30 are kept for the headers of IP
+-- ---- statuses, which calls return; 25 to 30 are reserved for headers of IP
 
 abbrev pub status_ok : ℕ
 status_ok = 0
@@ -86,7 +86,7 @@ status_option_values = 31
 abbrev pub status_echo_fragment : ℕ
 status_echo_fragment = 32
 
--- a packet that is no echo request, or that has another IP version than the call
+-- a packet that is no echo request, or that has another IP version than the call accepts
 abbrev pub status_echo_no_request : ℕ
 status_echo_no_request = 33
 
@@ -122,7 +122,7 @@ status_translate_protocol = 40
 abbrev pub status_translate_header_cut_off : ℕ
 status_translate_header_cut_off = 41
 
--- an ICMP message to be translated that is no echo message and no error
+-- an ICMP message to be translated that is no query and no error, or a redirect
 abbrev pub status_translate_icmp_message : ℕ
 status_translate_icmp_message = 42
 
@@ -138,7 +138,7 @@ status_echo_no_reply = 44
 abbrev pub status_translate_source_route : ℕ
 status_translate_source_route = 45
 
--- ---- layers: which length was wrong. 8 and up are kept for the headers of IP
+-- ---- layers whose length can be wrong; 8 and above are reserved for headers of IP
 
 abbrev pub layer_udp_header : ℕ
 layer_udp_header = 1
@@ -161,7 +161,7 @@ layer_icmpv4_timestamp_reply = 6
 abbrev pub layer_icmpv6 : ℕ
 layer_icmpv6 = 7
 
--- ---- where a length came from
+-- ---- sources of a length
 
 abbrev pub len_source_slice : ℕ
 len_source_slice = 1
@@ -169,7 +169,7 @@ len_source_slice = 1
 abbrev pub len_source_udp_header_len : ℕ
 len_source_udp_header_len = 2
 
--- ---- which value was above its limit
+-- ---- kinds of values that can be too big
 
 abbrev pub value_udp_payload_length_ipv4 : ℕ
 value_udp_payload_length_ipv4 = 1
@@ -186,8 +186,8 @@ value_tcp_payload_length_ipv6 = 4
 abbrev pub value_icmpv6_payload_length : ℕ
 value_icmpv6_payload_length = 5
 
--- ---- the flags of a TCP header: those of byte 13 at their bits there, and NS, which is bit 0 of byte 12, above them (RFC 9293,
--- section 3.1; RFC 3168, section 6.1; RFC 3540, section 9)
+-- ---- flags of a TCP header: the flags of byte 13 have their bits in that byte, and NS, bit 0 of byte 12, has the bit above them (RFC
+-- 9293, section 3.1; RFC 3168, section 6.1; RFC 3540, section 9)
 
 abbrev pub tcp_fin : ℕ
 tcp_fin = 0x001
@@ -216,7 +216,7 @@ tcp_cwr = 0x080
 abbrev pub tcp_ns : ℕ
 tcp_ns = 0x100
 
--- all nine
+-- all nine flags
 abbrev pub tcp_flags : ℕ
 tcp_flags = 0x1ff
 
@@ -242,70 +242,70 @@ tcp_option_timestamp = 8
 
 -- ---- kinds of ICMPv4 messages (RFC 792); 0 is any other type and code
 
-abbrev pub icmpv4_unknown : ℕ
-icmpv4_unknown = 0
+abbrev pub icmpv4_kind_unknown : ℕ
+icmpv4_kind_unknown = 0
 
-abbrev pub icmpv4_echo_reply : ℕ
-icmpv4_echo_reply = 1
+abbrev pub icmpv4_kind_echo_reply : ℕ
+icmpv4_kind_echo_reply = 1
 
-abbrev pub icmpv4_destination_unreachable : ℕ
-icmpv4_destination_unreachable = 2
+abbrev pub icmpv4_kind_destination_unreachable : ℕ
+icmpv4_kind_destination_unreachable = 2
 
-abbrev pub icmpv4_redirect : ℕ
-icmpv4_redirect = 3
+abbrev pub icmpv4_kind_redirect : ℕ
+icmpv4_kind_redirect = 3
 
-abbrev pub icmpv4_echo_request : ℕ
-icmpv4_echo_request = 4
+abbrev pub icmpv4_kind_echo_request : ℕ
+icmpv4_kind_echo_request = 4
 
-abbrev pub icmpv4_time_exceeded : ℕ
-icmpv4_time_exceeded = 5
+abbrev pub icmpv4_kind_time_exceeded : ℕ
+icmpv4_kind_time_exceeded = 5
 
-abbrev pub icmpv4_parameter_problem : ℕ
-icmpv4_parameter_problem = 6
+abbrev pub icmpv4_kind_parameter_problem : ℕ
+icmpv4_kind_parameter_problem = 6
 
-abbrev pub icmpv4_timestamp_request : ℕ
-icmpv4_timestamp_request = 7
+abbrev pub icmpv4_kind_timestamp_request : ℕ
+icmpv4_kind_timestamp_request = 7
 
-abbrev pub icmpv4_timestamp_reply : ℕ
-icmpv4_timestamp_reply = 8
+abbrev pub icmpv4_kind_timestamp_reply : ℕ
+icmpv4_kind_timestamp_reply = 8
 
 -- ---- kinds of ICMPv6 messages (RFC 4443; RFC 4861); 0 is any other type and code
 
-abbrev pub icmpv6_unknown : ℕ
-icmpv6_unknown = 0
+abbrev pub icmpv6_kind_unknown : ℕ
+icmpv6_kind_unknown = 0
 
-abbrev pub icmpv6_destination_unreachable : ℕ
-icmpv6_destination_unreachable = 1
+abbrev pub icmpv6_kind_destination_unreachable : ℕ
+icmpv6_kind_destination_unreachable = 1
 
-abbrev pub icmpv6_packet_too_big : ℕ
-icmpv6_packet_too_big = 2
+abbrev pub icmpv6_kind_packet_too_big : ℕ
+icmpv6_kind_packet_too_big = 2
 
-abbrev pub icmpv6_time_exceeded : ℕ
-icmpv6_time_exceeded = 3
+abbrev pub icmpv6_kind_time_exceeded : ℕ
+icmpv6_kind_time_exceeded = 3
 
-abbrev pub icmpv6_parameter_problem : ℕ
-icmpv6_parameter_problem = 4
+abbrev pub icmpv6_kind_parameter_problem : ℕ
+icmpv6_kind_parameter_problem = 4
 
-abbrev pub icmpv6_echo_request : ℕ
-icmpv6_echo_request = 5
+abbrev pub icmpv6_kind_echo_request : ℕ
+icmpv6_kind_echo_request = 5
 
-abbrev pub icmpv6_echo_reply : ℕ
-icmpv6_echo_reply = 6
+abbrev pub icmpv6_kind_echo_reply : ℕ
+icmpv6_kind_echo_reply = 6
 
-abbrev pub icmpv6_router_solicitation : ℕ
-icmpv6_router_solicitation = 7
+abbrev pub icmpv6_kind_router_solicitation : ℕ
+icmpv6_kind_router_solicitation = 7
 
-abbrev pub icmpv6_router_advertisement : ℕ
-icmpv6_router_advertisement = 8
+abbrev pub icmpv6_kind_router_advertisement : ℕ
+icmpv6_kind_router_advertisement = 8
 
-abbrev pub icmpv6_neighbor_solicitation : ℕ
-icmpv6_neighbor_solicitation = 9
+abbrev pub icmpv6_kind_neighbor_solicitation : ℕ
+icmpv6_kind_neighbor_solicitation = 9
 
-abbrev pub icmpv6_neighbor_advertisement : ℕ
-icmpv6_neighbor_advertisement = 10
+abbrev pub icmpv6_kind_neighbor_advertisement : ℕ
+icmpv6_kind_neighbor_advertisement = 10
 
-abbrev pub icmpv6_redirect : ℕ
-icmpv6_redirect = 11
+abbrev pub icmpv6_kind_redirect : ℕ
+icmpv6_kind_redirect = 11
 
 -- ---- flags of ICMPv6 advertisements, at their bits in the packet (RFC 4861, sections 4.2 and 4.4)
 
@@ -324,7 +324,7 @@ icmpv6_neighbor_solicited = 0x40
 abbrev pub icmpv6_neighbor_override : ℕ
 icmpv6_neighbor_override = 0x20
 
--- ---- protocols, by the numbers that IP has for them
+-- ---- protocols, with their numbers in IP headers
 
 abbrev pub protocol_icmpv4 : ℕ
 protocol_icmpv4 = 1
@@ -338,7 +338,7 @@ protocol_udp = 17
 abbrev pub protocol_icmpv6 : ℕ
 protocol_icmpv6 = 58
 
--- ---- verdicts on the checksum of an IP packet. From 16 on each says why the checksum is not tested
+-- ---- verdicts on the checksum of an IP packet; from 16 on a verdict is a reason not to test the checksum
 
 abbrev pub verdict_right : ℕ
 verdict_right = 1
@@ -376,7 +376,7 @@ abbrev pub version_major : ℕ
 version_major = 0
 
 abbrev pub version_minor : ℕ
-version_minor = 4
+version_minor = 5
 
 abbrev pub version_patch : ℕ
 version_patch = 0

@@ -1,4 +1,4 @@
--- An IP packet and the verdict on its checksum as C has them.
+-- An IP packet and the verdict on its checksum, in the interface to C.
 use Rattle.std.specs.Prelude.{◌≡◌, ℕ, Bool, false, Option, None, Some, if◌then◌else◌, List, drop, Result, Ok, Err}
 use Rattle.std.specs.Option.{option_map}
 use Rattle.transport_part.specs.Transports.{kept, proto_of, refusal_by}
@@ -24,50 +24,53 @@ use Rattle.etherparse_transport_c.specs.Numbers as numbers
 use Rattle.etherparse_transport_c.specs.declared.error.EtherparseError.{EtherparseError}
 use Rattle.etherparse_transport_c.specs.declared.packet_verdict.EtherparseIpPacket.{EtherparseIpPacket}
 
--- ---- why a packet is refused
+-- ---- refusals of packets
 
--- the protocol whose header comes after these
+-- the protocol of the header that follows these headers; a fragment has none
 abbrev pub proto_after : Headers → Option Proto
 proto_after headers = if headers.is_fragment then None else proto_over headers.addresses headers.protocol.0
 
--- a transport, whose header begins at this place of the packet
+-- the refusal of a transport whose header begins at this place of the packet
 abbrev pub of_transport : ℕ → HeaderSliceError → EtherparseError
 of_transport place (Len error) = record (of_len error) { layer_start_offset = place }
 of_transport place (Content error) = of_header_slice (Content error)
 
--- what the slice of the transport refuses after headers that can be read
+-- the refusal of the transport after headers that can be read
 abbrev pub transport_refusal : Bool → List ℕ → Result Headers IpError → Option EtherparseError
 transport_refusal is_length_missing packet (Ok headers) =
     option_map (of_transport headers.len)
     (refusal_by (proto_after headers) (is_cut_off is_length_missing packet) (drop headers.len (counted is_length_missing packet)))
 transport_refusal is_length_missing packet (Err error) = None
 
--- and what is refused of a transport that a packet carries
+-- the refusal of the transport that a packet carries
 abbrev pub refusal_of_carried : List ℕ → TransportInIp → Option EtherparseError
 refusal_of_carried packet carried =
     transport_refusal carried.is_length_missing packet (headers_of carried.is_length_missing packet)
 
--- the IP packet, and then its transport; and the same of one that is perhaps cut off
+-- the refusal of an IP packet, or otherwise of its transport
 abbrev pub refusal : List ℕ → Option EtherparseError
 refusal packet = first_refusal (ip.refusal packet) (transport_refusal false packet (headers_of false packet))
 
+-- the refusal of an IP packet that may be cut off or state no length, or otherwise of its transport
 abbrev pub lax_refusal : List ℕ → Option EtherparseError
 lax_refusal packet =
     first_refusal (ip.lax_refusal packet) (transport_refusal (lacks_len packet) packet (headers_of (lacks_len packet) packet))
 
--- ---- the number of each protocol, and of each verdict
+-- ---- the numbers of protocols and verdicts
 
+-- the number of a protocol
 abbrev pub proto_number : Proto → ℕ
 proto_number Udp = numbers.protocol_udp
 proto_number Tcp = numbers.protocol_tcp
 proto_number Icmpv4 = numbers.protocol_icmpv4
 proto_number Icmpv6 = numbers.protocol_icmpv6
 
--- 0 where no call reads the header
+-- the number of the protocol whose header can be read, or 0 if there is none
 abbrev pub header_protocol : Option TransportSlice → ℕ
 header_protocol None = 0
 header_protocol (Some transport) = proto_number (proto_of transport)
 
+-- the number of a reason why a checksum is not tested
 abbrev pub untested_number : reasons.Untested → ℕ
 untested_number Fragment = numbers.verdict_untested_fragment
 untested_number CutOff = numbers.verdict_untested_cut_off
@@ -76,6 +79,7 @@ untested_number OtherProtocol = numbers.verdict_untested_other_protocol
 untested_number ZeroLength = numbers.verdict_untested_zero_length
 untested_number TooLong = numbers.verdict_untested_too_long
 
+-- the number of a verdict
 abbrev pub verdict_number : ChecksumVerdict → ℕ
 verdict_number Right = numbers.verdict_right
 verdict_number Absent = numbers.verdict_absent
@@ -83,7 +87,7 @@ verdict_number (Wrong expected) = numbers.verdict_wrong
 verdict_number (Partial expected) = numbers.verdict_partial
 verdict_number (Untested why) = untested_number why
 
--- the checksum that would be right, or 0 where none is told
+-- the right checksum if the verdict contains it, and 0 otherwise
 abbrev pub expected_checksum : ChecksumVerdict → ℕ
 expected_checksum Right = 0
 expected_checksum Absent = 0
@@ -93,7 +97,7 @@ expected_checksum (Untested why) = 0
 
 -- ---- the packet
 
--- what is told of a packet with these headers, this transport and this verdict
+-- the result for a packet with these headers, this transport and this verdict
 abbrev pub packet_in : Bool → List ℕ → Headers → Option TransportSlice → ChecksumVerdict → EtherparseIpPacket
 packet_in is_length_missing packet headers transport verdict = record {
   transport = transport_in is_length_missing packet headers;
@@ -102,7 +106,7 @@ packet_in is_length_missing packet headers transport verdict = record {
   expected_checksum = expected_checksum verdict;
 }
 
--- a transport that the packet carries, and the verdict on it, are what is told
+-- the result `told` contains the transport that the packet carries, and the verdict on it
 pub record IsJudged (is_length_missing : Bool) (packet : List ℕ) (told : EtherparseIpPacket) : Type 0 where
   pub carried : TransportInIp
   pub carries : Carries packet carried
@@ -112,7 +116,7 @@ pub record IsJudged (is_length_missing : Bool) (packet : List ℕ) (told : Ether
   pub tells : told ≡ packet_in is_length_missing packet carries.headers (kept carried) verdict
   pub payload : HasPayload is_length_missing packet told.transport
 
--- a packet that is refused leaves what stood there before
+-- the result for a packet; a refused packet leaves the value before
 abbrev pub Judges : Option EtherparseError → Bool → List ℕ → EtherparseIpPacket → EtherparseIpPacket → Type 0
 Judges None is_length_missing packet told before = IsJudged is_length_missing packet told
 Judges (Some error) is_length_missing packet told before = told ≡ before

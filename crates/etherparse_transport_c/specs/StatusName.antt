@@ -1,11 +1,12 @@
--- The name of each status in the header.
+-- The names of statuses, as the header spells them.
 use Rattle.std.specs.Prelude.{ℕ, ◌==◌, if◌then◌else◌, List, codes}
 use Rattle.etherparse_transport_c.specs.Numbers as numbers
 
--- no name is longer, in bytes; later versions may add statuses, and keep to it
+-- the greatest length of a name in bytes, also of a name that a later version adds
 abbrev pub max_status_name_len : ℕ
 max_status_name_len = 63
 
+-- the name of a status
 abbrev pub status_name : ℕ → List ℕ
 status_name status =
     if status == numbers.status_ok then codes "ETHERPARSE_OK"

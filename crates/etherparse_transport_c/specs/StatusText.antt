@@ -1,8 +1,8 @@
--- What each status means, in a few words.
+-- The meanings of statuses, in a few words.
 use Rattle.std.specs.Prelude.{ℕ, ◌==◌, if◌then◌else◌, List, codes}
 use Rattle.etherparse_transport_c.specs.Numbers as numbers
 
--- no text is longer, in bytes; later versions may add statuses, and keep to it
+-- the greatest length of a text in bytes, also of a text that a later version adds
 abbrev pub max_status_text_len : ℕ
 max_status_text_len = 127
 
@@ -45,7 +45,7 @@ status_text status =
     else if status == numbers.status_translate_has_options then codes "the packet has IPv4 options, and is not translated"
     else if status == numbers.status_translate_protocol then codes "the protocol is not translated"
     else if status == numbers.status_translate_header_cut_off then codes "the packet ends within a transport header that would be translated"
-    else if status == numbers.status_translate_icmp_message then codes "the ICMP message is no echo message and no error, and is not translated"
+    else if status == numbers.status_translate_icmp_message then codes "the ICMP message is no query and no error, or a redirect, and is not translated"
     else if status == numbers.status_translate_quoted_packet then codes "the packet that the ICMP error is about cannot be translated"
     else if status == numbers.status_echo_no_reply then codes "the packet is not the reply to the echo request"
     else if status == numbers.status_translate_source_route then codes "the packet has a source route, and is not translated"

@@ -1,4 +1,4 @@
--- TCP as C has it.
+-- TCP in the interface to C.
 use Rattle.std.specs.Prelude.{◌≡◌, ◌≤◌, ℕ, Bool, false, not, ◌+◌, ◌-◌, ◌*◌, ◌==◌, nat_lt, bit_and, List, [], ◌∷◌, ◌++◌, length, take, drop, replicate, Option, None, Some, Ok, Err}
 use Rattle.std.specs.Int.{from_bool}
 use Rattle.std.specs.Option.{option_map}
@@ -24,7 +24,7 @@ use Rattle.etherparse_transport_c.specs.declared.tcp_option.EtherparseTcpRawOpti
 
 -- ---- headers
 
--- the nine flags as one number: those of byte 13 at their bits there, and NS above them
+-- the nine flags as one number: the flags of byte 13 have their bits in that byte, and NS has the bit above them
 abbrev pub flags_of : TcpHeader → ℕ
 flags_of header = from_bool header.ns * 256 + tcp.flags_byte header
 
@@ -41,11 +41,11 @@ fields_of header = record {
   urgent_pointer = header.urgent_pointer;
 }
 
--- a flag of the number
+-- the flag with this bit is set
 abbrev pub is_set : ℕ → ℕ → Bool
 is_set flags bit = not (bit_and flags bit == 0)
 
--- the header of some fields with these options
+-- the header with these fields and options
 abbrev pub header_in : EtherparseTcpHeader → List ℕ → TcpHeader
 header_in fields options = record {
   source_port = fields.source_port;
@@ -67,11 +67,11 @@ header_in fields options = record {
   options = pad options;
 }
 
--- why a packet is refused
+-- the refusal of a segment
 abbrev pub refusal : List ℕ → Option EtherparseError
 refusal bytes = option_map of_header_slice (tcp.refusal bytes)
 
--- what is read of a packet: the header, and where options and payload are
+-- the result of reading a segment: its header, and the places and lengths of its options and its payload
 abbrev pub packet_of : List ℕ → EtherparseTcpPacket
 packet_of bytes = record {
   header = fields_of (tcp.header_of bytes);
@@ -81,67 +81,68 @@ packet_of bytes = record {
   payload_len = length bytes - (tcp.layout_of bytes).header_len;
 }
 
--- why fields and options are no header: options of more than 40 bytes; a flag that is none of the nine: in this order
+-- the first of these refusals that applies: options of more than 40 bytes, a flag that is none of the nine
 abbrev pub fields_refusal : EtherparseTcpHeader → List ℕ → Option EtherparseError
 fields_refusal fields options =
     first_refusal (option_map of_options (too_long (length options))) (refused_if (nat_lt numbers.tcp_flags fields.flags) (of_flags fields.flags))
 
--- why they are not written: they are no header; a buffer that is too small: in this order
+-- the refusal to write a header: its fields or options are refused, or otherwise the buffer is too small
 abbrev pub write_refusal : EtherparseTcpHeader → List ℕ → ℕ → Option EtherparseError
 write_refusal fields options room =
     first_refusal (fields_refusal fields options) (no_room (length (tcp.wire (header_in fields options))) room)
 
--- why they are not stored in the header of a packet, whose options stay: the packet is refused; they are no header: in this order
+-- the refusal to store a header in a segment: the segment is refused, or otherwise the fields
 abbrev pub store_refusal : EtherparseTcpHeader → List ℕ → Option EtherparseError
 store_refusal fields bytes = first_refusal (refusal bytes) (fields_refusal fields (tcp.options_of bytes))
 
--- the packet with these fields: header and options at its front, and after them what stood there before
+-- the segment with these fields; its options and the bytes after the header are unchanged
 abbrev pub with_fields : EtherparseTcpHeader → List ℕ → List ℕ
 with_fields fields bytes = at_front (tcp.wire (header_in fields (tcp.options_of bytes))) bytes
 
 -- ---- checksums
 
--- header and payload of accepted bytes
+-- the header of accepted bytes
 abbrev pub header_bytes : List ℕ → List ℕ
 header_bytes bytes = take ((tcp.layout_of bytes).header_len) bytes
 
+-- the payload of accepted bytes
 abbrev pub payload_bytes : List ℕ → List ℕ
 payload_bytes bytes = drop ((tcp.layout_of bytes).header_len) bytes
 
--- why there is no checksum: the packet is refused, or it is longer than the pseudo header can count
+-- the refusal of a checksum call: the segment is refused, or it is longer than a pseudo header can count
 abbrev pub checksum_refusal : ValueType → ℕ → List ℕ → Option EtherparseError
 checksum_refusal value_type limit bytes = first_refusal (refusal bytes)
     (option_map of_value (too_big value_type (limit - length (header_bytes bytes)) (length (payload_bytes bytes))))
 
--- the status of the test of a packet: over IPv4
+-- the status of the test of a segment over IPv4
 abbrev pub TestTellsIpv4 : List ℕ → List ℕ → List ℕ → ℕ → Type 0
 TestTellsIpv4 source destination bytes status =
     Tells (checksum_refusal TcpPayloadLengthIpv4 max_len_over_ipv4 bytes) false (IsValidTcpIpv4 source destination bytes) status
 
--- and over IPv6
+-- the status of the test of a segment over IPv6
 abbrev pub TestTellsIpv6 : List ℕ → List ℕ → List ℕ → ℕ → Type 0
 TestTellsIpv6 source destination bytes status =
     Tells (checksum_refusal TcpPayloadLengthIpv6 max_len_over_ipv6 bytes) false (IsValidTcpIpv6 source destination bytes) status
 
 -- ---- options
 
--- the edges of a block, 0 of one that is absent
+-- the edges of a block; they are 0 if the block is absent
 abbrev pub edges : Option (ℕ × ℕ) → List ℕ
 edges None = 0 ∷ 0 ∷ []
 edges (Some block) = block.0 ∷ block.1 ∷ []
 
--- the numbers of the blocks
+-- the edges of some blocks
 abbrev pub all_edges : List (Option (ℕ × ℕ)) → List ℕ
 all_edges [] = []
 all_edges (block ∷ more) = edges block ++ all_edges more
 
--- how many numbers the present blocks have
+-- the number of edges of the present blocks
 abbrev pub edge_count : List (Option (ℕ × ℕ)) → ℕ
 edge_count [] = 0
 edge_count (None ∷ more) = edge_count more
 edge_count (Some block ∷ more) = 2 + edge_count more
 
--- an element by the kind of its first byte, and its numbers
+-- an element as its kind and its values
 abbrev pub option_of : TcpOptionElement → EtherparseTcpOption
 option_of Noop = record { kind = numbers.tcp_option_noop; value_count = 0; values = replicate 8 0 }
 option_of (MaximumSegmentSize size) = record { kind = numbers.tcp_option_maximum_segment_size; value_count = 1; values = size ∷ replicate 7 0 }
@@ -150,23 +151,26 @@ option_of SelectiveAcknowledgementPermitted = record { kind = numbers.tcp_option
 option_of (SelectiveAcknowledgement first more) = record { kind = numbers.tcp_option_sack; value_count = 2 + edge_count more; values = first.0 ∷ first.1 ∷ all_edges more }
 option_of (Timestamp value echo) = record { kind = numbers.tcp_option_timestamp; value_count = 2; values = value ∷ echo ∷ replicate 6 0 }
 
--- what the cursor answers of an item: the status, the option, and the error
+-- the status after the item was read
 abbrev pub item_status : Option Item → ℕ
 item_status None = numbers.status_options_end
 item_status (Some (Ok element)) = numbers.status_ok
 item_status (Some (Err error)) = (of_option error).status
 
+-- the option after the item was read; without an element it is unchanged
 abbrev pub item_option : Option Item → EtherparseTcpOption → EtherparseTcpOption
 item_option (Some (Ok element)) before = option_of element
 item_option (Some (Err error)) before = before
 item_option None before = before
 
+-- the error after the item was read; after an element it is unchanged
 abbrev pub item_error : Option Item → EtherparseError → EtherparseError
 item_error (Some (Err error)) before = of_option error
 item_error (Some (Ok element)) before = before
 item_error None before = of_status numbers.status_options_end
 
--- the cursor goes from one place in the options to another, and answers what one call of `next` returns on the bytes from there on
+-- The option at the place `from` was read, and the place became `to`. The item is the result of one call of `next` on the bytes from this
+-- place on. Status, option and error are those of the item.
 pub record ReadsFrom (options : List ℕ) (from to status : ℕ) (option option_before : EtherparseTcpOption) (error error_before : EtherparseError) : Type 0 where
   pub item : Option Item
   pub within : to ≤ length options
@@ -177,28 +181,31 @@ pub record ReadsFrom (options : List ℕ) (from to status : ℕ) (option option_
 
 -- ---- options of any kind
 
--- an option whose value ends where the cursor then stands
+-- an option whose value ends at this place
 abbrev pub raw_option_of : RawOption → ℕ → EtherparseTcpRawOption
 raw_option_of option to =
     record { kind = option.kind; value_offset = to - length option.value; value_len = length option.value }
 
--- what the cursor answers of an item: the status, the option, and the error
+-- the status after the item was read
 abbrev pub raw_item_status : Option RawItem → ℕ
 raw_item_status None = numbers.status_options_end
 raw_item_status (Some (Ok option)) = numbers.status_ok
 raw_item_status (Some (Err error)) = (of_raw_option error).status
 
+-- the option after the item was read; without an option it is unchanged
 abbrev pub raw_item_option : Option RawItem → ℕ → EtherparseTcpRawOption → EtherparseTcpRawOption
 raw_item_option (Some (Ok option)) to before = raw_option_of option to
 raw_item_option (Some (Err error)) to before = before
 raw_item_option None to before = before
 
+-- the error after the item was read; after an option it is unchanged
 abbrev pub raw_item_error : Option RawItem → EtherparseError → EtherparseError
 raw_item_error (Some (Err error)) before = of_raw_option error
 raw_item_error (Some (Ok option)) before = before
 raw_item_error None before = of_status numbers.status_options_end
 
--- the cursor goes from one place in the options to another, and answers what one call of `next` returns on the bytes from there on
+-- The option of any kind at the place `from` was read, and the place became `to`. The item is the result of one call of `next` on the bytes
+-- from this place on. Status, option and error are those of the item.
 pub record ReadsRawFrom (options : List ℕ) (from to status : ℕ) (option option_before : EtherparseTcpRawOption) (error error_before : EtherparseError) : Type 0 where
   pub item : Option RawItem
   pub within : to ≤ length options

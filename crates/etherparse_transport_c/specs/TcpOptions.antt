@@ -1,4 +1,4 @@
--- TCP options as C has them, to be written.
+-- TCP options to be written, in the interface to C.
 use Rattle.std.specs.Prelude.{ℕ, Bool, ◌+◌, ◌==◌, ◌&&◌, ◌||◌, not, nat_lt, if◌then◌else◌, List, [], ◌∷◌, ◌++◌, length, slice_index, Option, Some, None, Result, Ok, Err}
 use Rattle.std.specs.Option.{option_map}
 use Rattle.tcp_part.specs.TcpOptions.{join, pad, saturated, too_long}
@@ -11,44 +11,45 @@ use Rattle.etherparse_transport_c.specs.declared.tcp_option.EtherparseTcpOption.
 
 -- ---- one option
 
--- a number of the option
+-- the value of the option at this place
 abbrev pub value : EtherparseTcpOption → ℕ → ℕ
 value option place = slice_index option.values place
 
--- an element without a number
+-- an element without a value
 abbrev pub bare_in : EtherparseTcpOption → TcpOptionElement → Option TcpOptionElement
 bare_in option element = if option.value_count == 0 then Some element else None
 
--- one number of 16 bits (RFC 9293, section 3.1)
+-- the maximum segment size, if the option has one value that fits into 16 bits (RFC 9293, section 3.1)
 abbrev pub size_in : EtherparseTcpOption → Option TcpOptionElement
 size_in option =
     if option.value_count == 1 && not (nat_lt 0xffff (value option 0)) then Some (MaximumSegmentSize (value option 0)) else None
 
--- one number of 8 bits (RFC 7323, section 2.2)
+-- the window scale, if the option has one value that fits into 8 bits (RFC 7323, section 2.2)
 abbrev pub shift_in : EtherparseTcpOption → Option TcpOptionElement
 shift_in option =
     if option.value_count == 1 && not (nat_lt 0xff (value option 0)) then Some (WindowScale (value option 0)) else None
 
--- the two edges from a place on, if the option has them
+-- the block whose two edges begin at this place, if the option has them
 abbrev pub block_in : EtherparseTcpOption → ℕ → Option (ℕ × ℕ)
 block_in option place = if nat_lt place option.value_count then Some (value option place, value option (place + 1)) else None
 
--- the edges of one to four blocks (RFC 2018, section 3)
+-- the option has the edges of one to four blocks (RFC 2018, section 3)
 abbrev pub has_whole_blocks : EtherparseTcpOption → Bool
 has_whole_blocks option = option.value_count == 2 || (option.value_count == 4 || (option.value_count == 6 || option.value_count == 8))
 
+-- the blocks, if all are whole
 abbrev pub blocks_in : EtherparseTcpOption → Option TcpOptionElement
 blocks_in option =
     if has_whole_blocks option
     then Some (SelectiveAcknowledgement (value option 0, value option 1) (block_in option 2 ∷ block_in option 4 ∷ block_in option 6 ∷ []))
     else None
 
--- the timestamp value and its echo reply (RFC 7323, section 3.2)
+-- the timestamp value and its echo reply, if the option has two values (RFC 7323, section 3.2)
 abbrev pub timestamp_in : EtherparseTcpOption → Option TcpOptionElement
 timestamp_in option = if option.value_count == 2 then Some (Timestamp (value option 0) (value option 1)) else None
 
--- the element of an option; None where its kind is not known, or no option of its kind has these numbers. Numbers after the last
--- that the option counts are not looked at
+-- The element with the kind and the values of an option. It is `None` if the kind is unknown, or if no option of this kind has these
+-- values. Only the first values are used, as many as `value_count` states.
 abbrev pub element_in : EtherparseTcpOption → Option TcpOptionElement
 element_in option =
     if option.kind == numbers.tcp_option_noop then bare_in option Noop
@@ -59,44 +60,48 @@ element_in option =
     else if option.kind == numbers.tcp_option_timestamp then timestamp_in option
     else None
 
--- why it is none
+-- the kind is one of the six known kinds
 abbrev pub is_known : ℕ → Bool
 is_known kind =
     kind == numbers.tcp_option_noop || (kind == numbers.tcp_option_maximum_segment_size || (kind == numbers.tcp_option_window_scale
     || (kind == numbers.tcp_option_sack_permitted || (kind == numbers.tcp_option_sack || kind == numbers.tcp_option_timestamp))))
 
+-- the error for an option that is no element: its kind is unknown, or no option of its kind has these values
 abbrev pub no_element : EtherparseTcpOption → EtherparseError
 no_element option = if is_known option.kind then of_option_values option.kind else of_option_kind option.kind
 
 -- ---- several options
 
--- the elements of some options, after those that were found before them; or why the first that is none is none
+-- The elements of some options after the elements `found`, or the error of the first option that is no element. `further` continues with
+-- the options after this option.
 abbrev pub gathered_next : (List TcpOptionElement → Result (List TcpOptionElement) EtherparseError) → List TcpOptionElement
     → EtherparseTcpOption → Option TcpOptionElement → Result (List TcpOptionElement) EtherparseError
 gathered_next further found option None = Err (no_element option)
 gathered_next further found option (Some element) = further (found ++ (element ∷ []))
 
+-- the elements of some options after the elements `found`, or the error of the first option that is no element
 abbrev pub gathered : List TcpOptionElement → List EtherparseTcpOption → Result (List TcpOptionElement) EtherparseError
 gathered found [] = Ok found
 gathered found (option ∷ options) = gathered_next (λ longer. gathered longer options) found option (element_in option)
 
--- a list of elements, or a refusal
+-- the refusal of elements, if there are no elements or they have more than 40 bytes
 abbrev pub refusal_of : Result (List TcpOptionElement) EtherparseError → Option EtherparseError
 refusal_of (Ok elements) = option_map of_options (too_long (saturated (length (join elements))))
 refusal_of (Err error) = Some error
 
+-- the bytes of elements, padded to whole words
 abbrev pub bytes_of : Result (List TcpOptionElement) EtherparseError → List ℕ
 bytes_of (Ok elements) = pad (join elements)
 bytes_of (Err error) = []
 
--- why options are not joined, however many they are: the first that is no element; or else more than 40 bytes of elements
+-- the refusal of options: the error of the first option that is no element, or otherwise more than 40 bytes of elements
 abbrev pub options_refusal : List EtherparseTcpOption → Option EtherparseError
 options_refusal options = refusal_of (gathered [] options)
 
--- their bytes, padded to whole words
+-- the bytes of accepted options, padded to whole words
 abbrev pub joined_bytes : List EtherparseTcpOption → List ℕ
 joined_bytes options = bytes_of (gathered [] options)
 
--- why they are not written: they are not joined; a buffer that is too small: in this order
+-- the refusal to write options: they are refused, or otherwise the buffer is too small
 abbrev pub write_refusal : List EtherparseTcpOption → ℕ → Option EtherparseError
 write_refusal options room = first_refusal (options_refusal options) (no_room (length (joined_bytes options)) room)

@@ -1,4 +1,4 @@
--- The translation of a packet, as C has it.
+-- The translation of a packet, in the interface to C.
 use Rattle.std.specs.Prelude.{ℕ, ◌==◌, if◌then◌else◌, List, Option, Some, None}
 use Rattle.std.specs.Option.{option_map}
 use Rattle.etherparse_transport.specs.Ipv4Translations as ipv4
@@ -14,7 +14,7 @@ use Rattle.etherparse_transport_c.specs.declared.translation.EtherparseIpv6Trans
 abbrev pub if_set : {A : Type 0} → ℕ → A → Option A
 if_set flag value = if flag == 0 then None else Some value
 
--- what is replaced in an IPv4 packet
+-- the values that are replaced in an IPv4 packet
 abbrev pub ipv4_translation : EtherparseIpv4Translation → Ipv4Translation
 ipv4_translation translation = record {
   source = if_set translation.has_source translation.source;
@@ -23,7 +23,7 @@ ipv4_translation translation = record {
   destination_port = if_set translation.has_destination_port translation.destination_port;
 }
 
--- what is replaced in an IPv6 packet
+-- the values that are replaced in an IPv6 packet
 abbrev pub ipv6_translation : EtherparseIpv6Translation → Ipv6Translation
 ipv6_translation translation = record {
   source = if_set translation.has_source translation.source;
@@ -32,10 +32,10 @@ ipv6_translation translation = record {
   destination_port = if_set translation.has_destination_port translation.destination_port;
 }
 
--- why a packet is not translated as an IPv4 packet; the other version is 6
-abbrev pub ipv4_refusal : List ℕ → Option EtherparseError
-ipv4_refusal packet = option_map (of_translate 6) (ipv4.ipv4_refusal packet)
+-- the refusal to translate an IPv4 packet; the other version is 6
+abbrev pub ipv4_refusal : EtherparseIpv4Translation → List ℕ → Option EtherparseError
+ipv4_refusal translation packet = option_map (of_translate 6) (ipv4.ipv4_refusal (ipv4_translation translation) packet)
 
--- why a packet is not translated as an IPv6 packet; the other version is 4
-abbrev pub ipv6_refusal : List ℕ → Option EtherparseError
-ipv6_refusal packet = option_map (of_translate 4) (ipv6.ipv6_refusal packet)
+-- the refusal to translate an IPv6 packet; the other version is 4
+abbrev pub ipv6_refusal : EtherparseIpv6Translation → List ℕ → Option EtherparseError
+ipv6_refusal translation packet = option_map (of_translate 4) (ipv6.ipv6_refusal (ipv6_translation translation) packet)

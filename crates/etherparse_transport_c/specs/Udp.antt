@@ -1,4 +1,4 @@
--- UDP as C has it.
+-- UDP in the interface to C.
 use Rattle.std.specs.Prelude.{ℕ, Bool, ◌==◌, ◌+◌, ◌-◌, List, length, Option}
 use Rattle.std.specs.Option.{option_map}
 use Rattle.net_base.specs.Bytes.{be_number}
@@ -19,7 +19,7 @@ use Rattle.etherparse_transport_c.specs.declared.error.EtherparseError.{Etherpar
 use Rattle.etherparse_transport_c.specs.declared.udp.EtherparseUdpHeader.{EtherparseUdpHeader}
 use Rattle.etherparse_transport_c.specs.declared.udp.EtherparseUdpPacket.{EtherparseUdpPacket}
 
--- the fields of a header, and the header of some fields
+-- the fields of a header
 abbrev pub fields_of : UdpHeader → EtherparseUdpHeader
 fields_of header = record {
   source_port = header.source_port;
@@ -28,6 +28,7 @@ fields_of header = record {
   checksum = header.checksum;
 }
 
+-- the header with these fields
 abbrev pub header_in : EtherparseUdpHeader → UdpHeader
 header_in fields = record {
   source_port = fields.source_port;
@@ -36,14 +37,15 @@ header_in fields = record {
   checksum = fields.checksum;
 }
 
--- why a header, and why a packet is refused
+-- the refusal of a header
 abbrev pub header_refusal : List ℕ → Option EtherparseError
 header_refusal bytes = option_map of_len (udp.refusal bytes)
 
+-- the refusal of a packet
 abbrev pub packet_refusal : List ℕ → Option EtherparseError
 packet_refusal bytes = option_map of_len (strict_refusal bytes)
 
--- what is read of a packet: the header, and where the payload is
+-- the result of reading a packet: its header, and the place and length of its payload
 abbrev pub packet_in : List ℕ → EtherparseUdpPacket
 packet_in packet = record {
   header = fields_of (udp.header_of packet);
@@ -54,31 +56,32 @@ packet_in packet = record {
 
 -- ---- checksums
 
--- why there is no checksum and no test of one: the packet is refused, or its payload is longer than this limit: in this order
+-- the refusal of a checksum call: the packet is refused, or otherwise its payload is longer than this limit
 abbrev pub checksum_refusal : ValueType → ℕ → List ℕ → Option EtherparseError
 checksum_refusal value_type limit bytes =
     first_refusal (packet_refusal bytes) (option_map of_value (too_big value_type limit (length (cut bytes) - 8)))
 
--- the sum that the checksum of a packet is taken of: the pseudo header, which counts the packet, and the packet with zeros in place
--- of its checksum, bytes 6 and 7
+-- The sum over IPv4 from which the checksum of a packet is computed. It covers the pseudo header, which counts the packet, and the packet
+-- with zeros instead of its checksum, bytes 6 and 7.
 abbrev pub checksummed_ipv4 : List ℕ → List ℕ → List ℕ → ℕ
 checksummed_ipv4 source destination packet =
     total (ipv4_pseudo_header source destination numbers.protocol_udp (length packet)) + total (with_checksum 6 packet 0)
 
+-- the same sum over IPv6
 abbrev pub checksummed_ipv6 : List ℕ → List ℕ → List ℕ → ℕ
 checksummed_ipv6 source destination packet =
     total (ipv6_pseudo_header source destination numbers.protocol_udp (length packet)) + total (with_checksum 6 packet 0)
 
--- a checksum field of 0 says that there is no checksum (RFC 768)
+-- the checksum field is 0, which means that there is no checksum (RFC 768)
 abbrev pub has_no_checksum : List ℕ → Bool
 has_no_checksum packet = be_number packet 6 2 == 0
 
--- the status of the test of a packet at the front of some bytes: over IPv4
+-- the status of the test of a packet at the front of some bytes, over IPv4
 abbrev pub TestTellsIpv4 : List ℕ → List ℕ → List ℕ → ℕ → Type 0
 TestTellsIpv4 source destination bytes status =
     Tells (checksum_refusal UdpPayloadLengthIpv4 max_payload_len bytes) (has_no_checksum (cut bytes)) (IsValidUdpIpv4 source destination (cut bytes)) status
 
--- and over IPv6
+-- the status of the test of a packet at the front of some bytes, over IPv6
 abbrev pub TestTellsIpv6 : List ℕ → List ℕ → List ℕ → ℕ → Type 0
 TestTellsIpv6 source destination bytes status =
     Tells (checksum_refusal UdpPayloadLengthIpv6 max_payload_len_of_32_bits bytes) (has_no_checksum (cut bytes)) (IsValidUdpIpv6 source destination (cut bytes)) status

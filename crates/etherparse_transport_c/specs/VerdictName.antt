@@ -1,11 +1,12 @@
--- The name of each verdict in the header.
+-- The names of verdicts, as the header spells them.
 use Rattle.std.specs.Prelude.{ℕ, ◌==◌, if◌then◌else◌, List, codes}
 use Rattle.etherparse_transport_c.specs.Numbers as numbers
 
--- no name is longer, in bytes; later versions may add verdicts, and keep to it
+-- the greatest length of a name in bytes, also of a name that a later version adds
 abbrev pub max_verdict_name_len : ℕ
 max_verdict_name_len = 63
 
+-- the name of a verdict
 abbrev pub verdict_name : ℕ → List ℕ
 verdict_name verdict =
     if verdict == numbers.verdict_right then codes "ETHERPARSE_VERDICT_RIGHT"

@@ -9,7 +9,7 @@ use crate::error::EtherparseError;
 use crate::status;
 use std::marker::Model;
 
-/// Where a caller wants the error of a call, in C `etherparse_error *error`. NULL if it is not wanted.
+/// The place to which a call writes its error, in C `etherparse_error *error`. It is NULL if the caller does not want the error.
 #[repr(C)]
 pub struct ErrorPlace {
     /// The pointer, or NULL.
@@ -19,11 +19,11 @@ pub struct ErrorPlace {
 }
 
 impl Model for ErrorPlace {
-    // Unless the pointer is NULL, the caller lends the memory behind it, which contains `before`.
+    // Unless the pointer is NULL, the caller lends the memory that it points to. This memory contains `before`.
     ghost also_owns = { λ place. holds place.pointer place.before };
 }
 
-/// What a call returns, in C an `etherparse_status`.
+/// The result of a call, in C an `etherparse_status`.
 #[repr(C)]
 pub struct Answer {
     /// The status: a number of `status`.
@@ -33,11 +33,11 @@ pub struct Answer {
 }
 
 impl Model for Answer {
-    // Unless the pointer is NULL, the memory behind it goes back to the caller, and contains `error`.
+    // Unless the pointer is NULL, the caller gets back the memory that it points to. This memory contains `error`.
     ghost also_owns = { λ answer. holds answer.pointer answer.error };
 }
 
-/// Returns `OK`, and leaves the memory behind the pointer as it is.
+/// Returns `OK`. The memory that the pointer points to is unchanged.
 pub(crate) fn accept(place: ErrorPlace) -> Answer
     ensures status { result.status ≡ numbers.status_ok }
     ensures pointer { result.pointer ≡ place.pointer }
@@ -47,7 +47,7 @@ pub(crate) fn accept(place: ErrorPlace) -> Answer
     Answer { status: status::OK }
 }
 
-/// Returns the status of a refusal, and stores the refusal behind the pointer unless it is NULL.
+/// Returns the status of a refusal, and writes the refusal to the memory that the pointer points to, unless it is NULL.
 pub(crate) fn refuse(place: ErrorPlace, refusal: EtherparseError) -> Answer
     ensures status { result.status ≡ refusal.status }
     ensures pointer { result.pointer ≡ place.pointer }

@@ -13,8 +13,8 @@ use crate::error::{of_answer_echo, of_status};
 use crate::status;
 use etherparse_transport::ip::{answer_echo, answer_echo_ipv4, answer_echo_ipv6, is_reply_to};
 
-/// Turns the echo request in an IP packet of either version into its reply, in place. The reply goes from the
-/// destination of the request to its source. Its length is the length of the request, and the bytes after it stay.
+/// Turns the echo request in an IP packet of either version into its reply, in place. The reply goes from the destination of the request to
+/// its source. It is as long as the request, and the bytes after it are unchanged.
 ///
 /// # Errors
 ///
@@ -35,7 +35,7 @@ pub extern "C" fn etherparse_echo_answer(
     ensures error { Leaves error result (unwrap_or (refusal packet.old) error.before) }
     ensures reply_len { reply_len.new ≡ unless_refused (refusal packet.old) (counted_len false packet.old) reply_len.old }
     ensures packet { packet.new ≡ unless_refused (refusal packet.old) (replies.reply hop_limit packet.old) packet.old }
-    // The reply is read with the identifier, the sequence number and the payload of the request, and its checksum is right.
+    // The reply has the identifier, the sequence number and the payload of the request, and its checksum is right.
     ensures read { refusal packet.old ≡ None → IsReadAs packet.new (replies.reply_addresses packet.old)
         (replies.reply_header packet.old) (replies.reply_payload packet.old) }
 {
@@ -48,8 +48,8 @@ pub extern "C" fn etherparse_echo_answer(
     }
 }
 
-/// Turns the echo request in an IPv4 packet into its reply from this source, otherwise as `etherparse_echo_answer`. A
-/// request to a multicast or broadcast address is answered from an address of the host.
+/// Turns the echo request in an IPv4 packet into its reply from this source, otherwise as `etherparse_echo_answer`. If the request was sent
+/// to a multicast or broadcast address, `source` is an address of the host.
 ///
 /// # Errors
 ///
@@ -66,7 +66,7 @@ pub extern "C" fn etherparse_echo_answer_ipv4(
     ensures error { Leaves error result (unwrap_or (ipv4_refusal source.now packet.old) error.before) }
     ensures reply_len { reply_len.new ≡ unless_refused (ipv4_refusal source.now packet.old) (counted_len false packet.old) reply_len.old }
     ensures packet { packet.new ≡ unless_refused (ipv4_refusal source.now packet.old) (ipv4_reply source.now time_to_live packet.old) packet.old }
-    // The reply is read with the identifier, the sequence number and the payload of the request, and its checksum is right.
+    // The reply has the identifier, the sequence number and the payload of the request, and its checksum is right.
     ensures read { ipv4_refusal source.now packet.old ≡ None → IsReadAs packet.new
         (addresses.Ipv4 source.now (slice_range packet.old 12 16))
         (headers.Icmpv4 (icmpv4_reply_to (message_after 20 packet.old))) (drop 8 (message_after 20 packet.old)) }
@@ -80,13 +80,12 @@ pub extern "C" fn etherparse_echo_answer_ipv4(
     }
 }
 
-/// Turns the echo request in an IPv6 packet into its reply from this source, otherwise as `etherparse_echo_answer`. A
-/// request to a multicast address is answered from an address of the host.
+/// Turns the echo request in an IPv6 packet into its reply from this source, otherwise as `etherparse_echo_answer`. If the request was sent
+/// to a multicast address, `source` is an address of the host.
 ///
 /// # Errors
 ///
-/// The statuses of `etherparse_echo_answer`, except `ECHO_HEADER_CHECKSUM_WRONG`. An IPv4 packet is refused with
-/// `ECHO_NO_REQUEST`.
+/// The statuses of `etherparse_echo_answer`, except `ECHO_HEADER_CHECKSUM_WRONG`. An IPv4 packet is refused with `ECHO_NO_REQUEST`.
 #[unsafe(no_mangle)]
 pub extern "C" fn etherparse_echo_answer_ipv6(
     packet: &mut [u8],
@@ -99,7 +98,7 @@ pub extern "C" fn etherparse_echo_answer_ipv6(
     ensures error { Leaves error result (unwrap_or (ipv6_refusal source.now packet.old) error.before) }
     ensures reply_len { reply_len.new ≡ unless_refused (ipv6_refusal source.now packet.old) (counted_len false packet.old) reply_len.old }
     ensures packet { packet.new ≡ unless_refused (ipv6_refusal source.now packet.old) (ipv6_reply source.now hop_limit packet.old) packet.old }
-    // The reply is read with the identifier, the sequence number and the payload of the request, and its checksum is right.
+    // The reply has the identifier, the sequence number and the payload of the request, and its checksum is right.
     ensures read { ipv6_refusal source.now packet.old ≡ None → IsReadAs packet.new
         (addresses.Ipv6 source.now (Some (slice_range packet.old 8 24)))
         (headers.Icmpv6 (icmpv6_reply_to source.now (slice_range packet.old 8 24) (message_after 40 packet.old)))
@@ -114,13 +113,13 @@ pub extern "C" fn etherparse_echo_answer_ipv6(
     }
 }
 
-/// Tests whether the second packet is the reply to the echo request in the first packet (RFC 792, "Echo or Echo Reply Message"; RFC
-/// 1122, section 3.2.2.6; RFC 4443, sections 4.1 and 4.2). Both packets begin with their IP headers, and may contain options and
-/// extension headers. Bytes after a packet are ignored.
+/// Tests whether the second packet is the reply to the echo request in the first packet (RFC 792, "Echo or Echo Reply Message"; RFC 1122,
+/// section 3.2.2.6; RFC 4443, sections 4.1 and 4.2). Both packets begin with their IP headers, and may contain options and extension
+/// headers. Bytes after a packet are ignored.
 ///
 /// # Errors
 ///
-/// The status is `OK` if it is the reply, otherwise `ECHO_NO_REPLY`, also if one of the packets is refused.
+/// The status is `OK` if the packet is the reply. Otherwise it is `ECHO_NO_REPLY`, also if one of the packets is refused.
 #[unsafe(no_mangle)]
 pub extern "C" fn etherparse_echo_is_reply(
     request: &[u8],

@@ -14,7 +14,7 @@ use etherparse_transport::err::{ErrorText, Layer, LenError, ValueTooBigError, Va
 use etherparse_transport::ip::IpError;
 use etherparse_transport::{IpNumber, LenSource, TcpOptionReadError, TcpOptionWriteError};
 
-/// The layer of a number.
+/// Returns the layer with this number.
 fn layer(number: u32) -> Option<Layer>
     ensures { result ≡ specs.layer_at number }
 {
@@ -30,7 +30,7 @@ fn layer(number: u32) -> Option<Layer>
     }
 }
 
-/// The length's source of a number.
+/// Returns the source of a length with this number.
 fn len_source(number: u32) -> Option<LenSource>
     ensures { result ≡ specs.len_source_at number }
 {
@@ -41,7 +41,7 @@ fn len_source(number: u32) -> Option<LenSource>
     }
 }
 
-/// The kind of value of a number.
+/// Returns the kind of value with this number.
 fn value_type(number: u32) -> Option<ValueType>
     ensures { result ≡ specs.value_type_at number }
 {
@@ -55,7 +55,7 @@ fn value_type(number: u32) -> Option<ValueType>
     }
 }
 
-/// A number that is a byte.
+/// Returns the number as a byte, if it fits.
 fn byte(number: usize) -> Option<u8>
     ensures { result ≡ specs.byte_in number }
 {
@@ -66,7 +66,7 @@ fn byte(number: usize) -> Option<u8>
     }
 }
 
-/// The length that the numbers tell.
+/// Returns the wrong length that the error contains, or `None` for numbers that no call returns.
 fn len_error(error: &EtherparseError) -> Option<LenError>
     ensures { result ≡ specs.len_error_in error.now }
 {
@@ -82,7 +82,7 @@ fn len_error(error: &EtherparseError) -> Option<LenError>
     }
 }
 
-/// The value that the numbers tell.
+/// Returns the value that the error contains, or `None` for numbers that no call returns.
 fn value_error(error: &EtherparseError) -> Option<ValueTooBigError<usize>>
     ensures { result ≡ specs.value_error_in error.now }
 {
@@ -96,7 +96,7 @@ fn value_error(error: &EtherparseError) -> Option<ValueTooBigError<usize>>
     }
 }
 
-/// The TCP header that the numbers tell.
+/// Returns the fault of a TCP header that the error contains, or `None` for numbers that no call returns.
 fn header_error(error: &EtherparseError) -> Option<HeaderError>
     ensures { result ≡ specs.header_error_in error.now }
 {
@@ -106,7 +106,7 @@ fn header_error(error: &EtherparseError) -> Option<HeaderError>
     }
 }
 
-/// The fault of an option that the numbers tell.
+/// Returns the fault of an option that the error contains, or `None` for numbers that no call returns.
 fn option_error(error: &EtherparseError) -> Option<TcpOptionReadError>
     ensures { result ≡ specs.option_error_in error.now }
 {
@@ -128,7 +128,7 @@ fn option_error(error: &EtherparseError) -> Option<TcpOptionReadError>
     }
 }
 
-/// Why the transport in an IP packet was not found, as the numbers tell.
+/// Returns the reason why an IP packet was refused, or `None` for numbers that no call returns.
 fn ip_error(error: &EtherparseError) -> Option<IpError>
     ensures { result ≡ specs.ip_error_in error.now }
 {
@@ -169,7 +169,7 @@ fn ip_error(error: &EtherparseError) -> Option<IpError>
     }
 }
 
-/// Why an echo request was refused, as the numbers tell.
+/// Returns the reason why an echo request was refused, or `None` for numbers that no call returns.
 fn answer_echo_error(error: &EtherparseError) -> Option<AnswerEchoError>
     ensures { result ≡ specs.answer_echo_error_in error.now }
 {
@@ -184,7 +184,7 @@ fn answer_echo_error(error: &EtherparseError) -> Option<AnswerEchoError>
     }
 }
 
-/// Why a packet was not translated, as the numbers tell.
+/// Returns the reason why a packet was not translated, or `None` for numbers that no call returns.
 fn translate_error(error: &EtherparseError) -> Option<TranslateError>
     ensures { result ≡ specs.translate_error_in error.now }
 {
@@ -203,8 +203,8 @@ fn translate_error(error: &EtherparseError) -> Option<TranslateError>
     }
 }
 
-/// The text of an error that only the library for C has, of a source route, whose status is after the other statuses of
-/// a translation, or of numbers that no call tells.
+/// Returns the text of an error that the library does not have. This is an error of only the library for C, a source route, or numbers that
+/// no call returns. The status of a source route comes after the other statuses of a translation.
 fn own_text(error: &EtherparseError) -> ErrorText
     ensures { reads_as result ≡ specs.own_text error.now }
 {
@@ -256,7 +256,7 @@ fn own_text(error: &EtherparseError) -> ErrorText
     }
 }
 
-/// The text of an error of the library if the numbers tell one, and else the text of the numbers.
+/// Returns the text of the library's error if the numbers are such an error, and otherwise the text of the numbers.
 fn text(error: &EtherparseError) -> ErrorText
     ensures { reads_as result ≡ text_of error.now }
 {

@@ -22,27 +22,26 @@ use etherparse_transport::icmpv4::{
 };
 use etherparse_transport::{IcmpEchoHeader, Icmpv4Header, Icmpv4Slice, Icmpv4Type};
 
-/// An ICMPv4 header (RFC 792). A field that the kind of the message does not have is 0. A time is a number of
-/// milliseconds since midnight UT, or any other time if the highest bit is set.
+/// An ICMPv4 header (RFC 792). A field that this kind of message does not have is 0. A time is a number of milliseconds since midnight UT.
+/// If its highest bit is set, it is any other number.
 #[repr(C)]
 #[derive(Clone, Copy)]
 pub struct EtherparseIcmpv4Header {
     /// The kind of the message: a number of `icmpv4_kind`.
     pub kind: u32,
-    /// In a timestamp message or reply: when the sender last touched the message.
+    /// In a timestamp message or reply: the time at which the sender last touched the message.
     pub originate_timestamp: u32,
-    /// In a timestamp message or reply: when the echoer first touched it.
+    /// In a timestamp message or reply: the time at which the echoer first touched the message.
     pub receive_timestamp: u32,
-    /// In a timestamp message or reply: when the echoer last touched it.
+    /// In a timestamp message or reply: the time at which the echoer last touched the message.
     pub transmit_timestamp: u32,
     /// The checksum.
     pub checksum: u16,
-    /// In an echo or timestamp message or its reply: the identifier.
+    /// In an echo or timestamp message, or in a reply: the identifier.
     pub id: u16,
-    /// In an echo or timestamp message or its reply: the sequence number.
+    /// In an echo or timestamp message, or in a reply: the sequence number.
     pub sequence_number: u16,
-    /// If fragmentation is needed: the MTU of the next hop, in bytes (RFC 1191, section 4), or 0 from a router that
-    /// does not report it.
+    /// If fragmentation is needed: the MTU of the next hop, in bytes (RFC 1191, section 4). It is 0 if the router does not report the MTU.
     pub next_hop_mtu: u16,
     /// The type.
     pub type_u8: u8,
@@ -67,7 +66,7 @@ pub struct EtherparseIcmpv4Packet {
     pub payload_len: usize,
 }
 
-/// A header of which no field is set.
+/// A header in which every field is 0.
 const NONE: EtherparseIcmpv4Header = EtherparseIcmpv4Header {
     kind: icmpv4_kind::UNKNOWN,
     originate_timestamp: 0,
@@ -83,7 +82,7 @@ const NONE: EtherparseIcmpv4Header = EtherparseIcmpv4Header {
     bytes4to7: [0; 4],
 };
 
-/// Sets the fields of an echo message.
+/// Sets the fields of an echo message or reply.
 fn set_echo(kind: u32, echo: &IcmpEchoHeader, header: &mut EtherparseIcmpv4Header)
     ensures { header.new ≡ record header.old { kind = kind; id = echo.now.id; sequence_number = echo.now.seq } }
 {
@@ -92,7 +91,7 @@ fn set_echo(kind: u32, echo: &IcmpEchoHeader, header: &mut EtherparseIcmpv4Heade
     header.sequence_number = echo.seq;
 }
 
-/// Sets the fields of a timestamp message.
+/// Sets the fields of a timestamp message or reply.
 fn set_timestamp(kind: u32, message: &TimestampMessage, header: &mut EtherparseIcmpv4Header)
     ensures { header.new ≡ record header.old {
       kind = kind;
@@ -111,7 +110,7 @@ fn set_timestamp(kind: u32, message: &TimestampMessage, header: &mut EtherparseI
     header.transmit_timestamp = message.transmit_timestamp;
 }
 
-/// Sets the kind of a message with its fields in a header in which none of these is set.
+/// Sets the kind of a message and its fields. Before the call none of these fields is set.
 fn set_message(icmp_type: &Icmpv4Type, header: &mut EtherparseIcmpv4Header)
     requires { header.old ≡ specs.with_common header.old specs.nothing }
     ensures { header.new ≡ specs.with_common header.old (message_fields icmp_type.now) }
@@ -143,7 +142,7 @@ fn set_message(icmp_type: &Icmpv4Type, header: &mut EtherparseIcmpv4Header)
     }
 }
 
-/// Sets the packet of a slice.
+/// Sets the fields of a message that was read.
 fn set_packet(slice: &Icmpv4Slice<'_>, read: &mut EtherparseIcmpv4Packet)
     requires { HasWholeHeader slice.now }
     ensures { read.new ≡ packet_of slice.now }
@@ -188,21 +187,21 @@ pub extern "C" fn etherparse_icmpv4_packet_read(
     }
 }
 
-/// What an unreachable destination with this code says.
+/// Returns the meaning of this code of a destination unreachable message, if the code is known.
 fn dest_unreachable(code_u8: u8, next_hop_mtu: u16) -> Option<DestUnreachableHeader>
     ensures { result ≡ listed dest_unreachable_formats code_u8 (specs.with_next_hop_mtu next_hop_mtu) }
 {
     DestUnreachableHeader::from_values(code_u8, next_hop_mtu)
 }
 
-/// What a parameter problem with this code says.
+/// Returns the meaning of this code of a parameter problem message, if the code is known.
 fn parameter_problem(code_u8: u8, pointer: u8) -> Option<ParameterProblemHeader>
     ensures { result ≡ listed parameter_problem_formats code_u8 (specs.with_pointer pointer) }
 {
     ParameterProblemHeader::from_values(code_u8, pointer)
 }
 
-/// The two numbers of an echo message.
+/// Returns the identifier and the sequence number of an echo message.
 fn echo_of(fields: &EtherparseIcmpv4Header) -> IcmpEchoHeader
     ensures { result ≡ specs.echo_in fields.now }
 {
@@ -212,7 +211,7 @@ fn echo_of(fields: &EtherparseIcmpv4Header) -> IcmpEchoHeader
     }
 }
 
-/// The five numbers of a timestamp message.
+/// Returns the five numbers of a timestamp message.
 fn timestamp_of(fields: &EtherparseIcmpv4Header) -> TimestampMessage
     ensures { result ≡ specs.timestamp_in fields.now }
 {
@@ -225,7 +224,7 @@ fn timestamp_of(fields: &EtherparseIcmpv4Header) -> TimestampMessage
     }
 }
 
-/// The message of some fields. None where its kind is not known, or the code of that kind.
+/// Returns the message with these fields, or `None` if its kind, or the code of this kind, is unknown.
 fn message_of(fields: &EtherparseIcmpv4Header) -> Option<Icmpv4Type>
     ensures { result ≡ message_in fields.now }
 {
@@ -285,7 +284,7 @@ pub extern "C" fn etherparse_icmpv4_header_write(
         (at_front (header_bytes fields.now.checksum (message_in fields.now)) buffer.old) buffer.old }
     ensures written { written.new ≡ unless_refused (write_refusal fields.now.checksum (message_in fields.now) (length buffer.old))
         (length (header_bytes fields.now.checksum (message_in fields.now))) written.old }
-    // What was written is read back, whatever comes after it; and where it is accepted, as the same header.
+    // The written header is read back, whatever bytes follow it. If the message is accepted, its header is the same.
     ensures reads_back { write_refusal fields.now.checksum (message_in fields.now) (length buffer.old) ≡ None
         → (len : ℕ) → written.new ≤ len → len ≤ length buffer.new → ReadsBack fields.now.checksum (message_in fields.now) (take len buffer.new) }
     ensures same { write_refusal fields.now.checksum (message_in fields.now) (length buffer.old) ≡ None
@@ -304,13 +303,13 @@ pub extern "C" fn etherparse_icmpv4_header_write(
     }
 }
 
-/// The checksum of a packet, whatever its checksum field holds.
+/// Computes the checksum of a message. Its checksum field is ignored.
 fn packet_checksum(packet: &Icmpv4Slice<'_>) -> u16
     requires { HasWholeHeader packet.now }
     ensures sum { result ≡ checksum_of (total (with_checksum 2 packet.now 0)) }
     ensures valid { IsValidIcmpv4 (with_checksum 2 packet.now result) }
 {
-    // A message of a type and code that are not known has every bit of the bytes.
+    // A message of an unknown type and code keeps every bit of the bytes.
     let message = Icmpv4Type::Unknown {
         type_u8: packet.type_u8(),
         code_u8: packet.code_u8(),
@@ -319,7 +318,7 @@ fn packet_checksum(packet: &Icmpv4Slice<'_>) -> u16
     message.calc_checksum(&packet.slice()[Icmpv4Header::MIN_LEN..])
 }
 
-/// The checksum of the packet that these bytes are, whatever its checksum field holds.
+/// Computes the checksum of the message that consists of these bytes. Its checksum field is ignored.
 fn checksum_of_packet(bytes: &[u8]) -> Result<u16, EtherparseError>
     ensures refused { RefusesExactly result (refusal bytes.now) }
     ensures header { IfOk result (λ _. 8 ≤ length bytes.now) }
@@ -333,12 +332,11 @@ fn checksum_of_packet(bytes: &[u8]) -> Result<u16, EtherparseError>
     }
 }
 
-/// The checksum to store in the message that consists of all these bytes (RFC 792). Its checksum field is ignored.
+/// Computes the checksum to store in the message that consists of all these bytes (RFC 792). Its checksum field is ignored.
 ///
 /// # Errors
 ///
-/// The status is `OK`, or `LENGTH` if there are fewer than 8 bytes, or if a timestamp message or reply, of code 0, is
-/// not 20 bytes long.
+/// The status is `OK`, or `LENGTH` if there are fewer than 8 bytes, or if a timestamp message or reply, of code 0, is not 20 bytes long.
 #[unsafe(no_mangle)]
 pub extern "C" fn etherparse_icmpv4_checksum(
     bytes: &[u8],
@@ -348,9 +346,9 @@ pub extern "C" fn etherparse_icmpv4_checksum(
     ensures status { result.status ≡ status_of (refusal bytes.now) }
     ensures error { Leaves error result (unwrap_or (refusal bytes.now) error.before) }
     ensures checksum { checksum.new ≡ unless_refused (refusal bytes.now) (checksum_of (total (with_checksum 2 bytes.now 0))) checksum.old }
-    // With the checksum in its place the packet is valid.
+    // With this checksum the message is valid.
     ensures built { refusal bytes.now ≡ None → IsValidIcmpv4 (with_checksum 2 bytes.now checksum.new) }
-    // And the test of these bytes answers that the checksum is right.
+    // With this checksum the test of the message returns `OK`.
     ensures passes { refusal bytes.now ≡ None → Answers (TestTells (with_checksum 2 bytes.now checksum.new)) numbers.status_ok }
 {
     match checksum_of_packet(bytes) {
@@ -374,7 +372,7 @@ pub extern "C" fn etherparse_icmpv4_checksum_store(bytes: &mut [u8], error: Erro
     ensures error { Leaves error result (unwrap_or (refusal bytes.old) error.before) }
     ensures stored { bytes.new ≡ unless_refused (refusal bytes.old)
         (with_checksum 2 bytes.old (checksum_of (total (with_checksum 2 bytes.old 0)))) bytes.old }
-    // The test of the bytes then answers that the checksum is right.
+    // After the call the test of the message returns `OK`.
     ensures passes { refusal bytes.old ≡ None → Answers (TestTells bytes.new) numbers.status_ok }
 {
     match checksum_of_packet(bytes) {

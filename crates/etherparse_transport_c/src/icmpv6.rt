@@ -22,7 +22,7 @@ use etherparse_transport::icmpv6::{
 };
 use etherparse_transport::{IcmpEchoHeader, Icmpv6Header, Icmpv6Slice, Icmpv6Type};
 
-/// An ICMPv6 header (RFC 4443, RFC 4861). A field that the kind of the message does not have is 0.
+/// An ICMPv6 header (RFC 4443, RFC 4861). A field that this kind of message does not have is 0.
 #[repr(C)]
 #[derive(Clone, Copy)]
 pub struct EtherparseIcmpv6Header {
@@ -38,12 +38,12 @@ pub struct EtherparseIcmpv6Header {
     pub id: u16,
     /// In an echo request or reply: the sequence number.
     pub sequence_number: u16,
-    /// In a router advertisement: the time for which the router can be used as a default router, in seconds, or 0 if it
-    /// cannot (RFC 4861, section 4.2).
+    /// In a router advertisement: the time for which the router can be used as a default router, in seconds. It is 0 if the router is no
+    /// default router (RFC 4861, section 4.2).
     pub router_lifetime: u16,
-    /// In a router advertisement: the hop limit that it proposes, or 0 if it proposes none (RFC 4861, section 4.2).
+    /// In a router advertisement: the hop limit that the router proposes, or 0 if it proposes none (RFC 4861, section 4.2).
     pub cur_hop_limit: u8,
-    /// In a router or neighbor advertisement: its flags, at their bits in the packet. `icmpv6_flag` lists them.
+    /// In a router or neighbor advertisement: the flags, at their bits in the packet. `icmpv6_flag` lists them.
     pub flags: u8,
     /// The type.
     pub type_u8: u8,
@@ -65,7 +65,7 @@ pub struct EtherparseIcmpv6Packet {
     pub payload_len: usize,
 }
 
-/// A header of which no field is set.
+/// A header in which every field is 0.
 const NONE: EtherparseIcmpv6Header = EtherparseIcmpv6Header {
     kind: icmpv6_kind::UNKNOWN,
     mtu: 0,
@@ -81,7 +81,7 @@ const NONE: EtherparseIcmpv6Header = EtherparseIcmpv6Header {
     bytes4to7: [0; 4],
 };
 
-/// Sets the fields of an echo message.
+/// Sets the fields of an echo request or reply.
 fn set_echo(kind: u32, echo: &IcmpEchoHeader, header: &mut EtherparseIcmpv6Header)
     ensures { header.new ≡ record header.old { kind = kind; id = echo.now.id; sequence_number = echo.now.seq } }
 {
@@ -90,7 +90,7 @@ fn set_echo(kind: u32, echo: &IcmpEchoHeader, header: &mut EtherparseIcmpv6Heade
     header.sequence_number = echo.seq;
 }
 
-/// The flags of a router advertisement.
+/// Returns the flags of a router advertisement.
 fn router_flags(header: &RouterAdvertisementHeader) -> u8
     ensures { result ≡ specs.router_flags header.now }
 {
@@ -98,7 +98,7 @@ fn router_flags(header: &RouterAdvertisementHeader) -> u8
         + u8::from(header.other_config) * icmpv6_flag::ROUTER_OTHER_CONFIG
 }
 
-/// The flags of a neighbor advertisement.
+/// Returns the flags of a neighbor advertisement.
 fn neighbor_flags(header: &NeighborAdvertisementHeader) -> u8
     ensures { result ≡ specs.neighbor_flags header.now }
 {
@@ -107,7 +107,7 @@ fn neighbor_flags(header: &NeighborAdvertisementHeader) -> u8
         + u8::from(header.override_flag) * icmpv6_flag::NEIGHBOR_OVERRIDE
 }
 
-/// Sets the kind of a message with its fields in a header in which none of these is set.
+/// Sets the kind of a message and its fields. Before the call none of these fields is set.
 fn set_message(icmp_type: &Icmpv6Type, header: &mut EtherparseIcmpv6Header)
     requires { header.old ≡ specs.with_common header.old specs.nothing }
     ensures { header.new ≡ specs.with_common header.old (message_fields icmp_type.now) }
@@ -142,7 +142,7 @@ fn set_message(icmp_type: &Icmpv6Type, header: &mut EtherparseIcmpv6Header)
     }
 }
 
-/// Sets the packet of a slice.
+/// Sets the fields of a message that was read.
 fn set_packet(slice: &Icmpv6Slice<'_>, read: &mut EtherparseIcmpv6Packet)
     ensures { read.new ≡ packet_of slice.now }
 {
@@ -184,7 +184,7 @@ pub extern "C" fn etherparse_icmpv6_packet_read(
     }
 }
 
-/// The two numbers of an echo message.
+/// Returns the identifier and the sequence number of an echo message.
 fn echo_of(fields: &EtherparseIcmpv6Header) -> IcmpEchoHeader
     ensures { result ≡ specs.echo_in fields.now }
 {
@@ -201,7 +201,7 @@ fn has(flags: u8, bit: u8) -> bool
     flags & bit != 0
 }
 
-/// The message of some fields. None where its kind is not known, or the code of that kind.
+/// Returns the message with these fields, or `None` if its kind, or the code of this kind, is unknown.
 fn message_of(fields: &EtherparseIcmpv6Header) -> Option<Icmpv6Type>
     ensures { result ≡ message_in fields.now }
 {
@@ -272,7 +272,7 @@ pub extern "C" fn etherparse_icmpv6_header_write(
         (at_front (header_bytes fields.now.checksum (message_in fields.now)) buffer.old) buffer.old }
     ensures written { written.new ≡ unless_refused (write_refusal fields.now.checksum (message_in fields.now) (length buffer.old))
         (length (header_bytes fields.now.checksum (message_in fields.now))) written.old }
-    // What was written is read back, whatever comes after it; and where it is accepted, as the same header.
+    // The written header is read back, whatever bytes follow it. If the message is accepted, its header is the same.
     ensures reads_back { write_refusal fields.now.checksum (message_in fields.now) (length buffer.old) ≡ None
         → (len : ℕ) → written.new ≤ len → len ≤ length buffer.new → ReadsBack fields.now.checksum (message_in fields.now) (take len buffer.new) }
     ensures same { write_refusal fields.now.checksum (message_in fields.now) (length buffer.old) ≡ None
@@ -291,7 +291,7 @@ pub extern "C" fn etherparse_icmpv6_header_write(
     }
 }
 
-/// The checksum of a packet, whatever its checksum field holds. No packet is too long.
+/// Computes the checksum of a message. Its checksum field is ignored. No message is too long.
 fn packet_checksum(
     packet: &Icmpv6Slice<'_>,
     source: [u8; 16],
@@ -303,7 +303,7 @@ fn packet_checksum(
         (total (pseudo_header source destination (length packet.now)) + total (with_checksum 2 packet.now 0))) }
     ensures valid { IfOk result (λ checksum. IsValidIcmpv6 source destination (with_checksum 2 packet.now checksum)) }
 {
-    // A message of a type and code that are not known has every bit of the bytes.
+    // A message of an unknown type and code keeps every bit of the bytes.
     let message = Icmpv6Type::Unknown {
         type_u8: packet.type_u8(),
         code_u8: packet.code_u8(),
@@ -313,7 +313,7 @@ fn packet_checksum(
     message.calc_checksum(source, destination, payload)
 }
 
-/// The checksum of the packet that these bytes are, whatever its checksum field holds.
+/// Computes the checksum of the message that consists of these bytes. Its checksum field is ignored.
 fn checksum_of_packet(
     bytes: &[u8],
     source: &[u8; 16],
@@ -335,8 +335,7 @@ fn checksum_of_packet(
     }
 }
 
-/// The checksum to store in the message that consists of all these bytes (RFC 4443, section 2.3). Its checksum field is
-/// ignored.
+/// Computes the checksum to store in the message that consists of all these bytes (RFC 4443, section 2.3). Its checksum field is ignored.
 ///
 /// # Errors
 ///
@@ -353,9 +352,9 @@ pub extern "C" fn etherparse_icmpv6_checksum(
     ensures error { Leaves error result (unwrap_or (refusal bytes.now) error.before) }
     ensures checksum { checksum.new ≡ unless_refused (refusal bytes.now)
         (checksum_of (total (pseudo_header source.now destination.now (length bytes.now)) + total (with_checksum 2 bytes.now 0))) checksum.old }
-    // With the checksum in its place the packet is valid.
+    // With this checksum the message is valid.
     ensures built { refusal bytes.now ≡ None → IsValidIcmpv6 source.now destination.now (with_checksum 2 bytes.now checksum.new) }
-    // And the test of these bytes answers that the checksum is right.
+    // With this checksum the test of the message returns `OK`.
     ensures passes { refusal bytes.now ≡ None → Answers (TestTells source.now destination.now (with_checksum 2 bytes.now checksum.new)) numbers.status_ok }
 {
     match checksum_of_packet(bytes, source, destination) {
@@ -383,7 +382,7 @@ pub extern "C" fn etherparse_icmpv6_checksum_store(
     ensures error { Leaves error result (unwrap_or (refusal bytes.old) error.before) }
     ensures stored { bytes.new ≡ unless_refused (refusal bytes.old) (with_checksum 2 bytes.old (checksum_of
         (total (pseudo_header source.now destination.now (length bytes.old)) + total (with_checksum 2 bytes.old 0)))) bytes.old }
-    // The test of the bytes then answers that the checksum is right.
+    // After the call the test of the message returns `OK`.
     ensures passes { refusal bytes.old ≡ None → Answers (TestTells source.now destination.now bytes.new) numbers.status_ok }
 {
     match checksum_of_packet(bytes, source, destination) {

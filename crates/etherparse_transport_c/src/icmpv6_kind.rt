@@ -1,4 +1,4 @@
-//! The numbers of the kinds of ICMPv6 messages. They are part of the interface to C, and none is ever given another meaning.
+//! The numbers of the kinds of ICMPv6 messages. They are part of the interface to C. No number ever gets another meaning.
 
 /// Any other type and code.
 pub const UNKNOWN: u32 = 0;

@@ -10,40 +10,39 @@ use crate::answer::{Answer, ErrorPlace, accept, refuse};
 use crate::error::of_ip;
 use etherparse_transport::ip::{IpAddresses, TransportInIp, transport_in_ip, transport_in_ip_lax};
 
-/// What an IP packet carries (RFC 791, section 3.1; RFC 8200, sections 3 and 4).
+/// The transport in an IP packet (RFC 791, section 3.1; RFC 8200, sections 3 and 4).
 #[repr(C)]
 #[derive(Clone, Copy)]
 pub struct EtherparseIpTransport {
     /// The version, 4 or 6.
     pub version: u32,
-    /// The protocol of the payload, by its number in IP.
+    /// The protocol of the payload, as its number in IP headers.
     pub protocol: u32,
     /// The start of the payload, in bytes from the start of the packet.
     pub payload_offset: usize,
-    /// The length of the payload in bytes, without the padding after a packet that states its length.
+    /// The length of the payload in bytes. Padding after the packet is not counted, if the packet states its length.
     pub payload_len: usize,
-    /// 1 if the payload is only a part of the packet's payload, otherwise 0: more fragments follow, or its offset is
-    /// above 0.
+    /// 1 if the packet is a fragment, otherwise 0. In a fragment more fragments follow, or its offset is above 0.
     pub is_fragment: u32,
-    /// 1 if the IP header counts more bytes than there are, otherwise 0.
+    /// 1 if the IP header counts more bytes than were passed, otherwise 0.
     pub is_cut_off: u32,
-    /// 1 if the destination is known, otherwise 0: over IPv6 a routing header with segments left may not give the last
+    /// 1 if the final destination is known, otherwise 0. It is 0 over IPv6 if a routing header with segments left does not name the last
     /// address in a known way.
     pub has_destination: u32,
-    /// The source that the checksum covers: that of the IP header, or a home address (RFC 6275). An IPv4 address is in the
-    /// first four bytes, and the other bytes are 0.
+    /// The source that the checksum covers: the source in the IP header, or a home address (RFC 6275). An IPv4 address is in the first four
+    /// bytes, and the other bytes are 0.
     pub source: [u8; 16],
-    /// The final destination, which the checksum covers, in the same form, or 0 if it is not known.
+    /// The final destination, which the checksum covers, in the same form as the source. It is 0 if it is not known.
     pub destination: [u8; 16],
-    /// 1 if the IP header states no length, so that all bytes are counted, otherwise 0. It is 1 only after a call whose
-    /// name ends in `_lax`.
+    /// 1 if the IP header states no length, so that all bytes are counted. Otherwise it is 0. It can be 1 only after a call whose name ends
+    /// in `_lax`.
     pub is_length_missing: u32,
 }
 
 /// The first byte of an IPv4 packet without options: version 4, and a header of five words of four bytes (RFC 791, section 3.1).
 const IPV4_WITHOUT_OPTIONS: u8 = 0x45;
 
-/// An IPv4 address in 16 bytes.
+/// Returns an IPv4 address in 16 bytes.
 #[inline(always)]
 pub(crate) fn ipv4_address(address: &[u8; 4]) -> [u8; 16]
     ensures { result ≡ specs.ipv4_address address.now }
@@ -52,7 +51,7 @@ pub(crate) fn ipv4_address(address: &[u8; 4]) -> [u8; 16]
     [a, b, c, d, 0, 0, 0, 0, 0, 0, 0, 0, 0, 0, 0, 0]
 }
 
-/// The version that has addresses of this kind.
+/// Returns the version of these addresses.
 #[inline(always)]
 fn version(addresses: IpAddresses<'_>) -> u32
     ensures { result ≡ version_of (by_value addresses.entry) }
@@ -63,7 +62,7 @@ fn version(addresses: IpAddresses<'_>) -> u32
     }
 }
 
-/// The source that the checksum covers.
+/// Returns the source that the checksum covers.
 #[inline(always)]
 fn source(addresses: IpAddresses<'_>) -> [u8; 16]
     ensures { result ≡ source_of (by_value addresses.entry) }
@@ -74,7 +73,7 @@ fn source(addresses: IpAddresses<'_>) -> [u8; 16]
     }
 }
 
-/// The destination that the checksum covers, and whether it is known.
+/// Returns the destination that the checksum covers, and whether it is known.
 #[inline(always)]
 fn destination(addresses: IpAddresses<'_>) -> ([u8; 16], bool)
     ensures address { result.0 ≡ destination_of (by_value addresses.entry) }
@@ -93,7 +92,7 @@ fn destination(addresses: IpAddresses<'_>) -> ([u8; 16], bool)
     }
 }
 
-/// The transport as C has it, whichever packet carries it.
+/// Returns the transport in the form of the C struct. It is the same for the strict and the lax call.
 #[inline(always)]
 pub(crate) fn fields(transport: &TransportInIp<'_>) -> EtherparseIpTransport
     ensures { (bytes : List ℕ) → Carries bytes transport.now → (before : EtherparseIpTransport) →
@@ -132,7 +131,7 @@ fn find(bytes: &[u8], transport: &mut EtherparseIpTransport, error: ErrorPlace) 
     }
 }
 
-/// The same in a function of its own.
+/// The same as `find`, but never inlined.
 #[inline(never)]
 fn find_apart(bytes: &[u8], transport: &mut EtherparseIpTransport, error: ErrorPlace) -> Answer
     ensures status { result.status ≡ status_of (refusal bytes.now) }
@@ -144,16 +143,16 @@ fn find_apart(bytes: &[u8], transport: &mut EtherparseIpTransport, error: ErrorP
     find(bytes, transport, error)
 }
 
-/// Finds the transport in the IP packet at the front of some bytes, after its options and extension headers (RFC 791,
-/// section 3.1; RFC 8200, sections 3 and 4). The payload is a part of these bytes. The bytes after the bytes that the
-/// IP header counts are padding, and no checksum is tested.
+/// Finds the transport in the IP packet at the front of some bytes, after its options and extension headers (RFC 791, section 3.1; RFC
+/// 8200, sections 3 and 4). The payload is a part of these bytes. The IP header counts the bytes of the packet. All bytes after them are
+/// padding. No checksum is tested.
 ///
 /// # Errors
 ///
 /// The status is `OK`, `IP_HEADER_CUT_OFF`, `IP_VERSION`, `IP_HEADER_LENGTH`, `IP_TOTAL_LENGTH`, `IP_PACKET_CUT_OFF`,
 /// `IP_EXTENSION_CUT_OFF`, `IP_JUMBO_PAYLOAD_MISSING`, `IP_JUMBO_PAYLOAD_LENGTH`, `IP_JUMBO_PAYLOAD_UNEXPECTED` or
-/// `IP_JUMBO_PAYLOAD_FRAGMENT`. The module `status` describes them. After an error `error` contains the reason, and
-/// `transport` is unchanged.
+/// `IP_JUMBO_PAYLOAD_FRAGMENT`. The module `status` describes them. After an error `error` contains the reason, and `transport` is
+/// unchanged.
 #[unsafe(no_mangle)]
 pub extern "C" fn etherparse_transport_in_ip(
     bytes: &[u8],
@@ -166,7 +165,8 @@ pub extern "C" fn etherparse_transport_in_ip(
         (found false bytes.now (headers_of false bytes.now) transport.old) transport.old }
     ensures payload { refusal bytes.now ≡ None → HasPayload false bytes.now transport.new }
 {
-    // perf: code for such a packet alone saves one register instead of six, and takes 6.5 ns instead of 10.7 (27 Nov 2026).
+    // perf: a copy of the code only for packets without options saves one register instead of six. It takes 6.5 ns instead of 10.7 (27 Nov
+    // 2026).
     if !bytes.is_empty() && bytes[0] == IPV4_WITHOUT_OPTIONS {
         find(bytes, transport, error)
     } else {
@@ -192,7 +192,7 @@ fn find_lax(bytes: &[u8], transport: &mut EtherparseIpTransport, error: ErrorPla
     }
 }
 
-/// The same in a function of its own.
+/// The same as `find_lax`, but never inlined.
 #[inline(never)]
 fn find_lax_apart(bytes: &[u8], transport: &mut EtherparseIpTransport, error: ErrorPlace) -> Answer
     ensures status { result.status ≡ status_of (lax_refusal bytes.now) }
@@ -204,15 +204,14 @@ fn find_lax_apart(bytes: &[u8], transport: &mut EtherparseIpTransport, error: Er
     find_lax(bytes, transport, error)
 }
 
-/// Finds the transport in an IP packet that may be cut off or state no length, otherwise as
-/// `etherparse_transport_in_ip`. If there are fewer bytes than the header counts, the payload is the bytes that are
-/// there, and `is_cut_off` is 1. If the header states no length, as `transport_in_ip_lax` defines it, all bytes are
-/// counted, and `is_length_missing` is 1.
+/// Finds the transport in an IP packet that may be cut off or state no length, otherwise as `etherparse_transport_in_ip`. If fewer bytes
+/// were passed than the IP header counts, the payload ends with the passed bytes, and `is_cut_off` is 1. If the header states no length, as
+/// `transport_in_ip_lax` defines it, all bytes are counted, and `is_length_missing` is 1.
 ///
 /// # Errors
 ///
-/// The status is `OK`, `IP_HEADER_CUT_OFF`, `IP_VERSION`, `IP_HEADER_LENGTH`, `IP_TOTAL_LENGTH`,
-/// `IP_EXTENSION_CUT_OFF`, `IP_JUMBO_PAYLOAD_LENGTH`, `IP_JUMBO_PAYLOAD_UNEXPECTED` or `IP_JUMBO_PAYLOAD_FRAGMENT`.
+/// The status is `OK`, `IP_HEADER_CUT_OFF`, `IP_VERSION`, `IP_HEADER_LENGTH`, `IP_TOTAL_LENGTH`, `IP_EXTENSION_CUT_OFF`,
+/// `IP_JUMBO_PAYLOAD_LENGTH`, `IP_JUMBO_PAYLOAD_UNEXPECTED` or `IP_JUMBO_PAYLOAD_FRAGMENT`.
 #[unsafe(no_mangle)]
 pub extern "C" fn etherparse_transport_in_ip_lax(
     bytes: &[u8],
@@ -225,7 +224,7 @@ pub extern "C" fn etherparse_transport_in_ip_lax(
         (found (lacks_len bytes.now) bytes.now (headers_of (lacks_len bytes.now) bytes.now) transport.old) transport.old }
     ensures payload { lax_refusal bytes.now ≡ None → HasPayload (lacks_len bytes.now) bytes.now transport.new }
 {
-    // perf: as in `etherparse_transport_in_ip`.
+    // perf: a copy of the code, for the same reason as in `etherparse_transport_in_ip`.
     if !bytes.is_empty() && bytes[0] == IPV4_WITHOUT_OPTIONS {
         find_lax(bytes, transport, error)
     } else {

@@ -19,11 +19,11 @@ pub struct EtherparseIpAddresses {
     pub version: u32,
     /// The source. An IPv4 address is in the first four bytes, and the other bytes are 0.
     pub source: [u8; 16],
-    /// The destination, in the same form.
+    /// The destination, in the same form as the source.
     pub destination: [u8; 16],
 }
 
-/// The addresses of an IPv4 header.
+/// Returns the addresses of an IPv4 header.
 fn of_ipv4(header: &Ipv4HeaderSlice<'_>) -> EtherparseIpAddresses
     ensures { result ≡ addresses_of_ipv4 header.now }
 {
@@ -34,7 +34,7 @@ fn of_ipv4(header: &Ipv4HeaderSlice<'_>) -> EtherparseIpAddresses
     }
 }
 
-/// The addresses of an IPv6 header.
+/// Returns the addresses of an IPv6 header.
 fn of_ipv6(header: &Ipv6HeaderSlice<'_>) -> EtherparseIpAddresses
     ensures { result ≡ addresses_of_ipv6 header.now }
 {
@@ -45,7 +45,7 @@ fn of_ipv6(header: &Ipv6HeaderSlice<'_>) -> EtherparseIpAddresses
     }
 }
 
-/// The addresses of the IP header at the front of these bytes.
+/// Returns the addresses of the IP header at the front of these bytes.
 fn addresses(bytes: &[u8]) -> Result<EtherparseIpAddresses, EtherparseError>
     ensures refused { RefusesExactly result (refusal bytes.now) }
     ensures addresses { IfOk result (λ found. found ≡ addresses_in bytes.now) }
@@ -65,9 +65,9 @@ fn addresses(bytes: &[u8]) -> Result<EtherparseIpAddresses, EtherparseError>
     }
 }
 
-/// Reads the addresses of the IP header at the front of these bytes (RFC 791, section 3.1; RFC 8200, section 3). Options and
-/// extension headers are not read, so the addresses are those of the header itself. Under a source route, a routing header or a
-/// home address they differ from those of `etherparse_transport_in_ip`, which the checksum covers.
+/// Reads the addresses of the IP header at the front of these bytes (RFC 791, section 3.1; RFC 8200, section 3). Options and extension
+/// headers are not read. If they contain a source route, a routing header or a home address, `etherparse_transport_in_ip` returns other
+/// addresses, which the checksum covers.
 ///
 /// # Errors
 ///

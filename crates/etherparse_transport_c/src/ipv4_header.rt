@@ -17,7 +17,7 @@ use etherparse_transport::checksum::Sum16BitWords;
 use etherparse_transport::ip::IpError;
 use etherparse_transport::{Ipv4Header, Ipv4HeaderSlice};
 
-/// Why `Ipv4HeaderSlice` finds no header at the front of these bytes.
+/// Returns the reason why these bytes do not begin with an IPv4 header.
 fn missing_header(bytes: &[u8]) -> IpError
     requires { header_refusal bytes.now ≢ None }
     ensures { header_refusal bytes.now ≡ Some result }
@@ -49,7 +49,7 @@ fn missing_header(bytes: &[u8]) -> IpError
     }
 }
 
-/// The IPv4 header at the front of these bytes, options included.
+/// Returns the IPv4 header at the front of these bytes, with its options.
 pub(crate) fn header(bytes: &[u8]) -> Result<Ipv4HeaderSlice<'_>, EtherparseError>
     ensures refused { RefusesExactly result (refusal bytes.now) }
     ensures kept { IfOk result (λ header. header ≡ ipv4_header bytes.now) }
@@ -60,7 +60,7 @@ pub(crate) fn header(bytes: &[u8]) -> Result<Ipv4HeaderSlice<'_>, EtherparseErro
     }
 }
 
-/// The checksum of a header, whatever its checksum field holds.
+/// Computes the checksum of a header. Its checksum field is ignored.
 fn checksum_of_header(header: &[u8]) -> u16
     requires { 20 ≤ length header.now }
     ensures sum { result ≡ checksum_of (total (with_checksum 10 header.now 0)) }
@@ -72,7 +72,7 @@ fn checksum_of_header(header: &[u8]) -> u16
         .ones_complement()
 }
 
-/// The checksum of the header at the front of these bytes, whatever its checksum field holds.
+/// Computes the checksum of the header at the front of these bytes. Its checksum field is ignored.
 fn computed(bytes: &[u8]) -> Result<u16, EtherparseError>
     ensures refused { RefusesExactly result (refusal bytes.now) }
     ensures room { IfOk result (λ _. 20 ≤ length bytes.now) }
@@ -86,8 +86,8 @@ fn computed(bytes: &[u8]) -> Result<u16, EtherparseError>
     }
 }
 
-/// The checksum to store in the IPv4 header at the front of these bytes (RFC 791, section 3.1). Its checksum field is ignored, and
-/// so are the bytes after it.
+/// Computes the checksum to store in the IPv4 header at the front of these bytes (RFC 791, section 3.1). Its checksum field is ignored, and
+/// so are the bytes after the header.
 ///
 /// # Errors
 ///
@@ -106,9 +106,9 @@ pub extern "C" fn etherparse_ipv4_header_checksum(
     ensures status { result.status ≡ status_of (refusal bytes.now) }
     ensures error { Leaves error result (unwrap_or (refusal bytes.now) error.before) }
     ensures checksum { checksum.new ≡ unless_refused (refusal bytes.now) (specs.checksum bytes.now) checksum.old }
-    // With the checksum in its place the header is valid.
+    // With this checksum the header is valid.
     ensures built { refusal bytes.now ≡ None → Verifies [] (with_checksum 10 (ipv4_header bytes.now) checksum.new) }
-    // And the test of these bytes answers that the checksum is right.
+    // With this checksum the test of the header returns `OK`.
     ensures passes { refusal bytes.now ≡ None → Answers (TestTells (with_checksum 10 bytes.now checksum.new)) numbers.status_ok }
 {
     match computed(bytes) {
@@ -133,7 +133,7 @@ pub extern "C" fn etherparse_ipv4_header_checksum_store(
     ensures status { result.status ≡ status_of (refusal bytes.old) }
     ensures error { Leaves error result (unwrap_or (refusal bytes.old) error.before) }
     ensures stored { bytes.new ≡ unless_refused (refusal bytes.old) (with_checksum 10 bytes.old (specs.checksum bytes.old)) bytes.old }
-    // The test of the bytes then answers that the checksum is right.
+    // After the call the test of the header returns `OK`.
     ensures passes { refusal bytes.old ≡ None → Answers (TestTells bytes.new) numbers.status_ok }
 {
     match computed(bytes) {
@@ -149,8 +149,8 @@ pub extern "C" fn etherparse_ipv4_header_checksum_store(
 ///
 /// # Errors
 ///
-/// The status is `OK` if the checksum is right, otherwise the first that applies of the statuses of
-/// `etherparse_ipv4_header_checksum`, and then `CHECKSUM_WRONG`.
+/// The status is `OK` if the checksum is right. Otherwise it is the first status of `etherparse_ipv4_header_checksum` that applies, or
+/// `CHECKSUM_WRONG`.
 #[unsafe(no_mangle)]
 pub extern "C" fn etherparse_ipv4_header_checksum_test(bytes: &[u8], error: ErrorPlace) -> Answer
     ensures status { TestTells bytes.now result.status }

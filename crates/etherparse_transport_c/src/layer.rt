@@ -1,4 +1,4 @@
-//! The numbers of the layers whose length can be wrong. They are part of the interface to C, and none is ever given another meaning.
+//! The numbers of the layers whose length can be wrong. They are part of the interface to C. No number ever gets another meaning.
 
 /// The header of a UDP packet.
 pub const UDP_HEADER: u32 = 1;

@@ -1,4 +1,4 @@
-//! The numbers of the sources of a length. They are part of the interface to C, and none is ever given another meaning.
+//! The numbers of the sources of a length. They are part of the interface to C. No number ever gets another meaning.
 
 /// The number of bytes that the caller passed.
 pub const SLICE: u32 = 1;

@@ -1,10 +1,10 @@
-//! The transport layer for C and for every language that calls C: UDP, TCP, ICMPv4, ICMPv6, the Internet checksum, and the transport
-//! in an IP packet.
+//! The transport layer for C and for every language that calls C: UDP, TCP, ICMPv4, ICMPv6, the Internet checksum, and the transport in an
+//! IP packet.
 //!
-//! Each export is a thin call of `etherparse_transport`. Its clauses say the whole of what it answers, the status, the error and
-//! what it writes, in the words of the call that it makes. No export requires anything: what a caller can get wrong has a status.
-//! The error crosses as an `ErrorPlace`, a pointer that may be NULL. The `Answer` hands the memory behind the pointer back.
-//! `include/etherparse_transport.h` declares the exports, and says what a caller in C owes.
+//! Each export is a thin wrapper of a call of `etherparse_transport`. Its clauses state the status, the error, and everything that it
+//! writes, by the definitions of that call. No export has a precondition: every input that a caller can get wrong has a status. The error
+//! is passed as an `ErrorPlace`, a pointer that may be NULL. An `Answer` returns the memory that this pointer points to.
+//! `include/etherparse_transport.h` declares the exports, and describes what a caller in C must ensure.
 #![tactic(auto)]
 
 mod answer;

@@ -20,10 +20,10 @@ use etherparse_transport::{ChecksumVerdict, Proto, Untested};
 #[repr(C)]
 #[derive(Clone, Copy)]
 pub struct EtherparseIpPacket {
-    /// What the packet carries.
+    /// The transport in the packet.
     pub transport: EtherparseIpTransport,
-    /// The protocol of the header that the payload begins with, by its number in IP. It is 0 for a fragment, for any
-    /// protocol except the four, and for ICMP of the wrong IP version.
+    /// The protocol of the header at the start of the payload, as its number in IP headers. It is 0 for a fragment, for any protocol except
+    /// the four, and for ICMP of the wrong IP version.
     pub header_protocol: u32,
     /// The verdict: a number of `verdict_kind`.
     pub verdict: u32,
@@ -31,7 +31,7 @@ pub struct EtherparseIpPacket {
     pub expected_checksum: u16,
 }
 
-/// The number of a protocol.
+/// Returns the number of a protocol.
 fn number_of_proto(proto: Proto) -> u32
     ensures { result ≡ specs.proto_number proto }
 {
@@ -43,7 +43,7 @@ fn number_of_proto(proto: Proto) -> u32
     }
 }
 
-/// The protocol whose header is read, where it isn't refused.
+/// Returns the protocol whose header was read, unless that header is refused.
 fn header_protocol(carried: &TransportInIp<'_>) -> u32
     ensures { transports.refusal carried.now ≡ None → result ≡ specs.header_protocol (kept carried.now) }
 {
@@ -53,7 +53,7 @@ fn header_protocol(carried: &TransportInIp<'_>) -> u32
     }
 }
 
-/// The number of a reason.
+/// Returns the number of the reason why a checksum is not tested.
 fn number_of_untested(why: Untested) -> u32
     ensures { result ≡ specs.untested_number why }
 {
@@ -67,7 +67,7 @@ fn number_of_untested(why: Untested) -> u32
     }
 }
 
-/// The number of a verdict.
+/// Returns the number of a verdict.
 fn number_of_verdict(verdict: ChecksumVerdict) -> u32
     ensures { result ≡ specs.verdict_number verdict }
 {
@@ -80,7 +80,7 @@ fn number_of_verdict(verdict: ChecksumVerdict) -> u32
     }
 }
 
-/// The checksum that would be right, where the verdict tells one.
+/// Returns the right checksum if the verdict contains it, and 0 otherwise.
 fn expected_checksum(verdict: ChecksumVerdict) -> u16
     ensures { result ≡ specs.expected_checksum verdict }
 {
@@ -90,7 +90,7 @@ fn expected_checksum(verdict: ChecksumVerdict) -> u16
     }
 }
 
-/// The refusal of a transport whose header begins at this place of the packet.
+/// Returns the error for a refused transport. Its header begins at this place of the packet.
 fn of_transport(place: usize, error: &HeaderSliceError) -> EtherparseError
     ensures { result ≡ specs.of_transport place error.now }
 {
@@ -103,7 +103,7 @@ fn of_transport(place: usize, error: &HeaderSliceError) -> EtherparseError
     }
 }
 
-/// Tells what a packet carries, and the verdict on it, whichever packet carries it.
+/// Finds the transport of a packet and returns its verdict. It is the same for the strict and the lax call.
 fn judge(carried: &TransportInIp<'_>, packet: &mut EtherparseIpPacket, error: ErrorPlace) -> Answer
     ensures status { (bytes : List ℕ) → Carries bytes carried.now → result.status ≡ status_of (refusal_of_carried bytes carried.now) }
     ensures error { (bytes : List ℕ) → Carries bytes carried.now → Leaves error result (unwrap_or (refusal_of_carried bytes carried.now) error.before) }
@@ -125,13 +125,13 @@ fn judge(carried: &TransportInIp<'_>, packet: &mut EtherparseIpPacket, error: Er
     }
 }
 
-/// Finds the transport in the IP packet at the front of some bytes, as `etherparse_transport_in_ip` does, and returns
-/// whether its checksum is right, and the right checksum if it is wrong.
+/// Finds the transport in the IP packet at the front of some bytes, as `etherparse_transport_in_ip` does. Then it tests the checksum.
+/// `packet` contains the verdict, and the right checksum if the checksum is wrong.
 ///
 /// # Errors
 ///
-/// The status is a status of `etherparse_transport_in_ip`, or `LENGTH` or `DATA_OFFSET` as the call that reads a packet
-/// of the transport's protocol returns it. After an error `error` contains the reason, and `packet` is unchanged.
+/// The status is a status of `etherparse_transport_in_ip`, or `LENGTH` or `DATA_OFFSET` as the call that reads a packet of the transport's
+/// protocol returns it. After an error `error` contains the reason, and `packet` is unchanged.
 #[unsafe(no_mangle)]
 pub extern "C" fn etherparse_packet_verdict(
     bytes: &[u8],
@@ -148,14 +148,12 @@ pub extern "C" fn etherparse_packet_verdict(
     }
 }
 
-/// Returns the verdict on a packet that may be cut off or state no length, as `etherparse_transport_in_ip_lax` finds
-/// its transport. The checksum of a packet that is cut off is not tested. UDP that is cut off is read as by
-/// `etherparse_udp_packet_read_lax`.
+/// Finds the transport in a packet that may be cut off or state no length, as `etherparse_transport_in_ip_lax` does. Then it tests the
+/// checksum, unless the packet is cut off. A UDP packet that is cut off is read as by `etherparse_udp_packet_read_lax`.
 ///
 /// # Errors
 ///
-/// The status is a status of `etherparse_transport_in_ip_lax`, or `LENGTH` or `DATA_OFFSET` as in
-/// `etherparse_packet_verdict`.
+/// The status is a status of `etherparse_transport_in_ip_lax`, or `LENGTH` or `DATA_OFFSET` as in `etherparse_packet_verdict`.
 #[unsafe(no_mangle)]
 pub extern "C" fn etherparse_packet_verdict_lax(
     bytes: &[u8],

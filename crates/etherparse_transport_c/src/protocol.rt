@@ -1,4 +1,4 @@
-//! The protocols in the interface to C, by the numbers that IP has for them.
+//! The numbers of the protocols in the interface to C. They are the protocol numbers of IP headers.
 
 use etherparse_transport::ip_number;
 

@@ -8,13 +8,14 @@ use crate::error::{of_len, of_status};
 use crate::status;
 use etherparse_transport::{Icmpv4Header, Icmpv4Slice, Icmpv6Header, Icmpv6Slice};
 
-/// Writes where the packet that an ICMPv4 error is about lies in the message: destination unreachable, source quench, redirect,
-/// time exceeded or parameter problem. The length field of RFC 4884 ends the packet if the sender uses it.
+/// Finds the packet that an ICMPv4 error quotes, and writes its place and length in the message. An error is a destination unreachable,
+/// source quench, redirect, time exceeded or parameter problem message. The length field of RFC 4884 ends the packet if it counts at least
+/// 128 bytes.
 ///
 /// # Errors
 ///
-/// The status is `OK`, a status of `etherparse_icmpv4_packet_read`, or `NO_ICMP_ERROR` for another message. After an error
-/// `error` contains the reason, and `offset` and `len` are unchanged.
+/// The status is `OK`, a status of `etherparse_icmpv4_packet_read`, or `NO_ICMP_ERROR` for another message. After an error `error` contains
+/// the reason, and `offset` and `len` are unchanged.
 #[unsafe(no_mangle)]
 #[tactic(auto, using(crate::proofs::QuotedPacketLemmas::found_in_icmpv4))]
 pub extern "C" fn etherparse_icmpv4_quoted_packet(
@@ -42,13 +43,13 @@ pub extern "C" fn etherparse_icmpv4_quoted_packet(
     }
 }
 
-/// Writes where the packet that an ICMPv6 error is about lies in the message: destination unreachable, packet too big, time
-/// exceeded or parameter problem. The length field of RFC 4884 ends the packet if the sender uses it.
+/// Finds the packet that an ICMPv6 error quotes, and writes its place and length in the message. Each type below 128 is an error. The
+/// length field of RFC 4884 ends the packet if it counts at least 128 bytes.
 ///
 /// # Errors
 ///
-/// The status is `OK`, a status of `etherparse_icmpv6_packet_read`, or `NO_ICMP_ERROR` for another message. After an error
-/// `error` contains the reason, and `offset` and `len` are unchanged.
+/// The status is `OK`, a status of `etherparse_icmpv6_packet_read`, or `NO_ICMP_ERROR` for another message. After an error `error` contains
+/// the reason, and `offset` and `len` are unchanged.
 #[unsafe(no_mangle)]
 #[tactic(auto, using(crate::proofs::QuotedPacketLemmas::found_in_icmpv6))]
 pub extern "C" fn etherparse_icmpv6_quoted_packet(

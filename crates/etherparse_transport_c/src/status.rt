@@ -1,4 +1,4 @@
-//! The numbers that a call answers with. They are part of the interface to C, and none is ever given another meaning.
+//! The numbers that a call returns. They are part of the interface to C. No number ever gets another meaning.
 
 /// The call did what was asked for.
 pub const OK: u32 = 0;
@@ -9,44 +9,43 @@ pub const LENGTH: u32 = 1;
 /// The data offset of a TCP header counts fewer than five words.
 pub const DATA_OFFSET: u32 = 2;
 
-/// A value is above what can be stored or sent.
+/// A value is greater than the field for it.
 pub const VALUE_TOO_BIG: u32 = 3;
 
-/// The caller's buffer is too small for what would be written.
+/// The caller's buffer is too small for the bytes that would be written.
 pub const BUFFER_TOO_SMALL: u32 = 4;
 
 /// The checksum is wrong: the packet and its pseudo header do not sum up to all ones. ICMPv4 has no pseudo header.
 pub const CHECKSUM_WRONG: u32 = 5;
 
-/// The checksum field of a UDP packet is 0, which says that there is none.
+/// The checksum field of a UDP packet is 0, which means that there is no checksum.
 pub const CHECKSUM_ABSENT: u32 = 6;
 
-/// More than 40 bytes of TCP options.
+/// There are more than 40 bytes of TCP options.
 pub const OPTIONS_TOO_LONG: u32 = 7;
 
-/// A flag of a TCP header that is none of the nine.
+/// The flags of a TCP header contain a bit that is none of the nine flags.
 pub const FLAGS_UNKNOWN: u32 = 8;
 
-/// A protocol that is none of the four.
+/// The protocol is none of the four.
 pub const PROTOCOL_UNKNOWN: u32 = 9;
 
-/// No option is left: the end of the list, or of the bytes.
+/// No option is left. The list or the bytes are at their end.
 pub const OPTIONS_END: u32 = 10;
 
 /// Fewer bytes are left than the option needs.
 pub const OPTION_CUT_OFF: u32 = 11;
 
-/// The length byte is none that an option of this kind can have.
+/// No option of this kind has this length byte.
 pub const OPTION_SIZE: u32 = 12;
 
-/// A kind of option that is not known.
+/// The kind of the option is unknown.
 pub const OPTION_UNKNOWN: u32 = 13;
 
-/// A kind of message, or a code of it, that is not known.
+/// The kind of the message, or the code of this kind, is unknown.
 pub const MESSAGE_UNKNOWN: u32 = 14;
 
-/// The bytes end within the header of an IP packet, or within the hop-by-hop options that must contain its length, or
-/// there are none.
+/// There are no bytes, or they end within the IP header, or within the hop-by-hop options that must contain the length.
 pub const IP_HEADER_CUT_OFF: u32 = 15;
 
 /// The version of an IP packet is neither 4 nor 6.
@@ -58,10 +57,10 @@ pub const IP_HEADER_LENGTH: u32 = 17;
 /// The total length of an IPv4 packet is below the length of its header.
 pub const IP_TOTAL_LENGTH: u32 = 18;
 
-/// An IP header counts more bytes than are there.
+/// The IP header counts more bytes than were passed.
 pub const IP_PACKET_CUT_OFF: u32 = 19;
 
-/// A packet ends within an extension header of IPv6, or within the authentication header of IPv4.
+/// The packet ends within an extension header of IPv6, or within the authentication header of IPv4.
 pub const IP_EXTENSION_CUT_OFF: u32 = 20;
 
 /// The payload length of an IPv6 packet is 0, and its hop-by-hop options have no jumbo payload option.
@@ -76,16 +75,16 @@ pub const IP_JUMBO_PAYLOAD_UNEXPECTED: u32 = 23;
 /// An IPv6 packet has a jumbo payload option, and a fragment header.
 pub const IP_JUMBO_PAYLOAD_FRAGMENT: u32 = 24;
 
-/// Numbers that an option of its kind does not have: another count of them, or one above its limit.
+/// No option of this kind has these values: their count is wrong, or a value is too big.
 pub const OPTION_VALUES: u32 = 31;
 
-/// The packet is a fragment. An echo request is answered only after its packet is put together (RFC 1122, section 3.3.2).
+/// The packet is a fragment. An echo request is answered only after its fragments are joined (RFC 1122, section 3.3.2).
 pub const ECHO_FRAGMENT: u32 = 32;
 
-/// The packet is no echo request, or it has another IP version than the call.
+/// The packet is no echo request, or it has another IP version than the call accepts.
 pub const ECHO_NO_REQUEST: u32 = 33;
 
-/// The packet contains IPv4 options, an authentication header, or IPv6 extension headers, and so its reply would need some.
+/// The packet contains IPv4 options, an authentication header, or IPv6 extension headers, so that its reply would need them too.
 pub const ECHO_HAS_OPTIONS: u32 = 34;
 
 /// The checksum of the IPv4 header of an echo request is wrong.
@@ -109,7 +108,7 @@ pub const TRANSLATE_PROTOCOL: u32 = 40;
 /// The transport header of a packet to be translated is cut off.
 pub const TRANSLATE_HEADER_CUT_OFF: u32 = 41;
 
-/// An ICMP message to be translated is no echo message and no error.
+/// An ICMP message to be translated is no query and no error, or a redirect.
 pub const TRANSLATE_ICMP_MESSAGE: u32 = 42;
 
 /// The packet that an ICMP error is about can't be translated.

@@ -5,7 +5,7 @@ ghost use Rattle.etherparse_transport_c.specs.Text.{with_string};
 use crate::status;
 use crate::text::{Char, put_string};
 
-/// What a status means.
+/// Returns the meaning of a status.
 fn meaning(status: u32) -> &'static str
     ensures text { result.now ≡ status_text status }
     ensures fits { length result.now ≤ max_status_text_len }
@@ -58,7 +58,7 @@ fn meaning(status: u32) -> &'static str
             "the packet ends within a transport header that would be translated"
         }
         status::TRANSLATE_ICMP_MESSAGE => {
-            "the ICMP message is no echo message and no error, and is not translated"
+            "the ICMP message is no query and no error, or a redirect, and is not translated"
         }
         status::TRANSLATE_QUOTED_PACKET => {
             "the packet that the ICMP error is about cannot be translated"
@@ -69,9 +69,8 @@ fn meaning(status: u32) -> &'static str
     }
 }
 
-/// Writes what a status means in a few words, with a zero byte at its end, and returns its length without that byte. If
-/// the buffer is too small, the call writes the front of the text and the zero byte. It writes nothing to an empty
-/// buffer.
+/// Writes the meaning of a status in a few words, with a zero byte at its end, and returns its length without that byte. If the buffer is
+/// too small, the call writes the beginning of the text and the zero byte. It writes nothing to an empty buffer.
 #[unsafe(no_mangle)]
 pub extern "C" fn etherparse_status_text(status: u32, buffer: &mut [Char]) -> usize
     ensures len { result ≡ length (status_text status) }

@@ -27,7 +27,7 @@ use net_base::check_payload_len;
 pub struct EtherparseTcpHeader {
     /// The sequence number.
     pub sequence_number: u32,
-    /// With ACK the next sequence number that the sender expects, otherwise without a meaning.
+    /// With the flag ACK: the next sequence number that the sender expects. Without the flag it has no meaning.
     pub acknowledgment_number: u32,
     /// The port of the sender.
     pub source_port: u16,
@@ -39,7 +39,7 @@ pub struct EtherparseTcpHeader {
     pub window_size: u16,
     /// The checksum.
     pub checksum: u16,
-    /// With URG the end of the urgent data, in bytes from the sequence number, otherwise without a meaning.
+    /// With the flag URG: the end of the urgent data, in bytes from the sequence number. Without the flag it has no meaning.
     pub urgent_pointer: u16,
 }
 
@@ -59,7 +59,7 @@ pub struct EtherparseTcpPacket {
     pub payload_len: usize,
 }
 
-/// The flags of a segment as one number.
+/// Returns the flags of a segment as one number.
 fn flags(segment: &TcpSlice<'_>) -> u16
     ensures { result ≡ flags_of (header_of segment.now) }
 {
@@ -74,7 +74,7 @@ fn flags(segment: &TcpSlice<'_>) -> u16
             + u16::from(segment.cwr()) * tcp_flag::CWR)
 }
 
-/// The packet of a segment.
+/// Returns the fields of a segment.
 fn packet(segment: &TcpSlice<'_>) -> EtherparseTcpPacket
     ensures { result ≡ packet_of segment.now }
 {
@@ -125,14 +125,14 @@ pub extern "C" fn etherparse_tcp_packet_read(
     }
 }
 
-/// Whether a flag of the number is set.
+/// Whether the flag with this bit is set.
 fn has(flags: u16, bit: u16) -> bool
     ensures { result ≡ is_set flags bit }
 {
     flags & bit != 0
 }
 
-/// The header of some fields with these options.
+/// Returns the header with these fields and options.
 fn made_header(fields: &EtherparseTcpHeader, options: &[u8]) -> Result<TcpHeader, EtherparseError>
     ensures refused { RefusesExactly result (fields_refusal fields.now options.now) }
     ensures made { IfOk result (λ header. header ≡ header_in fields.now options.now) }
@@ -187,7 +187,7 @@ pub extern "C" fn etherparse_tcp_header_write(
         (at_front (wire (header_in fields.now options.now)) buffer.old) buffer.old }
     ensures written { written.new ≡ unless_refused (write_refusal fields.now options.now (length buffer.old))
         (length (wire (header_in fields.now options.now))) written.old }
-    // What was written is read back: the fields, and the padded options.
+    // The written fields and the padded options are read back.
     ensures reads_back { write_refusal fields.now options.now (length buffer.old) ≡ None
         → (fields_of (header_of buffer.new) ≡ fields.now) × (options_of buffer.new ≡ pad options.now) }
 {
@@ -197,7 +197,7 @@ pub extern "C" fn etherparse_tcp_header_write(
     }
 }
 
-/// The header at the front of some bytes with other fields. Its options stay.
+/// Returns the header at the front of some bytes, with other fields. Its options stay.
 fn changed_header(fields: &EtherparseTcpHeader, bytes: &[u8]) -> Result<TcpHeader, EtherparseError>
     ensures refused { RefusesExactly result (store_refusal fields.now bytes.now) }
     ensures made { IfOk result (λ header. header ≡ header_in fields.now (options_of bytes.now)) }
@@ -209,8 +209,8 @@ fn changed_header(fields: &EtherparseTcpHeader, bytes: &[u8]) -> Result<TcpHeade
     }
 }
 
-/// Stores a header in the segment at the front of some bytes (RFC 9293, section 3.1). The options and the payload stay.
-/// The reserved bits of the header are cleared.
+/// Stores a header in the segment at the front of some bytes (RFC 9293, section 3.1). The options and the payload stay, and the reserved
+/// bits of the header are cleared.
 ///
 /// # Errors
 ///
@@ -226,7 +226,7 @@ pub extern "C" fn etherparse_tcp_header_store(
     ensures status { result.status ≡ status_of (store_refusal fields.now bytes.old) }
     ensures error { Leaves error result (unwrap_or (store_refusal fields.now bytes.old) error.before) }
     ensures stored { bytes.new ≡ unless_refused (store_refusal fields.now bytes.old) (with_fields fields.now bytes.old) bytes.old }
-    // What was stored is read back, with the options that were there and the bytes after them.
+    // The stored fields are read back, with the same options and the same bytes after them.
     ensures reads_back { store_refusal fields.now bytes.old ≡ None
         → (fields_of (header_of bytes.new) ≡ fields.now) × (options_of bytes.new ≡ options_of bytes.old)
         × (payload_bytes bytes.new ≡ payload_bytes bytes.old) }
@@ -240,7 +240,7 @@ pub extern "C" fn etherparse_tcp_header_store(
     }
 }
 
-/// The checksum of a packet over IPv4, whatever its checksum field holds: of all the bytes, header and payload.
+/// Computes the checksum of a segment over IPv4. The segment is all bytes, header and payload. Its checksum field is ignored.
 fn checksum_ipv4(
     bytes: &[u8],
     source: &[u8; 4],
@@ -265,8 +265,8 @@ fn checksum_ipv4(
     }
 }
 
-/// The checksum to store in a segment over IPv4 (RFC 9293, section 3.1). The segment is all bytes, header and payload,
-/// and its checksum field is ignored.
+/// Computes the checksum to store in a segment over IPv4 (RFC 9293, section 3.1). The segment is all bytes, header and payload. Its
+/// checksum field is ignored.
 ///
 /// # Errors
 ///
@@ -285,10 +285,10 @@ pub extern "C" fn etherparse_tcp_checksum_ipv4(
     ensures error { Leaves error result (unwrap_or (checksum_refusal TcpPayloadLengthIpv4 max_len_over_ipv4 bytes.now) error.before) }
     ensures checksum { checksum.new ≡ unless_refused (checksum_refusal TcpPayloadLengthIpv4 max_len_over_ipv4 bytes.now)
         (checksum_of (checksummed_ipv4 source.now destination.now (header_bytes bytes.now) (payload_bytes bytes.now))) checksum.old }
-    // With the checksum in its place the packet is valid.
+    // With this checksum the segment is valid.
     ensures built { checksum_refusal TcpPayloadLengthIpv4 max_len_over_ipv4 bytes.now ≡ None
         → IsValidTcpIpv4 source.now destination.now (with_checksum 16 bytes.now checksum.new) }
-    // And the test of these bytes answers that the checksum is right.
+    // With this checksum the test of the segment returns `OK`.
     ensures passes { checksum_refusal TcpPayloadLengthIpv4 max_len_over_ipv4 bytes.now ≡ None
         → Answers (TestTellsIpv4 source.now destination.now (with_checksum 16 bytes.now checksum.new)) numbers.status_ok }
 {
@@ -319,7 +319,7 @@ pub extern "C" fn etherparse_tcp_checksum_store_ipv4(
     ensures error { Leaves error result (unwrap_or (checksum_refusal TcpPayloadLengthIpv4 max_len_over_ipv4 bytes.old) error.before) }
     ensures stored { bytes.new ≡ unless_refused (checksum_refusal TcpPayloadLengthIpv4 max_len_over_ipv4 bytes.old)
         (with_checksum 16 bytes.old (checksum_of (checksummed_ipv4 source.now destination.now (header_bytes bytes.old) (payload_bytes bytes.old)))) bytes.old }
-    // The test of the bytes then answers that the checksum is right.
+    // After the call the test of the segment returns `OK`.
     ensures passes { checksum_refusal TcpPayloadLengthIpv4 max_len_over_ipv4 bytes.old ≡ None
         → Answers (TestTellsIpv4 source.now destination.now bytes.new) numbers.status_ok }
 {
@@ -332,7 +332,7 @@ pub extern "C" fn etherparse_tcp_checksum_store_ipv4(
     }
 }
 
-/// The checksum of a packet over IPv6, whatever its checksum field holds: of all the bytes, header and payload.
+/// Computes the checksum of a segment over IPv6. The segment is all bytes, header and payload. Its checksum field is ignored.
 fn checksum_ipv6(
     bytes: &[u8],
     source: &[u8; 16],
@@ -357,8 +357,8 @@ fn checksum_ipv6(
     }
 }
 
-/// The checksum to store in a segment over IPv6 (RFC 9293, section 3.1; RFC 8200, section 8.1). The segment is all
-/// bytes, header and payload, and its checksum field is ignored.
+/// Computes the checksum to store in a segment over IPv6 (RFC 9293, section 3.1; RFC 8200, section 8.1). The segment is all bytes, header
+/// and payload. Its checksum field is ignored.
 ///
 /// # Errors
 ///
@@ -377,10 +377,10 @@ pub extern "C" fn etherparse_tcp_checksum_ipv6(
     ensures error { Leaves error result (unwrap_or (checksum_refusal TcpPayloadLengthIpv6 max_len_over_ipv6 bytes.now) error.before) }
     ensures checksum { checksum.new ≡ unless_refused (checksum_refusal TcpPayloadLengthIpv6 max_len_over_ipv6 bytes.now)
         (checksum_of (checksummed_ipv6 source.now destination.now (header_bytes bytes.now) (payload_bytes bytes.now))) checksum.old }
-    // With the checksum in its place the packet is valid.
+    // With this checksum the segment is valid.
     ensures built { checksum_refusal TcpPayloadLengthIpv6 max_len_over_ipv6 bytes.now ≡ None
         → IsValidTcpIpv6 source.now destination.now (with_checksum 16 bytes.now checksum.new) }
-    // And the test of these bytes answers that the checksum is right.
+    // With this checksum the test of the segment returns `OK`.
     ensures passes { checksum_refusal TcpPayloadLengthIpv6 max_len_over_ipv6 bytes.now ≡ None
         → Answers (TestTellsIpv6 source.now destination.now (with_checksum 16 bytes.now checksum.new)) numbers.status_ok }
 {
@@ -411,7 +411,7 @@ pub extern "C" fn etherparse_tcp_checksum_store_ipv6(
     ensures error { Leaves error result (unwrap_or (checksum_refusal TcpPayloadLengthIpv6 max_len_over_ipv6 bytes.old) error.before) }
     ensures stored { bytes.new ≡ unless_refused (checksum_refusal TcpPayloadLengthIpv6 max_len_over_ipv6 bytes.old)
         (with_checksum 16 bytes.old (checksum_of (checksummed_ipv6 source.now destination.now (header_bytes bytes.old) (payload_bytes bytes.old)))) bytes.old }
-    // The test of the bytes then answers that the checksum is right.
+    // After the call the test of the segment returns `OK`.
     ensures passes { checksum_refusal TcpPayloadLengthIpv6 max_len_over_ipv6 bytes.old ≡ None
         → Answers (TestTellsIpv6 source.now destination.now bytes.new) numbers.status_ok }
 {
@@ -424,7 +424,7 @@ pub extern "C" fn etherparse_tcp_checksum_store_ipv6(
     }
 }
 
-/// The header of a segment and its payload, unless they are longer than a pseudo header can count.
+/// Returns the header of a segment and its payload, unless the segment is longer than a pseudo header can count.
 fn counted_parts<'a>(
     bytes: &'a [u8],
     limit: usize,

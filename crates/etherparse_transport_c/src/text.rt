@@ -6,16 +6,16 @@ ghost use Rattle.net_base.specs.TextParts.{reads_as};
 use arrayvec::ArrayVec;
 use etherparse_transport::err::{ErrorText, TextPart};
 
-/// No text has more bytes.
+/// The greatest length of a text, in bytes.
 const MAX_TEXT_LEN: usize = 256;
 
-/// The bytes of a text. One that does not fit loses its end.
+/// The bytes of a text. A text that does not fit is truncated.
 pub(crate) type Text = ArrayVec<u8, MAX_TEXT_LEN>;
 
-/// A byte of a text in C, where it is a `char`.
+/// A byte of a text. In C its type is `char`.
 pub(crate) type Char = u8;
 
-/// As many of some bytes as there is room for.
+/// Returns the first of these bytes, as many as there is room for.
 #[tactic(auto, using(std::proofs::lemmas::List::take_all))]
 fn fitting(bytes: &[u8], room: usize) -> &[u8]
     ensures { result.now ≡ take room bytes.now }
@@ -27,16 +27,16 @@ fn fitting(bytes: &[u8], room: usize) -> &[u8]
     }
 }
 
-/// Appends some bytes.
+/// Appends some bytes, as many as there is room for.
 fn put_bytes(text: &mut Text, bytes: &[u8])
     ensures { (before : List ℕ) → IsCut text.old.items before → IsCut text.new.items (before ++ bytes.now) }
 {
     let room = text.remaining_capacity();
-    // There is room.
+    // The bytes fit, so that this does not fail.
     let _ = text.try_extend_from_slice(fitting(bytes, room));
 }
 
-/// Appends some words.
+/// Appends some words, as many of their bytes as there is room for.
 fn put(text: &mut Text, words: &str)
     ensures { (before : List ℕ) → IsCut text.old.items before → IsCut text.new.items (before ++ words.now) }
 {
@@ -51,7 +51,7 @@ fn put_digit(text: &mut Text, digit: usize)
     put_bytes(text, &[b'0' + digit as u8]);
 }
 
-/// Appends a number in decimal.
+/// Appends a number in decimal, as many of its digits as there is room for.
 fn put_number(text: &mut Text, number: usize)
     ensures { (before : List ℕ) → IsCut text.old.items before → IsCut text.new.items (before ++ decimal number) }
 {
@@ -63,7 +63,7 @@ fn put_number(text: &mut Text, number: usize)
     put_digit(text, number % 10);
 }
 
-/// The text of an error. One that does not fit loses its end.
+/// Returns the text of an error. A text that does not fit is truncated.
 pub(crate) fn cut(error: &ErrorText) -> Text
     ensures { IsCut result.items (reads_as error.now) }
 {
@@ -77,7 +77,8 @@ pub(crate) fn cut(error: &ErrorText) -> Text
     text
 }
 
-/// Writes as much of a text as leaves room for a zero byte, and that byte. Returns the length of the whole text.
+/// Writes a text and a zero byte to a buffer, and returns the length of the whole text. If the buffer is too small, only the beginning of
+/// the text is written.
 pub(crate) fn put_string(text: &[u8], buffer: &mut [Char]) -> usize
     ensures len { result ≡ length text.now }
     ensures buffer { buffer.new ≡ with_string text.now buffer.old }

@@ -9,7 +9,7 @@ use crate::answer::{Answer, ErrorPlace, accept, refuse};
 use crate::error::of_translate;
 use etherparse_transport::ip::{Ipv4Translation, Ipv6Translation, translate_ipv4, translate_ipv6};
 
-/// What an address translator replaces in an IPv4 packet (RFC 3022). A flag that is 0 keeps what the packet contains.
+/// The values that an address translator replaces in an IPv4 packet (RFC 3022). If a flag is 0, the value in the packet stays.
 #[repr(C)]
 #[derive(Clone, Copy)]
 pub struct EtherparseIpv4Translation {
@@ -31,7 +31,7 @@ pub struct EtherparseIpv4Translation {
     pub has_destination_port: u8,
 }
 
-/// What an address translator replaces in an IPv6 packet. A flag that is 0 keeps what the packet contains.
+/// The values that an address translator replaces in an IPv6 packet. If a flag is 0, the value in the packet stays.
 #[repr(C)]
 #[derive(Clone, Copy)]
 pub struct EtherparseIpv6Translation {
@@ -53,14 +53,14 @@ pub struct EtherparseIpv6Translation {
     pub has_destination_port: u8,
 }
 
-/// A value, if its flag is not 0.
+/// Returns the value if its flag is not 0.
 fn if_set<T: Copy>(flag: u8, value: T) -> Option<T>
     ensures { result ≡ specs.if_set flag value }
 {
     if flag == 0 { None } else { Some(value) }
 }
 
-/// A translation of IPv4 as the library has it.
+/// Returns a translation of IPv4 as a value of the library.
 fn of_ipv4(translation: &EtherparseIpv4Translation) -> Ipv4Translation
     ensures { result ≡ ipv4_translation translation.now }
 {
@@ -75,7 +75,7 @@ fn of_ipv4(translation: &EtherparseIpv4Translation) -> Ipv4Translation
     }
 }
 
-/// A translation of IPv6 as the library has it.
+/// Returns a translation of IPv6 as a value of the library.
 fn of_ipv6(translation: &EtherparseIpv6Translation) -> Ipv6Translation
     ensures { result ≡ ipv6_translation translation.now }
 {
@@ -90,16 +90,17 @@ fn of_ipv6(translation: &EtherparseIpv6Translation) -> Ipv6Translation
     }
 }
 
-/// Translates an IPv4 packet in place: replaces its addresses, and its ports or the identifier of an echo message, and updates its
-/// checksums (RFC 3022; RFC 1624; RFC 5508). The packet that an ICMP error is about is translated with source and destination
-/// exchanged, and in a later fragment only the addresses are replaced.
+/// Translates an IPv4 packet in place. The call replaces its addresses, and its ports or the identifier of an echo message. It updates its
+/// checksums (RFC 3022; RFC 1624; RFC 5508). In the packet that an ICMP error quotes, source and destination are exchanged. In a later
+/// fragment only the addresses are replaced.
 ///
 /// # Errors
 ///
 /// The status is a status of `etherparse_transport_in_ip_lax`, or the first of these that applies, in this order:
 /// - `IP_VERSION` for an IPv6 packet, and `TRANSLATE_SOURCE_ROUTE` for a loose or strict source route.
-/// - `TRANSLATE_PROTOCOL` if the protocol is not UDP, TCP or ICMPv4, and `TRANSLATE_HEADER_CUT_OFF` if its header is cut off.
-/// - `TRANSLATE_ICMP_MESSAGE` for an ICMP message that is no echo message and no error.
+/// - `TRANSLATE_PROTOCOL` if the protocol is not UDP, TCP or ICMPv4, and a port is set or the protocol covers the addresses.
+/// - `TRANSLATE_HEADER_CUT_OFF` if fewer than 8 bytes of UDP, TCP or ICMP are there.
+/// - `TRANSLATE_ICMP_MESSAGE` for an ICMP message that is no query and no error, and for a redirect.
 /// - `TRANSLATE_QUOTED_PACKET` if the packet that an ICMP error is about can't be translated.
 ///
 /// After an error `error` contains the reason, and `packet` is unchanged.
@@ -109,10 +110,10 @@ pub extern "C" fn etherparse_translate_ipv4(
     translation: &EtherparseIpv4Translation,
     error: ErrorPlace,
 ) -> Answer
-    ensures status { result.status ≡ status_of (ipv4_refusal packet.old) }
-    ensures error { Leaves error result (unwrap_or (ipv4_refusal packet.old) error.before) }
+    ensures status { result.status ≡ status_of (ipv4_refusal translation.now packet.old) }
+    ensures error { Leaves error result (unwrap_or (ipv4_refusal translation.now packet.old) error.before) }
     ensures packet { packet.new ≡
-        unless_refused (ipv4_refusal packet.old) (ipv4_translated (ipv4_translation translation.now) packet.old) packet.old }
+        unless_refused (ipv4_refusal translation.now packet.old) (ipv4_translated (ipv4_translation translation.now) packet.old) packet.old }
 {
     match translate_ipv4(packet, &of_ipv4(translation)) {
         Ok(()) => accept(error),
@@ -125,7 +126,7 @@ pub extern "C" fn etherparse_translate_ipv4(
 /// # Errors
 ///
 /// The statuses of `etherparse_translate_ipv4`, except `TRANSLATE_SOURCE_ROUTE`. `IP_VERSION` is returned for an IPv4 packet, and
-/// `TRANSLATE_PROTOCOL` if the next header is not UDP, TCP or ICMPv6, as for an extension header. A fragment header directly after the IPv6
+/// `TRANSLATE_PROTOCOL` as there, and for an extension header. A fragment header directly after the IPv6
 /// header is skipped.
 #[unsafe(no_mangle)]
 pub extern "C" fn etherparse_translate_ipv6(
@@ -133,10 +134,10 @@ pub extern "C" fn etherparse_translate_ipv6(
     translation: &EtherparseIpv6Translation,
     error: ErrorPlace,
 ) -> Answer
-    ensures status { result.status ≡ status_of (ipv6_refusal packet.old) }
-    ensures error { Leaves error result (unwrap_or (ipv6_refusal packet.old) error.before) }
+    ensures status { result.status ≡ status_of (ipv6_refusal translation.now packet.old) }
+    ensures error { Leaves error result (unwrap_or (ipv6_refusal translation.now packet.old) error.before) }
     ensures packet { packet.new ≡
-        unless_refused (ipv6_refusal packet.old) (ipv6_translated (ipv6_translation translation.now) packet.old) packet.old }
+        unless_refused (ipv6_refusal translation.now packet.old) (ipv6_translated (ipv6_translation translation.now) packet.old) packet.old }
 {
     match translate_ipv6(packet, &of_ipv6(translation)) {
         Ok(()) => accept(error),

@@ -52,12 +52,12 @@ pub struct EtherparseUdpPacket {
     pub payload_len_source: u32,
 }
 
-/// The longest payload whose length a pseudo header can count, in bytes: over IPv4 in 16 bits, over IPv6 in 32.
+/// The greatest length of a payload that a pseudo header can count, in bytes. It counts 16 bits over IPv4, and 32 bits over IPv6.
 const MAX_PAYLOAD_LEN_IPV4: usize = u16::MAX as usize - UdpHeader::LEN;
 
 const MAX_PAYLOAD_LEN_IPV6: usize = u32::MAX as usize - UdpHeader::LEN;
 
-/// The header of some fields.
+/// Returns the header with these fields.
 fn header(fields: &EtherparseUdpHeader) -> UdpHeader
     ensures { result ≡ header_in fields.now }
 {
@@ -69,7 +69,7 @@ fn header(fields: &EtherparseUdpHeader) -> UdpHeader
     }
 }
 
-/// The packet of a slice.
+/// Returns the fields of a packet.
 fn packet(slice: &UdpSlice<'_>) -> EtherparseUdpPacket
     ensures { result ≡ packet_in slice.now }
 {
@@ -86,13 +86,12 @@ fn packet(slice: &UdpSlice<'_>) -> EtherparseUdpPacket
     }
 }
 
-/// Reads the packet at the front of some bytes (RFC 768): the bytes that its length field counts, or all bytes if that
-/// field is 0.
+/// Reads the packet at the front of some bytes (RFC 768). The length field counts the bytes of the packet. If the field is 0, all bytes are
+/// the packet.
 ///
 /// # Errors
 ///
-/// The status is `OK`, or `LENGTH` if there are fewer than 8 bytes, or if the length field is 1 to 7 or above the
-/// number of bytes.
+/// The status is `OK`, or `LENGTH` if there are fewer than 8 bytes, or if the length field is 1 to 7 or above the number of bytes.
 #[unsafe(no_mangle)]
 pub extern "C" fn etherparse_udp_packet_read(
     bytes: &[u8],
@@ -112,8 +111,8 @@ pub extern "C" fn etherparse_udp_packet_read(
     }
 }
 
-/// Reads the packet at the front of some bytes (RFC 768): the bytes that its length field counts, or all bytes if that
-/// field is 0 or invalid.
+/// Reads the packet at the front of some bytes (RFC 768). The length field counts the bytes of the packet. If the field is 0 or invalid,
+/// all bytes are the packet.
 ///
 /// # Errors
 ///
@@ -153,13 +152,13 @@ pub extern "C" fn etherparse_udp_header_write(
     ensures error { Leaves error result (unwrap_or (no_room 8 (length buffer.old)) error.before) }
     ensures buffer { buffer.new ≡ unless_refused (no_room 8 (length buffer.old)) (at_front (wire (header_in fields.now)) buffer.old) buffer.old }
     ensures written { written.new ≡ unless_refused (no_room 8 (length buffer.old)) 8 written.old }
-    // What was written is read back.
+    // The written header is read back.
     ensures reads_back { no_room 8 (length buffer.old) ≡ None → fields_of (header_of buffer.new) ≡ fields.now }
 {
     write(&header(fields).to_bytes(), buffer, written, error)
 }
 
-/// The packet at the front of some bytes, unless its payload is longer than this limit.
+/// Returns the packet at the front of some bytes, unless its payload is longer than this limit.
 fn counted_packet(
     bytes: &[u8],
     limit: usize,
@@ -177,7 +176,8 @@ fn counted_packet(
     }
 }
 
-/// The checksum of a packet over IPv4, whatever its checksum field holds, with the packet's own length in the pseudo header.
+/// Computes the checksum of a packet over IPv4. Its checksum field is ignored, and the pseudo header contains the real length of the
+/// packet.
 fn computed_ipv4(source: [u8; 4], destination: [u8; 4], packet: &[u8]) -> u16
     requires header { 8 ≤ length packet.now }
     requires counted { length packet.now ≤ max_len_over_ipv4 }
@@ -190,7 +190,7 @@ fn computed_ipv4(source: [u8; 4], destination: [u8; 4], packet: &[u8]) -> u16
         .to_ones_complement_with_no_zero()
 }
 
-/// The same, with what is known of it.
+/// The same as `computed_ipv4`, with a contract about the checksum.
 fn packet_checksum_ipv4(source: [u8; 4], destination: [u8; 4], packet: &UdpSlice<'_>) -> u16
     requires header { 8 ≤ length packet.now }
     requires counted { length packet.now ≤ max_len_over_ipv4 }
@@ -202,7 +202,8 @@ fn packet_checksum_ipv4(source: [u8; 4], destination: [u8; 4], packet: &UdpSlice
     computed_ipv4(source, destination, packet.slice())
 }
 
-/// The checksum of a packet over IPv6, whatever its checksum field holds, with the packet's own length in the pseudo header.
+/// Computes the checksum of a packet over IPv6. Its checksum field is ignored, and the pseudo header contains the real length of the
+/// packet.
 fn computed_ipv6(source: [u8; 16], destination: [u8; 16], packet: &[u8]) -> u16
     requires header { 8 ≤ length packet.now }
     requires counted { length packet.now ≤ max_len_over_ipv6 }
@@ -215,7 +216,7 @@ fn computed_ipv6(source: [u8; 16], destination: [u8; 16], packet: &[u8]) -> u16
         .to_ones_complement_with_no_zero()
 }
 
-/// The same, with what is known of it.
+/// The same as `computed_ipv6`, with a contract about the checksum.
 fn packet_checksum_ipv6(source: [u8; 16], destination: [u8; 16], packet: &UdpSlice<'_>) -> u16
     requires header { 8 ≤ length packet.now }
     requires counted { length packet.now ≤ max_len_over_ipv6 }
@@ -227,7 +228,7 @@ fn packet_checksum_ipv6(source: [u8; 16], destination: [u8; 16], packet: &UdpSli
     computed_ipv6(source, destination, packet.slice())
 }
 
-/// The checksum of the packet at the front of some bytes over IPv4, whatever its checksum field holds.
+/// Computes the checksum of the packet at the front of some bytes, over IPv4. Its checksum field is ignored.
 fn checksum_ipv4(
     bytes: &[u8],
     source: &[u8; 4],
@@ -247,9 +248,9 @@ fn checksum_ipv4(
     }
 }
 
-/// The checksum to store in the packet at the front of some bytes, over IPv4 (RFC 768). The packet is the packet that
-/// `etherparse_udp_packet_read` reads. Its checksum field is ignored, and the pseudo header contains its real length,
-/// whatever its length field is.
+/// Computes the checksum to store in the packet at the front of some bytes, over IPv4 (RFC 768). The packet ends as
+/// `etherparse_udp_packet_read` reads it. Its checksum field is ignored. The pseudo header contains the real length of the packet, whatever
+/// its length field is.
 ///
 /// # Errors
 ///
@@ -268,13 +269,13 @@ pub extern "C" fn etherparse_udp_checksum_ipv4(
     ensures error { Leaves error result (unwrap_or (checksum_refusal UdpPayloadLengthIpv4 max_payload_len bytes.now) error.before) }
     ensures checksum { checksum.new ≡ unless_refused (checksum_refusal UdpPayloadLengthIpv4 max_payload_len bytes.now)
         (udp_checksum_of (checksummed_ipv4 source.now destination.now (cut bytes.now))) checksum.old }
-    // With the checksum in its place the packet is valid.
+    // With this checksum the packet is valid.
     ensures built { checksum_refusal UdpPayloadLengthIpv4 max_payload_len bytes.now ≡ None
         → IsValidUdpIpv4 source.now destination.now (with_checksum 6 (cut bytes.now) checksum.new) }
-    // And the test of these bytes answers that the checksum is right.
+    // With this checksum the test of the packet returns `OK`.
     ensures passes { checksum_refusal UdpPayloadLengthIpv4 max_payload_len bytes.now ≡ None
         → Answers (TestTellsIpv4 source.now destination.now (with_checksum 6 bytes.now checksum.new)) numbers.status_ok }
-    // A sender computes the same of header and payload.
+    // The sender of a packet with a right length field computes the same checksum.
     ensures agrees { checksum_refusal UdpPayloadLengthIpv4 max_payload_len bytes.now ≡ None → length_field (cut bytes.now) ≡ length (cut bytes.now)
         → checksum.new ≡ udp_checksum_of (udp.checksummed_ipv4 source.now destination.now (header_of (cut bytes.now)) (drop 8 (cut bytes.now))) }
 {
@@ -305,7 +306,7 @@ pub extern "C" fn etherparse_udp_checksum_store_ipv4(
     ensures error { Leaves error result (unwrap_or (checksum_refusal UdpPayloadLengthIpv4 max_payload_len bytes.old) error.before) }
     ensures stored { bytes.new ≡ unless_refused (checksum_refusal UdpPayloadLengthIpv4 max_payload_len bytes.old)
         (with_checksum 6 bytes.old (udp_checksum_of (checksummed_ipv4 source.now destination.now (cut bytes.old)))) bytes.old }
-    // The test of the bytes then answers that the checksum is right.
+    // After the call the test of the packet returns `OK`.
     ensures passes { checksum_refusal UdpPayloadLengthIpv4 max_payload_len bytes.old ≡ None
         → Answers (TestTellsIpv4 source.now destination.now bytes.new) numbers.status_ok }
 {
@@ -318,7 +319,7 @@ pub extern "C" fn etherparse_udp_checksum_store_ipv4(
     }
 }
 
-/// The checksum of the packet at the front of some bytes over IPv6, whatever its checksum field holds.
+/// Computes the checksum of the packet at the front of some bytes, over IPv6. Its checksum field is ignored.
 fn checksum_ipv6(
     bytes: &[u8],
     source: &[u8; 16],
@@ -338,9 +339,9 @@ fn checksum_ipv6(
     }
 }
 
-/// The checksum to store in the packet at the front of some bytes, over IPv6 (RFC 768; RFC 8200, section 8.1). The
-/// packet is the packet that `etherparse_udp_packet_read` reads. Its checksum field is ignored, and the pseudo header
-/// contains its real length, whatever its length field is.
+/// Computes the checksum to store in the packet at the front of some bytes, over IPv6 (RFC 768; RFC 8200, section 8.1). The packet ends as
+/// `etherparse_udp_packet_read` reads it. Its checksum field is ignored. The pseudo header contains the real length of the packet, whatever
+/// its length field is.
 ///
 /// # Errors
 ///
@@ -359,13 +360,13 @@ pub extern "C" fn etherparse_udp_checksum_ipv6(
     ensures error { Leaves error result (unwrap_or (checksum_refusal UdpPayloadLengthIpv6 max_payload_len_of_32_bits bytes.now) error.before) }
     ensures checksum { checksum.new ≡ unless_refused (checksum_refusal UdpPayloadLengthIpv6 max_payload_len_of_32_bits bytes.now)
         (udp_checksum_of (checksummed_ipv6 source.now destination.now (cut bytes.now))) checksum.old }
-    // With the checksum in its place the packet is valid.
+    // With this checksum the packet is valid.
     ensures built { checksum_refusal UdpPayloadLengthIpv6 max_payload_len_of_32_bits bytes.now ≡ None
         → IsValidUdpIpv6 source.now destination.now (with_checksum 6 (cut bytes.now) checksum.new) }
-    // And the test of these bytes answers that the checksum is right.
+    // With this checksum the test of the packet returns `OK`.
     ensures passes { checksum_refusal UdpPayloadLengthIpv6 max_payload_len_of_32_bits bytes.now ≡ None
         → Answers (TestTellsIpv6 source.now destination.now (with_checksum 6 bytes.now checksum.new)) numbers.status_ok }
-    // A sender computes the same of header and payload.
+    // The sender of a packet with a right length field computes the same checksum.
     ensures agrees { checksum_refusal UdpPayloadLengthIpv6 max_payload_len_of_32_bits bytes.now ≡ None → length_field (cut bytes.now) ≡ length (cut bytes.now)
         → checksum.new ≡ udp_checksum_of (udp.checksummed_ipv6 source.now destination.now (header_of (cut bytes.now)) (drop 8 (cut bytes.now))) }
 {
@@ -396,7 +397,7 @@ pub extern "C" fn etherparse_udp_checksum_store_ipv6(
     ensures error { Leaves error result (unwrap_or (checksum_refusal UdpPayloadLengthIpv6 max_payload_len_of_32_bits bytes.old) error.before) }
     ensures stored { bytes.new ≡ unless_refused (checksum_refusal UdpPayloadLengthIpv6 max_payload_len_of_32_bits bytes.old)
         (with_checksum 6 bytes.old (udp_checksum_of (checksummed_ipv6 source.now destination.now (cut bytes.old)))) bytes.old }
-    // The test of the bytes then answers that the checksum is right.
+    // After the call the test of the packet returns `OK`.
     ensures passes { checksum_refusal UdpPayloadLengthIpv6 max_payload_len_of_32_bits bytes.old ≡ None
         → Answers (TestTellsIpv6 source.now destination.now bytes.new) numbers.status_ok }
 {

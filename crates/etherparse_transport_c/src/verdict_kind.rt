@@ -1,5 +1,4 @@
-//! The numbers of the verdicts on the checksum of an IP packet. They are part of the interface to C, and none is ever given another
-//! meaning.
+//! The numbers of the verdicts on the checksum of an IP packet. They are part of the interface to C. No number ever gets another meaning.
 
 /// The checksum is right.
 pub const RIGHT: u32 = 1;

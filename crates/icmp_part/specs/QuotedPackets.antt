@@ -1,9 +1,14 @@
 -- The packet that an ICMP error is about, as far as the error contains it.
-use Rattle.std.specs.Prelude.{ℕ, ◌*◌, ◌==◌, ◌||◌, if◌then◌else◌, List, drop, slice_index, take, None, Option, Some}
+use Rattle.std.specs.Prelude.{ℕ, ◌*◌, ◌==◌, ◌||◌, Bool, if◌then◌else◌, nat_lt, List, drop, slice_index, take, None, Option, Some}
 
--- the bytes that a length field counts, or all bytes if it is 0: the sender then does not use it (RFC 4884, section 5.4)
+-- An extended error quotes at least this many bytes (RFC 4884, section 3).
+abbrev pub min_extended_len : ℕ
+min_extended_len = 128
+
+-- The bytes that a length field counts. If it counts fewer bytes, the error is not extended and quotes all of them: a sender that does not use
+-- the field writes 0 (RFC 4884, section 5.4).
 abbrev pub counted : ℕ → List ℕ → List ℕ
-counted len bytes = if len == 0 then bytes else take len bytes
+counted len bytes = if nat_lt len min_extended_len then bytes else take len bytes
 
 -- the bytes after a header of eight bytes
 abbrev pub after_header : List ℕ → List ℕ
@@ -17,10 +22,14 @@ quoted_by_icmpv4 message =
     if type == 3 || (type == 11 || type == 12) then Some (counted (slice_index message 5 * 4) (after_header message))
     else (if type == 4 || type == 5 then Some (after_header message) else None)
 
+-- the types of errors (RFC 4443, section 2.1)
+abbrev pub is_icmpv6_error : ℕ → Bool
+is_icmpv6_error type = nat_lt type 128
+
 -- the packet quoted by a destination unreachable (1) or time exceeded (3) message, where byte 4 counts units of eight bytes (RFC 4884,
--- sections 4.4 and 4.5), or by a packet too big (2) or parameter problem (4) message, without a length field (RFC 4443, sections 3.2, 3.4)
+-- sections 4.4 and 4.5), or by any other error, without a length field (RFC 4443, section 2.4)
 abbrev pub quoted_by_icmpv6 : List ℕ → Option (List ℕ)
 quoted_by_icmpv6 message =
     let type = slice_index message 0 in
     if type == 1 || type == 3 then Some (counted (slice_index message 4 * 8) (after_header message))
-    else (if type == 2 || type == 4 then Some (after_header message) else None)
+    else (if is_icmpv6_error type then Some (after_header message) else None)

@@ -260,7 +260,8 @@ impl<'a> Icmpv4Slice<'a> {
 
     /// The packet that this error is about, as far as the message contains it: destination unreachable, source quench, redirect, time
     /// exceeded and parameter problem quote the packet that caused them, from its IP header on (RFC 792). None if the message is not an
-    /// error. The length field in byte 5 ends the quoted packet, if the sender uses it (RFC 4884, section 4).
+    /// error. The length field in byte 5 ends the quoted packet, if it counts at least 128 bytes. Otherwise the error is not extended (RFC
+    /// 4884, sections 3 and 4).
     pub fn quoted_packet(&self) -> Option<&'a [u8]>
         ensures { option_map (λ packet. packet.now) result ≡ quoted_by_icmpv4 self.now }
     {

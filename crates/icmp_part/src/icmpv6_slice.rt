@@ -20,6 +20,9 @@ use std::marker::Model;
 /// The bytes that 1 in the length field of an error stands for (RFC 4884, section 4).
 const LENGTH_UNIT: usize = 8;
 
+/// The largest type of an error (RFC 4443, section 2.1).
+const MAX_ERROR_TYPE: u8 = 127;
+
 /// The bytes of an ICMPv6 packet: the header and the payload after it (RFC 4443, section 2.1).
 ///
 /// ```
@@ -241,10 +244,10 @@ impl<'a> Icmpv6Slice<'a> {
         &self.slice[header_len(self.slice)..]
     }
 
-    /// The packet that this error is about, as far as the message contains it: destination unreachable, packet too big, time exceeded and
-    /// parameter problem quote the packet that caused them, from its IPv6 header on (RFC 4443, section 3). None if the message is not an
-    /// error of these types. The length field in byte 4 of the first and the third ends the quoted packet, if the sender uses it (RFC
-    /// 4884, section 4).
+    /// The packet that this error is about, as far as the message contains it: each message of a type below 128 is an error, and quotes the
+    /// packet that caused it, from its IPv6 header on (RFC 4443, sections 2.1 and 2.4). None for any other message. The length field in byte
+    /// 4 of destination unreachable and time exceeded ends the quoted packet, if it counts at least 128 bytes. Otherwise the error is not
+    /// extended (RFC 4884, sections 3 and 4).
     pub fn quoted_packet(&self) -> Option<&'a [u8]>
         ensures { option_map (λ packet. packet.now) result ≡ quoted_by_icmpv6 self.now }
     {
@@ -253,7 +256,7 @@ impl<'a> Icmpv6Slice<'a> {
             TYPE_DST_UNREACH | TYPE_TIME_EXCEEDED => {
                 Some(counted(usize::from(self.slice[4]) * LENGTH_UNIT, after_header))
             }
-            TYPE_PACKET_TOO_BIG | TYPE_PARAMETER_PROBLEM => Some(after_header),
+            type_u8 if type_u8 <= MAX_ERROR_TYPE => Some(after_header),
             _ => None,
         }
     }

@@ -53,7 +53,7 @@ reason_text reasons.IpHeaders = codes "the IP headers are rejected or cut off"
 reason_text reasons.SourceRoute = codes "a source route"
 reason_text reasons.Protocol = codes "another protocol, or IPv6 extension headers"
 reason_text reasons.TransportHeader = codes "the transport header is cut off"
-reason_text reasons.IcmpMessage = codes "an ICMP message that is no echo message and no error"
+reason_text reasons.IcmpMessage = codes "an ICMP message that is no query and no error, or a redirect"
 reason_text reasons.QuotedPacket = codes "an ICMP error about a packet that can't be translated"
 reason_text reasons.QuotedAddresses = codes "an ICMP error about a packet whose addresses have other replacements"
 

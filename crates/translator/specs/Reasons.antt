@@ -79,7 +79,7 @@ ipv4_unknown_reason table packet = unknown_reason 4 packet (ipv4_quoting_reason 
 -- the reason why an IPv4 packet stays as it is
 abbrev pub ipv4_reason : Table → List ℕ → Option Reason
 ipv4_reason table packet =
-    reason_by (ipv4_unknown_reason table packet) (is_ipv4_nothing (ipv4_given table packet)) (ipv4_refusal packet)
+    reason_by (ipv4_unknown_reason table packet) (is_ipv4_nothing (ipv4_given table packet)) (ipv4_refusal (ipv4_given table packet) packet)
 
 -- ---- IPv6
 
@@ -103,7 +103,7 @@ ipv6_unknown_reason table packet = unknown_reason 6 packet (ipv6_quoting_reason 
 -- the reason why an IPv6 packet stays as it is
 abbrev pub ipv6_reason : Table → List ℕ → Option Reason
 ipv6_reason table packet =
-    reason_by (ipv6_unknown_reason table packet) (is_ipv6_nothing (ipv6_given table packet)) (ipv6_refusal packet)
+    reason_by (ipv6_unknown_reason table packet) (is_ipv6_nothing (ipv6_given table packet)) (ipv6_refusal (ipv6_given table packet) packet)
 
 -- ---- either version
 

@@ -9,7 +9,7 @@ use clap::{Arg, ArgAction, ArgMatches, Command, Error};
 use std::alloc::{AllocError, Global};
 
 /// The version of the program, which is that of the library (`ETHERPARSE_VERSION` in the C header).
-const VERSION: &str = "0.4.0";
+const VERSION: &str = "0.5.0";
 
 /// The example and the exit statuses in the help.
 const AFTER_HELP: &str = "\

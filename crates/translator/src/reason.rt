@@ -23,7 +23,7 @@ pub enum Reason {
     Protocol,
     /// The transport header is cut off.
     TransportHeader,
-    /// The ICMP message is no echo message and no error.
+    /// The ICMP message is no query and no error, or a redirect.
     IcmpMessage,
     /// The packet that an ICMP error is about can't be translated.
     QuotedPacket,
@@ -85,7 +85,7 @@ impl Reason {
             Reason::SourceRoute => "a source route",
             Reason::Protocol => "another protocol, or IPv6 extension headers",
             Reason::TransportHeader => "the transport header is cut off",
-            Reason::IcmpMessage => "an ICMP message that is no echo message and no error",
+            Reason::IcmpMessage => "an ICMP message that is no query and no error, or a redirect",
             Reason::QuotedPacket => "an ICMP error about a packet that can't be translated",
             Reason::QuotedAddresses =>
                 "an ICMP error about a packet whose addresses have other replacements",

@@ -7,10 +7,10 @@ pub enum ReplacementError {
     #[error("it is not of the form OLD=NEW")]
     Form,
     /// A part is not an address.
-    #[error("a part before a prefix length is no IPv4 or IPv6 address")]
+    #[error("a part before a prefix length is not an IPv4 or IPv6 address")]
     Address,
     /// A prefix length is not a number, or is above the number of bits.
-    #[error("a prefix length is no number from 0 to 32 for IPv4, or to 128 for IPv6")]
+    #[error("a prefix length is not a number from 0 to 32 for IPv4, or to 128 for IPv6")]
     PrefixLength,
     /// An address has bits after its prefix.
     #[error("an address has bits other than 0 after its prefix")]
@@ -22,6 +22,6 @@ pub enum ReplacementError {
     #[error("the new prefix is shorter than the old prefix, and would keep bits of the old network")]
     ShorterPrefix,
     /// A part is not a port.
-    #[error("a port is no number from 0 to 65535")]
+    #[error("a port is not a number from 0 to 65535")]
     Port,
 }

@@ -1,3 +1,4 @@
 pub mod OneVerdict
+pub mod RightChecksumLaws
 pub mod ValidityLaw
 pub mod VerdictLemmas

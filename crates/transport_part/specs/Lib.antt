@@ -1,3 +1,4 @@
 pub mod Layouts
+pub mod StoredChecksums
 pub mod Transports
 pub mod Verdicts

@@ -15,6 +15,7 @@ mod expected;
 pub mod ip;
 #[doc(hidden)]
 pub mod laws;
+mod stored_checksum;
 mod transport_slice;
 mod verdict;
 

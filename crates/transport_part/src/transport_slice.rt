@@ -1,4 +1,7 @@
-use crate::verdict::{lacks_length, verdict_over};
+use crate::stored_checksum::{absent_checksum, pseudo_header_over, stored_at};
+use crate::verdict::{
+    ICMP_CHECKSUM_AT, TCP_CHECKSUM_AT, UDP_CHECKSUM_AT, lacks_length, verdict_over,
+};
 use crate::{ChecksumVerdict, Untested};
 use icmp_part::{Icmpv4Slice, Icmpv6Slice};
 use ip_part::{IpAddresses, Proto};
@@ -31,12 +34,18 @@ pub enum TransportSlice<'a> {
 }
 
 impl<'a> TransportSlice<'a> {
-    ghost use Rattle.std.specs.Prelude.{◌≡◌, ◌≤◌, length};
+    ghost use Rattle.std.specs.Prelude.{◌≡◌, ◌≤◌, ◌↔◌, IfOk, IsTrue, MatchResult, length};
     ghost use Rattle.std.specs.Option.{option_map};
     ghost use Rattle.ip_part.specs.Addresses.{by_value};
+    ghost use Rattle.net_base.specs.Bytes.{IsBytes};
     ghost use Rattle.transport_part.specs.Layouts.{layout_of};
+    ghost use Rattle.transport_part.specs.StoredChecksums as specs;
+    ghost use Rattle.transport_part.specs.StoredChecksums.{IsPartial, IsRightBy, SaysWhetherPartial, with_stored};
     ghost use Rattle.transport_part.specs.Transports.{bytes_of, min_len, payload_of, proto_of, quoted_by};
-    ghost use Rattle.transport_part.specs.Verdicts.{AreOne, IsValidOver, Judges, SaysWhether};
+    ghost use Rattle.transport_part.specs.Verdicts.{AreOne, HasChecksum, IsValidOver, Judges, SaysWhether};
+    ghost use Rattle.transport_part.specs.declared.checksum_verdict.ChecksumVerdict.{ChecksumVerdict as Verdict};
+    ghost use Rattle.transport_part.specs.declared.checksum_verdict.ChecksumVerdict.TheVariants as verdicts;
+    ghost use Rattle.transport_part.specs.declared.checksum_verdict.Untested.{Untested as Reason};
 
     /// The protocol.
     pub fn proto(&self) -> Proto
@@ -115,5 +124,70 @@ impl<'a> TransportSlice<'a> {
             return ChecksumVerdict::Untested(Untested::ZeroLength);
         }
         verdict_over(addresses, self)
+    }
+
+    /// The place of the checksum in the slice, in bytes: 6 for UDP (RFC 768), 16 for TCP (RFC 9293, section 3.1), 2 for ICMP (RFC 792; RFC
+    /// 4443, section 2.1).
+    pub fn checksum_place(&self) -> usize
+        ensures { result ≡ specs.checksum_place (proto_of self.now) }
+    {
+        match self {
+            TransportSlice::Udp(_) => UDP_CHECKSUM_AT,
+            TransportSlice::Tcp(_) => TCP_CHECKSUM_AT,
+            TransportSlice::Icmpv4(_) | TransportSlice::Icmpv6(_) => ICMP_CHECKSUM_AT,
+        }
+    }
+
+    /// The stored checksum. Over IPv4 a UDP checksum of 0 means that there is none.
+    pub fn stored_checksum(&self) -> u16
+        ensures stored { result ≡ specs.stored_checksum self.now }
+        ensures long { min_len self.now ≤ length (bytes_of self.now) }
+        ensures bytes { IsBytes (bytes_of self.now) }
+    {
+        stored_at(self.slice(), self.checksum_place())
+    }
+
+    /// Whether the stored checksum is partial over these addresses: the sum of only the pseudo header, which counts the bytes of the slice.
+    /// A host leaves the rest to its network card (checksum offload). The payload is not read, so the call takes the same time for
+    /// any length. A partial checksum is rarely also right. `checksum_verdict` returns `Partial` only if it is wrong.
+    ///
+    /// An ICMPv4 message has no pseudo header, and so its checksum is never partial. Over the other IP version, without a final
+    /// destination, and for more bytes than a pseudo header can count, it isn't either.
+    #[tactic(auto, using(crate::proofs::RightChecksumLaws::says_partial))]
+    pub fn is_checksum_partial(&self, addresses: IpAddresses<'_>) -> bool
+        ensures partial { IsTrue result ↔ IsPartial (by_value addresses.entry) self.now }
+        // `checksum_verdict` returns `Partial` for a wrong checksum exactly if this is true.
+        ensures verdict { (verdict : Verdict) → Judges (by_value addresses.entry) self.now verdict →
+            SaysWhetherPartial (IsPartial (by_value addresses.entry) self.now) verdict }
+    {
+        match pseudo_header_over(addresses, self) {
+            Some(sum) => self.stored_checksum() == u16::MAX - sum.ones_complement(),
+            None => false,
+        }
+    }
+
+    /// The checksum that the packet over these addresses has to contain, whatever checksum it contains. It is the stored checksum if that is
+    /// right, and otherwise the expected checksum. For UDP it is never 0.
+    ///
+    /// # Errors
+    ///
+    /// The reason of `checksum_verdict` not to test the checksum.
+    pub fn right_checksum(&self, addresses: IpAddresses<'_>) -> Result<u16, Untested>
+        ensures refused { MatchResult result (λ _. (why : Reason) → ¬ Judges (by_value addresses.entry) self.now (verdicts.Untested why))
+            (λ why. Judges (by_value addresses.entry) self.now (verdicts.Untested why)) }
+        // With this checksum the verdict is `Right`.
+        ensures right { IfOk result (λ checksum. Judges (by_value addresses.entry) (with_stored self.now checksum) verdicts.Right) }
+        ensures chosen { IfOk result (λ checksum. (verdict : Verdict) → HasChecksum verdict → Judges (by_value addresses.entry) self.now verdict →
+            IsRightBy verdict (specs.stored_checksum self.now) checksum) }
+        ensures long { min_len self.now ≤ length (bytes_of self.now) }
+    {
+        let stored = self.stored_checksum();
+        match self.checksum_verdict(addresses) {
+            ChecksumVerdict::Right => Ok(stored),
+            ChecksumVerdict::Absent => Ok(absent_checksum(addresses, self)),
+            ChecksumVerdict::Wrong { expected } => Ok(expected),
+            ChecksumVerdict::Partial { expected } => Ok(expected),
+            ChecksumVerdict::Untested(why) => Err(why),
+        }
     }
 }

@@ -21,11 +21,11 @@ use tcp_part::{TcpHeader, TcpSlice};
 use udp_part::{UdpHeader, UdpSlice};
 
 /// The places of the checksum in UDP, TCP and ICMP headers, in bytes (RFC 768; RFC 9293, section 3.1; RFC 792; RFC 4443).
-const UDP_CHECKSUM_AT: usize = UdpHeader::CHECKSUM_AT;
+pub(crate) const UDP_CHECKSUM_AT: usize = UdpHeader::CHECKSUM_AT;
 
-const TCP_CHECKSUM_AT: usize = TcpHeader::CHECKSUM_AT;
+pub(crate) const TCP_CHECKSUM_AT: usize = TcpHeader::CHECKSUM_AT;
 
-const ICMP_CHECKSUM_AT: usize = Icmpv6Header::CHECKSUM_AT;
+pub(crate) const ICMP_CHECKSUM_AT: usize = Icmpv6Header::CHECKSUM_AT;
 
 /// Whether the length field of a UDP packet is 0 although it could count the packet.
 #[inline(always)]

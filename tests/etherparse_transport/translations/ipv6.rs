@@ -1,6 +1,6 @@
 //! IPv6 packets, what a translator replaces in them, and how they change.
 
-use super::{CUT_OFF, Change, FRAGMENT, RIGHT, Verdicts};
+use super::{CUT_OFF, Change, FRAGMENT, OTHER, RIGHT, Verdicts};
 use etherparse_transport::ChecksumVerdict::Wrong;
 use etherparse_transport::IpNumber;
 use etherparse_transport::err::packet::TranslateError;
@@ -36,9 +36,18 @@ pub const BOTH: Ipv6Translation = Ipv6Translation {
     destination_port: Some(8080),
 };
 
+/// Only an address is replaced.
+#[rattlefmt::skip]
+pub const ADDRESS: Ipv6Translation = Ipv6Translation {
+    source: Some([0x20, 1, 0x0D, 0xB8, 0, 1, 0, 0, 0, 0, 0, 0, 0, 0, 0, 7]),
+    destination: None,
+    source_port: None,
+    destination_port: None,
+};
+
 /// Packets other than ICMP errors.
 #[rattlefmt::skip]
-pub static PACKETS: [Row; 21] = [
+pub static PACKETS: [Row; 25] = [
     // UDP outbound, with two bytes of padding
     (OUTBOUND, RIGHT, &[
         0x60, 1, 0x23, 0x45, 0, 0x0B, 0x11, 0x40, 0xFD, 0, 0, 0, 0, 0, 0, 0, 0, 0, 0, 0, 0, 0, 0, 2, 0x20, 1, 0x0D, 0xB8, 0, 2, 0,
@@ -191,11 +200,39 @@ pub static PACKETS: [Row; 21] = [
     ], &[
         (8, &[0x20, 1, 0x0D, 0xB8, 0, 1]), (22, &[0, 7]), (48, &[0x9C, 0x40]), (54, &[0x43, 0x7B]),
     ]),
+    // an echo request with another code
+    (OUTBOUND, RIGHT, &[
+        0x60, 1, 0x23, 0x45, 0, 8, 0x3A, 0x40, 0xFD, 0, 0, 0, 0, 0, 0, 0, 0, 0, 0, 0, 0, 0, 0, 2, 0x20, 1, 0x0D, 0xB8, 0, 2, 0,
+        0, 0, 0, 0, 0, 0, 0, 0, 9, 0x80, 1, 0x54, 0xEF, 0, 5, 0, 1,
+    ], &[
+        (8, &[0x20, 1, 0x0D, 0xB8, 0, 1]), (23, &[7]), (42, &[0x87, 0xF5, 0x9C, 0x40]),
+    ]),
+    // GRE, of which only the address is replaced
+    (ADDRESS, OTHER, &[
+        0x60, 1, 0x23, 0x45, 0, 8, 0x2F, 0x40, 0xFD, 0, 0, 0, 0, 0, 0, 0, 0, 0, 0, 0, 0, 0, 0, 2, 0x20, 1, 0x0D, 0xB8, 0, 2, 0,
+        0, 0, 0, 0, 0, 0, 0, 0, 9, 0, 0, 8, 0, 0, 0, 0, 0,
+    ], &[
+        (8, &[0x20, 1, 0x0D, 0xB8, 0, 1]), (23, &[7]),
+    ]),
+    // no next header
+    (ADDRESS, OTHER, &[
+        0x60, 1, 0x23, 0x45, 0, 0, 0x3B, 0x40, 0xFD, 0, 0, 0, 0, 0, 0, 0, 0, 0, 0, 0, 0, 0, 0, 2, 0x20, 1, 0x0D, 0xB8, 0, 2, 0,
+        0, 0, 0, 0, 0, 0, 0, 0, 9,
+    ], &[
+        (8, &[0x20, 1, 0x0D, 0xB8, 0, 1]), (23, &[7]),
+    ]),
+    // a first fragment of TCP of eight bytes, whose checksum is in the next
+    (OUTBOUND, FRAGMENT, &[
+        0x60, 1, 0x23, 0x45, 0, 0x10, 0x2C, 0x40, 0xFD, 0, 0, 0, 0, 0, 0, 0, 0, 0, 0, 0, 0, 0, 0, 2, 0x20, 1, 0x0D, 0xB8, 0, 2,
+        0, 0, 0, 0, 0, 0, 0, 0, 0, 9, 6, 0, 0, 1, 0, 0, 0, 5, 0x13, 0x88, 0, 0x50, 1, 2, 3, 4,
+    ], &[
+        (8, &[0x20, 1, 0x0D, 0xB8, 0, 1]), (23, &[7]), (48, &[0x9C, 0x40]),
+    ]),
 ];
 
 /// ICMP errors, with the packets that they are about.
 #[rattlefmt::skip]
-pub static ERRORS: [Row; 16] = [
+pub static ERRORS: [Row; 20] = [
     // destination unreachable about 8 bytes of UDP
     (INBOUND, RIGHT, &[
         0x60, 1, 0x23, 0x45, 0, 0x38, 0x3A, 0x40, 0x20, 1, 0x0D, 0xB8, 0, 3, 0, 0, 0, 0, 0, 0, 0, 0, 0, 1, 0x20, 1, 0x0D, 0xB8, 0,
@@ -348,6 +385,42 @@ pub static ERRORS: [Row; 16] = [
     ], &[
         (24, &[0xFD, 0, 0, 0, 0, 0]), (38, &[0, 2]), (50, &[0xF3, 0x9C]), (64, &[0xFD, 0, 0, 0, 0, 0]), (78, &[0, 2]),
     ]),
+    // a length below 128 bytes: the error is not extended (RFC 4884)
+    (INBOUND, RIGHT, &[
+        0x60, 1, 0x23, 0x45, 0, 0x38, 0x3A, 0x40, 0x20, 1, 0x0D, 0xB8, 0, 3, 0, 0, 0, 0, 0, 0, 0, 0, 0, 1, 0x20, 1, 0x0D, 0xB8,
+        0, 1, 0, 0, 0, 0, 0, 0, 0, 0, 0, 7, 3, 0, 7, 0xD9, 5, 0, 0, 0, 0x60, 1, 0x23, 0x45, 0, 8, 0x11, 1, 0x20, 1, 0x0D, 0xB8,
+        0, 1, 0, 0, 0, 0, 0, 0, 0, 0, 0, 7, 0x20, 1, 0x0D, 0xB8, 0, 2, 0, 0, 0, 0, 0, 0, 0, 0, 0, 9, 0x9C, 0x40, 0, 0x35, 0, 8,
+        7, 0xE4,
+    ], &[
+        (24, &[0xFD, 0, 0, 0, 0, 0]), (39, &[2]), (42, &[0x38, 0x97]), (56, &[0xFD, 0, 0, 0, 0, 0]), (71, &[2]), (88, &[0x13, 0x88]), (94, &[0xC1, 0x5A]),
+    ]),
+    // an error of an unknown type (RFC 4443, section 2.1)
+    (INBOUND, RIGHT, &[
+        0x60, 1, 0x23, 0x45, 0, 0x38, 0x3A, 0x40, 0x20, 1, 0x0D, 0xB8, 0, 3, 0, 0, 0, 0, 0, 0, 0, 0, 0, 1, 0x20, 1, 0x0D, 0xB8,
+        0, 1, 0, 0, 0, 0, 0, 0, 0, 0, 0, 7, 0x64, 0, 0xAB, 0xD8, 0, 0, 0, 0, 0x60, 1, 0x23, 0x45, 0, 8, 0x11, 1, 0x20, 1, 0x0D,
+        0xB8, 0, 1, 0, 0, 0, 0, 0, 0, 0, 0, 0, 7, 0x20, 1, 0x0D, 0xB8, 0, 2, 0, 0, 0, 0, 0, 0, 0, 0, 0, 9, 0x9C, 0x40, 0, 0x35,
+        0, 8, 7, 0xE4,
+    ], &[
+        (24, &[0xFD, 0, 0, 0, 0, 0]), (39, &[2]), (42, &[0xDC, 0x96]), (56, &[0xFD, 0, 0, 0, 0, 0]), (71, &[2]), (88, &[0x13, 0x88]), (94, &[0xC1, 0x5A]),
+    ]),
+    // an error of type 0, which is reserved
+    (INBOUND, RIGHT, &[
+        0x60, 1, 0x23, 0x45, 0, 0x38, 0x3A, 0x40, 0x20, 1, 0x0D, 0xB8, 0, 3, 0, 0, 0, 0, 0, 0, 0, 0, 0, 1, 0x20, 1, 0x0D, 0xB8,
+        0, 1, 0, 0, 0, 0, 0, 0, 0, 0, 0, 7, 0, 0, 0x0F, 0xD9, 0, 0, 0, 0, 0x60, 1, 0x23, 0x45, 0, 8, 0x11, 1, 0x20, 1, 0x0D,
+        0xB8, 0, 1, 0, 0, 0, 0, 0, 0, 0, 0, 0, 7, 0x20, 1, 0x0D, 0xB8, 0, 2, 0, 0, 0, 0, 0, 0, 0, 0, 0, 9, 0x9C, 0x40, 0, 0x35,
+        0, 8, 7, 0xE4,
+    ], &[
+        (24, &[0xFD, 0, 0, 0, 0, 0]), (39, &[2]), (42, &[0x40, 0x97]), (56, &[0xFD, 0, 0, 0, 0, 0]), (71, &[2]), (88, &[0x13, 0x88]), (94, &[0xC1, 0x5A]),
+    ]),
+    // an error of the largest type
+    (INBOUND, RIGHT, &[
+        0x60, 1, 0x23, 0x45, 0, 0x38, 0x3A, 0x40, 0x20, 1, 0x0D, 0xB8, 0, 3, 0, 0, 0, 0, 0, 0, 0, 0, 0, 1, 0x20, 1, 0x0D, 0xB8,
+        0, 1, 0, 0, 0, 0, 0, 0, 0, 0, 0, 7, 0x7F, 9, 0x8C, 0xC9, 1, 2, 3, 4, 0x60, 1, 0x23, 0x45, 0, 8, 0x11, 1, 0x20, 1, 0x0D,
+        0xB8, 0, 1, 0, 0, 0, 0, 0, 0, 0, 0, 0, 7, 0x20, 1, 0x0D, 0xB8, 0, 2, 0, 0, 0, 0, 0, 0, 0, 0, 0, 9, 0x9C, 0x40, 0, 0x35,
+        0, 8, 7, 0xE4,
+    ], &[
+        (24, &[0xFD, 0, 0, 0, 0, 0]), (39, &[2]), (42, &[0xBD, 0x87]), (56, &[0xFD, 0, 0, 0, 0, 0]), (71, &[2]), (88, &[0x13, 0x88]), (94, &[0xC1, 0x5A]),
+    ]),
 ];
 
 /// The error, and the packet that is refused.
@@ -413,10 +486,6 @@ pub static REFUSALS: [(TranslateError, &[u8]); 27] = [
         0x60, 1, 0x23, 0x45, 0, 8, 0x11, 0x40, 0xFD, 0, 0, 0, 0, 0, 0, 0, 0, 0, 0, 0, 0, 0, 0, 2, 0x20, 1, 0x0D, 0xB8, 0, 2, 0, 0,
         0, 0, 0, 0, 0, 0, 0, 9, 0x13, 0x88, 0, 0x35, 0, 8, 0xC1,
     ]),
-    (TranslateError::HeaderCutOff { required_len: 20, len: 19 }, &[
-        0x60, 1, 0x23, 0x45, 0, 0x13, 6, 0x40, 0xFD, 0, 0, 0, 0, 0, 0, 0, 0, 0, 0, 0, 0, 0, 0, 2, 0x20, 1, 0x0D, 0xB8, 0, 2, 0, 0,
-        0, 0, 0, 0, 0, 0, 0, 9, 0x13, 0x88, 0, 0x50, 1, 2, 3, 4, 5, 6, 7, 8, 0x50, 0x12, 0x20, 0, 0x41, 0x20, 0,
-    ]),
     (TranslateError::HeaderCutOff { required_len: 8, len: 7 }, &[
         0x60, 1, 0x23, 0x45, 0, 7, 0x3A, 0x40, 0xFD, 0, 0, 0, 0, 0, 0, 0, 0, 0, 0, 0, 0, 0, 0, 2, 0x20, 1, 0x0D, 0xB8, 0, 2, 0, 0,
         0, 0, 0, 0, 0, 0, 0, 9, 0x80, 0, 0x54, 0xF0, 0, 5, 0,
@@ -428,14 +497,6 @@ pub static REFUSALS: [(TranslateError, &[u8]); 27] = [
     (TranslateError::IcmpMessage, &[
         0x60, 1, 0x23, 0x45, 0, 8, 0x3A, 0x40, 0xFD, 0, 0, 0, 0, 0, 0, 0, 0, 0, 0, 0, 0, 0, 0, 2, 0x20, 1, 0x0D, 0xB8, 0, 2, 0, 0,
         0, 0, 0, 0, 0, 0, 0, 9, 0x85, 0, 0, 0, 0, 0, 0, 0,
-    ]),
-    (TranslateError::IcmpMessage, &[
-        0x60, 1, 0x23, 0x45, 0, 8, 0x3A, 0x40, 0xFD, 0, 0, 0, 0, 0, 0, 0, 0, 0, 0, 0, 0, 0, 0, 2, 0x20, 1, 0x0D, 0xB8, 0, 2, 0, 0,
-        0, 0, 0, 0, 0, 0, 0, 9, 0x80, 1, 0x54, 0xEF, 0, 5, 0, 1,
-    ]),
-    (TranslateError::IcmpMessage, &[
-        0x60, 1, 0x23, 0x45, 0, 8, 0x3A, 0x40, 0xFD, 0, 0, 0, 0, 0, 0, 0, 0, 0, 0, 0, 0, 0, 0, 2, 0x20, 1, 0x0D, 0xB8, 0, 2, 0, 0,
-        0, 0, 0, 0, 0, 0, 0, 9, 8, 0, 0, 0, 0, 0, 0, 0,
     ]),
     (TranslateError::QuotedPacket, &[
         0x60, 1, 0x23, 0x45, 0, 8, 0x3A, 0x40, 0x20, 1, 0x0D, 0xB8, 0, 3, 0, 0, 0, 0, 0, 0, 0, 0, 0, 1, 0x20, 1, 0x0D, 0xB8, 0, 1,
@@ -461,5 +522,18 @@ pub static REFUSALS: [(TranslateError, &[u8]); 27] = [
         1, 0, 0, 0, 0, 0, 0, 0, 0, 0, 7, 1, 1, 0x97, 0x16, 0, 0, 0, 0, 0x60, 1, 0x23, 0x45, 0, 0x0C, 0x2C, 0x40, 0x20, 1, 0x0D,
         0xB8, 0, 1, 0, 0, 0, 0, 0, 0, 0, 0, 0, 7, 0x20, 1, 0x0D, 0xB8, 0, 2, 0, 0, 0, 0, 0, 0, 0, 0, 0, 9, 0x3C, 0, 0, 0x10, 0, 0,
         0, 5, 0x61, 0x62, 0x63, 0x64,
+    ]),
+    (TranslateError::HeaderCutOff { required_len: 8, len: 7 }, &[
+        0x60, 1, 0x23, 0x45, 0, 7, 6, 0x40, 0xFD, 0, 0, 0, 0, 0, 0, 0, 0, 0, 0, 0, 0, 0, 0, 2, 0x20, 1, 0x0D, 0xB8, 0, 2, 0, 0,
+        0, 0, 0, 0, 0, 0, 0, 9, 0x13, 0x88, 0, 0x50, 1, 2, 3,
+    ]),
+    (TranslateError::IcmpMessage, &[
+        0x60, 1, 0x23, 0x45, 0, 0x28, 0x3A, 0x40, 0x20, 1, 0x0D, 0xB8, 0, 3, 0, 0, 0, 0, 0, 0, 0, 0, 0, 1, 0x20, 1, 0x0D, 0xB8,
+        0, 1, 0, 0, 0, 0, 0, 0, 0, 0, 0, 7, 0x89, 0, 0x1B, 0x1F, 0, 0, 0, 0, 0, 0, 0, 0, 0, 0, 0, 0, 0, 0, 0, 0, 0, 0, 0, 0, 0,
+        0, 0, 0, 0, 0, 0, 0, 0, 0, 0, 0, 0, 0, 0, 0,
+    ]),
+    (TranslateError::QuotedPacket, &[
+        0x60, 1, 0x23, 0x45, 0, 8, 0x3A, 0x40, 0x20, 1, 0x0D, 0xB8, 0, 3, 0, 0, 0, 0, 0, 0, 0, 0, 0, 1, 0x20, 1, 0x0D, 0xB8, 0,
+        1, 0, 0, 0, 0, 0, 0, 0, 0, 0, 7, 8, 0, 0x9C, 0x3F, 0, 0, 0, 0,
     ]),
 ];

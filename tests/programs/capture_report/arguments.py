@@ -24,6 +24,22 @@ def check_values(tally):
         tally.expect(f"{arguments}", (done.returncode, done.stdout, words in done.stderr.decode()), (2, b"", True))
 
 
+def check_options_not_utf_8(tally):
+    """An option that is not UTF-8 is refused, also if its value is not UTF-8. Such a word after `--` is the name of a file."""
+    data = capture(RAW, [ipv4(17, udp(IPV4, b"abc"))])
+    for word, shown in [(b"--host=10.0.0.1\xff", "--host=10.0.0.1\\xFF"), (b"--write=caf\xe9", "--write=caf\\xE9"), (b"-\xff", "-\\xFF"),
+                        (b"--summary\xff", "--summary\\xFF"), (b"-r\xff.pcap", "-r\\xFF.pcap")]:
+        message = f"error: the argument '{shown}' is not UTF-8\n\nUsage: capture_report [OPTIONS] [FILE]...\n\nFor more information, try '--help'.\n"
+        for arguments in ((word,), (word, "-"), ("-", word), ("--port", "70", word, b"-\xfe")):
+            done = run(data, *arguments)
+            tally.expect(f"{arguments}", (done.returncode, done.stdout, done.stderr.decode()), (2, b"", message))
+        done = run(data, "--packets", "--", word)
+        line = f"capture_report: {shown}: The name is not UTF-8, and no file is opened by such a name.\n"
+        tally.expect(f"{word} after --", (done.returncode, done.stdout, done.stderr.decode()), (3, b"", line))
+        done = run(data, word, "--help")
+        tally.expect(f"{word} and --help", (done.returncode, done.stdout, done.stderr), (0, run(b"", "--help").stdout, b""))
+
+
 # The pairs of options that are not used together, as a message writes them.
 EXCLUSIVE = [("--summary", "--packets"), ("--wrong", "--summary"), ("--absolute", "--summary"), ("--top <N>", "--packets"),
              *(("--write <FILE>", option) for option in ("--summary", "--packets", "--absolute", "--check", "--json", "--top <N>"))]

@@ -73,7 +73,6 @@ def check_files(tally):
         for name, shown, error in [
             ("a\n\x1b[2J\u009b\u00fc\\.pcap", "a\\x0A\\x1B[2J\\x9B\u00fc\\.pcap", ""),
             (b"a\n\xfc\\.pcap", "a\\x0A\\xFC\\x5C.pcap", "The name is not UTF-8, and no file is opened by such a name."),
-            (b"--summary\xff", "--summary\\xFF", "The name is not UTF-8, and no file is opened by such a name."),
         ]:
             done = run_in("right.pcap", name, "right.pcap", "--packets")
             lines = its_lines[1]

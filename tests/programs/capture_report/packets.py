@@ -3,7 +3,10 @@ import ipaddress
 import json
 import struct
 
-from ..build import ETHERNET, IPV4, IPV6, LINKS, NFLOG, OPENBSD, OTHER_LINK, RAW, capture, frame, gre, icmpv6, ipv4, ipv6, pcapng, tcp, udp
+from ..build import (
+    CISCO_HDLC, COOKED, COOKED2, ETHERNET, IPV4, IPV6, LINKS, NFLOG, OPENBSD, OTHER_LINK, PPP_OVER_ETHERNET, RAW, capture, frame, gre, icmpv6,
+    ipv4, ipv6, pcapng, tcp, udp
+)
 from ..kinds import TCP_OPTIONS, every_kind, further_headers, packets_in_tunnels
 from .members import tunnel_of
 from .names import ETHER_TYPES, NUMBERS
@@ -45,7 +48,10 @@ def check_further_headers(tally):
         tally.expect(f"VLAN tags {tags}", verdict_of(found), "right")
     frames = further_headers(ETHERNET)[0]
     found = [parts_of(line)[3].split(";")[0] for line in lines_of(run(capture(ETHERNET, frames), "--packets").stdout)]
-    tally.expect("what other frames of Ethernet are", found[1:], ["STP", "IS-IS", "MPLS"])
+    tally.expect("what other frames of Ethernet are", found[1:4], ["STP", "IS-IS", "MPLS"])
+    for link, text in ((CISCO_HDLC, "link type 104"), (COOKED, "link type 253"), (COOKED2, "link type 253"), (PPP_OVER_ETHERNET, "PPPoE discovery")):
+        done = run(capture(link, further_headers(link)[0][-1:]), "--packets")
+        tally.expect(f"what another frame of link type {link} is", [parts_of(line)[3] for line in lines_of(done.stdout)], [text])
 
 
 def check_tunnels(tally):

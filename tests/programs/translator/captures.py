@@ -4,7 +4,7 @@ import struct
 
 from .. import build, kinds
 from ..program import TOP
-from .model import HEADER_LEN, ICMPV4, TCP, UDP, Packet, Refused, Table, number_at, translated
+from .model import CHECKSUM_AT, ICMPV4, TCP, UDP, Packet, Refused, Table, number_at, translated
 
 
 class Capture:
@@ -74,7 +74,8 @@ def packet_place(link, frame):
         start = {build.RAW: 0, build.PPP_OVER_ETHERNET: 8, build.PFLOG: 64, build.IPNET: 24, build.NFLOG: 28}.get(link, 4)
         if len(frame) < start:
             raise cut
-        return start, session_end(frame, 0) if link == build.PPP_OVER_ETHERNET else len(frame)
+        ends = {build.PPP_OVER_ETHERNET: lambda: session_end(frame, 0), build.NFLOG: lambda: attribute_end(frame, start - 4)}
+        return start, ends.get(link, lambda: len(frame))()
     start, ether_type_at = {build.ETHERNET: (14, 12), build.COOKED: (16, 14), build.COOKED2: (20, 0), build.CISCO_HDLC: (4, 2),
                             build.IEEE80211: (34, 32), build.RADIOTAP: (46, 44), build.PRISM: (178, 176), build.AVS: (98, 96),
                             build.PPI: (42, 40), build.INFINIBAND: (44, 40), build.PKTAP: (122, 120)}.get(link, (None, None))
@@ -102,6 +103,12 @@ def session_end(frame, start):
     if short_at(frame, start + 4) < 2:
         raise Refused("no IP packet")
     return min(start + 6 + short_at(frame, start + 4), len(frame))
+
+
+def attribute_end(frame, start):
+    """The end of the NFLOG attribute at this place, in the byte order in which its type is 9."""
+    order = "<" if frame[start + 2] == 9 else ">"
+    return min(start + struct.unpack(order + "H", frame[start:start + 2])[0], len(frame))
 
 
 def model(data, table):
@@ -188,7 +195,7 @@ def is_right(data):
         return None
     of_header = packet.version == 6 or build.ones_complement_sum(data[:(data[0] & 15) * 4]) == 0xFFFF
     known = packet.protocol in (UDP, TCP) or packet.is_icmp()
-    if not known or packet.end > len(data) or len(packet.message) < HEADER_LEN[packet.protocol]:
+    if not known or packet.end > len(data) or len(packet.message) < max(8, CHECKSUM_AT[packet.protocol] + 2):
         return of_header, None
     if packet.has_source_route or packet.is_part or packet.protocol == UDP and number_at(packet.message, 6) == 0:
         return of_header, None

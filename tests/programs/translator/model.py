@@ -7,7 +7,11 @@ import struct
 
 UDP, TCP, ICMPV4, ICMPV6 = 17, 6, 1, 58
 CHECKSUM_AT = {UDP: 6, TCP: 16, ICMPV4: 2, ICMPV6: 2}
-HEADER_LEN = {UDP: 8, TCP: 20, ICMPV4: 8, ICMPV6: 8}
+NEEDED_LEN = 8
+QUERIES = {4: (0, 8, 13, 14, 15, 16, 17, 18), 6: (128, 129)}
+REDIRECT = 5
+# Protocols and extension headers whose packets are not translated, since they cover or contain addresses.
+COVERED = {4: (33, 51, 58, 112, 136, 139), 6: (0, 1, 33, 43, 44, 51, 60, 89, 103, 112, 135, 136, 139, 140)}
 
 
 class Table:
@@ -53,7 +57,7 @@ class Refused(Exception):
 def has_source_route(options):
     while options and options[0] != 0:
         if options[0] in (131, 137):
-            return len(options) > 1 and 2 <= options[1] <= len(options)
+            return True
         length = 1 if options[0] == 1 else options[1] if len(options) > 1 else 0
         if not (options[0] == 1 or 2 <= length <= len(options)):
             return False
@@ -109,35 +113,39 @@ class Packet:
     def is_icmp(self):
         return self.protocol == (ICMPV4 if self.version == 4 else ICMPV6)
 
-    def is_echo(self):
-        return self.message[0] in ((8, 0) if self.version == 4 else (128, 129)) and self.message[1] == 0
+    def is_query(self):
+        return self.message[0] in QUERIES[self.version]
 
     def quoted(self):
         """What an ICMP error quotes, or None."""
-        if self.is_later or not self.is_icmp() or len(self.message) < 8 or self.is_echo():
+        if self.is_later or not self.is_icmp() or len(self.message) < 8 or self.is_query():
             return None
         kind, after = self.message[0], self.message[8:]
         if self.version == 4:
             counted = 4 * self.message[5] if kind in (3, 11, 12) else 0
-            return (after[:counted or None]) if kind in (3, 4, 5, 11, 12) else None
+            return after[:counted if counted >= 128 else None] if kind in (3, 4, 5, 11, 12) else None
         counted = 8 * self.message[4] if kind in (1, 3) else 0
-        return (after[:counted or None]) if kind in (1, 2, 3, 4) else None
+        return after[:counted if counted >= 128 else None] if kind < 128 else None
 
-    def refuse(self):
+    def has_ports(self):
+        return self.protocol in (UDP, TCP) or self.is_icmp()
+
+    def refuse(self, new):
         """Raises where the packet can't be translated."""
         if self.has_source_route:
             raise Refused("a source route")
-        if self.protocol not in (UDP, TCP) and not self.is_icmp():
+        if not self.has_ports() and (new[2:] != (None, None) or self.protocol in COVERED[self.version]):
             raise Refused("another protocol, or IPv6 extension headers")
 
     def refuse_message(self):
         """Raises where its message can't be translated."""
-        if self.is_later:
+        if self.is_later or not self.has_ports():
             return
-        if len(self.message) < HEADER_LEN[self.protocol]:
+        if len(self.message) < NEEDED_LEN:
             raise Refused("the transport header is cut off")
-        if self.is_icmp() and not self.is_echo() and self.quoted() is None:
-            raise Refused("an ICMP message that is no echo message and no error")
+        is_redirect = self.version == 4 and self.message[0] == REDIRECT
+        if self.is_icmp() and not self.is_query() and (is_redirect or self.quoted() is None):
+            raise Refused("an ICMP message that is no query and no error, or a redirect")
 
 
 def updated(checksum, old, new):
@@ -163,7 +171,7 @@ def translated_flow(packet, new):
     source, destination = new[0] or packet.addresses[0], new[1] or packet.addresses[1]
     old_addresses, new_addresses = b"".join(packet.addresses), source + destination
     message = packet.message
-    if not packet.is_later:
+    if not packet.is_later and packet.has_ports():
         for place, port in ((0, new[2]), (2, new[3])):
             message = with_number(message, place, port) if port is not None else message
         at = CHECKSUM_AT[packet.protocol]
@@ -215,12 +223,12 @@ def translated(data, table):
         new = inner
     if all(value is None for value in new):
         return data
-    packet.refuse()
+    packet.refuse(new)
     packet.refuse_message()
     if quoted is None:
         return translated_flow(packet, new)
     try:
-        quoted.refuse()
+        quoted.refuse(new)
     except Refused:
         raise Refused("an ICMP error about a packet that can't be translated") from None
     return translated_error(packet, new, quoted)

@@ -67,8 +67,8 @@ def check_against_tcprewrite(tally):
         theirs = after.read_bytes()
     frames = [[frame[14:] for _, _, frame in Capture(one).frames()] for one in (data, ours, theirs)]
     differences = collections.Counter(kind_of_difference(*three) for three in zip(*frames, strict=True))
-    # The packets that stay are ICMP messages that are no echo messages, errors about a packet with other addresses, and a packet of GRE.
-    tally.expect("packets of tcprewrite", dict(differences), {"the same": 7, "a wrong checksum, which tcprewrite corrects": 3, "a packet that stays": 8})
+    # The packets that stay are errors about a packet with other addresses, a redirect, and an ICMP message that is no query and no error.
+    tally.expect("packets of tcprewrite", dict(differences), {"the same": 10, "a wrong checksum, which tcprewrite corrects": 3, "a packet that stays": 5})
 
 
 def kind_of_difference(was, mine, other):

@@ -15,8 +15,8 @@ def check_arguments(tally):
     """Arguments that are refused, by name, and what help and version write."""
     data = build.capture(build.ETHERNET, [])
     refused = {
-        "10.0.0.0/8": "not of the form OLD=NEW", "10.0.0.0/8=": "no IPv4 or IPv6 address", "10.0.0/8=10.0.0.0/8": "no IPv4 or IPv6 address",
-        "10.0.0.0/33=10.0.0.0/33": "no number from 0 to 32", "::/129=::/129": "no number from 0 to 32", "10.0.0.0/x=10.0.0.0/8": "no number from 0",
+        "10.0.0.0/8": "not of the form OLD=NEW", "10.0.0.0/8=": "not an IPv4 or IPv6 address", "10.0.0/8=10.0.0.0/8": "not an IPv4 or IPv6 address",
+        "10.0.0.0/33=10.0.0.0/33": "not a number from 0 to 32", "::/129=::/129": "not a number from 0 to 32", "10.0.0.0/x=10.0.0.0/8": "not a number from 0",
         "10.0.0.1/8=10.0.0.0/8": "bits other than 0 after its prefix", "10.0.0.0/8=10.0.0.1/24": "bits other than 0 after its prefix",
         "10.0.0.0/8=::/8": "different IP versions", "10.0.0.0/16=10.0.0.0/8": "shorter than the old prefix", "::1=::/127": "shorter than the old prefix",
     }
@@ -25,7 +25,7 @@ def check_arguments(tally):
             done = run(data, f"--{option}", text)
             tally.expect(text, (done.returncode, done.stdout, f"'{text}' for '--{option} " in done.stderr.decode(), reason in done.stderr.decode()),
                          (2, b"", True, True))
-    for text, reason in {"80": "OLD=NEW", "80=65536": "no number from 0 to 65535", "x=80": "no number", "=1": "no number"}.items():
+    for text, reason in {"80": "OLD=NEW", "80=65536": "not a number from 0 to 65535", "x=80": "not a number", "=1": "not a number"}.items():
         for option in ("source-port", "destination-port"):
             done = run(data, f"--{option}", text)
             tally.expect(text, (done.returncode, done.stdout, reason in done.stderr.decode()), (2, b"", True))

@@ -1,5 +1,5 @@
-//! Every length, data offset, byte 12, option kind and option size of a small world, beside plain functions of what TCP headers of
-//! that shape are.
+//! Reads TCP headers of every small length, data offset and byte 12, and options of every kind and size. Compares the results with plain
+//! functions, which were written from the format tables.
 
 use super::TcpOptionElement::{
     MaximumSegmentSize, Noop, SelectiveAcknowledgement, SelectiveAcknowledgementPermitted,
@@ -16,7 +16,7 @@ use etherparse_transport::{
 };
 use std::process::Abort;
 
-/// Sixty bytes that are all different but for byte 12.
+/// Sixty bytes that all differ, except byte 12.
 fn header_bytes(byte_12: u8) -> [u8; 60] {
     [
         1, 2, 3, 4, 5, 6, 7, 8, 9, 10, 11, 12, byte_12, 14, 15, 16, 17, 18, 19, 20, 21, 22, 23, 24,
@@ -25,7 +25,7 @@ fn header_bytes(byte_12: u8) -> [u8; 60] {
     ]
 }
 
-/// The length of the header at the front of `len` bytes.
+/// Returns the length of the header at the front of `len` bytes.
 fn header_len(len: usize, data_offset: u8) -> Result<usize, HeaderSliceError> {
     if len < 20 {
         return Err(too_short(20, len));
@@ -50,7 +50,7 @@ fn too_short(required_len: usize, len: usize) -> HeaderSliceError {
     })
 }
 
-/// Whether the header has the fields of `header_bytes` and these options. The flags of its byte 13, 0E, are syn, rst and psh.
+/// Whether the header has the fields of `header_bytes` and these options. Its byte 13, 0E, has the flags syn, rst and psh.
 fn has_fields(header: &TcpHeader, ns: bool, options: &[u8]) -> bool {
     header.source_port == 0x0102
         && header.destination_port == 0x0304
@@ -65,7 +65,7 @@ fn has_fields(header: &TcpHeader, ns: bool, options: &[u8]) -> bool {
         && header.options() == options
 }
 
-/// The header is read from the slice by both calls and by the struct of its bytes, and is written as it was.
+/// Tests that both calls, and the struct of the bytes, read the same header, and that it is written as it was read.
 fn expect_accepted(rt: &impl Abort, slice: &[u8], header_len: usize) {
     let (front, after) = expect_some(rt, slice.split_at_checked(header_len));
     let (header, rest) = expect_ok(rt, TcpHeader::from_slice(slice));
@@ -76,13 +76,13 @@ fn expect_accepted(rt: &impl Abort, slice: &[u8], header_len: usize) {
     expect_read(rt, slice, &header, after);
 }
 
-/// The header has the fields of `header_bytes` and the options of this header.
+/// Tests that the header has the fields of `header_bytes` and these options.
 fn expect_fields(rt: &impl Abort, header: &TcpHeader, ns: bool, front: &[u8]) {
     let has_fields = has_fields(header, ns, bytes_from(rt, front, 20));
     expect_at(rt, header, &has_fields, &true);
 }
 
-/// The slice of the header at the front of these bytes is the front.
+/// Tests that the slice of these bytes keeps only the header.
 fn expect_slice(rt: &impl Abort, bytes: &[u8], front: &[u8]) {
     expect_bytes(
         rt,
@@ -91,14 +91,14 @@ fn expect_slice(rt: &impl Abort, bytes: &[u8], front: &[u8]) {
     );
 }
 
-/// The other call reads the header and these bytes after it too.
+/// Tests that the other call also reads the header, and returns these bytes after it.
 fn expect_read(rt: &impl Abort, bytes: &[u8], header: &TcpHeader, after: &[u8]) {
     let (read, rest) = expect_ok(rt, TcpHeader::read_from_slice(bytes));
     expect_equal(rt, &read, header);
     expect_bytes(rt, rest, after);
 }
 
-/// Each call refuses the slice with this error.
+/// Tests that each call refuses the slice with this error.
 fn expect_refused(rt: &impl Abort, slice: &[u8], data_offset: u8, expected: &HeaderSliceError) {
     let key = &(data_offset, slice.len());
     expect_error(rt, key, TcpHeader::from_slice(slice).err(), expected);
@@ -106,7 +106,7 @@ fn expect_refused(rt: &impl Abort, slice: &[u8], data_offset: u8, expected: &Hea
     expect_error(rt, key, TcpHeaderSlice::from_slice(slice).err(), expected);
 }
 
-/// The call returned this error. The key is the data offset and the length.
+/// Tests that the call returned this error. The key is the data offset and the length.
 fn expect_error(
     rt: &impl Abort,
     key: &(u8, usize),
@@ -116,10 +116,10 @@ fn expect_error(
     expect_at(rt, key, &expect_some(rt, error), expected);
 }
 
-/// How many slices are short, have a data offset that is too small, are cut off, and are accepted.
+/// The numbers of slices with each result: too short, a data offset that is too small, cut off, and accepted.
 type Counts = (usize, usize, usize, usize);
 
-/// The counts after a slice of this length with this outcome.
+/// Returns the counts after a slice of this length with this result.
 fn counted(counts: Counts, len: usize, outcome: &Result<usize, HeaderSliceError>) -> Counts {
     let (short, offset_too_small, cut_off, accepted) = counts;
     match outcome {
@@ -145,7 +145,7 @@ fn counted(counts: Counts, len: usize, outcome: &Result<usize, HeaderSliceError>
     }
 }
 
-/// Reads the header of this data offset at the front of `len` bytes, and returns what is expected of it.
+/// Reads the header with this data offset at the front of `len` bytes, and returns the expected result.
 fn expect_outcome(rt: &impl Abort, len: usize, data_offset: u8) -> Result<usize, HeaderSliceError> {
     let bytes = header_bytes(data_offset.saturating_mul(16));
     let slice = bytes_to(rt, &bytes, len);
@@ -168,7 +168,7 @@ fn every_length_and_data_offset_is_read_or_refused(rt: HostRuntime) {
     expect_equal(&rt, &counts, &(320, 205, 220, 231));
 }
 
-/// The header with this byte 12 is written without its unused bits, and the slice keeps the bytes as they came.
+/// Tests that a header with this byte 12 is written without its reserved bits, and that the slice keeps the received bytes.
 fn expect_byte_12(rt: &impl Abort, byte_12: u8) {
     let bytes = header_bytes(byte_12);
     let header_len = usize::from(byte_12 >> 4) * 4;
@@ -183,7 +183,7 @@ fn expect_byte_12(rt: &impl Abort, byte_12: u8) {
     expect_header_of_slice(rt, &bytes, header);
 }
 
-/// The header of the slice of these bytes is this one.
+/// Tests that the slice of these bytes contains this header.
 fn expect_header_of_slice(rt: &impl Abort, bytes: &[u8], header: &TcpHeader) {
     let slice = expect_ok(rt, TcpHeaderSlice::from_slice(bytes));
     expect_equal(rt, &slice.to_header(), header);
@@ -199,7 +199,7 @@ fn every_byte_12_loses_its_unused_bits(rt: HostRuntime) {
     expect_equal(&rt, &accepted, &176);
 }
 
-/// What the iteration gives first over `kind`, `size` and 38 zeros.
+/// Returns the expected first item of the options `kind`, `size` and 38 zeros.
 fn first_item(kind: u8, size: u8) -> Option<Result<TcpOptionElement, TcpOptionReadError>> {
     let absent = [None, None, None];
     let element = match (kind, size) {
@@ -219,10 +219,10 @@ fn first_item(kind: u8, size: u8) -> Option<Result<TcpOptionElement, TcpOptionRe
     Some(Ok(element))
 }
 
-/// An item of the iteration, or none.
+/// An item of the options, or the end of the list.
 type Item = Option<Result<TcpOptionElement, TcpOptionReadError>>;
 
-/// The counts of ends, elements, wrong sizes and unknown kinds after this item.
+/// Returns the counts of ends, elements, wrong sizes and unknown kinds after this item.
 fn counted_item(counts: Counts, item: &Item) -> Counts {
     let (ends, elements, sizes, unknown) = counts;
     match item {
@@ -238,7 +238,7 @@ fn counted_item(counts: Counts, item: &Item) -> Counts {
     }
 }
 
-/// How many bytes of the forty are read: an element, or all of them.
+/// Returns how many of the forty bytes are read: the bytes of an element, or all bytes.
 fn read_len(item: &Item, kind: u8, size: u8) -> usize {
     match item {
         Some(Ok(_)) if kind == 1 => 1,
@@ -247,7 +247,7 @@ fn read_len(item: &Item, kind: u8, size: u8) -> usize {
     }
 }
 
-/// Reads the first item of this kind and size, and returns what is expected of it.
+/// Reads the first option, which has this kind and size, and returns the expected item.
 fn expect_first_item(rt: &impl Abort, kind: u8, size: u8) -> Item {
     let mut bytes = [0; 40];
     bytes[0] = kind;
@@ -271,11 +271,11 @@ fn every_option_kind_and_size_is_read_or_refused(rt: HostRuntime) {
     expect_equal(&rt, &counts, &(256, 264, 1272, 63744));
 }
 
-/// Kinds and sizes of options.
+/// The kinds of options that have a length, with their sizes.
 #[rattlefmt::skip]
 static WHOLE: [(u8, u8); 8] = [(2, 4), (3, 3), (4, 2), (5, 10), (5, 18), (5, 26), (5, 34), (8, 10)];
 
-/// The option is cut off after `len` bytes. Of kind 5 the first two bytes are required, then as many as the size.
+/// Tests an option that is cut off after `len` bytes. An option of kind 5 requires two bytes, and then as many as its size.
 fn expect_cut_off(rt: &impl Abort, kind: u8, size: u8, len: usize) {
     let mut bytes = [0; 40];
     bytes[0] = kind;

@@ -1,4 +1,5 @@
-//! Chains of replacements in packets of every small length, beside sums over the changed packets.
+//! Replaces parts of packets of every small length in chains, and updates their checksums. Compares the results with sums of the changed
+//! packets.
 
 use crate::expect::{bytes_to, expect_at, expect_equal, expect_ok, expect_some};
 use etherparse_transport::checksum::Sum16BitWords;
@@ -7,7 +8,7 @@ use etherparse_transport::checksum_change::{
 };
 use std::process::Abort;
 
-/// Numbers that look random, the same ones in each run (a linear congruential generator).
+/// Numbers that look random, and are the same in each run (a linear congruential generator).
 #[derive(Drop)]
 struct Numbers {
     state: u32,
@@ -22,7 +23,7 @@ impl Numbers {
         (self.state >> 16) as usize
     }
 
-    /// Sixty bytes: of kind 0 zeros, of kinds 1 and 2 zeros and all ones, of others any.
+    /// Returns sixty bytes. Kind 0 has zeros, kinds 1 and 2 have zeros and FF, and all other kinds have any bytes.
     fn bytes(&mut self, kind: usize) -> [u8; 60] {
         let mut bytes = [0; 60];
         for byte in bytes.iter_mut() {
@@ -37,7 +38,7 @@ impl Numbers {
     }
 }
 
-/// A packet after some replacements, the change that they are, and the UDP checksum that was updated at each.
+/// A packet after some replacements, the change by these replacements, and the UDP checksum that was updated after each of them.
 #[derive(Drop)]
 struct Chain {
     packet: Vec<u8>,
@@ -48,7 +49,7 @@ struct Chain {
 }
 
 impl Chain {
-    /// Replaces a part at an even place by another, whose length is odd where that of the part is.
+    /// Replaces a part at an even place. The new part has an odd length if the old part has one.
     fn replace(&mut self, rt: &(impl Abort + AllocGlobal), numbers: &mut Numbers, kind: usize) {
         let place = numbers.next() % (self.packet.len() / 2 + 1) * 2;
         let (before, rest) = expect_some(rt, self.packet.split_at_checked(place));
@@ -70,7 +71,7 @@ impl Chain {
     }
 }
 
-/// The three parts of a packet, one after the other.
+/// Returns the three parts of a packet in their order.
 fn joined(rt: &(impl Abort + AllocGlobal), before: &[u8], part: &[u8], after: &[u8]) -> Vec<u8> {
     let mut whole = expect_ok(rt, before.to_vec(rt.alloc()));
     expect_ok(rt, whole.extend_from_slice(part));
@@ -78,7 +79,7 @@ fn joined(rt: &(impl Abort + AllocGlobal), before: &[u8], part: &[u8], after: &[
     whole
 }
 
-/// The change with one replacement more, by the call for its length.
+/// Returns the change with one more replacement, by the call for its length.
 fn extended(change: ChecksumChange, old: &[u8], new: &[u8]) -> ChecksumChange {
     match (old, new) {
         ([a, b], [c, d]) => change.replace_2bytes([*a, *b], [*c, *d]),
@@ -87,7 +88,7 @@ fn extended(change: ChecksumChange, old: &[u8], new: &[u8]) -> ChecksumChange {
     }
 }
 
-/// A chain of 1 to 5 replacements in a packet of 0 to 60 bytes.
+/// Runs a chain of 1 to 5 replacements in a packet of 0 to 60 bytes.
 fn run_chain(
     rt: &(impl Abort + AllocGlobal),
     numbers: &mut Numbers,
@@ -108,7 +109,8 @@ fn run_chain(
     chain
 }
 
-/// The checksum of the chain is updated. Returns whether its packet has become all zeros. Then the update is 0, and the sum 65535.
+/// Tests the updated checksum of the chain. Returns whether the packet has become all zeros. Then the update is 0, and the right checksum
+/// is 65535.
 fn expect_updated(rt: &impl Abort, number: usize, chain: &Chain, sum: Sum16BitWords) -> bool {
     let new = Sum16BitWords::new()
         .add_slice(&chain.packet)
@@ -123,7 +125,7 @@ fn expect_updated(rt: &impl Abort, number: usize, chain: &Chain, sum: Sum16BitWo
     is_zeros
 }
 
-/// As UDP stores it, the update is right for packets of zeros too, and so is the way back.
+/// Tests the updated checksum of UDP, which is right for packets of zeros too, and the change back.
 fn expect_updated_udp(rt: &impl Abort, number: usize, chain: &Chain, sum: Sum16BitWords) {
     let udp = sum.to_ones_complement_with_no_zero();
     let new = Sum16BitWords::new().add_slice(&chain.packet);
@@ -133,10 +135,10 @@ fn expect_updated_udp(rt: &impl Abort, number: usize, chain: &Chain, sum: Sum16B
     expect_equal(rt, &chain.change.reversed().apply_udp(new), &udp);
 }
 
-/// How many parts were replaced, how many by a part of another length, and how many packets have become all zeros.
+/// The numbers of replaced parts, of parts with a new length, and of packets that have become all zeros.
 type Counts = (usize, usize, usize);
 
-/// Runs the chain of this number, and returns the counts after it.
+/// Runs the chain with this number, and returns the counts after it.
 fn expect_chain(
     rt: &(impl Abort + AllocGlobal),
     numbers: &mut Numbers,
@@ -168,7 +170,7 @@ fn chains_of_replacements_are_updated(rt: HostRuntime) {
     expect_equal(&rt, &counts, &(6044, 1786, 473));
 }
 
-/// Each part at an even place of one packet, also a part of an odd length.
+/// Replaces each part at an even place of a packet, also parts of an odd length.
 #[test]
 fn parts_of_every_length_are_replaced(rt: HostRuntime) {
     let mut packet = [0; 40];

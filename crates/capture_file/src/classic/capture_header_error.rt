@@ -4,7 +4,7 @@ use thiserror::Error;
 #[derive(Clone, Copy, Debug, PartialEq, Eq, Error)]
 pub enum CaptureHeaderError {
     /// The file is a pcapng file (draft-ietf-opsawg-pcapng, section 4.1). The reader of classic captures does not read this newer format.
-    #[error("The capture is in the form pcapng, which is not read.")]
+    #[error("The input is a pcapng file, which `CaptureReader` reads.")]
     Pcapng,
     /// The input ends within the header.
     #[error("The header of a capture has 24 bytes, and the input contains {len}.")]

@@ -12,17 +12,18 @@ use crate::reader::{CapturedPacket, NextPacket, OpenError, PcapngReader, TooLong
 use std::io::{self, Read};
 use streams::fill;
 
-/// A capture that is read packet by packet, whatever the form of its file.
+/// A reader of the packets of a capture, whatever the form of its file.
 #[derive(Clone, Debug, Drop)]
 pub enum CaptureReader {
-    /// A classic capture.
+    /// A reader of a classic capture.
     Classic(ClassicReader),
-    /// A pcapng file.
+    /// A reader of a pcapng file.
     Pcapng(PcapngReader),
 }
 
 impl CaptureReader {
-    /// Reads the header of a classic capture, or the first block of a pcapng file into the buffer. The inner error refuses the input.
+    /// Reads the header of a classic capture, or the first block of a pcapng file. It uses the buffer for the block. The inner error is the
+    /// reason why the input is refused.
     ///
     /// # Errors
     ///
@@ -47,11 +48,11 @@ impl CaptureReader {
         }
     }
 
-    /// Reads the next packet, whose captured bytes are then in the buffer.
+    /// Reads the next packet. Its captured bytes are then in the buffer.
     ///
     /// # Errors
     ///
-    /// The error of the first read that fails, and that of `PcapngReader::next_packet`.
+    /// The error of the first read that fails, and the errors of `PcapngReader::next_packet`.
     pub fn next_packet<R: Read>(
         &mut self,
         input: &mut R,
@@ -59,7 +60,7 @@ impl CaptureReader {
     ) -> io::Result<NextPacket>
         ensures reads { IfOk result (ReadsPacket self.old (R.remaining input.old) (R.remaining input.new) self.new buffer.new) }
         ensures within { IfOk result (IsNextWithin (length buffer.new)) }
-        // After an error, and if the next packet is cut off, the reader is at the start of the record or block with this packet.
+        // After an error, or if the next packet is cut off, the reader is at the start of the record or block of this packet.
         ensures fails { OnErr result (FailsToRead (length buffer.old) self.old (R.remaining input.old) (R.remaining input.new) self.new) }
         ensures cut_off { IfOk result (λ next. IfCutOff next (Seeks (length buffer.new) self.old (R.remaining input.old) self.new)) }
     {
@@ -69,7 +70,7 @@ impl CaptureReader {
         }
     }
 
-    /// Where the next record or block begins, in bytes from the start of the file. It counts to 2^64 - 1 at most.
+    /// Returns the place at which the next record or block begins, in bytes from the start of the file. The count stops at 2^64 - 1.
     pub fn offset(&self) -> u64
         ensures { result ≡ offset_of self.now }
     {
@@ -80,17 +81,17 @@ impl CaptureReader {
     }
 }
 
-/// A classic capture that is read packet by packet.
+/// A reader of the packets of a classic capture.
 #[derive(Clone, Debug, Drop)]
 pub struct ClassicReader {
-    /// Its header.
+    /// The header of the capture.
     pub header: CaptureHeader,
-    /// Where the next record begins, in bytes from the start of the file. It counts to 2^64 - 1 at most.
+    /// The place at which the next record begins, in bytes from the start of the file. The count stops at 2^64 - 1.
     pub offset: u64,
 }
 
 impl ClassicReader {
-    /// The reader of a capture whose header was read.
+    /// Returns the reader of a capture after its header.
     pub fn new(header: CaptureHeader) -> ClassicReader
         ensures { result ≡ begins_records header }
     {
@@ -98,7 +99,7 @@ impl ClassicReader {
         ClassicReader { header, offset }
     }
 
-    /// Reads the next packet, and its captured bytes into the front of the buffer.
+    /// Reads the next packet. Its captured bytes are then at the front of the buffer.
     ///
     /// # Errors
     ///

@@ -6,31 +6,32 @@ use crate::pcapng::{BlockHeader, InterfaceDescription, PacketBlock};
 use crate::{ByteOrder, LinkType, PacketTime};
 use capture_texts::block::{BODY_AT, SIMPLE_CAPTURED_AT, SIMPLE_PACKET, TIMED_CAPTURED_AT};
 
-/// The start of the captured bytes in a simple packet block, in bytes from the start of the block (draft-ietf-opsawg-pcapng, section 4.4).
+/// The place of the captured bytes in a simple packet block, in bytes from the start of the block (draft-ietf-opsawg-pcapng, section 4.4).
 const SIMPLE_START: usize = BODY_AT + SIMPLE_CAPTURED_AT;
 
-/// The start of the captured bytes in an enhanced or obsolete packet block (section 4.3 and appendix A).
+/// The place of the captured bytes in an enhanced or obsolete packet block, in bytes from the start of the block (section 4.3 and appendix
+/// A).
 const TIMED_START: usize = BODY_AT + TIMED_CAPTURED_AT;
 
-/// What a capture says of a packet, whatever the form of its file.
+/// The data that a capture contains about a packet, in one form for both forms of files.
 #[derive(Clone, Copy, Debug, PartialEq, Eq)]
 pub struct CapturedPacket {
-    /// What its bytes begin with, or the number of a link type that is not read.
+    /// The link type of the packet, or the number of a link type that is not read.
     pub link_type: Result<LinkType, u16>,
-    /// The byte order of the capture, or of the packet's section.
+    /// The byte order of the capture, or of the section of the packet.
     pub byte_order: ByteOrder,
-    /// When it was captured. None of a simple packet block, which doesn't say it.
+    /// The capture time. `None` for a simple packet block, which has no time.
     pub time: Option<PacketTime>,
-    /// Where its captured bytes begin in the buffer.
+    /// The place in the buffer at which the captured bytes begin.
     pub start: usize,
-    /// How many bytes of it were captured.
+    /// The number of captured bytes.
     pub captured_len: usize,
-    /// How many bytes it had.
+    /// The number of bytes that the packet had on its link.
     pub original_len: u32,
 }
 
 impl CapturedPacket {
-    /// The packet of a record of a classic capture, whose captured bytes are the first bytes of the buffer.
+    /// Returns the packet of a record of a classic capture. Its captured bytes are at the front of the buffer.
     pub fn from_record(capture: CaptureHeader, header: RecordHeader) -> CapturedPacket
         ensures { result ≡ packet_of_record capture header }
     {
@@ -44,7 +45,7 @@ impl CapturedPacket {
         }
     }
 
-    /// The packet of a block of a pcapng file, which was captured on this interface. The buffer has the whole block.
+    /// Returns the packet of a block of a pcapng file, which was captured on this interface. The whole block is in the buffer.
     pub fn from_block(
         header: BlockHeader,
         interface: InterfaceDescription,
@@ -67,7 +68,7 @@ impl CapturedPacket {
         }
     }
 
-    /// Whether the capture has only the first bytes of the packet.
+    /// Whether fewer bytes were captured than the packet had.
     pub fn is_cut(&self) -> bool
         ensures { result ≡ nat_lt self.now.captured_len self.now.original_len }
     {

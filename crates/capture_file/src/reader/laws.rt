@@ -7,31 +7,33 @@ ghost use Rattle.capture_file.specs.Places.{OffsetsArePlaces};
 ghost use Rattle.capture_file.specs.Readers.{LeavesOneReader};
 ghost use Rattle.capture_file.specs.declared.reader.capture_reader.CaptureReader.{CaptureReader};
 
-/// Any bytes after the beginning of a capture are packets and an end, in only one way. Packets that they begin with are the first of these.
+/// Any bytes after the beginning of a capture contain exactly one list of packets, and then the item that ends the list. If the bytes begin
+/// with some packets, these are the first packets of the list.
 pub fn one_list()
     ensures exists { (room : ℕ) (reader : CaptureReader) (bytes : List ℕ) → Exist (HasPackets room reader bytes) }
     ensures unique { (room : ℕ) (reader : CaptureReader) (bytes : List ℕ) → AreUnique (HasPackets room reader bytes) }
     ensures first { (room : ℕ) (reader : CaptureReader) (bytes : List ℕ) → AreFirstPackets room reader bytes }
 {}
 
-/// A capture that was cut anywhere after its beginning contains exactly the packets whose record or block ends at or before the cut.
+/// A capture that was cut at any place after its beginning contains exactly the packets whose record or block ends at or before the cut.
 pub fn cut_packets()
     ensures before { (room : ℕ) (reader : CaptureReader) → RemainAtCut (HasPackets room reader) (ArePacketsBeforeCut room reader) }
 {}
 
-/// The packets of a pcapng file are the packets in its blocks, each of an interface that its section describes before the packet.
+/// The packets of a pcapng file are the packets in its blocks. Each packet belongs to an interface that its section describes before the
+/// packet.
 pub fn packets_of_blocks()
     ensures read { (room : ℕ) → ReadPacketsOfBlocks room }
     ensures file { (room : ℕ) → FilesHavePacketsOfBlocks room }
 {}
 
-/// In a file of fewer than 2^64 bytes, the offset of a reader is the number of bytes before the next record or block.
+/// If a file has fewer than 2^64 bytes, the offset of a reader is the number of bytes before the next record or block.
 pub fn places()
     ensures { (room : ℕ) (file : List ℕ) → length file < 2 ^ 64 → OffsetsArePlaces room file }
 {}
 
-/// The reader after some packets of a capture is determined by its bytes, and so is the reader after the item that ends the packets. This
-/// reader contains the interfaces, the texts and the number of packets with a comment that were read up to there.
+/// The bytes of some packets determine the reader after these packets, and the reader after the item that ends the packets. This reader
+/// contains the interfaces, the texts and the number of packets with a comment that were read before that place.
 pub fn one_reader()
     ensures { (room : ℕ) (reader : CaptureReader) (bytes : List ℕ) → LeavesOneReader room reader bytes }
 {}

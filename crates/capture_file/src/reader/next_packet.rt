@@ -1,35 +1,35 @@
 use crate::reader::{CapturedPacket, PlacedPacketError};
 use crate::{LinkType, PacketTime};
 
-/// What comes next in a capture, whatever the form of its file.
+/// The next item of a capture, in one form for both forms of files.
 #[derive(Clone, Copy, Debug, PartialEq, Eq)]
 pub enum NextPacket {
-    /// A packet, whose captured bytes are in the buffer from its `start` on.
+    /// A packet. Its captured bytes are in the buffer, from its `start` on.
     Whole(CapturedPacket),
-    /// A packet that the buffer has no room for. It was read and not kept.
+    /// A packet that is longer than the buffer. It was skipped.
     TooLong(TooLongPacket),
-    /// No byte: the capture is read to its end.
+    /// The end of the capture.
     End,
-    /// The first bytes of a record or block, within which the capture ends.
+    /// The first bytes of a record or block. The capture ends within it.
     CutOff {
-        /// How many bytes the record or block has, as far as it can be said.
+        /// The length of the record or block in bytes. It is a lower bound if the capture ends before the length field is complete.
         required_len: usize,
-        /// How many bytes of it are there.
+        /// The number of bytes of the record or block that are present.
         len: usize,
     },
-    /// A block of a pcapng file that can't be read.
+    /// A block of a pcapng file that is refused.
     Refused(PlacedPacketError),
 }
 
-/// What is known of a packet that the buffer has no room for.
+/// The data that a capture contains about a packet that is longer than the buffer.
 #[derive(Clone, Copy, Debug, PartialEq, Eq)]
 pub struct TooLongPacket {
-    /// What its bytes begin with, or the number of a link type that is not read. None of a packet of a pcapng file.
+    /// The link type of the packet, or the number of a link type that is not read. `None` for a skipped pcapng block.
     pub link_type: Option<Result<LinkType, u16>>,
-    /// When it was captured. None of a packet of a pcapng file.
+    /// The capture time. `None` for a skipped pcapng block.
     pub time: Option<PacketTime>,
-    /// How many bytes of the buffer it needs: as many as were captured of it, or in a pcapng file as many as its block has.
+    /// The number of bytes that the buffer must have: the number of captured bytes, or the length of the block in a pcapng file.
     pub required_len: u32,
-    /// How many bytes it had. None of a packet of a pcapng file.
+    /// The number of bytes that the packet had on its link. `None` for a skipped pcapng block.
     pub original_len: Option<u32>,
 }

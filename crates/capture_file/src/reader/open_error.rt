@@ -2,13 +2,13 @@ use crate::classic::CaptureHeaderError;
 use crate::reader::PacketError;
 use thiserror::Error;
 
-/// Why a capture can't be opened.
+/// The reason why a capture can't be opened.
 #[derive(Clone, Copy, Debug, PartialEq, Eq, Error)]
 pub enum OpenError {
-    /// It doesn't begin as a pcapng file does, and its first bytes are refused as the header of a classic capture.
+    /// The input does not begin like a pcapng file, and its first bytes are refused as the header of a classic capture.
     #[error(transparent)]
     Classic(CaptureHeaderError),
-    /// It begins as a pcapng file does, and its first block is refused.
+    /// The input begins like a pcapng file, and its first block is refused.
     #[error(transparent)]
     Pcapng(PacketError),
 }

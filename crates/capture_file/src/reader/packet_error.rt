@@ -1,16 +1,16 @@
 use crate::pcapng::{BlockError, BodyError};
 use thiserror::Error;
 
-/// Why a block of a pcapng file can't be read.
+/// The reason why a block of a pcapng file is refused.
 #[derive(Clone, Copy, Debug, PartialEq, Eq, Error)]
 pub enum PacketError {
-    /// It is no block.
+    /// The bytes are not a block.
     #[error(transparent)]
     Block(BlockError),
-    /// Its body is refused.
+    /// The body of the block is refused.
     #[error(transparent)]
     Body(BodyError),
-    /// The buffer has no room for the block, and the packets after it can't be read without what it says.
+    /// The block is longer than the buffer, and later packets depend on it.
     #[error("The block has type {block_type:#x} and {total_len} bytes, for which the buffer has no room.")]
     TooLong {
         /// The type of the block: a section header or an interface description.
@@ -21,17 +21,17 @@ pub enum PacketError {
     /// The section has more interfaces than are kept.
     #[error("The section has more than {max} interfaces.")]
     Interfaces {
-        /// How many interfaces are kept.
+        /// The greatest number of interfaces that a reader keeps.
         max: usize,
     },
 }
 
-/// Why a block of a pcapng file can't be read, and where it begins.
+/// The reason why a block of a pcapng file is refused, and the place of the block.
 #[derive(Clone, Copy, Debug, PartialEq, Eq, Error)]
 #[error("At byte {offset} of the file: {error}")]
 pub struct PlacedPacketError {
-    /// Where the block begins, in bytes from the start of the file.
+    /// The place at which the block begins, in bytes from the start of the file.
     pub offset: u64,
-    /// Why it can't be read.
+    /// The reason why the block is refused.
     pub error: PacketError,
 }

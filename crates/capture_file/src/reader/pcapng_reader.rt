@@ -19,19 +19,19 @@ use capture_texts::block::{
 };
 use std::io::{self, ErrorKind, Read};
 
-/// A pcapng file that is read packet by packet.
+/// A reader of the packets of a pcapng file.
 #[derive(Clone, Debug, Drop)]
 pub struct PcapngReader {
-    /// The section that the next block is in.
+    /// The section of the next block.
     pub section: Section,
-    /// Where the next block begins, in bytes from the start of the file. It counts to 2^64 - 1 at most.
+    /// The place at which the next block begins, in bytes from the start of the file. The count stops at 2^64 - 1.
     pub offset: u64,
     /// The texts of the section, and the number of packets with a comment.
     pub texts: FileTexts,
 }
 
 impl PcapngReader {
-    /// Reads the bytes after the first bytes of the section header block that a pcapng file begins with.
+    /// Reads the section header block at the start of a pcapng file. `first` contains its first bytes, which were read before.
     pub(crate) fn open<R: Read>(
         input: &mut R,
         first: &[u8],
@@ -70,7 +70,7 @@ impl PcapngReader {
         )
     }
 
-    /// Reads blocks up to the next packet, whose captured bytes are then in the buffer.
+    /// Reads blocks up to the next packet. Its captured bytes are then in the buffer.
     ///
     /// # Errors
     ///
@@ -92,7 +92,8 @@ impl PcapngReader {
         Err(io::Error::from(ErrorKind::FileTooLarge))
     }
 
-    /// Reads the next block. `None` if the block contains no packet and is not refused, so that the search goes on after it.
+    /// Reads the next block. The result is `None` if the block contains no packet and is not refused. Then the caller reads the block after
+    /// it.
     fn read_step<R: Read>(
         &mut self,
         input: &mut R,
@@ -133,7 +134,7 @@ impl PcapngReader {
     }
 }
 
-/// What comes next where the buffer has no room for a block.
+/// Returns the next item if the next block is longer than the buffer. It is `None` if the block is skipped, since no packet needs it.
 fn next_by_too_long(offset: u64, header: BlockHeader) -> Option<NextPacket>
     ensures next { result ≡ next_by_too_long offset header }
     ensures within { (len : ℕ) → IfSome result (IsNextWithin len) }
@@ -158,20 +159,20 @@ fn next_by_too_long(offset: u64, header: BlockHeader) -> Option<NextPacket>
     }
 }
 
-/// How many interfaces of a section are kept; a section that describes more is refused.
+/// The greatest number of interfaces of a section. A section that describes more interfaces is refused.
 pub const MAX_INTERFACES: usize = 1024;
 
-/// A section of a pcapng file, as far as it was read: what its packets can't be read without.
+/// The part of a section of a pcapng file that its packets depend on, up to the next block.
 #[derive(Clone, Debug, Drop)]
 pub struct Section {
-    /// The byte order of its numbers.
+    /// The byte order of the numbers in the section.
     pub byte_order: ByteOrder,
-    /// Its interfaces, in their order.
+    /// The interfaces of the section, in their order.
     pub interfaces: ArrayVec<InterfaceDescription, MAX_INTERFACES>,
 }
 
 impl Section {
-    /// A section that has no interface so far.
+    /// Returns a section that describes no interface yet.
     pub fn new(byte_order: ByteOrder) -> Section
         ensures byte_order { result.byte_order ≡ byte_order }
         ensures interfaces { result.interfaces.items ≡ [] }
@@ -182,11 +183,12 @@ impl Section {
         }
     }
 
-    /// Takes in the next block of the file, and returns its packet if it is a packet block. A section header block begins a new section.
+    /// Updates the section with the next block of the file, and returns the packet of the block if it is a packet block. A section header
+    /// block begins a new section.
     ///
     /// # Errors
     ///
-    /// `Body` where the body of the block is refused, and `Interfaces` where the block describes an interface beyond `MAX_INTERFACES`.
+    /// `Body` if the body of the block is refused, and `Interfaces` if the block describes an interface beyond `MAX_INTERFACES`.
     pub fn take(&mut self, block: &Block<'_>) -> Result<Option<CapturedPacket>, PacketError>
         ensures takes { TakesBlock self.old block.now.header block.now.body.now self.new result }
         ensures within { IfOk result (λ given. IfSome given (IsWithin (8 + length block.now.body.now))) }

@@ -27,5 +27,8 @@ pub const MPLS: u16 = 0x8847;
 /// A stack of MPLS labels of a multicast packet (RFC 5332, section 3).
 pub const MPLS_MULTICAST: u16 = 0x8848;
 
+/// PPPoE discovery (RFC 2516, section 4).
+pub const PPPOE_DISCOVERY: u16 = 0x8863;
+
 /// A PPPoE session (RFC 2516, section 4).
 pub const PPPOE_SESSION: u16 = 0x8864;

@@ -20,6 +20,15 @@ const SNAP_IS_NEXT: u32 = 0xAA_AA_03;
 /// The LLC header that precedes a network layer protocol ID (ISO/IEC TR 9577).
 const NLPID_IS_NEXT: u32 = 0xFE_FE_03;
 
+/// The LLC header that precedes an IP packet (RFC 948).
+const IP_IS_NEXT: u32 = 0x06_06_03;
+
+/// The organization code of a SNAP header with an ether type (RFC 1042).
+const ETHERNET_CODE: u32 = 0;
+
+/// The organization code of a SNAP header with an ether type that a bridge writes (IEEE 802.1H).
+const BRIDGE_TUNNEL_CODE: u32 = 0x00_00_F8;
+
 /// The header that ends with the LLC header at this place, or with the SNAP header or the network layer protocol ID after it.
 pub(super) fn llc_at(frame: &[u8], place: usize) -> Result<FirstHeader, LinkHeaderCutOff>
     requires { place ≤ specs.max_llc_place }
@@ -31,6 +40,11 @@ pub(super) fn llc_at(frame: &[u8], place: usize) -> Result<FirstHeader, LinkHead
     match three_at(frame, place) {
         SNAP_IS_NEXT => snap_at(frame, place + LLC_LEN),
         NLPID_IS_NEXT => osi_at(frame, place + LLC_LEN),
+        IP_IS_NEXT => Ok(FirstHeader::Whole(LinkHeader {
+            len: place + LLC_LEN,
+            next: None,
+            end: None,
+        })),
         _ => Ok(FirstHeader::Whole(LinkHeader {
             len: place + LLC_LEN,
             next: Some(NetworkProtocol::Llc {
@@ -58,7 +72,7 @@ fn osi_at(frame: &[u8], place: usize) -> Result<FirstHeader, LinkHeaderCutOff>
     }))
 }
 
-/// The header that ends with the SNAP header at this place. If its organization code is 0, it contains an ether type.
+/// The header that ends with the SNAP header at this place. With two organization codes it contains an ether type.
 pub(super) fn snap_at(frame: &[u8], place: usize) -> Result<FirstHeader, LinkHeaderCutOff>
     requires { place ≤ specs.max_llc_place + 3 }
     ensures is { result ≡ specs.snap_at frame.now place }
@@ -68,7 +82,7 @@ pub(super) fn snap_at(frame: &[u8], place: usize) -> Result<FirstHeader, LinkHea
     let len = place + SNAP_LEN;
     expect_len(frame, len)?;
     let organization_code = three_at(frame, place);
-    if organization_code == 0 {
+    if matches!(organization_code, ETHERNET_CODE | BRIDGE_TUNNEL_CODE) {
         return Ok(FirstHeader::EtherType(EtherHeader {
             len,
             ether_type_at: place + 3,

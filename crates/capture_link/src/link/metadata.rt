@@ -81,16 +81,22 @@ pub(super) fn ipnet_header(frame: &[u8]) -> Result<FirstHeader, LinkHeaderCutOff
 pub(super) fn with_family(len: usize, family: u32, is_ip: bool) -> FirstHeader
     ensures { result ≡ specs.with_family len family is_ip }
 {
-    let next = if is_ip {
+    FirstHeader::Whole(LinkHeader {
+        len,
+        next: family_protocol(family, is_ip),
+        end: None,
+    })
+}
+
+/// The next network protocol with an address family, which is a family of IP or not. `None` is IP.
+pub(super) fn family_protocol(family: u32, is_ip: bool) -> Option<NetworkProtocol>
+    ensures { result ≡ specs.family_protocol family is_ip }
+{
+    if is_ip {
         None
     } else {
         Some(NetworkProtocol::AddressFamily(family))
-    };
-    FirstHeader::Whole(LinkHeader {
-        len,
-        next,
-        end: None,
-    })
+    }
 }
 
 /// The first header of an IEEE 802.11 frame after a Prism header, or after a header of AVS.

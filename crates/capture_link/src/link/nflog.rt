@@ -7,8 +7,8 @@ ghost use Rattle.capture_link.specs.Nflog as specs;
 ghost use Rattle.capture_link.specs.Nflog.{IsWithin};
 
 use crate::link::LinkHeaderCutOff;
-use crate::link::header::{FirstHeader, expect_len, little_endian_short_at, short_at};
-use crate::link::metadata::{padded, with_family};
+use crate::link::header::{FirstHeader, LinkHeader, expect_len, little_endian_short_at, short_at};
+use crate::link::metadata::{family_protocol, padded};
 use capture_texts::ByteOrder;
 use capture_texts::link_number::NFLOG;
 
@@ -97,21 +97,26 @@ fn attribute_at(order: ByteOrder, frame: &[u8], place: usize) -> Result<Attribut
         return Ok(Attribute::Last(FirstHeader::unread(value_at, NFLOG)));
     }
     if number_at(order, frame, place + 2) == PAYLOAD {
-        return Ok(Attribute::Last(payload_at(frame, place)));
+        return Ok(Attribute::Last(payload_at(frame, place, len)));
     }
     let end = place + padded(len);
     expect_len(frame, end)?;
     Ok(Attribute::Other(end))
 }
 
-/// The header up to the packet in the attribute at this place.
-fn payload_at(frame: &[u8], place: usize) -> FirstHeader
-    requires { place + 4 ≤ length frame.now }
-    ensures is { result ≡ specs.payload_at frame.now place }
+/// The header up to the packet in the attribute of this length at this place, and the end of the packet, unless the frame ends before it.
+fn payload_at(frame: &[u8], place: usize, len: u16) -> FirstHeader
+    requires { (place + 4 ≤ length frame.now) × (4 ≤ len) }
+    ensures is { result ≡ specs.payload_at frame.now place len }
     ensures fits { Fits frame.now result }
 {
+    let end = place + usize::from(len);
     let is_ip = matches!(frame[0], LINUX_IPV4 | LINUX_IPV6);
-    with_family(place + ATTRIBUTE_FIELDS_LEN, u32::from(frame[0]), is_ip)
+    FirstHeader::Whole(LinkHeader {
+        len: place + ATTRIBUTE_FIELDS_LEN,
+        next: family_protocol(u32::from(frame[0]), is_ip),
+        end: if end <= frame.len() { Some(end) } else { None },
+    })
 }
 
 /// The number in the two bytes at this place, in this byte order.

@@ -6,7 +6,7 @@ ghost use Rattle.capture_link.specs.Ppp as specs;
 
 use crate::NetworkProtocol;
 use crate::link::LinkHeaderCutOff;
-use crate::link::ether_type::PPPOE_SESSION;
+use crate::link::ether_type::{PPPOE_DISCOVERY, PPPOE_SESSION};
 use crate::link::header::{LinkHeader, expect_len, short_at};
 use crate::link::mpls::stack_at;
 
@@ -22,7 +22,11 @@ const PAYLOAD_LEN_AT: usize = 4;
 /// The Address and Control fields for all stations and unnumbered information (RFC 1662, section 3.1).
 const ADDRESS_AND_CONTROL: u16 = 0xFF03;
 
-/// The first two bytes of a PPPoE header: version 1, type 1, and code 0 (RFC 2516, section 4).
+/// The first byte of a PPPoE header: version 1 and type 1 (RFC 2516, section 4).
+const VERSION_AND_TYPE: u8 = 0x11;
+
+/// The first two bytes of the PPPoE header of a session: version 1, type 1, and code 0 (RFC 2516, section 6). Discovery packets have other
+/// codes (section 5).
 const SESSION_DATA: u16 = 0x1100;
 
 /// The lowest bit of the first byte of a Protocol field. It is set if the field has no second byte (RFC 1661, section 2).
@@ -51,6 +55,23 @@ pub(super) fn ppp_header(frame: &[u8]) -> Result<LinkHeader, LinkHeaderCutOff>
     } else {
         protocol_at(frame, 0)
     }
+}
+
+/// The header of a LINKTYPE_PPP_ETHER frame: a discovery packet, or the header up to the packet in a session.
+pub(super) fn pppoe_frame(frame: &[u8]) -> Result<LinkHeader, LinkHeaderCutOff>
+    ensures is { result ≡ specs.pppoe_frame frame.now }
+    ensures within { IfOk result (IsHeaderWithin frame.now) }
+    ensures len { IfErr result (λ error. error.len ≡ length frame.now) }
+{
+    expect_len(frame, SESSION_LEN)?;
+    if frame[0] != VERSION_AND_TYPE || short_at(frame, 0) == SESSION_DATA {
+        return session_at(frame, 0);
+    }
+    Ok(LinkHeader {
+        len: SESSION_LEN,
+        next: Some(NetworkProtocol::EtherType(PPPOE_DISCOVERY)),
+        end: None,
+    })
 }
 
 /// The header up to the packet in the payload after the PPPoE header at this place.

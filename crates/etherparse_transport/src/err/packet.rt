@@ -4,8 +4,10 @@ mod answer_echo_error;
 mod build_slice_write_error;
 mod translate_error;
 mod transport_checksum_error;
+mod write_checksum_error;
 
 pub use answer_echo_error::AnswerEchoError;
 pub use build_slice_write_error::BuildSliceWriteError;
 pub use translate_error::TranslateError;
 pub use transport_checksum_error::TransportChecksumError;
+pub use write_checksum_error::WriteChecksumError;

@@ -73,7 +73,7 @@ pub fn answer_echo(packet: &mut [u8], hop_limit: u8) -> Result<usize, AnswerEcho
 /// - `Fragment`, `NoEchoRequest` for another protocol, and `Options` if the message does not begin after 20 bytes.
 /// - `Len` if `Icmpv4Slice::from_slice` refuses the message, `NoEchoRequest` for another message, and `Checksum` if its checksum is wrong.
 /// - `HeaderChecksum` if the checksum of the IPv4 header is wrong (RFC 1122, section 3.2.1.2).
-/// - `RequestSource` if the source of the request is 0.0.0.0, 255.255.255.255 or a multicast address.
+/// - `RequestSource` if the source of the request is 0.0.0.0, 255.255.255.255, a loopback address or a multicast address.
 /// - `ReplySource` if the source of the reply is such an address.
 pub fn answer_echo_ipv4(
     packet: &mut [u8],
@@ -127,7 +127,7 @@ pub fn answer_echo_ipv4(
 /// - `NoEchoRequest` for an IPv4 packet.
 /// - `Fragment`, `NoEchoRequest` for another protocol, and `Options` if the message does not begin after 40 bytes.
 /// - `Len` if `Icmpv6Slice::from_slice` refuses the message, `NoEchoRequest` for another message, and `Checksum` if its checksum is wrong.
-/// - `RequestSource` if the source of the request is the unspecified address or a multicast address.
+/// - `RequestSource` if the source of the request is the unspecified address, ::1 or a multicast address.
 /// - `ReplySource` if the source of the reply is such an address.
 pub fn answer_echo_ipv6(
     packet: &mut [u8],
@@ -327,18 +327,26 @@ pub(crate) fn is_group_ipv6(address: [u8; 16]) -> bool
     address[0] == 0xff
 }
 
-/// Whether this is the address of one host: not unspecified, and no address of several hosts.
+/// The first byte of a loopback address of IPv4.
+const IPV4_LOOPBACK_START: u8 = 127;
+
+/// The loopback address of IPv6, ::1.
+const IPV6_LOOPBACK: u128 = 1;
+
+/// Whether this is the address of one host: not unspecified, no loopback address, and no address of several hosts.
 pub(crate) fn is_host_ipv4(address: [u8; 4]) -> bool
     ensures { result ≡ specs.is_host_ipv4 address }
 {
-    u32::from_be_bytes(address) != 0 && !is_group_ipv4(address)
+    u32::from_be_bytes(address) != 0
+        && (address[0] != IPV4_LOOPBACK_START && !is_group_ipv4(address))
 }
 
-/// Whether this is the address of one host: not unspecified, and no address of several hosts.
+/// Whether this is the address of one host: not unspecified, no loopback address, and no address of several hosts.
 pub(crate) fn is_host_ipv6(address: [u8; 16]) -> bool
     ensures { result ≡ specs.is_host_ipv6 address }
 {
-    u128::from_be_bytes(address) != 0 && !is_group_ipv6(address)
+    let number = u128::from_be_bytes(address);
+    number != 0 && (number != IPV6_LOOPBACK && !is_group_ipv6(address))
 }
 
 // ---- the reply

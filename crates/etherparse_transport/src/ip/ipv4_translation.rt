@@ -25,18 +25,39 @@ pub struct Ipv4Translation {
     pub source: Option<[u8; 4]>,
     /// The new destination address.
     pub destination: Option<[u8; 4]>,
-    /// The new source port of UDP and TCP, and the new identifier of an echo request (RFC 5508, section 3.1).
+    /// The new source port of UDP and TCP, and the new identifier of a request of ICMP (RFC 5508, section 3.1).
     pub source_port: Option<u16>,
-    /// The new destination port of UDP and TCP, and the new identifier of an echo reply.
+    /// The new destination port of UDP and TCP, and the new identifier of a reply of ICMP.
     pub destination_port: Option<u16>,
 }
 
 impl Ipv4Translation {
     ghost use Rattle.std.specs.Prelude.{◌≡◌};
-    ghost use Rattle.etherparse_transport.specs.Ipv4Translations.{ipv4_opposite};
+    ghost use Rattle.std.specs.Option.{option_map};
+    ghost use Rattle.etherparse_transport.specs.Ipv4Translations.{ipv4_of_quoted, ipv4_opposite};
+    ghost use Rattle.etherparse_transport.specs.Translations.{has_port};
+    ghost use Rattle.etherparse_transport.specs.WaysBack.{IsIpv4Translation};
+
+    /// Whether a port or an identifier is replaced.
+    pub(crate) fn has_port(&self) -> bool
+        ensures { result ≡ has_port self.now.source_port self.now.destination_port }
+    {
+        self.source_port.is_some() || self.destination_port.is_some()
+    }
+
+    /// The translation of the packet that an ICMP error is about: a passed translation, or otherwise the opposite of this one.
+    pub(crate) fn of_quoted(self, passed: Option<&Ipv4Translation>) -> Ipv4Translation
+        ensures passed { result ≡ ipv4_of_quoted self (option_map (λ passed. passed.now) passed.entry) }
+        ensures types { IsIpv4Translation self }
+    {
+        match passed {
+            Some(passed) => *passed,
+            None => self.opposite(),
+        }
+    }
 
     /// The translation of the packet that an ICMP error is about, which went in the other direction (RFC 5508, section 4).
-    pub(crate) fn opposite(&self) -> Ipv4Translation
+    fn opposite(&self) -> Ipv4Translation
         ensures { result ≡ ipv4_opposite self.now }
     {
         Ipv4Translation {

@@ -6,7 +6,7 @@ ghost use Rattle.ip_part.specs.Ip.{ipv4_header};
 ghost use Rattle.net_base.specs.IpHeaders.{BeginsWithIpv4Header};
 ghost use Rattle.word_sum.specs.Checksum.{Verifies};
 ghost use Rattle.etherparse_transport.specs.ReplyTo as specs;
-ghost use Rattle.etherparse_transport.specs.ReplyTo.{Answers, AnswersIcmpv4, AnswersIcmpv6, CarriesIcmp, GoesBack, IsOfType, IsReplyTo, MayAnswerIpv4, MayAnswerIpv6, icmp_number};
+ghost use Rattle.etherparse_transport.specs.ReplyTo.{Answers, AnswersIcmpv4, AnswersIcmpv6, CarriesIcmp, GoesBack, GoesToSource, IsOfType, IsReplyFromAny, IsReplyTo, MayAnswerIpv4, MayAnswerIpv6, icmp_number};
 
 use crate::ip::echo_reply::{is_group_ipv4, is_group_ipv6, is_host_ipv4, is_host_ipv6};
 use crate::ip::{IpAddresses, TransportInIp, transport_in_ip};
@@ -27,12 +27,13 @@ use crate::{Icmpv4Slice, Icmpv6Slice, Ipv4HeaderSlice, icmpv4, icmpv6, ip_number
 /// - `transport_slice` returns ICMP of that version for both. The first message is an echo request, of type 8 over IPv4 and 128 over IPv6.
 ///   The second is an echo reply, of type 0 and 129. Both codes are 0.
 /// - Identifier, sequence number and payload of both messages are equal.
-/// - The reply goes to the source of the request, and comes from its destination. If the request was sent to a multicast address or
-///   to 255.255.255.255, the reply comes from any address of one host. The addresses are those of `TransportInIp`.
+/// - The reply goes to the source of the request, and comes from its destination. If that is a multicast address or 255.255.255.255, the
+///   reply comes from the address of one host instead. The addresses are those of `TransportInIp`.
 /// - The checksum of the reply is right, and over IPv4 also the checksum of its IP header.
 ///
 /// The checksums of the request are not tested, since the caller sent it, and a network card may fill them in. The broadcast address of a
-/// subnet counts as the address of one host, since the length of its prefix is not known.
+/// subnet counts as the address of one host, since the length of its prefix is not known. A host replies to an anycast address from a unicast
+/// address (RFC 4443, section 4.2). `is_reply_from_any` recognises that reply.
 pub fn is_reply_to(request: &[u8], reply: &[u8]) -> bool
     ensures { IsTrue result ↔ IsReplyTo request.now reply.now }
 {
@@ -43,6 +44,24 @@ pub fn is_reply_to(request: &[u8], reply: &[u8]) -> bool
         return false;
     };
     goes_back(sent.addresses, received.addresses)
+        && answers(received.addresses, sent.payload, received.payload)
+        && has_right_header(reply)
+}
+
+/// Whether the second packet is the reply to the echo request in the first packet, from any host: `is_reply_to` without the destination of
+/// the request. A host replies to an anycast address from a unicast address, which the request does not name (RFC 4443, section 4.2).
+///
+/// The reply goes to the source of the request, and comes from the address of one host. Everything else is as for `is_reply_to`.
+pub fn is_reply_from_any(request: &[u8], reply: &[u8]) -> bool
+    ensures { IsTrue result ↔ IsReplyFromAny request.now reply.now }
+{
+    let Some(sent) = icmp_in(request) else {
+        return false;
+    };
+    let Some(received) = icmp_in(reply) else {
+        return false;
+    };
+    goes_to_source(sent.addresses, received.addresses)
         && answers(received.addresses, sent.payload, received.payload)
         && has_right_header(reply)
 }
@@ -109,6 +128,29 @@ fn goes_back(request: IpAddresses<'_>, reply: IpAddresses<'_>) -> bool
                 destination: Some(receiver),
             },
         ) => receiver == source && may_answer_ipv6(destination, responder),
+        _ => false,
+    }
+}
+
+/// Whether a packet with the second addresses goes from a host to where a packet with the first addresses came from.
+fn goes_to_source(request: IpAddresses<'_>, reply: IpAddresses<'_>) -> bool
+    ensures { IsTrue result ↔ GoesToSource (by_value request.entry) (by_value reply.entry) }
+{
+    match (request, reply) {
+        (
+            IpAddresses::Ipv4 { source, .. },
+            IpAddresses::Ipv4 {
+                source: responder,
+                destination: receiver,
+            },
+        ) => receiver == source && is_host_ipv4(*responder),
+        (
+            IpAddresses::Ipv6 { source, .. },
+            IpAddresses::Ipv6 {
+                source: responder,
+                destination: Some(receiver),
+            },
+        ) => receiver == source && is_host_ipv6(*responder),
         _ => false,
     }
 }

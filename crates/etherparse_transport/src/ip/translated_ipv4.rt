@@ -1,24 +1,25 @@
-ghost use Rattle.std.specs.Prelude.{◌≡◌, ◌≢◌, ◌↔◌, slice_index, ◌≤◌, ◌+◌, ◌%◌, IfErr, IfOk, None, Some, length, slice_range};
+ghost use Rattle.std.specs.Prelude.{◌≡◌, ◌≢◌, ◌↔◌, slice_index, ◌≤◌, ◌+◌, ◌%◌, ◌&&◌, ◌||◌, is_none, IfErr, IfOk, IfSome, None, Some, length, slice_range};
+ghost use Rattle.std.specs.Option.{option_map};
 ghost use Rattle.net_base.specs.Bytes.{IsBytes};
 ghost use Rattle.net_base.specs.IpHeaders.{ipv4_header_len, ipv4_header_of};
 ghost use Rattle.net_base.specs.Refusals.{RefusesExactly};
 ghost use Rattle.word_sum.specs.Checksum.{all_ones, total};
 ghost use Rattle.word_sum.specs.ChecksumChange.{added_value, removed_value};
-ghost use Rattle.etherparse_transport.specs.Translations.{IsAcceptedAlike, IsReadWith, with_bytes, with_quote};
-ghost use Rattle.etherparse_transport.specs.WaysBack.{IsIpv4Restored, IsIpv4Translation, ipv4_way_back};
+ghost use Rattle.etherparse_transport.specs.Translations.{IsAcceptedAlike, IsReadWith, has_port, with_bytes, with_quote};
+ghost use Rattle.etherparse_transport.specs.WaysBack.{IsIpv4Restored, IsIpv4RestoredWith, IsIpv4Translation, ipv4_flow_back, ipv4_quoted_back, ipv4_way_back};
 ghost use Rattle.etherparse_transport.specs.Ipv4Translations as specs;
 
 use crate::checksum_change::ChecksumChange;
 use crate::err::packet::TranslateError;
 use crate::ip::ip_header::{IPV4_CHECKSUM_AT, IPV4_DESTINATION_AT, IPV4_LEN, IPV4_SOURCE_AT};
 use crate::ip::message_place::{ICMP_LEN, Place, quoted_len, replace_bytes, translate_flow};
+use crate::ip::source_route::contain_source_route;
 use crate::ip::translated_message::{number, update_checksum};
 use crate::ip::{Ipv4Translation, proto_over, transport_in_ip_lax};
-use crate::{Ipv4Header, Ipv4HeaderSlice};
-use ip_part::has_source_route;
+use crate::{IpNumber, Ipv4Header, Ipv4HeaderSlice, Proto, ip_number};
 
-/// Translates an IPv4 packet in place, as an address translator does: new addresses, and new ports or a new identifier of an echo message
-/// (RFC 3022; RFC 5508). The other bytes of the packet stay, and the bytes after it.
+/// Translates an IPv4 packet in place, as an address translator does: new addresses, and new ports or a new identifier of an ICMP query (RFC
+/// 3022; RFC 5508). The other bytes of the packet stay, and the bytes after it.
 ///
 /// ```
 /// let outbound = Ipv4Translation { source: Some([203, 0, 113, 7]), source_port: Some(40_000), ..Default::default() };
@@ -26,11 +27,15 @@ use ip_part::has_source_route;
 /// ```
 ///
 /// The checksums of the IP header, of UDP, TCP and ICMP are updated by the replaced bytes (RFC 1624), so that a receiver accepts the packet
-/// exactly if it accepted it before. A UDP packet without a checksum, whose checksum is 0, remains without one, and no other becomes 0.
+/// exactly if it accepted it before. The only exception is an ICMPv4 echo reply of zeros, its checksum included: that checksum is wrong, and
+/// the new one is right. A UDP packet without a checksum, whose checksum is 0, remains without one, and no other becomes 0.
 ///
+/// - **ICMP queries**, with any code: echo, timestamp, information and address mask (RFC 5508, section 3).
+/// - **Other protocols**, such as GRE, ESP and SCTP, if no port is passed: only the addresses are replaced (RFC 3022, section 2.1).
 /// - **ICMP errors**: the packet that an error is about went in the other direction, and is translated with source and destination
 ///   exchanged, as far as the error contains it. Its checksums and the checksum of the error are updated too (RFC 5508, section 4).
-/// - **Fragments**: a first fragment has ports. In a later fragment only the addresses are replaced.
+/// - **Fragments**: a first fragment has ports. In a later fragment only the addresses are replaced. If the TCP header is divided, its checksum
+///   is in the second fragment and stays, so that the translated fragments together are refused.
 /// - **Packets that are cut off, or state no length**, are translated as `transport_in_ip_lax` reads them.
 ///
 /// # Errors
@@ -38,32 +43,99 @@ use ip_part::has_source_route;
 /// The call checks these cases, in this order, and changes nothing after an error:
 /// - `Ip` if `transport_in_ip_lax` refuses the packet.
 /// - `OtherVersion` for an IPv6 packet.
-/// - `SourceRoute` if the options contain a loose or strict source route, option 131 or 137, of any form. It would contain other addresses
-///   of the packet (RFC 791, section 3.1). Any other option stays as it is.
-/// - `Protocol` if the number in the header is not UDP, TCP or ICMPv4.
-/// - `HeaderCutOff` if the transport header is cut off: 8 bytes of UDP and ICMP, and 20 bytes of TCP.
-/// - `IcmpMessage` for an ICMP message that is no echo message and no error.
+/// - `SourceRoute` if the options contain a loose or strict source route, option 131 or 137, of any form and any length. It would contain other
+///   addresses of the packet (RFC 791, section 3.1). Any other option stays as it is.
+/// - `Protocol` if the number in the header is not UDP, TCP or ICMPv4, and a port is passed or the protocol covers the addresses: AH, DCCP,
+///   HIP, ICMPv6, UDP-Lite and VRRP.
+/// - `HeaderCutOff` if fewer than 8 bytes of UDP, TCP or ICMP are there.
+/// - `IcmpMessage` for an ICMP message that is no query and no error, and for a redirect, which contains another address.
 /// - `QuotedPacket` if one of the first four cases is true of the packet that an ICMP error is about.
 pub fn translate_ipv4(packet: &mut [u8], new: &Ipv4Translation) -> Result<(), TranslateError>
-    ensures refused { RefusesExactly result (specs.ipv4_refusal packet.old) }
+    ensures refused { RefusesExactly result (specs.ipv4_refusal new.now packet.old) }
     ensures unchanged { IfErr result (λ _. packet.new ≡ packet.old) }
     ensures translated { IfOk result (λ _. packet.new ≡ specs.ipv4_translated new.now packet.old) }
     // The packet is read as before, with the new addresses and the translated message.
     ensures read { IfOk result (λ _. IsReadWith packet.old packet.new (specs.ipv4_between new.now packet.old)
         (specs.ipv4_translated_message new.now packet.old)) }
-    // A receiver accepts the translated message exactly if it accepted the message, unless it has no checksum of its own.
+    // A receiver accepts the translated message exactly if it accepted the message, unless it has no checksum of its own, or is an ICMPv4 echo
+    // reply of zeros.
     ensures verifies { IfOk result (λ _. specs.IsIpv4Accepted new.now packet.old (specs.ipv4_translated_message new.now packet.old)) }
     ensures error { IfOk result (λ _. specs.IsIpv4ErrorAccepted packet.old (specs.ipv4_translated_message new.now packet.old)) }
     ensures header { IfOk result (λ _. specs.IsHeaderAccepted packet.old packet.new) }
     // The translated packet is accepted again. The way back restores the packet, exactly unless a checksum is lost (RFC 1624), or an error
     // loses a replaced address that the packet in it does not have.
-    ensures again { IfOk result (λ _. specs.ipv4_refusal packet.new ≡ None) }
+    ensures again { IfOk result (λ _. specs.ipv4_refusal new.now packet.new ≡ None) }
     ensures there_and_back { IfOk result (λ _. (specs.ipv4_translated (ipv4_way_back new.now packet.old) packet.new ≡ packet.old) ↔
         IsIpv4Restored new.now packet.old) }
 {
-    let place = ipv4_place(packet)?;
+    translate_ipv4_by(packet, new, None)
+}
+
+/// Translates an IPv4 packet as `translate_ipv4` does, with a translation of its own for the packet that an ICMP error is about. It names
+/// source and destination of that packet, and so the other direction (RFC 5508, section 4). If a router behind the translator sent the error,
+/// its address has another mapping than the destination of the packet.
+///
+/// ```
+/// let new = Ipv4Translation { source: Some(router), ..Default::default() };
+/// let quoted = Ipv4Translation { destination: Some(host), destination_port: Some(40_000), ..Default::default() };
+/// ip::translate_ipv4_with_quoted(&mut packet, &new, &quoted)?;
+/// ```
+///
+/// A packet that is no ICMP error is translated by `new` alone.
+///
+/// # Errors
+///
+/// The errors of `translate_ipv4`, where a port of `quoted` counts for the packet that an ICMP error is about.
+pub fn translate_ipv4_with_quoted(
+    packet: &mut [u8],
+    new: &Ipv4Translation,
+    quoted: &Ipv4Translation,
+) -> Result<(), TranslateError>
+    ensures refused { RefusesExactly result (specs.ipv4_refusal_with new.now quoted.now packet.old) }
+    ensures unchanged { IfErr result (λ _. packet.new ≡ packet.old) }
+    ensures translated { IfOk result (λ _. packet.new ≡ specs.ipv4_translated_with new.now quoted.now packet.old) }
+    // The packet is read as before, with the new addresses and the translated message.
+    ensures read { IfOk result (λ _. IsReadWith packet.old packet.new (specs.ipv4_between new.now packet.old)
+        (specs.ipv4_message_of_both new.now quoted.now packet.old)) }
+    // A receiver accepts the translated message exactly if it accepted the message, unless it has no checksum of its own.
+    ensures verifies { IfOk result (λ _. specs.IsIpv4Accepted new.now packet.old (specs.ipv4_message_of_both new.now quoted.now packet.old)) }
+    ensures error { IfOk result (λ _. specs.IsIpv4ErrorAccepted packet.old (specs.ipv4_message_of_both new.now quoted.now packet.old)) }
+    ensures header { IfOk result (λ _. specs.IsHeaderAccepted packet.old packet.new) }
+    // The translated packet is accepted again.
+    ensures again { IfOk result (λ _. specs.ipv4_refusal_with new.now quoted.now packet.new ≡ None) }
+    // The ways back of both translations restore the packet, exactly unless a checksum is lost (RFC 1624).
+    ensures there_and_back { IfOk result (λ _. (specs.ipv4_translated_with (ipv4_flow_back new.now packet.old)
+        (ipv4_quoted_back (specs.ipv4_quoted packet.old) quoted.now) packet.new ≡ packet.old) ↔ IsIpv4RestoredWith packet.old) }
+{
+    translate_ipv4_by(packet, new, Some(quoted))
+}
+
+/// The translation of an IPv4 packet, and of the packet that it is about if it is an ICMP error.
+#[inline(always)]
+fn translate_ipv4_by(
+    packet: &mut [u8],
+    new: &Ipv4Translation,
+    passed: Option<&Ipv4Translation>,
+) -> Result<(), TranslateError>
+    ensures refused { RefusesExactly result (specs.ipv4_refusal_with new.now (specs.ipv4_of_quoted new.now (option_map (λ passed. passed.now) passed.entry)) packet.old) }
+    ensures unchanged { IfErr result (λ _. packet.new ≡ packet.old) }
+    ensures translated { IfOk result (λ _. packet.new ≡ specs.ipv4_translated_with new.now (specs.ipv4_of_quoted new.now (option_map (λ passed. passed.now) passed.entry)) packet.old) }
+    // The packet is read as before, with the new addresses and the translated message.
+    ensures read { IfOk result (λ _. IsReadWith packet.old packet.new (specs.ipv4_between new.now packet.old)
+        (specs.ipv4_message_of_both new.now (specs.ipv4_of_quoted new.now (option_map (λ passed. passed.now) passed.entry)) packet.old)) }
+    // A receiver accepts the translated message exactly if it accepted the message, unless it has no checksum of its own.
+    ensures verifies { IfOk result (λ _. specs.IsIpv4Accepted new.now packet.old (specs.ipv4_message_of_both new.now (specs.ipv4_of_quoted new.now (option_map (λ passed. passed.now) passed.entry)) packet.old)) }
+    ensures error { IfOk result (λ _. specs.IsIpv4ErrorAccepted packet.old (specs.ipv4_message_of_both new.now (specs.ipv4_of_quoted new.now (option_map (λ passed. passed.now) passed.entry)) packet.old)) }
+    ensures header { IfOk result (λ _. specs.IsHeaderAccepted packet.old packet.new) }
+    // The translated packet is accepted again.
+    ensures again { IfOk result (λ _. specs.ipv4_refusal_with new.now (specs.ipv4_of_quoted new.now (option_map (λ passed. passed.now) passed.entry)) packet.new ≡ None) }
+    ensures bytes { IfOk result (λ _. IsBytes packet.old) }
+    ensures types { IfOk result (λ _. IsIpv4Translation new.now × IfSome (specs.ipv4_quoted packet.old)
+        (λ _. IsIpv4Translation (specs.ipv4_of_quoted new.now (option_map (λ passed. passed.now) passed.entry)))) }
+{
+    let place = ipv4_place(packet, new)?;
     match quoted_len(&place, &packet[place.start..place.end])? {
-        Some(len) => translate_ipv4_error(packet, &place, len, new),
+        Some(len) => translate_ipv4_error(packet, &place, len, new, passed),
         None => {
             translate_ipv4_flow(packet, &place, new);
             Ok(())
@@ -75,8 +147,8 @@ pub fn translate_ipv4(packet: &mut [u8], new: &Ipv4Translation) -> Result<(), Tr
 // perf: the steps of the translation are compiled into one function, which takes 25.6 instead of 34.3 ns for a UDP packet, and 42.4 instead
 // of 57.4 ns for an ICMP error (27 Nov 2026).
 #[inline(always)]
-fn ipv4_place(packet: &[u8]) -> Result<Place, TranslateError>
-    ensures refused { RefusesExactly result (specs.ipv4_place_refusal packet.now) }
+fn ipv4_place(packet: &[u8], new: &Ipv4Translation) -> Result<Place, TranslateError>
+    ensures refused { RefusesExactly result (specs.ipv4_place_refusal (has_port new.now.source_port new.now.destination_port) packet.now) }
     ensures place { IfOk result (λ place. specs.IsIpv4Place packet.now place) }
     ensures bytes { IsBytes packet.now }
 {
@@ -88,13 +160,14 @@ fn ipv4_place(packet: &[u8]) -> Result<Place, TranslateError>
         return Err(TranslateError::OtherVersion);
     };
     let start = header.slice().len();
-    if has_source_route(header.options()) {
+    if contain_source_route(header.options()) {
         return Err(TranslateError::SourceRoute);
     }
     let protocol = header.protocol();
-    let Some(proto) = proto_over(found.addresses, protocol) else {
+    let proto = proto_over(found.addresses, protocol);
+    if is_ipv4_refused(proto, protocol, new) {
         return Err(TranslateError::Protocol(protocol));
-    };
+    }
     Ok(Place {
         start,
         end: start + found.payload.len(),
@@ -103,31 +176,63 @@ fn ipv4_place(packet: &[u8]) -> Result<Place, TranslateError>
     })
 }
 
+/// Whether a packet is refused for its protocol: only the addresses could be replaced, and the protocol covers them, or a port is passed.
+#[inline(always)]
+fn is_ipv4_refused(proto: Option<Proto>, number: IpNumber, new: &Ipv4Translation) -> bool
+    ensures { result ≡ (is_none proto && (has_port new.now.source_port new.now.destination_port || specs.covers_ipv4_addresses number.0)) }
+{
+    proto.is_none() && (new.has_port() || covers_ipv4_addresses(number))
+}
+
+/// The numbers of DCCP, VRRP and UDP-Lite (RFC 4340; RFC 5798; RFC 3828).
+pub(crate) const DCCP: IpNumber = IpNumber(33);
+
+pub(crate) const VRRP: IpNumber = IpNumber(112);
+
+pub(crate) const UDP_LITE: IpNumber = IpNumber(136);
+
+/// Whether the checksum or the authentication of this protocol covers the addresses of an IPv4 packet, except for UDP and TCP.
+fn covers_ipv4_addresses(number: IpNumber) -> bool
+    ensures { result ≡ specs.covers_ipv4_addresses number.0 }
+{
+    number == ip_number::AUTHENTICATION_HEADER
+        || number == ip_number::IPV6_ICMP
+        || number == DCCP
+        || number == VRRP
+        || number == UDP_LITE
+        || number == ip_number::HIP
+}
+
 /// Translates an ICMP error over IPv4, and the packet that it is about.
 fn translate_ipv4_error(
     packet: &mut [u8],
     place: &Place,
     quoted_len: usize,
     new: &Ipv4Translation,
+    passed: Option<&Ipv4Translation>,
 ) -> Result<(), TranslateError>
     requires place { specs.IsIpv4Place packet.old place.now }
     requires room { 8 + quoted_len ≤ length (specs.message_in_ipv4 packet.old) }
     ensures refused { RefusesExactly result
-        (specs.ipv4_quoted_refusal (Some (slice_range (specs.message_in_ipv4 packet.old) 8 (8 + quoted_len)))) }
+        (specs.ipv4_quoted_refusal (has_port (specs.ipv4_of_quoted new.now (option_map (λ passed. passed.now) passed.entry)).source_port (specs.ipv4_of_quoted new.now (option_map (λ passed. passed.now) passed.entry)).destination_port) (Some (slice_range (specs.message_in_ipv4 packet.old) 8 (8 + quoted_len)))) }
     ensures unchanged { IfErr result (λ _. packet.new ≡ packet.old) }
     ensures translated { IfOk result (λ _. packet.new ≡ specs.ipv4_with_message new.now
-        (specs.ipv4_message_with (Some (slice_range (specs.message_in_ipv4 packet.old) 8 (8 + quoted_len))) new.now packet.old) packet.old) }
+        (specs.ipv4_message_by (Some (slice_range (specs.message_in_ipv4 packet.old) 8 (8 + quoted_len))) new.now
+        (specs.ipv4_of_quoted new.now (option_map (λ passed. passed.now) passed.entry)) packet.old) packet.old) }
     ensures len { IfOk result (λ _. length
-        (specs.ipv4_message_with (Some (slice_range (specs.message_in_ipv4 packet.old) 8 (8 + quoted_len))) new.now packet.old)
+        (specs.ipv4_message_by (Some (slice_range (specs.message_in_ipv4 packet.old) 8 (8 + quoted_len))) new.now
+        (specs.ipv4_of_quoted new.now (option_map (λ passed. passed.now) passed.entry)) packet.old)
         ≡ length (specs.message_in_ipv4 packet.old)) }
     ensures verifies { IfOk result (λ _. slice_index (specs.message_in_ipv4 packet.old) 0 ≢ 0 → IsAcceptedAlike 0 0 (specs.message_in_ipv4 packet.old)
-        (specs.ipv4_message_with (Some (slice_range (specs.message_in_ipv4 packet.old) 8 (8 + quoted_len))) new.now packet.old)) }
+        (specs.ipv4_message_by (Some (slice_range (specs.message_in_ipv4 packet.old) 8 (8 + quoted_len))) new.now
+        (specs.ipv4_of_quoted new.now (option_map (λ passed. passed.now) passed.entry)) packet.old)) }
     ensures addresses { IfOk result (λ _. specs.AreIpv4Addresses (specs.ipv4_addresses new.now packet.old)) }
     ensures header { IfOk result (λ _. specs.IsHeaderAccepted packet.old packet.new) }
-    ensures types { IfOk result (λ _. IsIpv4Translation new.now) }
+    ensures types { IfOk result (λ _. IsIpv4Translation new.now × IsIpv4Translation (specs.ipv4_of_quoted new.now (option_map (λ passed. passed.now) passed.entry))) }
 {
+    let for_quoted = new.of_quoted(passed);
     let message = &packet[place.start..place.end];
-    let Ok(quoted) = ipv4_place(&message[ICMP_LEN..ICMP_LEN + quoted_len]) else {
+    let Ok(quoted) = ipv4_place(&message[ICMP_LEN..ICMP_LEN + quoted_len], &for_quoted) else {
         return Err(TranslateError::QuotedPacket);
     };
     let addresses = new_ipv4_addresses(packet, new);
@@ -136,7 +241,7 @@ fn translate_ipv4_error(
         &mut packet[place.start..place.end],
         quoted_len,
         &quoted,
-        new,
+        &for_quoted,
     );
     replace_ipv4_addresses(packet, &addresses, change);
     Ok(())
@@ -153,14 +258,14 @@ fn translate_ipv4_quoted(
     requires room { 8 + quoted_len ≤ length message.old }
     requires place { specs.IsIpv4Place (slice_range message.old 8 (8 + quoted_len)) place.now }
     ensures translated { message.new ≡ with_quote 0 0 (slice_range message.old 8 (8 + quoted_len))
-        (specs.ipv4_translated_flow (specs.ipv4_opposite new.now) (slice_range message.old 8 (8 + quoted_len))) message.old }
+        (specs.ipv4_translated_flow new.now (slice_range message.old 8 (8 + quoted_len))) message.old }
     ensures verifies { slice_index message.old 0 ≢ 0 → IsAcceptedAlike 0 0 message.old message.new }
     ensures types { IsIpv4Translation new.now }
 {
     let quoted = &mut message[ICMP_LEN..ICMP_LEN + quoted_len];
     // The sums of all quoted bytes are not 0, because the first word is not 0. So the first word is part of the change.
     let first = [quoted[0], quoted[1]];
-    let change = translate_ipv4_flow(quoted, place, &new.opposite());
+    let change = translate_ipv4_flow(quoted, place, new);
     update_checksum(message, change.replace_2bytes(first, first));
 }
 

@@ -1,21 +1,24 @@
-ghost use Rattle.std.specs.Prelude.{◌≡◌, ◌≢◌, ◌↔◌, ◌≤◌, ◌+◌, ◌%◌, ℕ, IfErr, IfOk, IfSome, None, Some, drop, length, slice_index, slice_range, take, unwrap_or, IsTrue};
+ghost use Rattle.std.specs.Prelude.{◌≡◌, ◌≢◌, ◌↔◌, ◌≤◌, ◌+◌, ◌%◌, ◌&&◌, ◌||◌, is_none, ℕ, Bool, IfErr, IfOk, IfSome, None, Some, drop, length, slice_index, slice_range, take, unwrap_or, IsTrue};
+ghost use Rattle.ip_part.specs.ExtensionHeaders.{is_extension};
+ghost use Rattle.std.specs.Option.{option_map};
 ghost use Rattle.net_base.specs.Bytes.{IsBytes};
 ghost use Rattle.net_base.specs.IpHeaders.{BeginsWithIpv6Header, ipv6_header_of};
 ghost use Rattle.net_base.specs.Refusals.{RefusesExactly};
 ghost use Rattle.word_sum.specs.Checksum.{all_ones, total};
 ghost use Rattle.word_sum.specs.ChecksumChange.{TurnsInto, added_value, removed_value};
 ghost use Rattle.word_sum.specs.UpdatedChecksum.{TurnsIntoBy};
-ghost use Rattle.etherparse_transport.specs.Translations.{AreUpdatedAlike, IsAcceptedAlike, IsReadWith, with_bytes, with_quote};
-ghost use Rattle.etherparse_transport.specs.WaysBack.{IsIpv6Restored, IsIpv6Translation, ipv6_way_back};
+ghost use Rattle.etherparse_transport.specs.Translations.{AreUpdatedAlike, IsAcceptedAlike, IsReadWith, has_port, with_bytes, with_quote};
+ghost use Rattle.etherparse_transport.specs.WaysBack.{IsIpv6Restored, IsIpv6RestoredWith, IsIpv6Translation, ipv6_flow_back, ipv6_quoted_back, ipv6_way_back};
 ghost use Rattle.etherparse_transport.specs.Ipv6Translations as specs;
 
 use crate::checksum_change::ChecksumChange;
 use crate::err::packet::TranslateError;
 use crate::ip::ip_header::IPV6_LEN;
 use crate::ip::message_place::{ICMP_LEN, Place, quoted_len, replace_bytes, translate_flow};
+use crate::ip::translated_ipv4::{DCCP, UDP_LITE, VRRP};
 use crate::ip::translated_message::update_checksum;
 use crate::ip::{Ipv6Translation, proto_over, transport_in_ip_lax};
-use crate::{IpNumber, Ipv6Header, Ipv6HeaderSlice, ip_number};
+use crate::{IpNumber, Ipv6Header, Ipv6HeaderSlice, Proto, ip_number};
 
 /// Translates an IPv6 packet in place, as an address translator does: new addresses, and new ports or a new identifier of an echo message.
 /// The other bytes of the packet stay, and the bytes after it.
@@ -29,21 +32,22 @@ use crate::{IpNumber, Ipv6Header, Ipv6HeaderSlice, ip_number};
 /// errors, packets that are cut off, and packets that state no length are translated as by `translate_ipv4`.
 ///
 /// A fragment header may follow the IPv6 header (RFC 8200, section 4.5). A first fragment has ports, and so has an atomic fragment (RFC
-/// 6946). In a later fragment only the addresses are replaced.
+/// 6946). In a later fragment only the addresses are replaced. Of other protocols only the addresses are replaced, if no port is passed.
 ///
 /// # Errors
 ///
 /// The call checks these cases, in this order, and changes nothing after an error:
 /// - `Ip` if `transport_in_ip_lax` refuses the packet.
 /// - `OtherVersion` for an IPv4 packet.
-/// - `Protocol` if the next header, or the next header of a fragment header after the IPv6 header, is not UDP, TCP or ICMPv6. So a packet
-///   with another extension header is refused: a routing header or a home address would contain another address that a checksum covers
-///   (RFC 8200, section 8.1; RFC 6275, section 6.3).
-/// - `HeaderCutOff` if the transport header is cut off: 8 bytes of UDP and ICMP, and 20 bytes of TCP.
-/// - `IcmpMessage` for an ICMP message that is no echo message and no error.
+/// - `Protocol` if the next header, or the next header of a fragment header after the IPv6 header, is not UDP, TCP or ICMPv6, and a port is
+///   passed or the protocol covers the addresses: DCCP, ICMPv4, OSPF, PIM, UDP-Lite and VRRP. So a packet with another extension header is
+///   refused: a routing header or a home address would contain another address that a checksum covers (RFC 8200, section 8.1; RFC 6275,
+///   section 6.3).
+/// - `HeaderCutOff` if fewer than 8 bytes of UDP, TCP or ICMP are there.
+/// - `IcmpMessage` for an ICMP message that is no query and no error, or a redirect.
 /// - `QuotedPacket` if one of the first three cases is true of the packet that an ICMP error is about.
 pub fn translate_ipv6(packet: &mut [u8], new: &Ipv6Translation) -> Result<(), TranslateError>
-    ensures refused { RefusesExactly result (specs.ipv6_refusal packet.old) }
+    ensures refused { RefusesExactly result (specs.ipv6_refusal new.now packet.old) }
     ensures unchanged { IfErr result (λ _. packet.new ≡ packet.old) }
     ensures translated { IfOk result (λ _. packet.new ≡ specs.ipv6_translated new.now packet.old) }
     // The packet is read as before, with the new addresses and the translated message.
@@ -54,13 +58,76 @@ pub fn translate_ipv6(packet: &mut [u8], new: &Ipv6Translation) -> Result<(), Tr
     ensures error { IfOk result (λ _. specs.IsIpv6ErrorAccepted new.now packet.old (specs.ipv6_translated_message new.now packet.old)) }
     // The translated packet is accepted again. The way back restores the packet, exactly unless a checksum is lost (RFC 1624), or an error
     // loses a replaced address that the packet in it does not have.
-    ensures again { IfOk result (λ _. specs.ipv6_refusal packet.new ≡ None) }
+    ensures again { IfOk result (λ _. specs.ipv6_refusal new.now packet.new ≡ None) }
     ensures there_and_back { IfOk result (λ _. (specs.ipv6_translated (ipv6_way_back new.now packet.old) packet.new ≡ packet.old) ↔
         IsIpv6Restored new.now packet.old) }
 {
-    let place = ipv6_place(packet)?;
+    translate_ipv6_by(packet, new, None)
+}
+
+/// Translates an IPv6 packet as `translate_ipv6` does, with a translation of its own for the packet that an ICMP error is about. It names
+/// source and destination of that packet, and so the other direction (RFC 5508, section 4). If a router behind the translator sent the error,
+/// its address has another mapping than the destination of the packet.
+///
+/// ```
+/// let new = Ipv6Translation { source: Some(router), ..Default::default() };
+/// let quoted = Ipv6Translation { destination: Some(host), destination_port: Some(40_000), ..Default::default() };
+/// ip::translate_ipv6_with_quoted(&mut packet, &new, &quoted)?;
+/// ```
+///
+/// A packet that is no ICMP error is translated by `new` alone.
+///
+/// # Errors
+///
+/// The errors of `translate_ipv6`, where a port of `quoted` counts for the packet that an ICMP error is about.
+pub fn translate_ipv6_with_quoted(
+    packet: &mut [u8],
+    new: &Ipv6Translation,
+    quoted: &Ipv6Translation,
+) -> Result<(), TranslateError>
+    ensures refused { RefusesExactly result (specs.ipv6_refusal_with new.now quoted.now packet.old) }
+    ensures unchanged { IfErr result (λ _. packet.new ≡ packet.old) }
+    ensures translated { IfOk result (λ _. packet.new ≡ specs.ipv6_translated_with new.now quoted.now packet.old) }
+    // The packet is read as before, with the new addresses and the translated message.
+    ensures read { IfOk result (λ _. IsReadWith packet.old packet.new (specs.ipv6_between new.now packet.old)
+        (specs.ipv6_message_of_both new.now quoted.now packet.old)) }
+    // A receiver accepts the translated message exactly if it accepted the message, unless it has no checksum of its own.
+    ensures verifies { IfOk result (λ _. specs.IsIpv6Accepted new.now packet.old (specs.ipv6_message_of_both new.now quoted.now packet.old)) }
+    ensures error { IfOk result (λ _. specs.IsIpv6ErrorAccepted new.now packet.old (specs.ipv6_message_of_both new.now quoted.now packet.old)) }
+    // The translated packet is accepted again.
+    ensures again { IfOk result (λ _. specs.ipv6_refusal_with new.now quoted.now packet.new ≡ None) }
+    // The ways back of both translations restore the packet, exactly unless a checksum is lost (RFC 1624).
+    ensures there_and_back { IfOk result (λ _. (specs.ipv6_translated_with (ipv6_flow_back new.now packet.old)
+        (ipv6_quoted_back (specs.ipv6_quoted packet.old) quoted.now) packet.new ≡ packet.old) ↔ IsIpv6RestoredWith packet.old) }
+{
+    translate_ipv6_by(packet, new, Some(quoted))
+}
+
+/// The translation of an IPv6 packet, and of the packet that it is about if it is an ICMP error.
+#[inline(always)]
+fn translate_ipv6_by(
+    packet: &mut [u8],
+    new: &Ipv6Translation,
+    passed: Option<&Ipv6Translation>,
+) -> Result<(), TranslateError>
+    ensures refused { RefusesExactly result (specs.ipv6_refusal_with new.now (specs.ipv6_of_quoted new.now (option_map (λ passed. passed.now) passed.entry)) packet.old) }
+    ensures unchanged { IfErr result (λ _. packet.new ≡ packet.old) }
+    ensures translated { IfOk result (λ _. packet.new ≡ specs.ipv6_translated_with new.now (specs.ipv6_of_quoted new.now (option_map (λ passed. passed.now) passed.entry)) packet.old) }
+    // The packet is read as before, with the new addresses and the translated message.
+    ensures read { IfOk result (λ _. IsReadWith packet.old packet.new (specs.ipv6_between new.now packet.old)
+        (specs.ipv6_message_of_both new.now (specs.ipv6_of_quoted new.now (option_map (λ passed. passed.now) passed.entry)) packet.old)) }
+    // A receiver accepts the translated message exactly if it accepted the message, unless it has no checksum of its own.
+    ensures verifies { IfOk result (λ _. specs.IsIpv6Accepted new.now packet.old (specs.ipv6_message_of_both new.now (specs.ipv6_of_quoted new.now (option_map (λ passed. passed.now) passed.entry)) packet.old)) }
+    ensures error { IfOk result (λ _. specs.IsIpv6ErrorAccepted new.now packet.old (specs.ipv6_message_of_both new.now (specs.ipv6_of_quoted new.now (option_map (λ passed. passed.now) passed.entry)) packet.old)) }
+    // The translated packet is accepted again.
+    ensures again { IfOk result (λ _. specs.ipv6_refusal_with new.now (specs.ipv6_of_quoted new.now (option_map (λ passed. passed.now) passed.entry)) packet.new ≡ None) }
+    ensures bytes { IfOk result (λ _. IsBytes packet.old) }
+    ensures types { IfOk result (λ _. IsIpv6Translation new.now × IfSome (specs.ipv6_quoted packet.old)
+        (λ _. IsIpv6Translation (specs.ipv6_of_quoted new.now (option_map (λ passed. passed.now) passed.entry)))) }
+{
+    let place = ipv6_place(packet, new)?;
     match quoted_len(&place, &packet[place.start..place.end])? {
-        Some(len) => translate_ipv6_error(packet, &place, len, new),
+        Some(len) => translate_ipv6_error(packet, &place, len, new, passed),
         None => {
             translate_ipv6_flow(packet, &place, new);
             Ok(())
@@ -78,8 +145,8 @@ const DESTINATION_AT: usize = Ipv6Header::DESTINATION_AT;
 // into one function, which keeps the new addresses in registers. Together with `replaced_ipv6_change` it takes 160 instead of 239
 // instructions for a UDP packet (27 Nov 2026).
 #[inline(always)]
-fn ipv6_place(packet: &[u8]) -> Result<Place, TranslateError>
-    ensures refused { RefusesExactly result (specs.ipv6_place_refusal packet.now) }
+fn ipv6_place(packet: &[u8], new: &Ipv6Translation) -> Result<Place, TranslateError>
+    ensures refused { RefusesExactly result (specs.ipv6_place_refusal (has_port new.now.source_port new.now.destination_port) packet.now) }
     ensures place { IfOk result (λ place. specs.IsIpv6Place packet.now place) }
     ensures bytes { IsBytes packet.now }
 {
@@ -91,9 +158,10 @@ fn ipv6_place(packet: &[u8]) -> Result<Place, TranslateError>
         Err(error) => return Err(TranslateError::Ip(error)),
     };
     let (start, protocol) = message_start(packet, header.next_header());
-    let Some(proto) = proto_over(found.addresses, protocol) else {
+    let proto = proto_over(found.addresses, protocol);
+    if is_ipv6_refused(proto, protocol, new) {
         return Err(TranslateError::Protocol(protocol));
-    };
+    }
     Ok(Place {
         start,
         end: start + found.payload.len(),
@@ -108,7 +176,7 @@ fn ipv6_place(packet: &[u8]) -> Result<Place, TranslateError>
 #[inline(always)]
 fn no_ipv6_header(packet: &[u8]) -> TranslateError
     requires { ¬ BeginsWithIpv6Header packet.now }
-    ensures { specs.ipv6_place_refusal packet.now ≡ Some result }
+    ensures { (has_port : Bool) → specs.ipv6_place_refusal has_port packet.now ≡ Some result }
 {
     error_or_other_version(packet)
 }
@@ -117,7 +185,7 @@ fn no_ipv6_header(packet: &[u8]) -> TranslateError
 #[inline(never)]
 fn error_or_other_version(packet: &[u8]) -> TranslateError
     requires { ¬ BeginsWithIpv6Header packet.now }
-    ensures { specs.ipv6_place_refusal packet.now ≡ Some result }
+    ensures { (has_port : Bool) → specs.ipv6_place_refusal has_port packet.now ≡ Some result }
 {
     match transport_in_ip_lax(packet) {
         Ok(_) => TranslateError::OtherVersion,
@@ -146,11 +214,52 @@ fn message_start(packet: &[u8], next_header: IpNumber) -> (usize, IpNumber)
 /// The message of the packet that an ICMP error over IPv6 is about.
 // perf: `ipv6_place` is inlined only once in a function, or not at all (27 Nov 2026).
 #[inline(never)]
-fn quoted_ipv6_place(quoted: &[u8]) -> Result<Place, TranslateError>
-    ensures refused { RefusesExactly result (specs.ipv6_place_refusal quoted.now) }
+fn quoted_ipv6_place(quoted: &[u8], new: &Ipv6Translation) -> Result<Place, TranslateError>
+    ensures refused { RefusesExactly result (specs.ipv6_place_refusal (has_port new.now.source_port new.now.destination_port) quoted.now) }
     ensures place { IfOk result (λ place. specs.IsIpv6Place quoted.now place) }
 {
-    ipv6_place(quoted)
+    ipv6_place(quoted, new)
+}
+
+/// Whether a packet is refused for its protocol: only the addresses could be replaced, and the protocol covers them, or a port is passed.
+#[inline(always)]
+fn is_ipv6_refused(proto: Option<Proto>, number: IpNumber, new: &Ipv6Translation) -> bool
+    ensures { result ≡ (is_none proto && (has_port new.now.source_port new.now.destination_port || specs.covers_ipv6_addresses number.0)) }
+{
+    proto.is_none() && (new.has_port() || covers_ipv6_addresses(number))
+}
+
+/// The numbers of OSPF and PIM (RFC 5340; RFC 7761).
+const OSPF: IpNumber = IpNumber(89);
+
+const PIM: IpNumber = IpNumber(103);
+
+/// Whether this is the number of an extension header, or the checksum of this protocol covers the addresses of an IPv6 packet, except for
+/// UDP, TCP and ICMPv6.
+fn covers_ipv6_addresses(number: IpNumber) -> bool
+    ensures { result ≡ specs.covers_ipv6_addresses number.0 }
+{
+    is_extension(number)
+        || number == ip_number::ICMP
+        || number == DCCP
+        || number == OSPF
+        || number == PIM
+        || number == VRRP
+        || number == UDP_LITE
+}
+
+/// Whether this is the number of an extension header that `transport_in_ip_lax` skips.
+fn is_extension(number: IpNumber) -> bool
+    ensures { result ≡ is_extension number.0 }
+{
+    number == ip_number::IPV6_HEADER_HOP_BY_HOP
+        || number == ip_number::IPV6_ROUTE_HEADER
+        || number == ip_number::IPV6_FRAGMENTATION_HEADER
+        || number == ip_number::AUTHENTICATION_HEADER
+        || number == ip_number::IPV6_DESTINATION_OPTIONS
+        || number == ip_number::MOBILITY_HEADER
+        || number == ip_number::HIP
+        || number == ip_number::SHIM6
 }
 
 /// Translates an ICMP error over IPv6, and the packet that it is about.
@@ -160,26 +269,32 @@ fn translate_ipv6_error(
     place: &Place,
     quoted_len: usize,
     new: &Ipv6Translation,
+    passed: Option<&Ipv6Translation>,
 ) -> Result<(), TranslateError>
     requires place { specs.IsIpv6Place packet.old place.now }
     requires room { 8 + quoted_len ≤ length (specs.message_in_ipv6 packet.old) }
     ensures refused { RefusesExactly result
-        (specs.ipv6_quoted_refusal (Some (slice_range (specs.message_in_ipv6 packet.old) 8 (8 + quoted_len)))) }
+        (specs.ipv6_quoted_refusal (has_port (specs.ipv6_of_quoted new.now (option_map (λ passed. passed.now) passed.entry)).source_port (specs.ipv6_of_quoted new.now (option_map (λ passed. passed.now) passed.entry)).destination_port) (Some (slice_range (specs.message_in_ipv6 packet.old) 8 (8 + quoted_len)))) }
     ensures unchanged { IfErr result (λ _. packet.new ≡ packet.old) }
     ensures translated { IfOk result (λ _. packet.new ≡ specs.ipv6_with_message new.now
-        (specs.ipv6_message_with (Some (slice_range (specs.message_in_ipv6 packet.old) 8 (8 + quoted_len))) new.now packet.old) packet.old) }
+        (specs.ipv6_message_by (Some (slice_range (specs.message_in_ipv6 packet.old) 8 (8 + quoted_len))) new.now
+        (specs.ipv6_of_quoted new.now (option_map (λ passed. passed.now) passed.entry)) packet.old) packet.old) }
     ensures len { IfOk result (λ _. length
-        (specs.ipv6_message_with (Some (slice_range (specs.message_in_ipv6 packet.old) 8 (8 + quoted_len))) new.now packet.old)
+        (specs.ipv6_message_by (Some (slice_range (specs.message_in_ipv6 packet.old) 8 (8 + quoted_len))) new.now
+        (specs.ipv6_of_quoted new.now (option_map (λ passed. passed.now) passed.entry)) packet.old)
         ≡ length (specs.message_in_ipv6 packet.old)) }
     ensures verifies { IfOk result (λ _. (before after : ℕ) →
         TurnsIntoBy (specs.sum_of_ipv6 (ipv6_header_of packet.old)) (specs.sum_of_ipv6 (specs.ipv6_addresses new.now packet.old)) before after →
-        slice_index (specs.message_in_ipv6 packet.old) 0 ≢ 0 → IsAcceptedAlike before after (specs.message_in_ipv6 packet.old)
-        (specs.ipv6_message_with (Some (slice_range (specs.message_in_ipv6 packet.old) 8 (8 + quoted_len))) new.now packet.old)) }
+        before ≢ 0 → after ≢ 0 → IsAcceptedAlike before after (specs.message_in_ipv6 packet.old)
+        (specs.ipv6_message_by (Some (slice_range (specs.message_in_ipv6 packet.old) 8 (8 + quoted_len))) new.now
+        (specs.ipv6_of_quoted new.now (option_map (λ passed. passed.now) passed.entry)) packet.old)) }
     ensures addresses { IfOk result (λ _. specs.AreIpv6Addresses (specs.ipv6_addresses new.now packet.old)) }
-    ensures types { IfOk result (λ _. IsIpv6Translation new.now) }
+    ensures types { IfOk result (λ _. IsIpv6Translation new.now × IsIpv6Translation (specs.ipv6_of_quoted new.now (option_map (λ passed. passed.now) passed.entry))) }
 {
+    let for_quoted = new.of_quoted(passed);
     let message = &packet[place.start..place.end];
-    let Ok(quoted) = quoted_ipv6_place(&message[ICMP_LEN..ICMP_LEN + quoted_len]) else {
+    let Ok(quoted) = quoted_ipv6_place(&message[ICMP_LEN..ICMP_LEN + quoted_len], &for_quoted)
+    else {
         return Err(TranslateError::QuotedPacket);
     };
     let addresses = new_ipv6_addresses(packet, new);
@@ -188,7 +303,7 @@ fn translate_ipv6_error(
         &mut packet[place.start..place.end],
         quoted_len,
         &quoted,
-        new,
+        &for_quoted,
         change,
     );
     replace_ipv6_addresses(packet, new);
@@ -207,15 +322,15 @@ fn translate_ipv6_quoted(
     requires room { 8 + quoted_len ≤ length message.old }
     requires place { specs.IsIpv6Place (slice_range message.old 8 (8 + quoted_len)) place.now }
     ensures translated { message.new ≡ with_quote (removed_value addresses) (added_value addresses) (slice_range message.old 8 (8 + quoted_len))
-        (specs.ipv6_translated_flow (specs.ipv6_opposite new.now) (slice_range message.old 8 (8 + quoted_len))) message.old }
-    ensures verifies { (before after : ℕ) → TurnsInto addresses before after → slice_index message.old 0 ≢ 0 →
+        (specs.ipv6_translated_flow new.now (slice_range message.old 8 (8 + quoted_len))) message.old }
+    ensures verifies { (before after : ℕ) → TurnsInto addresses before after → before ≢ 0 → after ≢ 0 →
         IsAcceptedAlike before after message.old message.new }
     ensures types { IsIpv6Translation new.now }
 {
     let quoted = &mut message[ICMP_LEN..ICMP_LEN + quoted_len];
     // The sums of all quoted bytes are not 0, because the first word is not 0. So the first word is part of the change.
     let first = [quoted[0], quoted[1]];
-    let change = translate_ipv6_flow(quoted, place, &new.opposite());
+    let change = translate_ipv6_flow(quoted, place, new);
     update_checksum(message, addresses.and(change.replace_2bytes(first, first)));
 }
 

@@ -1,4 +1,4 @@
-ghost use Rattle.std.specs.Prelude.{◌%◌, ◌≤◌, ◌≢◌, ◌↔◌, ℕ, length, slice_index, ◌≡◌, ◌+◌, ◌<◌, ◌^◌};
+ghost use Rattle.std.specs.Prelude.{◌%◌, ◌≤◌, ◌==◌, ◌≢◌, ◌↔◌, ℕ, length, slice_index, ◌≡◌, ◌+◌, ◌<◌, ◌^◌};
 ghost use Rattle.ip_part.specs.declared.proto.Proto.TheVariants as protos;
 ghost use Rattle.net_base.specs.StoredChecksum.{with_checksum};
 ghost use Rattle.word_sum.specs.Checksum.{IsAllOnes, all_ones, total};
@@ -6,6 +6,7 @@ ghost use Rattle.word_sum.specs.ChecksumChange.{TurnsInto, added_value, removed_
 ghost use Rattle.etherparse_transport.specs.Translations as specs;
 ghost use Rattle.etherparse_transport.specs.Translations.{HaveSums, IsAcceptedAlike, IsUpdated};
 
+use crate::checksum::Sum16BitWords;
 use crate::checksum_change::ChecksumChange;
 use crate::{IcmpEchoHeader, Icmpv4Header, Proto, TcpHeader, UdpHeader, icmpv4, icmpv6};
 
@@ -23,10 +24,10 @@ pub(crate) const TCP_CHECKSUM_AT: usize = TcpHeader::CHECKSUM_AT;
 /// The place of the checksum in ICMP (RFC 792; RFC 4443, section 2.1).
 const ICMP_CHECKSUM_AT: usize = Icmpv4Header::CHECKSUM_AT;
 
-/// The place of the identifier of an echo message (RFC 792; RFC 4443, section 4).
+/// The place of the identifier of a query (RFC 792; RFC 950; RFC 4443, section 4).
 const IDENTIFIER_AT: usize = IcmpEchoHeader::ID_AT;
 
-/// Translates the message of a packet, as far as it is there: ports or the identifier of an echo message, and the checksum. The passed
+/// Translates the message of a packet, as far as it is there: ports or the identifier of a query, and the checksum. The passed
 /// change replaces the addresses in the pseudo header. The returned change replaces the words of the message too.
 #[inline(always)]
 pub(crate) fn translate_message(
@@ -50,7 +51,7 @@ pub(crate) fn translate_message(
     }
 }
 
-/// Translates an echo message over IPv4, whose checksum covers no addresses, as far as it is there. Any other message is kept.
+/// Translates a query over IPv4, whose checksum covers no addresses, as far as it is there. Any other message is kept.
 #[inline(always)]
 fn translate_icmpv4(
     message: &mut [u8],
@@ -62,14 +63,13 @@ fn translate_icmpv4(
     ensures turns { (before after : ℕ) → TurnsInto addresses before (after + total message.old) → TurnsInto result before (after + total message.new) }
     ensures verifies { IsUpdated protos.Icmpv4 message.old → IsAcceptedAlike 0 0 message.old message.new }
 {
-    if is_echo(message, icmpv4::TYPE_ECHO_REQUEST, icmpv4::TYPE_ECHO_REPLY) {
-        let is_request = message[0] == icmpv4::TYPE_ECHO_REQUEST;
-        let identifier = if is_request {
+    if is_icmpv4_query(message) {
+        let identifier = if is_icmpv4_request(message[0]) {
             source_port
         } else {
             destination_port
         };
-        translate_echo(message, ChecksumChange::new(), addresses, identifier)
+        translate_query(message, ChecksumChange::new(), addresses, identifier)
     } else {
         addresses
     }
@@ -89,27 +89,53 @@ fn translate_icmpv6(
     ensures verifies { (before after : ℕ) → TurnsInto addresses before after → before ≢ 0 →
         IsUpdated protos.Icmpv6 message.old → IsAcceptedAlike before after message.old message.new }
 {
-    if is_echo(message, icmpv6::TYPE_ECHO_REQUEST, icmpv6::TYPE_ECHO_REPLY) {
+    if is_icmpv6_query(message) {
         let is_request = message[0] == icmpv6::TYPE_ECHO_REQUEST;
         let identifier = if is_request {
             source_port
         } else {
             destination_port
         };
-        translate_echo(message, addresses, addresses, identifier)
+        translate_query(message, addresses, addresses, identifier)
     } else {
         update_checksum(message, addresses)
     }
 }
 
-/// Whether this is an echo message with this type of a request or this type of a reply, up to its identifier (RFC 792; RFC 4443, section
-/// 4).
-pub(crate) fn is_echo(message: &[u8], request: u8, reply: u8) -> bool
-    ensures { result ≡ specs.is_echo request reply message.now }
+/// Whether this is an ICMPv4 message with an identifier, up to its identifier (RFC 5508, section 3).
+pub(crate) fn is_icmpv4_query(message: &[u8]) -> bool
+    ensures { result ≡ specs.is_query protos.Icmpv4 message.now }
 {
     message.len() > IDENTIFIER_AT + 1
-        && (message[0] == request || message[0] == reply)
-        && message[1] == 0
+        && (is_icmpv4_request(message[0]) || is_icmpv4_reply(message[0]))
+}
+
+/// Whether a message of this type is a request with an identifier (RFC 792; RFC 950).
+fn is_icmpv4_request(type_u8: u8) -> bool
+    ensures { result ≡ specs.is_request protos.Icmpv4 type_u8 }
+{
+    type_u8 == icmpv4::TYPE_ECHO_REQUEST
+        || type_u8 == icmpv4::TYPE_TIMESTAMP
+        || type_u8 == icmpv4::TYPE_INFO_REQUEST
+        || type_u8 == icmpv4::TYPE_ADDRESS
+}
+
+/// Whether a message of this type is a reply with an identifier (RFC 792; RFC 950).
+fn is_icmpv4_reply(type_u8: u8) -> bool
+    ensures { result ≡ specs.is_reply protos.Icmpv4 type_u8 }
+{
+    type_u8 == icmpv4::TYPE_ECHO_REPLY
+        || type_u8 == icmpv4::TYPE_TIMESTAMP_REPLY
+        || type_u8 == icmpv4::TYPE_INFO_REPLY
+        || type_u8 == icmpv4::TYPE_ADDRESSREPLY
+}
+
+/// Whether this is an ICMPv6 echo message, up to its identifier (RFC 4443, section 4).
+pub(crate) fn is_icmpv6_query(message: &[u8]) -> bool
+    ensures { result ≡ specs.is_query protos.Icmpv6 message.now }
+{
+    message.len() > IDENTIFIER_AT + 1
+        && (message[0] == icmpv6::TYPE_ECHO_REQUEST || message[0] == icmpv6::TYPE_ECHO_REPLY)
 }
 
 /// Translates a UDP packet, as far as it is there.
@@ -187,38 +213,51 @@ pub(crate) fn update_checksum(message: &mut [u8], change: ChecksumChange) -> Che
     replace_number(message, ICMP_CHECKSUM_AT, checksum, change)
 }
 
-/// Translates an echo message, as far as it is there. The checksum covers the first change, and the second change is extended.
+/// Translates a query, as far as it is there. The checksum covers the first change, and the second change is extended.
 #[inline(always)]
-fn translate_echo(
+fn translate_query(
     message: &mut [u8],
     covered: ChecksumChange,
     addresses: ChecksumChange,
     identifier: Option<u16>,
 ) -> ChecksumChange
-    ensures translated { message.new ≡ specs.translated_echo (removed_value covered) (added_value covered) identifier message.old }
+    requires there { 6 ≤ length message.old }
+    ensures translated { message.new ≡ specs.translated_query (removed_value covered) (added_value covered) identifier message.old }
     ensures turns { (before after : ℕ) → TurnsInto addresses before (after + total message.old) → TurnsInto result before (after + total message.new) }
-    ensures verifies { (before after : ℕ) → TurnsInto covered before after → 6 ≤ length message.old → before + total message.old ≢ 0 →
+    ensures verifies { (before after : ℕ) → TurnsInto covered before after → before + total message.old ≢ 0 →
         IsAcceptedAlike before after message.old message.new }
 {
     let old = number(message, IDENTIFIER_AT);
     let new = identifier.unwrap_or(old);
     let covered = covered.replace_2bytes(old.to_be_bytes(), new.to_be_bytes());
     let checksum = covered.apply(number(message, ICMP_CHECKSUM_AT));
-    let checksum = echo_checksum(message, checksum);
     let change = replace_number(message, IDENTIFIER_AT, new, addresses);
+    let checksum = query_checksum(message, checksum);
     replace_number(message, ICMP_CHECKSUM_AT, checksum, change)
 }
 
-/// The stored checksum of an echo message. An echo reply of zeros over IPv4 has the checksum 65535, and the update yields 0 (RFC 1624).
-fn echo_checksum(message: &[u8], updated: u16) -> u16
-    ensures stored { result ≡ specs.updated_echo_checksum message.now updated }
+/// The stored checksum of a query. An echo reply of zeros over IPv4 has the checksum 65535, and the update yields 0 (RFC 1624).
+fn query_checksum(message: &[u8], updated: u16) -> u16
+    requires there { 4 ≤ length message.now }
+    ensures stored { result ≡ specs.updated_query_checksum message.now updated }
     ensures remainder { result % all_ones ≡ updated % all_ones }
-    ensures some { slice_index message.now 0 ≡ 0 → result ≢ 0 }
+    ensures some { specs.rest_of_message message.now ≡ 0 → result ≢ 0 }
 {
-    if updated == 0 && (message.is_empty() || message[0] == 0) {
+    if updated == 0 && is_rest_zero(message) {
         return u16::MAX;
     }
     updated
+}
+
+/// Whether all bytes of an ICMP message are 0, except for its checksum.
+fn is_rest_zero(message: &[u8]) -> bool
+    requires there { 4 ≤ length message.now }
+    ensures { result ≡ (specs.rest_of_message message.now == 0) }
+{
+    let sum = Sum16BitWords::new()
+        .add_slice(&message[..ICMP_CHECKSUM_AT])
+        .add_slice(&message[ICMP_CHECKSUM_AT + 2..]);
+    sum.ones_complement() == u16::MAX
 }
 
 /// The number in the two bytes at this place, or 0 if the message ends before.

@@ -23,26 +23,24 @@ use crate::ip::translated_message::{TCP_CHECKSUM_AT, store_number};
 use crate::{IpNumber, Ipv4Header, Ipv6Header, TcpHeader, TransportHeader, UdpHeader, ip_number};
 use net_base::wrong_length;
 
-/// The longest transport header and payload that the total length can count in addition to the IPv4 header, in bytes.
+/// The greatest length of transport header and payload that the total length of IPv4 can count, in bytes.
 const MAX_MESSAGE_LEN_IPV4: usize = u16::MAX as usize - IPV4_LEN;
 
-/// The longest transport header and payload that the payload length of an IPv6 header can count, in bytes.
+/// The greatest length of transport header and payload that the payload length of IPv6 can count, in bytes.
 const MAX_MESSAGE_LEN_IPV6: usize = u16::MAX as usize;
 
-/// Writes an IPv4 packet without options (RFC 791, section 3.1) to the front of the slice, and returns its length in
-/// bytes. The packet consists of the IP header, the transport header and the payload. The rest of the slice is not
-/// changed.
+/// Writes an IPv4 packet to the front of the slice, and returns its length in bytes. The packet consists of an IP header without options
+/// (RFC 791, section 3.1), the transport header and the payload. The rest of the slice is unchanged.
 ///
-/// The call computes the checksums of IP and of the transport, the total length, and UDP's length field. It ignores
-/// these fields of the passed header. The identification is 0, the flag "don't fragment" is set, and type of service
-/// and fragment offset are 0, as in a packet of `etherparse`'s `PacketBuilder`.
+/// The call computes both checksums, the total length, and the length field of UDP. The values of these fields in `header` are ignored. The
+/// flag "don't fragment" is set. Identification, type of service and fragment offset are 0.
 ///
 /// # Errors
 ///
-/// The call checks these cases, in this order, and writes nothing after an error:
+/// The first of these that applies. The slice is then unchanged:
 /// - `Icmpv6InIpv4` if the header is an ICMPv6 header.
-/// - `PayloadLen` if the packet is longer than 65,535 bytes.
-/// - `TimestampLen` if an ICMPv4 timestamp message or reply, of code 0, is not 20 bytes long.
+/// - `PayloadLen` if the packet would be longer than 65,535 bytes.
+/// - `TimestampLen` if an ICMPv4 timestamp message or reply, of code 0, would not be 20 bytes long.
 /// - `Space` if the slice is shorter than the packet.
 // perf: compiled into the caller, where the protocol is known and the addresses are in registers. As a call, TCP over IPv6 with 64 bytes
 // ran at 0.6 of the speed of plain Rust instead of 1.2, and UDP at 0.8 instead of 1.3 (27 Nov 2026).
@@ -86,16 +84,15 @@ pub fn write_packet_ipv4(
     Ok(len)
 }
 
-/// Writes an IPv6 packet without extension headers (RFC 8200, section 3) to the front of the slice, and returns its
-/// length in bytes. The packet consists of the IP header, the transport header and the payload. The rest of the slice
-/// is not changed.
+/// Writes an IPv6 packet to the front of the slice, and returns its length in bytes. The packet consists of an IP header without extension
+/// headers (RFC 8200, section 3), the transport header and the payload. The rest of the slice is unchanged.
 ///
-/// The call computes the checksum of the transport, the payload length, and UDP's length field. It ignores these
-/// fields of the passed header. Traffic class and flow label are 0, as in a packet of `etherparse`'s `PacketBuilder`.
+/// The call computes the checksum, the payload length, and the length field of UDP. The values of these fields in `header` are ignored.
+/// Traffic class and flow label are 0.
 ///
 /// # Errors
 ///
-/// The call checks these cases, in this order, and writes nothing after an error:
+/// The first of these that applies. The slice is then unchanged:
 /// - `Icmpv4InIpv6` if the header is an ICMPv4 header.
 /// - `PayloadLen` if transport header and payload are longer than 65,535 bytes.
 /// - `Space` if the slice is shorter than the packet.

@@ -31,8 +31,8 @@ impl Layer {
     ghost use Rattle.std.specs.Prelude.{◌≡◌};
     ghost use Rattle.net_base.specs.Layer.{word_of};
 
-    /// The variant's name, for example `UdpHeader`.
-    // If callers contained copies, they would share a table of addresses, which the loader of a program has to fill.
+    /// Returns the name of the variant, for example `UdpHeader`.
+    // A copy in each caller would need a table of addresses, which the loader must fill when the program starts.
     #[inline(never)]
     pub fn word(&self) -> &'static str
         ensures { result.now ≡ word_of self.now }

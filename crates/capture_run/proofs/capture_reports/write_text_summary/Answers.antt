@@ -2,5 +2,5 @@ use Rattle.std.proofs.KnownBytes.{Appends-trans}
 use Rattle.capture_run.proofs.capture_reports.write_text_summary.Goals as goal
 
 -- the tables after the empty line
-pub returns-in-Ok : goal.returns-in-Ok
-returns-in-Ok g c = Appends-trans _ _ _ _ _ c.in_ok-write_empty_line.ensures c.in-Ok.ensures
+pub returns : goal.returns
+returns g c = Appends-trans _ _ _ _ _ c.in_ok-write_empty_line.ensures c.in_ok-write_facts_and_tables.ensures

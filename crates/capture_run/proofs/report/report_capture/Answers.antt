@@ -21,7 +21,7 @@ pub returns-clause-report : goal.returns-clause-report
 returns-clause-report g c =
     let added = c.in_ok-reports in
     let (reader, capture, (text, is_report, wrote)) = added.ensures.report in
-    let (lines, are_lines, tells) = c.write_end-written.ensures in
+    let (lines, are_lines, tells) = rw c.line_name-shown.ensures at c.write_end-written.ensures in
     record {
       text = text;
       lines = lines;

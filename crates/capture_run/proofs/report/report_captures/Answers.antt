@@ -5,18 +5,18 @@ use Rattle.capture_run.proofs.report.report_captures.Goals as goal
 -- standard input
 pub returns-then-is_empty-clause-report : goal.returns-then-is_empty-clause-report
 returns-then-is_empty-clause-report g c =
-    unnamed _ c.args.reports.parts c.args.names.now (λ name. name.now) _ _ _ _ _ c.report_headed.result
+    unnamed _ c.args.reports.parts c.args.sources.now.names.now (λ name. name.now) _ _ _ _ _ c.report_headed.result
     (sym c.is_empty.ensures ∙ c.if-is_empty.true) c.report_headed.ensures.report
 
 pub returns-then-is_empty-clause-errors : goal.returns-then-is_empty-clause-errors
 returns-then-is_empty-clause-errors g c =
-    untold _ _ _ _ _ g.E.Write.contents c.args.errors.now c.report_headed.new.errors c.report_headed.result c.report_headed.ensures.errors
+    untold _ _ _ _ _ g.E.Write.contents c.args.outputs.now.errors c.report_headed.new.outputs.errors c.report_headed.result c.report_headed.ensures.errors
 
 -- captures by their names
 pub returns-else-is_empty-clause-report : goal.returns-else-is_empty-clause-report
 returns-else-is_empty-clause-report g c =
-    rw (all_named c.args.names.now (λ name. name.now) (sym c.is_empty.ensures ∙ c.if-is_empty.false)) at c.report_each.ensures.report
+    rw (all_named c.args.sources.now.names.now (λ name. name.now) (sym c.is_empty.ensures ∙ c.if-is_empty.false)) at c.report_each_capture.ensures.report
 
 pub returns-else-is_empty-clause-errors : goal.returns-else-is_empty-clause-errors
 returns-else-is_empty-clause-errors g c =
-    rw (all_named c.args.names.now (λ name. name.now) (sym c.is_empty.ensures ∙ c.if-is_empty.false)) at c.report_each.ensures.errors
+    rw (all_named c.args.sources.now.names.now (λ name. name.now) (sym c.is_empty.ensures ∙ c.if-is_empty.false)) at c.report_each_capture.ensures.errors

@@ -2,6 +2,7 @@ use Rattle.std.specs.Prelude.{List, ℕ, ◌++◌, codes}
 use Rattle.std.specs.Net.Text.{socket_text}
 use Rattle.std.proofs.Common.{◌≡◌, ◌∙◌, append_assoc, ap, sym}
 use Rattle.std.proofs.lemmas.Fmt.{contents_after_writes}
+use Rattle.capture_text.proofs.NameLemmas.{length-name}
 use Rattle.capture_text.proofs.tables.conversation_name.Goals as goal
 
 -- the parts of a name
@@ -13,8 +14,8 @@ joined written protocol source destination same =
     ∙ sym (append_assoc (protocol ++ codes " ") source (codes " <> " ++ destination))
     ∙ sym (append_assoc ((protocol ++ codes " ") ++ source) (codes " <> ") destination)
 
-pub returns-in-Ok : goal.returns-in-Ok
-returns-in-Ok c =
+pub returns-in-Ok-clause-name : goal.returns-in-Ok-clause-name
+returns-in-Ok-clause-name c =
     let source = socket_text c.args.flow.now.source in
     let destination = socket_text c.args.flow.now.destination in
     let text : List ℕ = c.name-protocol.result.now ++ (codes " " ++ (source ++ (codes " <> " ++ destination))) in
@@ -22,3 +23,10 @@ returns-in-Ok c =
     c.new-name.result text c.write.new.self c.in-Ok.ensures.writes
     ∙ ap (λ front. front ++ text) c.new-name.ensures
     ∙ joined _ _ source destination c.name-protocol.ensures
+
+-- the room is never too small
+pub returns-in-Ok-clause-fits : goal.returns-in-Ok-clause-fits
+returns-in-Ok-clause-fits c = length-name c.args.flow.now
+
+pub returns-in-Err-clause-fits : goal.returns-in-Err-clause-fits
+returns-in-Err-clause-fits c = length-name c.args.flow.now

@@ -37,8 +37,8 @@ pub enum AnswerEchoError {
     HeaderChecksum,
     /// The checksum of the message is wrong.
     Checksum,
-    /// The source of the request is the unspecified address, a multicast address, or the limited broadcast address. So no
-    /// host would receive the reply.
+    /// The source of the request is the unspecified address, a loopback address, a multicast address, or the limited
+    /// broadcast address. So no host would receive the reply.
     RequestSource,
     /// The source of the reply is such an address. If the request was sent to a multicast or broadcast address, pass an
     /// address of the host as the source.

@@ -15,9 +15,9 @@ use thiserror::Error;
 /// use etherparse_transport::err::packet::TranslateError;
 /// use etherparse_transport::ip::{Ipv4Translation, translate_ipv4};
 ///
-/// // Protocol 47 is GRE, which has no ports.
-/// let mut packet = [0x45, 0, 0, 20, 0, 0, 0, 0, 64, 47, 0, 0, 192, 168, 1, 2, 198, 51, 100, 7];
-/// let error = TranslateError::Protocol(IpNumber(47));
+/// // Protocol 33 is DCCP, whose checksum covers the addresses.
+/// let mut packet = [0x45, 0, 0, 20, 0, 0, 0, 0, 64, 33, 0, 0, 192, 168, 1, 2, 198, 51, 100, 7];
+/// let error = TranslateError::Protocol(IpNumber(33));
 /// assert_eq!(rt; translate_ipv4(&mut packet, &Ipv4Translation::default()), Err(error));
 /// ```
 #[derive(Clone, Debug, PartialEq, Eq, Drop, Error)]
@@ -29,17 +29,17 @@ pub enum TranslateError {
     OtherVersion,
     /// The IPv4 options contain a loose or strict source route, whose addresses would stay.
     SourceRoute,
-    /// The protocol is not UDP, TCP or ICMP of this IP version. An authentication header protects the addresses (RFC 4302,
-    /// section 2), and so no translated packet would be accepted.
+    /// The protocol is not UDP, TCP or ICMP of this IP version, and a port is passed, or the protocol covers the addresses. An authentication
+    /// header protects them (RFC 4302, section 2), and so no translated packet would be accepted.
     Protocol(IpNumber),
     /// The transport header is cut off.
     HeaderCutOff {
-        /// The length of the shortest header of this protocol, in bytes.
+        /// The number of bytes of the transport header that are needed, which is 8.
         required_len: usize,
         /// The number of bytes after the IP header, and after a fragment header if there is one.
         len: usize,
     },
-    /// The ICMP message is no echo message and no error.
+    /// The ICMP message is no query and no error, or it is a redirect.
     IcmpMessage,
     /// The packet that the ICMP error is about can't be translated.
     QuotedPacket,
@@ -71,7 +71,7 @@ impl TranslateError {
                 Words("."),
             ]),
             TranslateError::IcmpMessage => ErrorText::from_words(
-                "Translation Error: the ICMP message is no echo message and no error.",
+                "Translation Error: the ICMP message is no query and no error, or a redirect.",
             ),
             TranslateError::QuotedPacket => ErrorText::from_words(
                 "Translation Error: the packet that the ICMP error is about can't be translated.",

@@ -1,5 +1,5 @@
 use Rattle.std.proofs.Common.{◌≡◌, ◌∙◌, ap, false, refl, rules, Some, sym, true}
-use Rattle.etherparse_transport.specs.Ipv4Translations.{ipv4_translated}
+use Rattle.etherparse_transport.specs.Ipv4Translations.{ipv4_refusal, ipv4_translated}
 use Rattle.translator.specs.Reasons.{is_ipv4_nothing}
 use Rattle.translator.proofs.PacketLemmas.{ipv4_nothing_by, ipv4_stays, reason_rules}
 use Rattle.translator.proofs.ipv4_packet.translate_ipv4_packet.Goals as goal
@@ -21,7 +21,8 @@ returns-in-Ok c =
     sym (ipv4_nothing_by c.in_ok-new.new c.default.result (search rules) (search rules) (search rules) (search rules))
     ∙ sym c.eq.ensures ∙ c.if-eq.false in
     let given = sym (ap is_ipv4_nothing c.in_ok-new.ensures.given) ∙ some in (
-      reason_rules _ _ _ false _ _ c.in_ok-new.ensures.refused given c.in-Ok.ensures.refused,
+      reason_rules _ _ _ false _ _ c.in_ok-new.ensures.refused given
+          (sym (ap (λ new. ipv4_refusal new c.args.packet.now) c.in_ok-new.ensures.given) ∙ c.in-Ok.ensures.refused),
       given,
       c.in-Ok.ensures.translated ∙ ap (λ new. ipv4_translated new c.args.packet.now) c.in_ok-new.ensures.given,
     )
@@ -32,6 +33,8 @@ returns-in-Err c =
     sym (ipv4_nothing_by c.in_ok-new.new c.default.result (search rules) (search rules) (search rules) (search rules))
     ∙ sym c.eq.ensures ∙ c.if-eq.false in
     let given = sym (ap is_ipv4_nothing c.in_ok-new.ensures.given) ∙ some in (
-      reason_rules _ _ _ false _ _ c.in_ok-new.ensures.refused given c.in-Err.ensures.refused ∙ sym (ap Some c.of.ensures),
+      reason_rules _ _ _ false _ _ c.in_ok-new.ensures.refused given
+          (sym (ap (λ new. ipv4_refusal new c.args.packet.now) c.in_ok-new.ensures.given) ∙ c.in-Err.ensures.refused)
+          ∙ sym (ap Some c.of.ensures),
       c.in-Err.ensures.unchanged,
     )

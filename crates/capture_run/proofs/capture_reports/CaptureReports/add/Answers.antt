@@ -2,4 +2,16 @@ use Rattle.capture_run.proofs.capture_reports.CaptureReports.add.Goals as goal
 
 -- the reader that is left of the capture is the reader of the reports, if there is no other capture
 pub returns-clause-report : goal.returns-clause-report
-returns-clause-report g c = (c.report_packets.new.capture, c.only_capture.ensures, c.in_ok-summary.ensures.report)
+returns-clause-report g c = (
+  c.report_packets.new.capture,
+  c.only_capture.ensures,
+  rw c.into_summary.ensures (rw (c.new-packets.ensures.parts, c.new-packets.ensures.summary) at c.in_ok-ended.ensures.report),
+)
+
+-- the counts reach the limit, or don't
+pub returns-clause-limit : goal.returns-clause-limit
+returns-clause-limit g c = rw c.into_summary.ensures (rw c.new-packets.ensures.parts at c.in_ok-ended.ensures.limit)
+
+pub returns-clause-within : goal.returns-clause-within
+returns-clause-within g c =
+    rw c.into_summary.ensures (rw (c.new-packets.ensures.parts, c.new-packets.ensures.summary) at c.in_ok-ended.ensures.within)

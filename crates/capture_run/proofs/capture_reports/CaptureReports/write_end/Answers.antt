@@ -8,6 +8,6 @@ pub returns : goal.returns
 returns g c =
     let some : c.args.self.now.is_empty ≡ false = search rules in
     let asked : c.args.self.now.parts.summary ≡ true = search rules in
-    on_ok_weaker c.write_summary_in.result (λ written. rw (some, asked) written)
-    (c.write_summary_in.ensures
+    on_ok_weaker c.write_summary.result (λ written. rw (some, asked) written)
+    (c.write_summary.ensures
     (c.as_slice.ensures.value ∙ c.in_ok-busiest.ensures.busiest ∙ ap (λ flows. busiest_of c.args.self.now.parts.top flows.rows) c.flows.ensures))

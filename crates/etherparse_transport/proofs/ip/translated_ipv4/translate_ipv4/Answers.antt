@@ -1,149 +1,17 @@
-use Rattle.std.proofs.Common.{◌≡◌, ◌+◌, List, ℕ, None, Some, slice_range, ap, ◌∙◌, subst, sym}
-use Rattle.std.specs.Prelude.{◌↔◌, IfOk}
-use Rattle.std.specs.Option.{option_map}
-use Rattle.net_base.specs.Refusals.{RefusesExactly}
-use Rattle.etherparse_transport.specs.Ipv4Translations.{IsIpv4Accepted, IsIpv4ErrorAccepted, ipv4_between, ipv4_flow_message, ipv4_message_with, ipv4_refusal, ipv4_translated, ipv4_with_message, message_in_ipv4}
-use Rattle.etherparse_transport.specs.Translations.{IsReadWith}
+use Rattle.std.proofs.Common.{◌≡◌, List, ℕ, sym, subst}
+use Rattle.std.specs.Prelude.{◌↔◌}
+use Rattle.etherparse_transport.specs.Ipv4Translations.{ipv4_translated}
 use Rattle.etherparse_transport.specs.WaysBack.{IsIpv4Restored, ipv4_way_back}
 use Rattle.etherparse_transport.specs.declared.ip.ipv4_translation.Ipv4Translation.{Ipv4Translation}
-use Rattle.etherparse_transport.proofs.Ipv4ThereAndBack.{ipv4_again, ipv4_there_and_back}
-use Rattle.etherparse_transport.proofs.TranslationReading.{if_ok, ipv4_flow_message_len, ipv4_read}
-use Rattle.etherparse_transport.proofs.TranslationLemmas.{IsIpv4Left, ipv4_left}
-use Rattle.etherparse_transport.proofs.TranslationSums.{if_ok_accepted, if_ok_then, if_ok_too, ipv4_accepted, ipv4_error_accepted}
+use Rattle.etherparse_transport.proofs.Ipv4ThereAndBack.{ipv4_there_and_back}
+use Rattle.etherparse_transport.proofs.TranslationSums.{if_ok_accepted, if_ok_four}
 use Rattle.etherparse_transport.proofs.ip.translated_ipv4.translate_ipv4.Goals as goal
 
-pub returns-in-Some-clause-refused : goal.returns-in-Some-clause-refused
-returns-in-Some-clause-refused c =
-    let packet : List ℕ = c.args.packet.now in
-    let end : ℕ = 8 + c.in-Some.len in
-    let left : IsIpv4Left packet (Some (slice_range (message_in_ipv4 packet) 8 end)) =
-    ipv4_left packet c.in_ok-place.place _ c.in_ok-place.ensures.place c.in_ok-place.ensures.refused c.in_ok-len.ensures.refused
-    (c.in_ok-len.ensures.quoted ∙ ap (option_map (λ len. slice_range (slice_range packet c.in_ok-place.place.start c.in_ok-place.place.end) 8 (8 + len))) c.in-Some.is
-    ∙ ap (λ message. Some (slice_range message 8 end)) c.in_ok-place.ensures.place.message) in
-    subst (RefusesExactly c.translate_ipv4_error.result) (sym left.refusal) c.translate_ipv4_error.ensures.refused
-
-pub returns-in-Some-clause-translated : goal.returns-in-Some-clause-translated
-returns-in-Some-clause-translated c =
-    let packet : List ℕ = c.args.packet.now in
-    let end : ℕ = 8 + c.in-Some.len in
-    let left : IsIpv4Left packet (Some (slice_range (message_in_ipv4 packet) 8 end)) =
-    ipv4_left packet c.in_ok-place.place _ c.in_ok-place.ensures.place c.in_ok-place.ensures.refused c.in_ok-len.ensures.refused
-    (c.in_ok-len.ensures.quoted ∙ ap (option_map (λ len. slice_range (slice_range packet c.in_ok-place.place.start c.in_ok-place.place.end) 8 (8 + len))) c.in-Some.is
-    ∙ ap (λ message. Some (slice_range message 8 end)) c.in_ok-place.ensures.place.message) in
-    subst (λ quoted. IfOk c.translate_ipv4_error.result (λ done. c.translate_ipv4_error.new.packet
-    ≡ ipv4_with_message c.args.new.now (ipv4_message_with quoted c.args.new.now packet) packet))
-    (sym left.quoted_is) c.translate_ipv4_error.ensures.translated
-
-pub returns-in-Some-clause-read : goal.returns-in-Some-clause-read
-returns-in-Some-clause-read c =
-    let packet : List ℕ = c.args.packet.now in
-    let end : ℕ = 8 + c.in-Some.len in
-    let quoted : List ℕ = slice_range (message_in_ipv4 packet) 8 end in
-    let message : List ℕ = ipv4_message_with (Some quoted) c.args.new.now packet in
-    let left : IsIpv4Left packet (Some quoted) =
-    ipv4_left packet c.in_ok-place.place _ c.in_ok-place.ensures.place c.in_ok-place.ensures.refused c.in_ok-len.ensures.refused
-    (c.in_ok-len.ensures.quoted ∙ ap (option_map (λ len. slice_range (slice_range packet c.in_ok-place.place.start c.in_ok-place.place.end) 8 (8 + len))) c.in-Some.is
-    ∙ ap (λ message. Some (slice_range message 8 end)) c.in_ok-place.ensures.place.message) in
-    if_ok c.translate_ipv4_error.result c.translate_ipv4_error.ensures.translated c.translate_ipv4_error.ensures.len
-    c.translate_ipv4_error.ensures.addresses
-    (λ is same four. subst (λ quoted. IsReadWith packet c.translate_ipv4_error.new.packet (ipv4_between c.args.new.now packet)
-    (ipv4_message_with quoted c.args.new.now packet)) (sym left.quoted_is)
-    (ipv4_read c.args.new.now packet c.translate_ipv4_error.new.packet message c.in_ok-place.place c.in_ok-place.ensures.refused c.in_ok-place.ensures.place
-    four same is))
-
-pub returns-in-None-clause-read : goal.returns-in-None-clause-read
-returns-in-None-clause-read c =
-    let packet : List ℕ = c.args.packet.now in
-    let left : IsIpv4Left packet None =
-    ipv4_left packet c.in_ok-place.place None c.in_ok-place.ensures.place c.in_ok-place.ensures.refused c.in_ok-len.ensures.refused
-    (c.in_ok-len.ensures.quoted ∙ ap (option_map (λ len. slice_range (slice_range packet c.in_ok-place.place.start c.in_ok-place.place.end) 8 (8 + len))) c.in-None.is) in
-    subst (λ quoted. IsReadWith packet c.translate_ipv4_flow.new.packet (ipv4_between c.args.new.now packet)
-    (ipv4_message_with quoted c.args.new.now packet)) (sym left.quoted_is)
-    (ipv4_read c.args.new.now packet c.translate_ipv4_flow.new.packet (ipv4_flow_message c.args.new.now packet) c.in_ok-place.place
-    c.in_ok-place.ensures.refused c.in_ok-place.ensures.place c.translate_ipv4_flow.ensures.addresses (ipv4_flow_message_len c.args.new.now packet) c.translate_ipv4_flow.ensures.translated)
-
-pub returns-in-Some-clause-verifies : goal.returns-in-Some-clause-verifies
-returns-in-Some-clause-verifies c =
-    let packet : List ℕ = c.args.packet.now in
-    let end : ℕ = 8 + c.in-Some.len in
-    let quoted : List ℕ = slice_range (message_in_ipv4 packet) 8 end in
-    let left : IsIpv4Left packet (Some quoted) =
-    ipv4_left packet c.in_ok-place.place _ c.in_ok-place.ensures.place c.in_ok-place.ensures.refused c.in_ok-len.ensures.refused
-    (c.in_ok-len.ensures.quoted ∙ ap (option_map (λ len. slice_range (slice_range packet c.in_ok-place.place.start c.in_ok-place.place.end) 8 (8 + len))) c.in-Some.is
-    ∙ ap (λ message. Some (slice_range message 8 end)) c.in_ok-place.ensures.place.message) in
-    if_ok_too c.translate_ipv4_error.result (ipv4_accepted c.args.new.now packet quoted _ left.quoted_is)
-
-pub returns-in-None-clause-verifies : goal.returns-in-None-clause-verifies
-returns-in-None-clause-verifies c =
-    let packet : List ℕ = c.args.packet.now in
-    let left : IsIpv4Left packet None =
-    ipv4_left packet c.in_ok-place.place None c.in_ok-place.ensures.place c.in_ok-place.ensures.refused c.in_ok-len.ensures.refused
-    (c.in_ok-len.ensures.quoted ∙ ap (option_map (λ len. slice_range (slice_range packet c.in_ok-place.place.start c.in_ok-place.place.end) 8 (8 + len))) c.in-None.is) in
-    subst (λ quoted. IsIpv4Accepted c.args.new.now packet (ipv4_message_with quoted c.args.new.now packet)) (sym left.quoted_is)
-    c.translate_ipv4_flow.ensures.verifies
-
-pub returns-in-Some-clause-error : goal.returns-in-Some-clause-error
-returns-in-Some-clause-error c =
-    let packet : List ℕ = c.args.packet.now in
-    let end : ℕ = 8 + c.in-Some.len in
-    let quoted : List ℕ = slice_range (message_in_ipv4 packet) 8 end in
-    let left : IsIpv4Left packet (Some quoted) =
-    ipv4_left packet c.in_ok-place.place _ c.in_ok-place.ensures.place c.in_ok-place.ensures.refused c.in_ok-len.ensures.refused
-    (c.in_ok-len.ensures.quoted ∙ ap (option_map (λ len. slice_range (slice_range packet c.in_ok-place.place.start c.in_ok-place.place.end) 8 (8 + len))) c.in-Some.is
-    ∙ ap (λ message. Some (slice_range message 8 end)) c.in_ok-place.ensures.place.message) in
-    subst (λ quoted. IfOk c.translate_ipv4_error.result (λ done. IsIpv4ErrorAccepted packet (ipv4_message_with quoted c.args.new.now packet))) (sym left.quoted_is)
-    (if_ok_then c.translate_ipv4_error.result c.translate_ipv4_error.ensures.verifies (ipv4_error_accepted packet quoted _ left.quoted_is))
-
-pub returns-in-None-clause-there_and_back : goal.returns-in-None-clause-there_and_back
-returns-in-None-clause-there_and_back c =
+pub returns-clause-there_and_back : goal.returns-clause-there_and_back
+returns-clause-there_and_back c =
     let packet : List ℕ = c.args.packet.now in
     let new : Ipv4Translation = c.args.new.now in
-    let left : IsIpv4Left packet None =
-    ipv4_left packet c.in_ok-place.place None c.in_ok-place.ensures.place c.in_ok-place.ensures.refused c.in_ok-len.ensures.refused
-    (c.in_ok-len.ensures.quoted ∙ ap (option_map (λ len. slice_range (slice_range packet c.in_ok-place.place.start c.in_ok-place.place.end) 8 (8 + len))) c.in-None.is) in
-    let law = ipv4_there_and_back new packet c.ipv4_place.ensures.bytes c.translate_ipv4_flow.ensures.types left.refusal in
-    subst (λ changed. (ipv4_translated (ipv4_way_back new packet) changed ≡ packet) ↔ IsIpv4Restored new packet)
-    (sym (c.translate_ipv4_flow.ensures.translated ∙ ap (λ quoted. ipv4_with_message new (ipv4_message_with quoted new packet) packet) (sym left.quoted_is)))
-    law
-
-pub returns-in-Some-clause-there_and_back : goal.returns-in-Some-clause-there_and_back
-returns-in-Some-clause-there_and_back c =
-    let packet : List ℕ = c.args.packet.now in
-    let new : Ipv4Translation = c.args.new.now in
-    let end : ℕ = 8 + c.in-Some.len in
-    let left : IsIpv4Left packet (Some (slice_range (message_in_ipv4 packet) 8 end)) =
-    ipv4_left packet c.in_ok-place.place _ c.in_ok-place.ensures.place c.in_ok-place.ensures.refused c.in_ok-len.ensures.refused
-    (c.in_ok-len.ensures.quoted ∙ ap (option_map (λ len. slice_range (slice_range packet c.in_ok-place.place.start c.in_ok-place.place.end) 8 (8 + len))) c.in-Some.is
-    ∙ ap (λ message. Some (slice_range message 8 end)) c.in_ok-place.ensures.place.message) in
-    let result = c.translate_ipv4_error.result in
-    if_ok result (if_ok_accepted result _ c.translate_ipv4_error.ensures.refused) c.translate_ipv4_error.ensures.translated c.translate_ipv4_error.ensures.types
-    (λ accepted is is_translation.
-    subst (λ changed. (ipv4_translated (ipv4_way_back new packet) changed ≡ packet) ↔ IsIpv4Restored new packet)
-    (sym (is ∙ ap (λ quoted. ipv4_with_message new (ipv4_message_with quoted new packet) packet) (sym left.quoted_is)))
-    (ipv4_there_and_back new packet c.ipv4_place.ensures.bytes is_translation (left.refusal ∙ accepted)))
-
-pub returns-in-None-clause-again : goal.returns-in-None-clause-again
-returns-in-None-clause-again c =
-    let packet : List ℕ = c.args.packet.now in
-    let new : Ipv4Translation = c.args.new.now in
-    let left : IsIpv4Left packet None =
-    ipv4_left packet c.in_ok-place.place None c.in_ok-place.ensures.place c.in_ok-place.ensures.refused c.in_ok-len.ensures.refused
-    (c.in_ok-len.ensures.quoted ∙ ap (option_map (λ len. slice_range (slice_range packet c.in_ok-place.place.start c.in_ok-place.place.end) 8 (8 + len))) c.in-None.is) in
-    ap ipv4_refusal (c.translate_ipv4_flow.ensures.translated
-    ∙ ap (λ quoted. ipv4_with_message new (ipv4_message_with quoted new packet) packet) (sym left.quoted_is))
-    ∙ ipv4_again new packet c.ipv4_place.ensures.bytes c.translate_ipv4_flow.ensures.types left.refusal
-
-pub returns-in-Some-clause-again : goal.returns-in-Some-clause-again
-returns-in-Some-clause-again c =
-    let packet : List ℕ = c.args.packet.now in
-    let new : Ipv4Translation = c.args.new.now in
-    let end : ℕ = 8 + c.in-Some.len in
-    let left : IsIpv4Left packet (Some (slice_range (message_in_ipv4 packet) 8 end)) =
-    ipv4_left packet c.in_ok-place.place _ c.in_ok-place.ensures.place c.in_ok-place.ensures.refused c.in_ok-len.ensures.refused
-    (c.in_ok-len.ensures.quoted ∙ ap (option_map (λ len. slice_range (slice_range packet c.in_ok-place.place.start c.in_ok-place.place.end) 8 (8 + len))) c.in-Some.is
-    ∙ ap (λ message. Some (slice_range message 8 end)) c.in_ok-place.ensures.place.message) in
-    let result = c.translate_ipv4_error.result in
-    if_ok result (if_ok_accepted result _ c.translate_ipv4_error.ensures.refused) c.translate_ipv4_error.ensures.translated c.translate_ipv4_error.ensures.types
-    (λ accepted is is_translation.
-    ap ipv4_refusal (is ∙ ap (λ quoted. ipv4_with_message new (ipv4_message_with quoted new packet) packet) (sym left.quoted_is))
-    ∙ ipv4_again new packet c.ipv4_place.ensures.bytes is_translation (left.refusal ∙ accepted))
+    let result = c.translate_ipv4_by.result in
+    if_ok_four result c.translate_ipv4_by.ensures.bytes c.translate_ipv4_by.ensures.types (if_ok_accepted result _ c.translate_ipv4_by.ensures.refused) c.translate_ipv4_by.ensures.translated
+    (λ bytes types accepted is. subst (λ changed. (ipv4_translated (ipv4_way_back new packet) changed ≡ packet) ↔ IsIpv4Restored new packet)
+    (sym is) (ipv4_there_and_back _ _ new packet bytes types.0 accepted))

@@ -4,7 +4,7 @@ use Rattle.word_sum.specs.ChecksumChange.{TurnsInto, added_value, removed_value}
 use Rattle.word_sum.specs.declared.checksum_change.ChecksumChange.{ChecksumChange}
 use Rattle.word_sum.proofs.ChecksumChangeLemmas.{folded-remainder}
 use Rattle.word_sum.proofs.ChecksumLemmas.{folded-lt}
-use Rattle.etherparse_transport.specs.Ipv4Translations.{ipv4_opposite, ipv4_translated_flow}
+use Rattle.etherparse_transport.specs.Ipv4Translations.{ipv4_translated_flow}
 use Rattle.etherparse_transport.specs.Translations.{number, with_bytes, with_number, with_updated_checksum}
 use Rattle.etherparse_transport.proofs.TranslationLemmas.{put_is}
 use Rattle.etherparse_transport.proofs.TranslationSums.{error_alike, first_counts, first_put, folded_some, message_total, not_zero_by, quote_alike, turned_by}
@@ -16,11 +16,11 @@ returns-clause-translated c =
     let message : List ℕ = c.args.message.now in
     let end : ℕ = 8 + c.args.quoted_len in
     let quoted : List ℕ = slice_range message 8 end in
-    let translated : List ℕ = ipv4_translated_flow (ipv4_opposite c.args.new.now) quoted in
+    let translated : List ℕ = ipv4_translated_flow c.args.new.now quoted in
     let changed : List ℕ = c.translate_ipv4_flow-change.new.packet in
     let flow : ChecksumChange = c.translate_ipv4_flow-change.result in
     let first : List ℕ = slice_index quoted 0 ∷ slice_index quoted 1 ∷ [] in
-    let changed_is : changed ≡ translated = c.translate_ipv4_flow-change.ensures.translated ∙ ap (λ new. ipv4_translated_flow new quoted) c.opposite.ensures in
+    let changed_is : changed ≡ translated = c.translate_ipv4_flow-change.ensures.translated in
     let version : slice_index quoted 0 ≢ 0 = not_zero_by (slice_index quoted 0) 3 c.requires.place.is_ipv4 in
     let first_some : total first ≢ 0 = first_counts first version in
     let some : added_value c.replace_2bytes.result ≢ 0 = λ none.
@@ -61,4 +61,6 @@ returns-clause-verifies c = λ some.
     error_alike 0 0 message between c.update_checksum.new.message (total quoted) (total changed)
     (message_total 8 end message changed refl (search rules) (omega arith) c.requires.room)
     (omega (arith, c.update_checksum.ensures.remainder (total quoted) (total changed) turned (search rules)))
-    some (c.update_checksum.ensures.first ∙ first_put 8 (end - 8) message changed (omega arith) (search rules))
+    (λ none. first_counts message some (omega (arith, none)))
+    (λ none. first_counts c.update_checksum.new.message
+    (λ zero. some (sym (c.update_checksum.ensures.first ∙ first_put 8 (end - 8) message changed (omega arith) (search rules)) ∙ zero)) (omega (arith, none)))

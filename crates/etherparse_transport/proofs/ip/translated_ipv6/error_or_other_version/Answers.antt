@@ -3,4 +3,4 @@ use Rattle.etherparse_transport.proofs.TranslationLemmas.{other_version}
 use Rattle.etherparse_transport.proofs.ip.translated_ipv6.error_or_other_version.Goals as goal
 
 pub returns-in-Ok : goal.returns-in-Ok
-returns-in-Ok c = other_version c.args.packet.now (search rules) (search rules)
+returns-in-Ok c = λ has_port. other_version has_port c.args.packet.now (search rules) (search rules)

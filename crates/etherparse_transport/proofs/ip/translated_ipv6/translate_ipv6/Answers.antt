@@ -1,150 +1,17 @@
-use Rattle.std.proofs.Common.{◌≡◌, ◌+◌, List, ℕ, None, Some, slice_range, ap, ◌∙◌, subst, sym, rules}
-use Rattle.std.specs.Prelude.{◌↔◌, IfOk}
-use Rattle.std.specs.Option.{option_map}
-use Rattle.net_base.specs.Refusals.{RefusesExactly}
-use Rattle.etherparse_transport.specs.Ipv6Translations.{IsIpv6Accepted, IsIpv6ErrorAccepted, ipv6_between, ipv6_flow_message, ipv6_message_with, ipv6_refusal, ipv6_translated, ipv6_with_message, message_in_ipv6}
-use Rattle.etherparse_transport.specs.Translations.{IsReadWith}
+use Rattle.std.proofs.Common.{◌≡◌, List, ℕ, sym, subst}
+use Rattle.std.specs.Prelude.{◌↔◌}
+use Rattle.etherparse_transport.specs.Ipv6Translations.{ipv6_translated}
 use Rattle.etherparse_transport.specs.WaysBack.{IsIpv6Restored, ipv6_way_back}
 use Rattle.etherparse_transport.specs.declared.ip.ipv6_translation.Ipv6Translation.{Ipv6Translation}
-use Rattle.etherparse_transport.proofs.Ipv6ThereAndBack.{ipv6_again, ipv6_there_and_back}
-use Rattle.etherparse_transport.proofs.TranslationReading.{if_ok, ipv6_flow_message_len, ipv6_read}
-use Rattle.etherparse_transport.proofs.TranslationLemmas.{IsIpv6Left, ipv6_left}
-use Rattle.etherparse_transport.proofs.TranslationSums.{if_ok_accepted, if_ok_both, if_ok_too, ipv6_accepted, ipv6_error_accepted}
+use Rattle.etherparse_transport.proofs.Ipv6ThereAndBack.{ipv6_there_and_back}
+use Rattle.etherparse_transport.proofs.TranslationSums.{if_ok_accepted, if_ok_four}
 use Rattle.etherparse_transport.proofs.ip.translated_ipv6.translate_ipv6.Goals as goal
 
-pub returns-in-Some-clause-refused : goal.returns-in-Some-clause-refused
-returns-in-Some-clause-refused c =
-    let packet : List ℕ = c.args.packet.now in
-    let end : ℕ = 8 + c.in-Some.len in
-    let left : IsIpv6Left packet (Some (slice_range (message_in_ipv6 packet) 8 end)) =
-    ipv6_left packet c.in_ok-place.place _ c.in_ok-place.ensures.place c.in_ok-place.ensures.refused c.in_ok-len.ensures.refused
-    (c.in_ok-len.ensures.quoted ∙ ap (option_map (λ len. slice_range (slice_range packet c.in_ok-place.place.start c.in_ok-place.place.end) 8 (8 + len))) c.in-Some.is
-    ∙ ap (λ message. Some (slice_range message 8 end)) c.in_ok-place.ensures.place.message) in
-    subst (RefusesExactly c.translate_ipv6_error.result) (sym left.refusal) c.translate_ipv6_error.ensures.refused
-
-pub returns-in-Some-clause-translated : goal.returns-in-Some-clause-translated
-returns-in-Some-clause-translated c =
-    let packet : List ℕ = c.args.packet.now in
-    let end : ℕ = 8 + c.in-Some.len in
-    let left : IsIpv6Left packet (Some (slice_range (message_in_ipv6 packet) 8 end)) =
-    ipv6_left packet c.in_ok-place.place _ c.in_ok-place.ensures.place c.in_ok-place.ensures.refused c.in_ok-len.ensures.refused
-    (c.in_ok-len.ensures.quoted ∙ ap (option_map (λ len. slice_range (slice_range packet c.in_ok-place.place.start c.in_ok-place.place.end) 8 (8 + len))) c.in-Some.is
-    ∙ ap (λ message. Some (slice_range message 8 end)) c.in_ok-place.ensures.place.message) in
-    subst (λ quoted. IfOk c.translate_ipv6_error.result (λ done. c.translate_ipv6_error.new.packet
-    ≡ ipv6_with_message c.args.new.now (ipv6_message_with quoted c.args.new.now packet) packet))
-    (sym left.quoted_is) c.translate_ipv6_error.ensures.translated
-
-pub returns-in-Some-clause-read : goal.returns-in-Some-clause-read
-returns-in-Some-clause-read c =
-    let packet : List ℕ = c.args.packet.now in
-    let end : ℕ = 8 + c.in-Some.len in
-    let quoted : List ℕ = slice_range (message_in_ipv6 packet) 8 end in
-    let message : List ℕ = ipv6_message_with (Some quoted) c.args.new.now packet in
-    let left : IsIpv6Left packet (Some quoted) =
-    ipv6_left packet c.in_ok-place.place _ c.in_ok-place.ensures.place c.in_ok-place.ensures.refused c.in_ok-len.ensures.refused
-    (c.in_ok-len.ensures.quoted ∙ ap (option_map (λ len. slice_range (slice_range packet c.in_ok-place.place.start c.in_ok-place.place.end) 8 (8 + len))) c.in-Some.is
-    ∙ ap (λ message. Some (slice_range message 8 end)) c.in_ok-place.ensures.place.message) in
-    if_ok c.translate_ipv6_error.result c.translate_ipv6_error.ensures.translated c.translate_ipv6_error.ensures.len
-    c.translate_ipv6_error.ensures.addresses
-    (λ is same four. subst (λ quoted. IsReadWith packet c.translate_ipv6_error.new.packet (ipv6_between c.args.new.now packet)
-    (ipv6_message_with quoted c.args.new.now packet)) (sym left.quoted_is)
-    (ipv6_read c.args.new.now packet c.translate_ipv6_error.new.packet message c.in_ok-place.place c.in_ok-place.ensures.refused c.in_ok-place.ensures.place
-    four same is))
-
-pub returns-in-None-clause-read : goal.returns-in-None-clause-read
-returns-in-None-clause-read c =
-    let packet : List ℕ = c.args.packet.now in
-    let left : IsIpv6Left packet None =
-    ipv6_left packet c.in_ok-place.place None c.in_ok-place.ensures.place c.in_ok-place.ensures.refused c.in_ok-len.ensures.refused
-    (c.in_ok-len.ensures.quoted ∙ ap (option_map (λ len. slice_range (slice_range packet c.in_ok-place.place.start c.in_ok-place.place.end) 8 (8 + len))) c.in-None.is) in
-    subst (λ quoted. IsReadWith packet c.translate_ipv6_flow.new.packet (ipv6_between c.args.new.now packet)
-    (ipv6_message_with quoted c.args.new.now packet)) (sym left.quoted_is)
-    (ipv6_read c.args.new.now packet c.translate_ipv6_flow.new.packet (ipv6_flow_message c.args.new.now packet) c.in_ok-place.place
-    c.in_ok-place.ensures.refused c.in_ok-place.ensures.place c.translate_ipv6_flow.ensures.addresses (ipv6_flow_message_len c.args.new.now packet) c.translate_ipv6_flow.ensures.translated)
-
-pub returns-in-Some-clause-verifies : goal.returns-in-Some-clause-verifies
-returns-in-Some-clause-verifies c =
-    let packet : List ℕ = c.args.packet.now in
-    let end : ℕ = 8 + c.in-Some.len in
-    let quoted : List ℕ = slice_range (message_in_ipv6 packet) 8 end in
-    let left : IsIpv6Left packet (Some quoted) =
-    ipv6_left packet c.in_ok-place.place _ c.in_ok-place.ensures.place c.in_ok-place.ensures.refused c.in_ok-len.ensures.refused
-    (c.in_ok-len.ensures.quoted ∙ ap (option_map (λ len. slice_range (slice_range packet c.in_ok-place.place.start c.in_ok-place.place.end) 8 (8 + len))) c.in-Some.is
-    ∙ ap (λ message. Some (slice_range message 8 end)) c.in_ok-place.ensures.place.message) in
-    if_ok_too c.translate_ipv6_error.result (ipv6_accepted c.args.new.now packet quoted _ left.quoted_is)
-
-pub returns-in-None-clause-verifies : goal.returns-in-None-clause-verifies
-returns-in-None-clause-verifies c =
-    let packet : List ℕ = c.args.packet.now in
-    let left : IsIpv6Left packet None =
-    ipv6_left packet c.in_ok-place.place None c.in_ok-place.ensures.place c.in_ok-place.ensures.refused c.in_ok-len.ensures.refused
-    (c.in_ok-len.ensures.quoted ∙ ap (option_map (λ len. slice_range (slice_range packet c.in_ok-place.place.start c.in_ok-place.place.end) 8 (8 + len))) c.in-None.is) in
-    subst (λ quoted. IsIpv6Accepted c.args.new.now packet (ipv6_message_with quoted c.args.new.now packet)) (sym left.quoted_is)
-    c.translate_ipv6_flow.ensures.verifies
-
-pub returns-in-Some-clause-error : goal.returns-in-Some-clause-error
-returns-in-Some-clause-error c =
-    let packet : List ℕ = c.args.packet.now in
-    let end : ℕ = 8 + c.in-Some.len in
-    let quoted : List ℕ = slice_range (message_in_ipv6 packet) 8 end in
-    let left : IsIpv6Left packet (Some quoted) =
-    ipv6_left packet c.in_ok-place.place _ c.in_ok-place.ensures.place c.in_ok-place.ensures.refused c.in_ok-len.ensures.refused
-    (c.in_ok-len.ensures.quoted ∙ ap (option_map (λ len. slice_range (slice_range packet c.in_ok-place.place.start c.in_ok-place.place.end) 8 (8 + len))) c.in-Some.is
-    ∙ ap (λ message. Some (slice_range message 8 end)) c.in_ok-place.ensures.place.message) in
-    subst (λ quoted. IfOk c.translate_ipv6_error.result (λ done. IsIpv6ErrorAccepted c.args.new.now packet (ipv6_message_with quoted c.args.new.now packet))) (sym left.quoted_is)
-    (if_ok_both c.translate_ipv6_error.result c.translate_ipv6_error.ensures.addresses c.translate_ipv6_error.ensures.verifies
-    (ipv6_error_accepted c.args.new.now packet quoted _ (search rules) left.quoted_is))
-
-pub returns-in-None-clause-there_and_back : goal.returns-in-None-clause-there_and_back
-returns-in-None-clause-there_and_back c =
+pub returns-clause-there_and_back : goal.returns-clause-there_and_back
+returns-clause-there_and_back c =
     let packet : List ℕ = c.args.packet.now in
     let new : Ipv6Translation = c.args.new.now in
-    let left : IsIpv6Left packet None =
-    ipv6_left packet c.in_ok-place.place None c.in_ok-place.ensures.place c.in_ok-place.ensures.refused c.in_ok-len.ensures.refused
-    (c.in_ok-len.ensures.quoted ∙ ap (option_map (λ len. slice_range (slice_range packet c.in_ok-place.place.start c.in_ok-place.place.end) 8 (8 + len))) c.in-None.is) in
-    let law = ipv6_there_and_back new packet c.ipv6_place.ensures.bytes c.translate_ipv6_flow.ensures.types left.refusal in
-    subst (λ changed. (ipv6_translated (ipv6_way_back new packet) changed ≡ packet) ↔ IsIpv6Restored new packet)
-    (sym (c.translate_ipv6_flow.ensures.translated ∙ ap (λ quoted. ipv6_with_message new (ipv6_message_with quoted new packet) packet) (sym left.quoted_is)))
-    law
-
-pub returns-in-Some-clause-there_and_back : goal.returns-in-Some-clause-there_and_back
-returns-in-Some-clause-there_and_back c =
-    let packet : List ℕ = c.args.packet.now in
-    let new : Ipv6Translation = c.args.new.now in
-    let end : ℕ = 8 + c.in-Some.len in
-    let left : IsIpv6Left packet (Some (slice_range (message_in_ipv6 packet) 8 end)) =
-    ipv6_left packet c.in_ok-place.place _ c.in_ok-place.ensures.place c.in_ok-place.ensures.refused c.in_ok-len.ensures.refused
-    (c.in_ok-len.ensures.quoted ∙ ap (option_map (λ len. slice_range (slice_range packet c.in_ok-place.place.start c.in_ok-place.place.end) 8 (8 + len))) c.in-Some.is
-    ∙ ap (λ message. Some (slice_range message 8 end)) c.in_ok-place.ensures.place.message) in
-    let result = c.translate_ipv6_error.result in
-    if_ok result (if_ok_accepted result _ c.translate_ipv6_error.ensures.refused) c.translate_ipv6_error.ensures.translated c.translate_ipv6_error.ensures.types
-    (λ accepted is is_translation.
-    subst (λ changed. (ipv6_translated (ipv6_way_back new packet) changed ≡ packet) ↔ IsIpv6Restored new packet)
-    (sym (is ∙ ap (λ quoted. ipv6_with_message new (ipv6_message_with quoted new packet) packet) (sym left.quoted_is)))
-    (ipv6_there_and_back new packet c.ipv6_place.ensures.bytes is_translation (left.refusal ∙ accepted)))
-
-pub returns-in-None-clause-again : goal.returns-in-None-clause-again
-returns-in-None-clause-again c =
-    let packet : List ℕ = c.args.packet.now in
-    let new : Ipv6Translation = c.args.new.now in
-    let left : IsIpv6Left packet None =
-    ipv6_left packet c.in_ok-place.place None c.in_ok-place.ensures.place c.in_ok-place.ensures.refused c.in_ok-len.ensures.refused
-    (c.in_ok-len.ensures.quoted ∙ ap (option_map (λ len. slice_range (slice_range packet c.in_ok-place.place.start c.in_ok-place.place.end) 8 (8 + len))) c.in-None.is) in
-    ap ipv6_refusal (c.translate_ipv6_flow.ensures.translated
-    ∙ ap (λ quoted. ipv6_with_message new (ipv6_message_with quoted new packet) packet) (sym left.quoted_is))
-    ∙ ipv6_again new packet c.ipv6_place.ensures.bytes c.translate_ipv6_flow.ensures.types left.refusal
-
-pub returns-in-Some-clause-again : goal.returns-in-Some-clause-again
-returns-in-Some-clause-again c =
-    let packet : List ℕ = c.args.packet.now in
-    let new : Ipv6Translation = c.args.new.now in
-    let end : ℕ = 8 + c.in-Some.len in
-    let left : IsIpv6Left packet (Some (slice_range (message_in_ipv6 packet) 8 end)) =
-    ipv6_left packet c.in_ok-place.place _ c.in_ok-place.ensures.place c.in_ok-place.ensures.refused c.in_ok-len.ensures.refused
-    (c.in_ok-len.ensures.quoted ∙ ap (option_map (λ len. slice_range (slice_range packet c.in_ok-place.place.start c.in_ok-place.place.end) 8 (8 + len))) c.in-Some.is
-    ∙ ap (λ message. Some (slice_range message 8 end)) c.in_ok-place.ensures.place.message) in
-    let result = c.translate_ipv6_error.result in
-    if_ok result (if_ok_accepted result _ c.translate_ipv6_error.ensures.refused) c.translate_ipv6_error.ensures.translated c.translate_ipv6_error.ensures.types
-    (λ accepted is is_translation.
-    ap ipv6_refusal (is ∙ ap (λ quoted. ipv6_with_message new (ipv6_message_with quoted new packet) packet) (sym left.quoted_is))
-    ∙ ipv6_again new packet c.ipv6_place.ensures.bytes is_translation (left.refusal ∙ accepted))
+    let result = c.translate_ipv6_by.result in
+    if_ok_four result c.translate_ipv6_by.ensures.bytes c.translate_ipv6_by.ensures.types (if_ok_accepted result _ c.translate_ipv6_by.ensures.refused) c.translate_ipv6_by.ensures.translated
+    (λ bytes types accepted is. subst (λ changed. (ipv6_translated (ipv6_way_back new packet) changed ≡ packet) ↔ IsIpv6Restored new packet)
+    (sym is) (ipv6_there_and_back _ _ new packet bytes types.0 accepted))

@@ -1,7 +1,7 @@
-use Rattle.std.proofs.Common.{◌≡◌, ◌+◌, ◌-◌, List, ℕ, length, slice_index, slice_range, unwrap_or, ap, ◌∙◌, subst, sym, rules}
+use Rattle.std.proofs.Common.{◌≡◌, ◌+◌, ◌-◌, List, ℕ, length, slice_range, unwrap_or, ap, ◌∙◌, subst, sym, rules}
 use Rattle.std.specs.Option.{option_map}
-use Rattle.etherparse_transport.specs.Ipv6Translations.{sum_of_ipv6, ipv6_addresses, ipv6_opposite, ipv6_place_refusal, ipv6_start, ipv6_translated_flow, message_in_ipv6, with_ipv6_addresses}
-use Rattle.etherparse_transport.specs.Translations.{IsAcceptedAlike, with_bytes, with_quote}
+use Rattle.etherparse_transport.specs.Ipv6Translations.{sum_of_ipv6, ipv6_addresses, ipv6_of_quoted, ipv6_place_refusal, ipv6_start, ipv6_translated_flow, message_in_ipv6, with_ipv6_addresses}
+use Rattle.etherparse_transport.specs.Translations.{IsAcceptedAlike, has_port, with_bytes, with_quote}
 use Rattle.etherparse_transport.specs.declared.err.packet.translate_error.TranslateError.TheVariants.{QuotedPacket}
 use Rattle.etherparse_transport.specs.declared.ip.ipv6_translation.Ipv6Translation.{Ipv6Translation}
 use Rattle.net_base.specs.IpHeaders.{ipv6_header_of}
@@ -11,13 +11,14 @@ use Rattle.word_sum.specs.Checksum.{folded}
 use Rattle.etherparse_transport.proofs.TranslationLemmas.{put_is}
 use Rattle.etherparse_transport.proofs.TranslationSums.{ipv6_header_put}
 use Rattle.etherparse_transport.proofs.ip.translated_ipv6.translate_ipv6_error.Goals as goal
+use Rattle.etherparse_transport.specs.WaysBack.{IsIpv6Translation}
 use borrow.Rule.Slice.PartMut.{put_mid}
 
 pub returns-clause-refused : goal.returns-clause-refused
 returns-clause-refused c =
     let end : ℕ = 8 + c.args.quoted_len in
-    ap (λ message. option_map (λ error. QuotedPacket) (ipv6_place_refusal (slice_range message 8 end))) (sym c.requires.place.message)
-    ∙ ap (option_map (λ error. QuotedPacket)) c.in-Ok.ensures.refused
+    ap (λ message. option_map (λ error. QuotedPacket) (ipv6_place_refusal (has_port (ipv6_of_quoted c.args.new.now (option_map (λ passed. passed.now) c.args.passed)).source_port (ipv6_of_quoted c.args.new.now (option_map (λ passed. passed.now) c.args.passed)).destination_port) (slice_range message 8 end))) (sym c.requires.place.message)
+    ∙ ap (option_map (λ error. QuotedPacket)) (sym (ap (λ new. ipv6_place_refusal (has_port new.source_port new.destination_port) (slice_range (slice_range c.args.packet.now c.args.place.now.start c.args.place.now.end) 8 end)) c.of_quoted-for_quoted.ensures.passed) ∙ c.in-Ok.ensures.refused)
 
 -- the new addresses, by the old addresses
 abbrev pub addresses_from : Ipv6Translation → Ipv6Header → Ipv6Header
@@ -29,12 +30,14 @@ returns-clause-translated c =
     let end : ℕ = 8 + c.args.quoted_len in
     let changed : List ℕ = c.translate_ipv6_quoted.new.message in
     let with_translated : ℕ → ℕ → List ℕ → List ℕ = λ old new message.
-    with_quote old new (slice_range message 8 end) (ipv6_translated_flow (ipv6_opposite c.args.new.now) (slice_range message 8 end)) message in
+    with_quote old new (slice_range message 8 end) (ipv6_translated_flow (ipv6_of_quoted c.args.new.now (option_map (λ passed. passed.now) c.args.passed)) (slice_range message 8 end)) message in
     let old : ℕ = sum_of_ipv6 (ipv6_header_of packet) in
     let new : ℕ = sum_of_ipv6 (ipv6_addresses c.args.new.now packet) in
     let range : List ℕ = slice_range packet c.args.place.now.start c.args.place.now.end in
     let changed_is : changed ≡ with_translated old new (message_in_ipv6 packet) =
-    c.translate_ipv6_quoted.ensures.translated
+    (c.translate_ipv6_quoted.ensures.translated
+    ∙ ap (λ new. with_quote (removed_value c.ipv6_change-change.result) (added_value c.ipv6_change-change.result) (slice_range (slice_range c.args.packet.now c.args.place.now.start c.args.place.now.end) 8 end)
+    (ipv6_translated_flow new (slice_range (slice_range c.args.packet.now c.args.place.now.start c.args.place.now.end) 8 end)) (slice_range c.args.packet.now c.args.place.now.start c.args.place.now.end)) c.of_quoted-for_quoted.ensures.passed)
     ∙ ap (λ removed. with_translated removed (added_value c.ipv6_change-change.result) range) c.ipv6_change-change.ensures.removed
     ∙ ap (λ added. with_translated old added range)
     (c.ipv6_change-change.ensures.added ∙ ap sum_of_ipv6 c.new_ipv6_addresses-addresses.ensures.new)
@@ -53,12 +56,14 @@ returns-clause-len c =
     let end : ℕ = 8 + c.args.quoted_len in
     let changed : List ℕ = c.translate_ipv6_quoted.new.message in
     let with_translated : ℕ → ℕ → List ℕ → List ℕ = λ old new message.
-    with_quote old new (slice_range message 8 end) (ipv6_translated_flow (ipv6_opposite c.args.new.now) (slice_range message 8 end)) message in
+    with_quote old new (slice_range message 8 end) (ipv6_translated_flow (ipv6_of_quoted c.args.new.now (option_map (λ passed. passed.now) c.args.passed)) (slice_range message 8 end)) message in
     let old : ℕ = sum_of_ipv6 (ipv6_header_of packet) in
     let new : ℕ = sum_of_ipv6 (ipv6_addresses c.args.new.now packet) in
     let range : List ℕ = slice_range packet c.args.place.now.start c.args.place.now.end in
     sym (ap length (
-    c.translate_ipv6_quoted.ensures.translated
+    (c.translate_ipv6_quoted.ensures.translated
+    ∙ ap (λ new. with_quote (removed_value c.ipv6_change-change.result) (added_value c.ipv6_change-change.result) (slice_range (slice_range c.args.packet.now c.args.place.now.start c.args.place.now.end) 8 end)
+    (ipv6_translated_flow new (slice_range (slice_range c.args.packet.now c.args.place.now.start c.args.place.now.end) 8 end)) (slice_range c.args.packet.now c.args.place.now.start c.args.place.now.end)) c.of_quoted-for_quoted.ensures.passed)
     ∙ ap (λ removed. with_translated removed (added_value c.ipv6_change-change.result) range) c.ipv6_change-change.ensures.removed
     ∙ ap (λ added. with_translated old added range)
     (c.ipv6_change-change.ensures.added ∙ ap sum_of_ipv6 c.new_ipv6_addresses-addresses.ensures.new)
@@ -68,16 +73,16 @@ returns-clause-len c =
 pub returns-in_default-clause-refused : goal.returns-in_default-clause-refused
 returns-in_default-clause-refused c =
     let end : ℕ = 8 + c.args.quoted_len in
-    ap (λ message. option_map (λ error. QuotedPacket) (ipv6_place_refusal (slice_range message 8 end))) (sym c.requires.place.message)
-    ∙ ap (option_map (λ error. QuotedPacket)) c.in_default.ensures.refused
+    ap (λ message. option_map (λ error. QuotedPacket) (ipv6_place_refusal (has_port (ipv6_of_quoted c.args.new.now (option_map (λ passed. passed.now) c.args.passed)).source_port (ipv6_of_quoted c.args.new.now (option_map (λ passed. passed.now) c.args.passed)).destination_port) (slice_range message 8 end))) (sym c.requires.place.message)
+    ∙ ap (option_map (λ error. QuotedPacket)) (sym (ap (λ new. ipv6_place_refusal (has_port new.source_port new.destination_port) (slice_range (slice_range c.args.packet.now c.args.place.now.start c.args.place.now.end) 8 end)) c.of_quoted-for_quoted.ensures.passed) ∙ c.in_default.ensures.refused)
 
 pub returns-clause-verifies : goal.returns-clause-verifies
-returns-clause-verifies c = λ before after turns some.
+returns-clause-verifies c = λ before after turns some some_too.
     let packet : List ℕ = c.args.packet.now in
     let end : ℕ = 8 + c.args.quoted_len in
     let range : List ℕ = slice_range packet c.args.place.now.start c.args.place.now.end in
     let with_translated : ℕ → ℕ → List ℕ → List ℕ = λ old new message.
-    with_quote old new (slice_range message 8 end) (ipv6_translated_flow (ipv6_opposite c.args.new.now) (slice_range message 8 end)) message in
+    with_quote old new (slice_range message 8 end) (ipv6_translated_flow (ipv6_of_quoted c.args.new.now (option_map (λ passed. passed.now) c.args.passed)) (slice_range message 8 end)) message in
     let old : ℕ = sum_of_ipv6 (ipv6_header_of packet) in
     let new : ℕ = sum_of_ipv6 (ipv6_addresses c.args.new.now packet) in
     let added : added_value c.ipv6_change-change.result ≡ new =
@@ -87,7 +92,12 @@ returns-clause-verifies c = λ before after turns some.
     ap (λ n. folded (before + n)) added ∙ turns ∙ sym (ap (λ n. folded (after + n)) removed) in
     subst (λ message. IsAcceptedAlike before after message (with_translated old new message)) c.requires.place.message
     (subst (IsAcceptedAlike before after range)
-    (c.translate_ipv6_quoted.ensures.translated
+    ((c.translate_ipv6_quoted.ensures.translated
+    ∙ ap (λ new. with_quote (removed_value c.ipv6_change-change.result) (added_value c.ipv6_change-change.result) (slice_range (slice_range c.args.packet.now c.args.place.now.start c.args.place.now.end) 8 end)
+    (ipv6_translated_flow new (slice_range (slice_range c.args.packet.now c.args.place.now.start c.args.place.now.end) 8 end)) (slice_range c.args.packet.now c.args.place.now.start c.args.place.now.end)) c.of_quoted-for_quoted.ensures.passed)
     ∙ ap (λ removed. with_translated removed (added_value c.ipv6_change-change.result) range) removed
     ∙ ap (λ added. with_translated old added range) added)
-    (c.translate_ipv6_quoted.ensures.verifies before after turned (λ none. some (sym (ap (λ message. slice_index message 0) c.requires.place.message) ∙ none))))
+    (c.translate_ipv6_quoted.ensures.verifies before after turned some some_too))
+
+pub returns-clause-types : goal.returns-clause-types
+returns-clause-types c = (c.of_quoted-for_quoted.ensures.types, subst IsIpv6Translation c.of_quoted-for_quoted.ensures.passed c.translate_ipv6_quoted.ensures.types)

@@ -4,10 +4,10 @@ use Rattle.word_sum.specs.ChecksumChange.{TurnsInto, added_value, removed_value}
 use Rattle.word_sum.specs.declared.checksum_change.ChecksumChange.{ChecksumChange}
 use Rattle.word_sum.proofs.ChecksumChangeLemmas.{folded-remainder}
 use Rattle.word_sum.proofs.ChecksumLemmas.{folded-lt}
-use Rattle.etherparse_transport.specs.Ipv6Translations.{ipv6_opposite, ipv6_translated_flow}
+use Rattle.etherparse_transport.specs.Ipv6Translations.{ipv6_translated_flow}
 use Rattle.etherparse_transport.specs.Translations.{number, with_bytes, with_number, with_updated_checksum}
 use Rattle.etherparse_transport.proofs.TranslationLemmas.{put_is}
-use Rattle.etherparse_transport.proofs.TranslationSums.{error_alike, first_counts, first_put, folded_some, message_total, not_zero_by, quote_alike, turned_by, turns_shifted}
+use Rattle.etherparse_transport.proofs.TranslationSums.{error_alike, first_counts, folded_some, message_total, not_zero_by, quote_alike, turned_by, turns_shifted}
 use Rattle.etherparse_transport.proofs.ip.translated_ipv6.translate_ipv6_quoted.Goals as goal
 use borrow.Rule.Slice.PartMut.{put_mid}
 
@@ -16,11 +16,11 @@ returns-clause-translated c =
     let message : List ℕ = c.args.message.now in
     let end : ℕ = 8 + c.args.quoted_len in
     let quoted : List ℕ = slice_range message 8 end in
-    let translated : List ℕ = ipv6_translated_flow (ipv6_opposite c.args.new.now) quoted in
+    let translated : List ℕ = ipv6_translated_flow c.args.new.now quoted in
     let changed : List ℕ = c.translate_ipv6_flow-change.new.packet in
     let flow : ChecksumChange = c.translate_ipv6_flow-change.result in
     let first : List ℕ = slice_index quoted 0 ∷ slice_index quoted 1 ∷ [] in
-    let changed_is : changed ≡ translated = c.translate_ipv6_flow-change.ensures.translated ∙ ap (λ new. ipv6_translated_flow new quoted) c.opposite.ensures in
+    let changed_is : changed ≡ translated = c.translate_ipv6_flow-change.ensures.translated in
     let version : slice_index quoted 0 ≢ 0 = not_zero_by (slice_index quoted 0) 5 c.requires.place.is_ipv6 in
     let first_some : total first ≢ 0 = first_counts first version in
     let first_added : added_value c.replace_2bytes.result ≢ 0 = λ none.
@@ -44,7 +44,7 @@ returns-clause-translated c =
     ∙ ap (λ changed. with_updated_checksum (folded (removed_value c.args.addresses + total quoted)) (folded (added_value c.args.addresses + total changed)) (with_bytes 8 changed message)) changed_is
 
 pub returns-clause-verifies : goal.returns-clause-verifies
-returns-clause-verifies c = λ before after turns some.
+returns-clause-verifies c = λ before after turns some some_too.
     let message : List ℕ = c.args.message.now in
     let end : ℕ = 8 + c.args.quoted_len in
     let quoted : List ℕ = slice_range message 8 end in
@@ -71,4 +71,4 @@ returns-clause-verifies c = λ before after turns some.
     error_alike before after message between c.update_checksum.new.message (total quoted) (total changed)
     (message_total 8 end message changed refl (search rules) (omega arith) c.requires.room)
     (c.update_checksum.ensures.remainder (before + total quoted) (after + total changed) joined (search rules))
-    some (c.update_checksum.ensures.first ∙ first_put 8 (end - 8) message changed (omega arith) (search rules))
+    (λ none. some (omega (arith, none))) (λ none. some_too (omega (arith, none)))

@@ -1,4 +1,4 @@
-use Rattle.capture_run.proofs.capture_reports.write_summary_in.Goals as goal
+use Rattle.capture_run.proofs.capture_reports.CaptureReports.write_summary.Goals as goal
 
 -- the tables
 pub returns-in-Text : goal.returns-in-Text

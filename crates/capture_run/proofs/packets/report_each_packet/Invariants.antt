@@ -6,7 +6,7 @@ use Rattle.capture_run.specs.PacketsText.{IsPacketsText, first_time}
 use Rattle.capture_request.specs.Report.{CountsEach}
 use Rattle.capture_words.specs.Written.{AppendsOne}
 use Rattle.capture_request.specs.declared.parts.Lines.TheVariants as lines
-use Rattle.capture_run.proofs.packets.report_each.Given as goal
+use Rattle.capture_run.proofs.packets.report_each_packet.Given as goal
 
 -- the packets read are counted, their text is written, and the next number is one more than their number
 abbrev pub invariant-loop-number : goal.invariant-loop-number

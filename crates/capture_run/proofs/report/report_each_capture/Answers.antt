@@ -3,7 +3,7 @@ use Rattle.std.proofs.KnownBytes.{Appends-nil}
 use Rattle.capture_request.proofs.LineLemmas.{writes-nothing}
 use Rattle.capture_file.proofs.ReaderLemmas.{at_error}
 use Rattle.capture_run.proofs.RunLemmas.{one-more, tells_first}
-use Rattle.capture_run.proofs.report.report_each.Goals as goal
+use Rattle.capture_run.proofs.report.report_each_capture.Goals as goal
 
 -- before the first capture
 pub loop-place-init : goal.loop-place-init
@@ -14,8 +14,8 @@ loop-place-init g c = (
     text = [];
     lines = [];
     is_report = (refl, refl, refl);
-    appends = Appends-nil (g.W.Write.contents c.args.output.now);
-    tells = writes-nothing (g.E.Write.contents c.args.errors.now) _;
+    appends = Appends-nil (g.W.Write.contents c.args.outputs.now.report);
+    tells = writes-nothing (g.E.Write.contents c.args.outputs.now.errors) _;
   },
 )
 
@@ -25,7 +25,7 @@ loop-place-preserved g c =
     let (parts, told, written) = c.loop-place.invariant in (
       c.in_ok-reports.ensures.parts ∙ parts,
       λ none. told (c.in_ok-reports.ensures.told none),
-      one-more _ c.args.reports.parts c.loop-place.reports.parts _ c.args.names.now (λ name. name.now) c.loop-place.place _ _ _ _ _ _ _ _ _ _ _ _
+      one-more _ c.args.reports.parts c.loop-place.reports.parts _ c.args.sources.now.names.now (λ name. name.now) c.loop-place.place _ _ _ _ _ _ _ _ _ _ _ _
           (search rules) parts c.in_ok-reports.ensures.told written c.in_ok-reports.ensures.report,
     )
 
@@ -35,4 +35,4 @@ returns-in_err-reports-clause-errors g c =
     let (parts, told, written) = c.loop-place.invariant in
     at_error c.from_residual.result
     (rw (ap g.E.Write.contents c.in_err-reports.ensures.errors) (
-    tells_first _ c.args.reports.parts _ c.args.names.now (λ name. name.now) c.loop-place.place _ _ _ _ _ _ _ written))
+    tells_first _ c.args.reports.parts _ c.args.sources.now.names.now (λ name. name.now) c.loop-place.place _ _ _ _ _ _ _ written))

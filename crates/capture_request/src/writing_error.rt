@@ -2,7 +2,7 @@ use std::alloc::AllocError;
 use std::io;
 use thiserror::Error;
 
-/// Why a line of JSON is not written.
+/// The reason why a report is not written.
 #[derive(Debug, Error, Drop)]
 pub enum WriteError {
     /// Writing failed.
@@ -15,12 +15,24 @@ pub enum WriteError {
 
 impl From<AllocError> for WriteError {
     ghost use Rattle.std.specs.Prelude.{◌≡◌};
-    ghost use Rattle.capture_json.specs.declared.write_error.WriteError.TheVariants as variants;
+    ghost use Rattle.capture_request.specs.declared.writing_error.WriteError.TheVariants as variants;
 
     ghost from_gives = { λ error write_error. write_error ≡ variants.NoMemory };
 
     /// No memory is left.
     fn from(_error: AllocError) -> WriteError {
         WriteError::NoMemory
+    }
+}
+
+impl From<io::Error> for WriteError {
+    ghost use Rattle.std.specs.Prelude.{◌≡◌};
+    ghost use Rattle.capture_request.specs.declared.writing_error.WriteError.TheVariants as variants;
+
+    ghost from_gives = { λ error write_error. write_error ≡ variants.Write error };
+
+    /// Writing failed with this error.
+    fn from(error: io::Error) -> WriteError {
+        WriteError::Write(error)
     }
 }

@@ -7,7 +7,7 @@ use Rattle.capture_run.proofs.ReadLemmas.{all_packets, ended_at_item}
 use Rattle.capture_file.proofs.ReaderLemmas.{at_error}
 use Rattle.capture_run.proofs.ReportLemmas.{counts-cut, counts-push, counts_at_most}
 use Rattle.capture_packet.specs.Frames.{max_packet_len}
-use Rattle.capture_run.proofs.packets.report_each.Goals as goal
+use Rattle.capture_run.proofs.packets.report_each_packet.Goals as goal
 
 -- the packets that were read before the next item ended the report are counted, and this is their text
 pub returns-in-Some-clause-report : goal.returns-in-Some-clause-report

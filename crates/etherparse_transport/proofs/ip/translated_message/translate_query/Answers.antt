@@ -1,17 +1,19 @@
-use Rattle.std.proofs.Common.{◌≡◌, ◌≢◌, ◌+◌, ◌%◌, List, ℕ, length, refl, sym, ap, ◌∙◌, subst, arith}
+use Rattle.std.proofs.Common.{◌≡◌, ◌≢◌, ◌+◌, ◌%◌, ◌≤◌, if◌then◌else◌, nat_le, true, List, ℕ, length, refl, sym, ap, ◌∙◌, arith}
+use Rattle.std.proofs.lemmas.Bool.Decides.{nat_tests}
 use Rattle.net_base.specs.StoredChecksum.{with_checksum}
 use Rattle.word_sum.specs.Checksum.{total}
 use Rattle.word_sum.specs.ChecksumChange.{TurnsInto, added_value, removed_value}
-use Rattle.etherparse_transport.specs.Translations.{number, with_number}
+use Rattle.etherparse_transport.specs.Translations.{number, rest_of_message, with_number}
 use Rattle.etherparse_transport.proofs.TranslationReading.{number_len}
-use Rattle.etherparse_transport.proofs.TranslationSums.{both_accepted, echo_some, number_before, stored_number_total, turns_shifted}
-use Rattle.etherparse_transport.proofs.ip.translated_message.translate_echo.Goals as goal
+use Rattle.etherparse_transport.proofs.TranslationSums.{both_accepted, number_before, stored_number_total, sum_some, turns_shifted}
+use Rattle.etherparse_transport.proofs.ip.translated_message.translate_query.Goals as goal
 
 pub returns-clause-verifies : goal.returns-clause-verifies
-returns-clause-verifies c = λ before after turns long some.
+returns-clause-verifies c = λ before after turns some.
     let message : List ℕ = c.args.message.now in
+    let long : 6 ≤ length message = c.requires.there in
     let new : ℕ = c.unwrap_or-new.result in
-    let checksum : ℕ = c.echo_checksum-checksum.result in
+    let checksum : ℕ = c.query_checksum-checksum.result in
     let between : List ℕ = c.replace_number-change.new.message in
     let translated : List ℕ = c.replace_number.new.message in
     let between_is : between ≡ with_number 4 new message = c.replace_number-change.ensures.replaced in
@@ -33,10 +35,11 @@ returns-clause-verifies c = λ before after turns long some.
     let remainder = c.apply-checksum.ensures.remainder (before + without) (after + without_too) turned in
     let sum : before + without + c.number.result ≡ before + total message = omega (arith, was, c.number.ensures) in
     let sum_too : after + total translated ≡ after + without_too + checksum = omega (arith, is, stored) in
-    let translated_is : translated ≡ with_number 2 checksum (with_number 4 new message) =
-    c.replace_number.ensures.replaced ∙ ap (with_number 2 checksum) between_is in
-    let some_translated : total translated ≢ 0 =
-    subst (λ bytes. total bytes ≢ 0) (sym translated_is) (echo_some message new checksum without_too checksum (sym (ap total translated_is) ∙ omega (arith, is, stored)) c.echo_checksum-checksum.ensures.some) in
+    let there : nat_le 4 (length between) ≡ true = grind (arith, nat_tests) in
+    let rest_is : rest_of_message between ≡ without_too = ap (λ b. total (if b then with_checksum 2 between 0 else between)) there in
+    let parts : total translated ≡ without_too + checksum = omega (arith, is, stored) in
+    let some_translated : total translated ≢ 0 = λ none.
+    sum_some without_too checksum (λ zero. c.query_checksum-checksum.ensures.some (rest_is ∙ zero)) (sym parts ∙ none) in
     both_accepted (before + total message) (after + total translated)
-    (ap (λ n. n % 65535) sum_too ∙ omega (arith, remainder, c.echo_checksum-checksum.ensures.remainder) ∙ ap (λ n. n % 65535) sum)
+    (ap (λ n. n % 65535) sum_too ∙ omega (arith, remainder, c.query_checksum-checksum.ensures.remainder) ∙ ap (λ n. n % 65535) sum)
     some (λ none. some_translated (omega (arith, none)))

@@ -1,16 +1,18 @@
 // SPDX-FileCopyrightText: 2026 The etherparse_transport developers
 // SPDX-License-Identifier: MIT OR Apache-2.0
-//! The interface of the library as it is: its numbers, its structs and its calls, with the names of the header in C without their
-//! prefix. What a caller owes is in `include/etherparse_transport.h`; the other modules keep it. `error` may be null if it is not wanted:
+//! The library for C as it is: its numbers, its structs and its calls, with the names of the header without their prefix. The header,
+//! `etherparse_transport.h`, describes what a caller must ensure. The crate `etherparse_transport_c` ensures it. `error` may be null if it
+//! is not wanted:
 //!
 //! ```
-//! use etherparse_transport_c::sys;
+//! use etherparse_transport_sys as sys;
 //!
 //! let (bytes, mut packet) = ([0; 7], sys::UdpPacket::default());
 //! // Sound: the call reads 7 bytes and writes one packet.
 //! let status = unsafe { sys::etherparse_udp_packet_read(bytes.as_ptr(), bytes.len(), &mut packet, std::ptr::null_mut()) };
 //! assert_eq!(status, sys::STATUS_LENGTH);
 //! ```
+#![no_std]
 
 // ---- Statuses: what a call answers. 25 to 30 are kept for the headers of IP.
 
@@ -104,30 +106,137 @@ pub const TCP_OPTION_TIMESTAMP: u32 = 8;
 
 // ---- Kinds of ICMPv4 messages (RFC 792); 0 is any other type and code.
 
-pub const ICMPV4_UNKNOWN: u32 = 0;
-pub const ICMPV4_ECHO_REPLY: u32 = 1;
-pub const ICMPV4_DESTINATION_UNREACHABLE: u32 = 2;
-pub const ICMPV4_REDIRECT: u32 = 3;
-pub const ICMPV4_ECHO_REQUEST: u32 = 4;
-pub const ICMPV4_TIME_EXCEEDED: u32 = 5;
-pub const ICMPV4_PARAMETER_PROBLEM: u32 = 6;
-pub const ICMPV4_TIMESTAMP_REQUEST: u32 = 7;
-pub const ICMPV4_TIMESTAMP_REPLY: u32 = 8;
+pub const ICMPV4_KIND_UNKNOWN: u32 = 0;
+pub const ICMPV4_KIND_ECHO_REPLY: u32 = 1;
+pub const ICMPV4_KIND_DESTINATION_UNREACHABLE: u32 = 2;
+pub const ICMPV4_KIND_REDIRECT: u32 = 3;
+pub const ICMPV4_KIND_ECHO_REQUEST: u32 = 4;
+pub const ICMPV4_KIND_TIME_EXCEEDED: u32 = 5;
+pub const ICMPV4_KIND_PARAMETER_PROBLEM: u32 = 6;
+pub const ICMPV4_KIND_TIMESTAMP_REQUEST: u32 = 7;
+pub const ICMPV4_KIND_TIMESTAMP_REPLY: u32 = 8;
+
+// ---- The types of ICMPv4 messages (RFC 792): byte 0.
+
+pub const ICMPV4_TYPE_ECHO_REPLY: u8 = 0;
+pub const ICMPV4_TYPE_DESTINATION_UNREACHABLE: u8 = 3;
+pub const ICMPV4_TYPE_SOURCE_QUENCH: u8 = 4;
+pub const ICMPV4_TYPE_REDIRECT: u8 = 5;
+pub const ICMPV4_TYPE_ALTERNATE_HOST_ADDRESS: u8 = 6;
+pub const ICMPV4_TYPE_ECHO_REQUEST: u8 = 8;
+pub const ICMPV4_TYPE_ROUTER_ADVERTISEMENT: u8 = 9;
+pub const ICMPV4_TYPE_ROUTER_SOLICITATION: u8 = 10;
+pub const ICMPV4_TYPE_TIME_EXCEEDED: u8 = 11;
+pub const ICMPV4_TYPE_PARAMETER_PROBLEM: u8 = 12;
+pub const ICMPV4_TYPE_TIMESTAMP_REQUEST: u8 = 13;
+pub const ICMPV4_TYPE_TIMESTAMP_REPLY: u8 = 14;
+pub const ICMPV4_TYPE_INFORMATION_REQUEST: u8 = 15;
+pub const ICMPV4_TYPE_INFORMATION_REPLY: u8 = 16;
+pub const ICMPV4_TYPE_ADDRESS_MASK_REQUEST: u8 = 17;
+pub const ICMPV4_TYPE_ADDRESS_MASK_REPLY: u8 = 18;
+
+// ---- The codes of destination unreachable: 0 to 5 (RFC 792), 6 to 12 (RFC 1122, section 3.2.2.1), 13 to 15 (RFC 1812, section 5.2.7.1).
+
+pub const ICMPV4_CODE_NETWORK_UNREACHABLE: u8 = 0;
+pub const ICMPV4_CODE_HOST_UNREACHABLE: u8 = 1;
+pub const ICMPV4_CODE_PROTOCOL_UNREACHABLE: u8 = 2;
+pub const ICMPV4_CODE_PORT_UNREACHABLE: u8 = 3;
+pub const ICMPV4_CODE_FRAGMENTATION_NEEDED: u8 = 4;
+pub const ICMPV4_CODE_SOURCE_ROUTE_FAILED: u8 = 5;
+pub const ICMPV4_CODE_NETWORK_UNKNOWN: u8 = 6;
+pub const ICMPV4_CODE_HOST_UNKNOWN: u8 = 7;
+pub const ICMPV4_CODE_SOURCE_HOST_ISOLATED: u8 = 8;
+pub const ICMPV4_CODE_NETWORK_PROHIBITED: u8 = 9;
+pub const ICMPV4_CODE_HOST_PROHIBITED: u8 = 10;
+pub const ICMPV4_CODE_NETWORK_UNREACHABLE_FOR_SERVICE: u8 = 11;
+pub const ICMPV4_CODE_HOST_UNREACHABLE_FOR_SERVICE: u8 = 12;
+pub const ICMPV4_CODE_COMMUNICATION_PROHIBITED: u8 = 13;
+pub const ICMPV4_CODE_HOST_PRECEDENCE_VIOLATION: u8 = 14;
+pub const ICMPV4_CODE_PRECEDENCE_CUTOFF: u8 = 15;
+
+// ---- The codes of redirect (RFC 792).
+
+pub const ICMPV4_CODE_REDIRECT_NETWORK: u8 = 0;
+pub const ICMPV4_CODE_REDIRECT_HOST: u8 = 1;
+pub const ICMPV4_CODE_REDIRECT_NETWORK_FOR_SERVICE: u8 = 2;
+pub const ICMPV4_CODE_REDIRECT_HOST_FOR_SERVICE: u8 = 3;
+
+// ---- The codes of time exceeded (RFC 792).
+
+pub const ICMPV4_CODE_TIME_TO_LIVE_EXCEEDED: u8 = 0;
+pub const ICMPV4_CODE_REASSEMBLY_TIME_EXCEEDED: u8 = 1;
+
+// ---- The codes of parameter problem: 0 (RFC 792), 1 (RFC 1122, section 3.2.2.5), 2 (no RFC).
+
+pub const ICMPV4_CODE_POINTER_INDICATES_ERROR: u8 = 0;
+pub const ICMPV4_CODE_REQUIRED_OPTION_MISSING: u8 = 1;
+pub const ICMPV4_CODE_BAD_LENGTH: u8 = 2;
 
 // ---- Kinds of ICMPv6 messages (RFC 4443; RFC 4861); 0 is any other type and code.
 
-pub const ICMPV6_UNKNOWN: u32 = 0;
-pub const ICMPV6_DESTINATION_UNREACHABLE: u32 = 1;
-pub const ICMPV6_PACKET_TOO_BIG: u32 = 2;
-pub const ICMPV6_TIME_EXCEEDED: u32 = 3;
-pub const ICMPV6_PARAMETER_PROBLEM: u32 = 4;
-pub const ICMPV6_ECHO_REQUEST: u32 = 5;
-pub const ICMPV6_ECHO_REPLY: u32 = 6;
-pub const ICMPV6_ROUTER_SOLICITATION: u32 = 7;
-pub const ICMPV6_ROUTER_ADVERTISEMENT: u32 = 8;
-pub const ICMPV6_NEIGHBOR_SOLICITATION: u32 = 9;
-pub const ICMPV6_NEIGHBOR_ADVERTISEMENT: u32 = 10;
-pub const ICMPV6_REDIRECT: u32 = 11;
+pub const ICMPV6_KIND_UNKNOWN: u32 = 0;
+pub const ICMPV6_KIND_DESTINATION_UNREACHABLE: u32 = 1;
+pub const ICMPV6_KIND_PACKET_TOO_BIG: u32 = 2;
+pub const ICMPV6_KIND_TIME_EXCEEDED: u32 = 3;
+pub const ICMPV6_KIND_PARAMETER_PROBLEM: u32 = 4;
+pub const ICMPV6_KIND_ECHO_REQUEST: u32 = 5;
+pub const ICMPV6_KIND_ECHO_REPLY: u32 = 6;
+pub const ICMPV6_KIND_ROUTER_SOLICITATION: u32 = 7;
+pub const ICMPV6_KIND_ROUTER_ADVERTISEMENT: u32 = 8;
+pub const ICMPV6_KIND_NEIGHBOR_SOLICITATION: u32 = 9;
+pub const ICMPV6_KIND_NEIGHBOR_ADVERTISEMENT: u32 = 10;
+pub const ICMPV6_KIND_REDIRECT: u32 = 11;
+
+// ---- The types of ICMPv6 messages: 1 to 129 (RFC 4443), 133 to 137 (RFC 4861). It is byte 0.
+
+pub const ICMPV6_TYPE_DESTINATION_UNREACHABLE: u8 = 1;
+pub const ICMPV6_TYPE_PACKET_TOO_BIG: u8 = 2;
+pub const ICMPV6_TYPE_TIME_EXCEEDED: u8 = 3;
+pub const ICMPV6_TYPE_PARAMETER_PROBLEM: u8 = 4;
+pub const ICMPV6_TYPE_ECHO_REQUEST: u8 = 128;
+pub const ICMPV6_TYPE_ECHO_REPLY: u8 = 129;
+pub const ICMPV6_TYPE_MULTICAST_LISTENER_QUERY: u8 = 130;
+pub const ICMPV6_TYPE_MULTICAST_LISTENER_REPORT: u8 = 131;
+pub const ICMPV6_TYPE_MULTICAST_LISTENER_DONE: u8 = 132;
+pub const ICMPV6_TYPE_ROUTER_SOLICITATION: u8 = 133;
+pub const ICMPV6_TYPE_ROUTER_ADVERTISEMENT: u8 = 134;
+pub const ICMPV6_TYPE_NEIGHBOR_SOLICITATION: u8 = 135;
+pub const ICMPV6_TYPE_NEIGHBOR_ADVERTISEMENT: u8 = 136;
+pub const ICMPV6_TYPE_REDIRECT: u8 = 137;
+pub const ICMPV6_TYPE_ROUTER_RENUMBERING: u8 = 138;
+pub const ICMPV6_TYPE_INVERSE_NEIGHBOR_SOLICITATION: u8 = 141;
+pub const ICMPV6_TYPE_INVERSE_NEIGHBOR_ADVERTISEMENT: u8 = 142;
+pub const ICMPV6_TYPE_EXTENDED_ECHO_REQUEST: u8 = 160;
+pub const ICMPV6_TYPE_EXTENDED_ECHO_REPLY: u8 = 161;
+
+// ---- The codes of destination unreachable (RFC 4443, section 3.1).
+
+pub const ICMPV6_CODE_NO_ROUTE: u8 = 0;
+pub const ICMPV6_CODE_COMMUNICATION_PROHIBITED: u8 = 1;
+pub const ICMPV6_CODE_BEYOND_SCOPE: u8 = 2;
+pub const ICMPV6_CODE_ADDRESS_UNREACHABLE: u8 = 3;
+pub const ICMPV6_CODE_PORT_UNREACHABLE: u8 = 4;
+pub const ICMPV6_CODE_SOURCE_ADDRESS_FAILED_POLICY: u8 = 5;
+pub const ICMPV6_CODE_REJECT_ROUTE: u8 = 6;
+
+// ---- The codes of time exceeded (RFC 4443, section 3.3).
+
+pub const ICMPV6_CODE_HOP_LIMIT_EXCEEDED: u8 = 0;
+pub const ICMPV6_CODE_REASSEMBLY_TIME_EXCEEDED: u8 = 1;
+
+// ---- The codes of parameter problem: 0 to 2 (RFC 4443, section 3.4), 3 (RFC 7112), 4 (RFC 8754), 5 to 10 (RFC 8883).
+
+pub const ICMPV6_CODE_ERRONEOUS_HEADER_FIELD: u8 = 0;
+pub const ICMPV6_CODE_UNRECOGNIZED_NEXT_HEADER: u8 = 1;
+pub const ICMPV6_CODE_UNRECOGNIZED_OPTION: u8 = 2;
+pub const ICMPV6_CODE_INCOMPLETE_HEADER_CHAIN: u8 = 3;
+pub const ICMPV6_CODE_UPPER_LAYER_HEADER_ERROR: u8 = 4;
+pub const ICMPV6_CODE_NEXT_HEADER_UNRECOGNIZED_BY_ROUTER: u8 = 5;
+pub const ICMPV6_CODE_EXTENSION_HEADER_TOO_BIG: u8 = 6;
+pub const ICMPV6_CODE_EXTENSION_HEADER_CHAIN_TOO_LONG: u8 = 7;
+pub const ICMPV6_CODE_TOO_MANY_EXTENSION_HEADERS: u8 = 8;
+pub const ICMPV6_CODE_TOO_MANY_OPTIONS: u8 = 9;
+pub const ICMPV6_CODE_OPTION_TOO_BIG: u8 = 10;
 
 // ---- Flags of ICMPv6 advertisements, at their bits in the packet (RFC 4861, sections 4.2 and 4.4).
 
@@ -160,7 +269,7 @@ pub const VERDICT_UNTESTED_TOO_LONG: u32 = 21;
 // ---- The version of the interface.
 
 pub const VERSION_MAJOR: u32 = 0;
-pub const VERSION_MINOR: u32 = 4;
+pub const VERSION_MINOR: u32 = 5;
 pub const VERSION_PATCH: u32 = 0;
 
 // ---- The longest text of an error, in bytes.
@@ -354,9 +463,9 @@ pub struct Ipv4Translation {
     pub source: [u8; 4],
     /// The new destination address.
     pub destination: [u8; 4],
-    /// The new source port of UDP and TCP, or identifier of an echo request.
+    /// The new source port of UDP and TCP, or identifier of an ICMP request.
     pub source_port: u16,
-    /// The new destination port of UDP and TCP, or identifier of an echo reply.
+    /// The new destination port of UDP and TCP, or identifier of an ICMP reply.
     pub destination_port: u16,
     /// Whether the source address is replaced.
     pub has_source: u8,
@@ -376,9 +485,9 @@ pub struct Ipv6Translation {
     pub source: [u8; 16],
     /// The new destination address.
     pub destination: [u8; 16],
-    /// The new source port of UDP and TCP, or identifier of an echo request.
+    /// The new source port of UDP and TCP, or identifier of an ICMP request.
     pub source_port: u16,
-    /// The new destination port of UDP and TCP, or identifier of an echo reply.
+    /// The new destination port of UDP and TCP, or identifier of an ICMP reply.
     pub destination_port: u16,
     /// Whether the source address is replaced.
     pub has_source: u8,
@@ -491,7 +600,7 @@ pub struct UdpPacket {
     pub payload_len_source: u32,
 }
 
-unsafe extern "C" {
+extern "C" {
     /// Writes the header at the front of some bytes with every bit cleared that has no meaning.
     pub fn etherparse_canonical_header(
         number: u32,
@@ -516,7 +625,7 @@ unsafe extern "C" {
     /// The change that puts the old bytes back, as a translator does in the packets that come back.
     pub fn etherparse_checksum_change_reversed(change: ChecksumChange) -> ChecksumChange;
     /// The checksum of the changed packet, from the checksum that the packet had, as TCP, ICMP and the IPv4 header store it (RFC 1624,
-    /// section 3, equation 3). It is wrong in one case: where every byte that the checksum covers becomes zero it is 0, and should be 65535.
+    /// section 3, equation 3). A right checksum becomes right, and a wrong one stays wrong, but for bytes that are all zeros.
     pub fn etherparse_checksum_change_apply(change: ChecksumChange, checksum: u16) -> u16;
     /// The checksum of the changed packet, from the checksum that the packet had, as UDP stores it (RFC 768): 0, which says that there is
     /// none, stays, and no other checksum becomes 0.

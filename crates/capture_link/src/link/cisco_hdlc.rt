@@ -1,0 +1,50 @@
+//! Cisco HDLC frames (LINKTYPE_C_HDLC; RFC 1547, section 4.3.1).
+
+ghost use Rattle.std.specs.Prelude.{◌≡◌, IfErr, IfOk, length};
+ghost use Rattle.capture_link.specs.CiscoHdlc as specs;
+ghost use Rattle.capture_link.specs.LinkHeaders.{Fits};
+
+use crate::link::LinkHeaderCutOff;
+use crate::link::header::{EtherHeader, FirstHeader, expect_len, short_at};
+
+/// The number of LINKTYPE_C_HDLC. It is the next protocol of a frame with a protocol of Cisco HDLC, which is not read.
+const LINK_TYPE: u16 = 104;
+
+/// An address, a control byte, and the number of a protocol, which is its ether type except for two protocols.
+const CISCO_HDLC: EtherHeader = EtherHeader {
+    len: 4,
+    ether_type_at: 2,
+};
+
+/// The first byte of a frame to one station, and of a frame to all stations.
+const TO_ONE_STATION: u8 = 0x0F;
+
+const TO_ALL_STATIONS: u8 = 0x8F;
+
+/// SLARP, the address resolution and the keepalives of serial lines. As an ether type this number is RARP.
+const SLARP: u16 = 0x8035;
+
+/// CDP, by the number that it also has in a SNAP header with Cisco's organization code.
+const CDP: u16 = 0x2000;
+
+/// The first header of a Cisco HDLC frame.
+pub(super) fn cisco_header(frame: &[u8]) -> Result<FirstHeader, LinkHeaderCutOff>
+    ensures is { result ≡ specs.cisco_header frame.now }
+    ensures fits { IfOk result (Fits frame.now) }
+    ensures len { IfErr result (λ error. error.len ≡ length frame.now) }
+{
+    expect_len(frame, CISCO_HDLC.len)?;
+    let number = short_at(frame, CISCO_HDLC.ether_type_at);
+    if matches!(number, SLARP | CDP) {
+        Ok(FirstHeader::unread(CISCO_HDLC.len, LINK_TYPE))
+    } else {
+        Ok(FirstHeader::EtherType(CISCO_HDLC))
+    }
+}
+
+/// Whether the address of a LINKTYPE_PPP_HDLC frame is an address of Cisco HDLC.
+pub(super) fn is_cisco_hdlc(frame: &[u8]) -> bool
+    ensures { result ≡ specs.is_cisco_hdlc frame.now }
+{
+    !frame.is_empty() && matches!(frame[0], TO_ONE_STATION | TO_ALL_STATIONS)
+}

@@ -1,0 +1,17 @@
+use Rattle.std.proofs.Common.{◌≡◌, List, ℕ, sym, subst}
+use Rattle.std.specs.Prelude.{◌↔◌}
+use Rattle.etherparse_transport.specs.Ipv4Translations.{ipv4_quoted, ipv4_translated_with}
+use Rattle.etherparse_transport.specs.WaysBack.{IsIpv4RestoredWith, ipv4_flow_back, ipv4_quoted_back}
+use Rattle.etherparse_transport.specs.declared.ip.ipv4_translation.Ipv4Translation.{Ipv4Translation}
+use Rattle.etherparse_transport.proofs.Ipv4ThereAndBack.{ipv4_both_there_and_back}
+use Rattle.etherparse_transport.proofs.TranslationSums.{if_ok_accepted, if_ok_four}
+use Rattle.etherparse_transport.proofs.ip.translated_ipv4.translate_ipv4_with_quoted.Goals as goal
+
+pub returns-clause-there_and_back : goal.returns-clause-there_and_back
+returns-clause-there_and_back c =
+    let packet : List ℕ = c.args.packet.now in
+    let new : Ipv4Translation = c.args.new.now in
+    let result = c.translate_ipv4_by.result in
+    if_ok_four result c.translate_ipv4_by.ensures.bytes c.translate_ipv4_by.ensures.types (if_ok_accepted result _ c.translate_ipv4_by.ensures.refused) c.translate_ipv4_by.ensures.translated
+    (λ bytes types accepted is. subst (λ changed. (ipv4_translated_with (ipv4_flow_back new packet) (ipv4_quoted_back (ipv4_quoted packet) c.args.quoted.now) changed ≡ packet) ↔ IsIpv4RestoredWith packet)
+    (sym is) (ipv4_both_there_and_back _ _ new c.args.quoted.now packet bytes types.0 types.1 accepted))
