@@ -344,7 +344,7 @@ fn ipv6_headers_are_refused(rt: HostRuntime) {
     expect_error(&rt, transport_in_ip(&packet), &beyond);
 }
 
-/// An IPv6 header with this next header, these bytes after it, of which there are at most 64, and how many bytes both are.
+/// An IPv6 header with this next header, then these bytes, at most 64, and the length of both together.
 fn ipv6_packet(next_header: u8, after: &[u8]) -> ([u8; 104], usize) {
     let mut packet = [0; 104];
     packet[0] = 0x60;

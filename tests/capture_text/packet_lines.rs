@@ -20,10 +20,10 @@ use std::process::Abort;
 /// A UDP datagram from port 49152 to port 53, of 9 bytes.
 const DATAGRAM: [u8; 9] = [0xC0, 0, 0, 53, 0, 9, 0, 0, 7];
 
-/// Bytes of which the ports 53 and 4000 are read.
+/// Bytes from which the ports 53 and 4000 are read.
 const PORTS: [u8; 5] = [0, 53, 15, 160, 7];
 
-/// Bytes of which nothing is read.
+/// Bytes from which nothing is read.
 const UNREAD: [u8; 3] = [1, 2, 3];
 
 /// These bytes as a transport. Their length tells which of the three they are.
@@ -299,7 +299,7 @@ fn too_short(layer: Layer) -> LenError {
     }
 }
 
-/// A link header of 14 bytes of which there are 13.
+/// A link header of 14 bytes, without its last byte.
 const LINK: Refusal = Refusal::Link(LinkHeaderCutOff {
     required_len: 14,
     len: 13,

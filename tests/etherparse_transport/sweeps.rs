@@ -1,5 +1,6 @@
-//! Writes the canonical header of packets with every small length, length field and data offset, and with every type and code. Compares the
-//! results with plain functions, which were written from the format tables. Then each result is an input, and must not change.
+//! Writes the canonical headers of packets with every small length, length field and data offset, and with every type and code. Compares
+//! the results with plain functions. These functions were written from the format tables, not from the library. Each result is also read
+//! again, and must not change.
 
 use super::len_error;
 use crate::expect::{

@@ -66,7 +66,7 @@ fn text_of(type_u8: u8, code_u8: u8) -> &'static str {
     listed(type_u8, code_u8).map_or("", |row| row.2)
 }
 
-/// A message of each kind, no field of which is 0.
+/// A message of each kind. No field of it is 0.
 #[rattlefmt::skip]
 static KINDS: [Icmpv6Type; 12] = [
     Icmpv6Type::Unknown { type_u8: 200, code_u8: 100, bytes5to8: [1, 2, 3, 4] },

@@ -1,5 +1,5 @@
 //! Reads IPv4 packets with every header length and small total length, and IPv6 packets with every chain of up to three extension headers.
-//! Compares the results with plain functions, which were written from the format tables.
+//! Compares the results with plain functions. These functions were written from the format tables, not from the library.
 
 use crate::expect::{bytes_between, bytes_from, bytes_to, expect_bytes, expect_equal, expect_ok};
 use etherparse_transport::IpNumber;

@@ -293,11 +293,11 @@ fn absent_blocks_are_read_back_last(rt: HostRuntime) {
     expect_equal(&rt, &options_with(&rt, &read), &options);
 }
 
-/// Bytes of which one Noop is read.
+/// Bytes that are read as one Noop.
 #[rattlefmt::skip]
 static ONE_NOOP: [&[u8]; 4] = [&[1, 0, 0, 0], &[1, 0, 7, 7], &[1, 0, 0, 0, 0, 0, 0, 0], &[1, 0, 7, 7, 9, 9, 9, 9]];
 
-/// Bytes of which no element is read.
+/// Bytes from which no element is read.
 static NO_ELEMENT: [&[u8]; 2] = [&[], &[0, 0, 0, 0]];
 
 /// The bytes are read as these elements, and are not below the least options of these elements.

@@ -1,5 +1,5 @@
-//! Reads UDP packets of every small length with every small length field. Compares the results with plain functions, which were written
-//! from the format tables.
+//! Reads UDP packets of every small length with every small length field. Compares the results with plain functions. These functions were
+//! written from the format tables, not from the library.
 
 use super::len_error;
 use crate::expect::{

@@ -89,8 +89,8 @@ fn expect_over_zeros<K: Debug>(
     expect_at(rt, key, &valid, &over_ipv6);
 }
 
-/// A byte of which the checksum has two, and whether a header whose words are otherwise all ones is valid over IPv4 and over IPv6: FFDE
-/// and the length, and in the pseudo header the protocol and the length.
+/// A byte that is both bytes of the checksum, and whether a header whose words are otherwise all ones is valid over IPv4 and over IPv6:
+/// FFDE and the length, and in the pseudo header the protocol and the length.
 static HEADERS: [(u8, bool, bool); 3] = [
     (0xFF, true, true),
     (0, true, false),

@@ -13,12 +13,13 @@ use Rattle.capture_texts.specs.declared.file_texts.FileTexts.{FileTexts}
 abbrev pub texts_with : BlockHeader → List ℕ → FileTexts → FileTexts
 texts_with header body before = texts_after header.byte_order header.block_type body before
 
--- a refused block changes no text
+-- the texts `after` a block, or the texts `before` it if the block is refused
 abbrev pub unless_refused : Option NextPacket → FileTexts → FileTexts → FileTexts
 unless_refused (Some (Refused error)) before after = before
 unless_refused next before after = after
 
--- the texts after a block that was read, which determines this item; a block without room in the buffer changes no text
+-- The texts after a block was read. `next` is the item that the block determines, if there is one. A block that is longer than the buffer
+-- changes no text.
 abbrev pub noted : NextBlock → List ℕ → Option NextPacket → FileTexts → FileTexts
 noted (Whole header) buffer next before =
     unless_refused next before (texts_with header (slice_range buffer body_at (header.total_len - trailer_len)) before)

@@ -32,18 +32,20 @@ abbrev pub offset_of : CaptureReader → ℕ
 offset_of (Classic reader) = reader.offset
 offset_of (Pcapng reader) = reader.offset
 
--- the reader is at the start of the record or block of the next packet; in a pcapng file the blocks before it were skipped
+-- The reader `after` is at the start of a record or block. In a pcapng file this block may come later than the reader `before`, since
+-- blocks without a packet were skipped.
 abbrev pub Seeks : ℕ → CaptureReader → Option (List ℕ) → CaptureReader → Type 0
 Seeks room (Classic before) left after = after ≡ Classic before
 Seeks room (Pcapng before) left after = (reader : PcapngReader) × (after ≡ Pcapng reader) × HasPassed room before left reader
 
--- reading failed within the record or block at the place of the reader; in a pcapng file the blocks before it were skipped
+-- Reading failed within a record or block, and the reader `after` is at its start. In a pcapng file this block may come later than the
+-- reader `before`, since blocks without a packet were skipped.
 abbrev pub FailsToRead : ℕ → CaptureReader → Option (List ℕ) → Option (List ℕ) → CaptureReader → Type 0
 FailsToRead room (Classic before) left still_left after = (after ≡ Classic before) × FailsInRecord before.header.byte_order left still_left
 FailsToRead room (Pcapng before) left still_left after =
     (reader : PcapngReader) × (after ≡ Pcapng reader) × FailsToPass room before left still_left reader
 
--- if the next packet is cut off, the statement holds
+-- the statement holds if the next packet is cut off
 abbrev pub IfCutOff : NextPacket → Type 0 → Type 0
 IfCutOff (packets.CutOff required_len len) Statement = Statement
 IfCutOff other Statement = Unit {0}
@@ -98,8 +100,8 @@ BeginsWithPackets room (Classic reader) packets bytes =
 BeginsWithPackets room (Pcapng reader) packets bytes =
     (still_left : Option (List ℕ)) × (after : CaptureReader) × ReadsPackets room (Pcapng reader) (Some bytes) still_left after packets
 
--- The bytes after the beginning of a capture contain these packets, and then this item. In a classic capture the packets are its records,
--- and a rest follows that does not begin with a whole record. In a pcapng file they are the packets that are read from it, block by block.
+-- The bytes after the beginning of a capture contain these packets, and then this item. In a classic capture each packet is a record, and
+-- the rest after the records does not begin with a whole record. In a pcapng file the packets are read block by block.
 abbrev pub HasPackets : ℕ → CaptureReader → List ℕ → List FilePacket → NextPacket → Type 0
 HasPackets room (Classic reader) bytes packets next =
     let order = reader.header.byte_order in
@@ -109,7 +111,7 @@ HasPackets room (Pcapng reader) bytes packets next =
     (still_left : Option (List ℕ)) × (after : CaptureReader) × ReadsPackets room (Pcapng reader) (Some bytes) still_left after packets
     × EndsWith room after still_left next
 
--- if the bytes begin with some packets, these are the first packets of the bytes
+-- If the bytes after the beginning of a capture begin with the packets `first`, then their list of all packets begins with `first` too.
 abbrev pub AreFirstPackets : ℕ → CaptureReader → List ℕ → Type 0
 AreFirstPackets room reader bytes =
     (first packets : List FilePacket) (next : NextPacket) → BeginsWithPackets room reader first bytes
@@ -127,7 +129,8 @@ PacketsEndAt room (Pcapng reader) packets bytes len =
     (rest : List ℕ) × (after : CaptureReader) × ReadsPackets room (Pcapng reader) (Some bytes) (Some rest) after packets
     × (len + length rest ≡ length bytes)
 
--- the packets that end at or before a cut after `cut` bytes: the first packets, up to a packet that ends after the cut
+-- A capture was cut after `cut` bytes. `cut_packets` are the first of these packets, up to the last packet that ends at or before the cut.
+-- The next packet ends after the cut.
 pub record ArePacketsBeforeCut (room : ℕ) (reader : CaptureReader) (bytes : List ℕ) (cut : ℕ)
     (packets cut_packets : List FilePacket) : Type 0 where
   pub count : ℕ
@@ -142,15 +145,15 @@ pub record BeginsWith (header : CaptureHeader) (bytes : List ℕ) : Type 0 where
   pub accepted : header_refusal (take capture_header_len bytes) ≡ None
   pub is_header : IsHeaderOf (take capture_header_len bytes) header
 
--- the bytes begin a capture, and this reader reads its packets from the bytes after the beginning
+-- the bytes contain the beginning of a capture and then `rest`, from which this reader reads the packets
 abbrev pub Begins : ℕ → CaptureReader → List ℕ → List ℕ → Type 0
 Begins room (Classic reader) bytes rest =
     BeginsWith reader.header bytes × (reader ≡ begins_records reader.header) × (rest ≡ drop capture_header_len bytes)
 Begins room (Pcapng reader) bytes rest =
     (buffer : List ℕ) × (length buffer ≡ room) × ReadsFirstBlock (Some bytes) (Some rest) buffer (Ok reader)
 
--- the same for an input that contained some bytes before the beginning was read, and contains others after it; nothing is stated of unknown
--- bytes
+-- The beginning of a capture was read from an input. The first `Option` contains the bytes of the input before, and the second contains the
+-- bytes that are left. If the bytes before are unknown, the statement always holds.
 abbrev pub BeginsInput : ℕ → CaptureReader → Option (List ℕ) → Option (List ℕ) → Type 0
 BeginsInput room reader None still_left = Unit {0}
 BeginsInput room reader (Some bytes) None = ⊥

@@ -47,11 +47,12 @@ pub record IsHeaderOf (bytes : List ℕ) (header : CaptureHeader) : Type 0 where
   pub snap_len : header.snap_len ≡ number_at header.byte_order bytes 16
   pub link_type : header.link_type ≡ link_type_or_number (link_number header.byte_order bytes)
 
--- this byte order and the resolution, if the first four bytes are a magic number in this byte order
+-- if the first four bytes are a magic number in this byte order: the byte order, and the resolution of the number
 abbrev pub form_in : ByteOrder → List ℕ → Option (ByteOrder × Resolution)
 form_in order bytes = option_map (λ resolution. (order, resolution)) (resolution_with (number_at order bytes 0))
 
--- the byte order in which the first four bytes are a magic number, and its resolution; none if they are no magic number
+-- The byte order in which the first four bytes are a magic number, and the resolution of this number. None if they are a magic number in
+-- neither byte order.
 abbrev pub form_of : List ℕ → Option (ByteOrder × Resolution)
 form_of bytes = option_or (form_in BigEndian bytes) (form_in LittleEndian bytes)
 
@@ -59,7 +60,7 @@ form_of bytes = option_or (form_in BigEndian bytes) (form_in LittleEndian bytes)
 abbrev pub modified_magic : ℕ
 modified_magic = 0xA1B2CD34
 
--- the error if the first four bytes are no magic number that is read
+-- the error for a file whose first four bytes are not a magic number that is read
 abbrev pub magic_error : List ℕ → CaptureHeaderError
 magic_error bytes =
     if number_at BigEndian bytes 0 == modified_magic || number_at LittleEndian bytes 0 == modified_magic then Modified
@@ -69,7 +70,7 @@ magic_error bytes =
 abbrev pub is_version_read : ℕ → ℕ → Bool
 is_version_read major minor = major == 2 && nat_le 4 minor
 
--- the error for a version that is not read; bytes without a magic number have another error
+-- The error for a version that is not read. Bytes without a magic number are refused by `magic_error`, so there is no error here.
 abbrev pub version_refusal : Option (ByteOrder × Resolution) → List ℕ → Option CaptureHeaderError
 version_refusal None bytes = None
 version_refusal (Some form) bytes =

@@ -1,7 +1,7 @@
 -- The forms of laws on bytes that are divided into parts, such as the records of a capture, and an end.
 use Rattle.std.specs.Prelude.{◌≡◌, ℕ, List, take}
 
--- parts and an end exist in this relation
+-- at least one list of parts and one end are in this relation
 abbrev pub Exist : {Parts End : Type 0} → (Parts → End → Type 0) → Type 0
 Exist {Parts} {End} Are = (parts : Parts) × (end : End) × Are parts end
 
@@ -11,7 +11,7 @@ AreUnique {Parts} {End} Are =
     (parts other_parts : Parts) (end other_end : End) → Are parts end → Are other_parts other_end
     → (parts ≡ other_parts) × (end ≡ other_end)
 
--- bytes that were cut after any number of bytes have the parts before the cut
+-- if bytes are cut at any place, the parts of the first bytes are the parts that end at or before the cut
 abbrev pub RemainAtCut : {Part End : Type 0} → (List ℕ → List Part → End → Type 0) → (List ℕ → ℕ → List Part → List Part → Type 0) → Type 0
 RemainAtCut {Part} {End} Are AreBefore =
     (bytes : List ℕ) (parts : List Part) (end : End) (cut : ℕ) (cut_parts : List Part) (cut_end : End)

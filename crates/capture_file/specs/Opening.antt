@@ -38,12 +38,12 @@ pub record BeginsFile (header : BlockHeader) (body : List ℕ) (reader : PcapngR
   pub offset : reader.offset ≡ header.total_len
   pub texts : reader.texts ≡ texts_with header body no_texts
 
--- the same, or the error that refuses the body of the block
+-- the result for a section header block at the start of a file: the reader after the block, or the error that refuses its body
 abbrev pub BeginsUnless : Option BodyError → BlockHeader → List ℕ → Result PcapngReader PacketError → Type 0
 BeginsUnless None header body result = (reader : PcapngReader) × (result ≡ Ok reader) × BeginsFile header body reader
 BeginsUnless (Some error) header body result = result ≡ Err (errors.Body error)
 
--- the result of the section header block at the start of a file; a whole block is at the front of the buffer
+-- The result for the section header block at the start of a file. If the whole block was read, it is at the front of the buffer.
 abbrev pub IsFirstBlock : List ℕ → NextBlock → Result PcapngReader PacketError → Type 0
 IsFirstBlock buffer (blocks.Whole header) result =
     let body = slice_range buffer body_at (header.total_len - trailer_len) in
@@ -52,14 +52,14 @@ IsFirstBlock buffer (blocks.TooLong header) result = result ≡ Err (errors.TooL
 IsFirstBlock buffer blocks.End result = result ≡ Err (errors.Block (CutOff min_block_len 0))
 IsFirstBlock buffer (blocks.Refused error) result = result ≡ Err (errors.Block error)
 
--- the rest of the first block was read, after these first bytes
+-- these first bytes of the first block were read before, and then its other bytes were read
 pub record ReadsRestOfBlock (first : List ℕ) (left still_left : Option (List ℕ)) (buffer : List ℕ)
     (result : Result PcapngReader PacketError) : Type 0 where
   pub block : NextBlock
   pub reads : ReadsAfter BigEndian first left still_left buffer block
   pub is_first : IsFirstBlock buffer block result
 
--- the first block of a file was read; it has the type of a section header block, whatever its byte order
+-- The first block of a file was read. Its type is the type of a section header block, which is the same in both byte orders.
 pub record ReadsFirstBlock (left still_left : Option (List ℕ)) (buffer : List ℕ) (result : Result PcapngReader PacketError) : Type 0 where
   pub block : NextBlock
   pub reads : ReadsNextBlock BigEndian left still_left buffer block
@@ -68,12 +68,13 @@ pub record ReadsFirstBlock (left still_left : Option (List ℕ)) (buffer : List 
 
 -- ---- a classic capture
 
--- the header in 24 bytes, or the error that refuses the bytes; there may be fewer bytes at the end of the input
+-- The header in these bytes, or the error that refuses them. There are 24 bytes, or fewer if the input ends before.
 abbrev pub SaysHeader : List ℕ → Result CaptureHeader CaptureHeaderError → Type 0
 SaysHeader bytes (Ok header) = (length bytes ≡ capture_header_len) × (header_refusal bytes ≡ None) × IsHeaderOf bytes header
 SaysHeader bytes (Err error) = header_refusal bytes ≡ Some error
 
--- the rest of the header was read, after its first bytes; no bytes were read after fewer than 12
+-- These first bytes of the header were read before, and then its other bytes were read. If there are fewer than 12 first bytes, no other
+-- bytes were read.
 pub record ReadsRestOfHeader (first : List ℕ) (left still_left : Option (List ℕ))
     (result : Result CaptureHeader CaptureHeaderError) : Type 0 where
   pub bytes : List ℕ

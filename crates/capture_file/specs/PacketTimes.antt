@@ -8,17 +8,17 @@ use Rattle.capture_file.specs.declared.packet_time.PacketTime.{PacketTime}
 abbrev pub nanoseconds_per_second : ℕ
 nanoseconds_per_second = 1000000000
 
--- a fraction of a second in whole nanoseconds
+-- a fraction of a second as a number of nanoseconds, rounded down
 abbrev pub nanoseconds_in : TimeResolution → ℕ → ℕ
 nanoseconds_in resolution fraction = fraction * nanoseconds_per_second / units_per_second resolution
 
--- seconds since the beginning of 1970 and an offset, counted from 2^63 seconds before the beginning of 1970, so that the sum is never
--- negative
+-- The sum of an offset and a number of seconds since the beginning of 1970. It is counted from 2^63 seconds before 1970, so that it is
+-- never negative.
 abbrev pub shifted_seconds : ℕ → ℤ → ℕ
 shifted_seconds seconds (pos more) = seconds + 2 ^ 63 + more
 shifted_seconds seconds (negsuc less) = seconds + 2 ^ 63 - suc less
 
--- a time as the number of nanoseconds in this count; whole seconds in the fraction are carried
+-- a time as a number of nanoseconds, counted from 2^63 seconds before 1970; a fraction above a second adds whole seconds
 abbrev pub nanoseconds_of : PacketTime → ℕ
 nanoseconds_of time =
     shifted_seconds time.seconds time.offset * nanoseconds_per_second + nanoseconds_in time.resolution time.fraction

@@ -71,24 +71,24 @@ long_record capture header = record {
   original_len = Some header.original_len;
 }
 
--- the next item of a capture, if this is the next record
+-- the next item of a capture, according to its next record
 abbrev pub next_by_record : CaptureHeader → NextRecord → NextPacket
 next_by_record capture (records.Whole header) = packets.Whole (packet_of_record capture header)
 next_by_record capture (records.TooLong header) = packets.TooLong (long_record capture header)
 next_by_record capture records.End = packets.End
 next_by_record capture (records.CutOff required_len len) = packets.CutOff required_len len
 
--- the place after a record that begins at `offset`; the count stops at 2^64 - 1
+-- the place after a record that begins at `offset`, which is at most 2^64 - 1
 abbrev pub offset_after_record : ℕ → RecordHeader → ℕ
 offset_after_record offset header = min (offset + (record_header_len + header.captured_len)) (2 ^ 64 - 1)
 
--- the place after this item; at the end of the input, or in a record that is cut off, the place stays
+-- the place of the reader after this item; it does not change at the end of the input or if the record is cut off
 abbrev pub offset_by_record : ℕ → NextRecord → ℕ
 offset_by_record offset (records.Whole header) = offset_after_record offset header
 offset_by_record offset (records.TooLong header) = offset_after_record offset header
 offset_by_record offset other = offset
 
--- the next record was read, and it determines the next item
+-- the next record was read, and the next item is the item for this record
 pub record ReadsRecordPacket (before : ClassicReader) (left still_left : Option (List ℕ)) (after : ClassicReader) (buffer : List ℕ)
     (next : NextPacket) : Type 0 where
   pub next_record : NextRecord

@@ -33,7 +33,8 @@ use Rattle.capture_file.specs.declared.reader.pcapng_reader.PcapngReader.{Pcapng
 abbrev pub body_of : List ℕ → List ℕ
 body_of block = slice_range block body_at (length block - trailer_len)
 
--- the packet in the body of an enhanced packet block (section 4.3) or an obsolete packet block (appendix A), of this interface
+-- The packet in the body of an enhanced packet block (section 4.3) or of an obsolete packet block (appendix A). It was captured on this
+-- interface.
 abbrev pub timed_packet : BlockHeader → List ℕ → InterfaceDescription → FilePacket
 timed_packet header body interface =
     let order = header.byte_order in
@@ -41,13 +42,14 @@ timed_packet header body interface =
     let captured = slice_range body timed_captured_at (timed_captured_at + number_at order body timed_captured_len_at) in
     kept (interface_packet header interface (Some timestamp) (length captured) (number_at order body 16)) captured
 
--- the packet in the body of a simple packet block (section 4.4), of this interface
+-- the packet in the body of a simple packet block (section 4.4), which was captured on this interface
 abbrev pub simple_packet : BlockHeader → List ℕ → InterfaceDescription → FilePacket
 simple_packet header body interface =
     let captured = slice_range body simple_captured_at (simple_end header.byte_order interface.snap_len body) in
     kept (interface_packet header interface None (length captured) (number_at header.byte_order body 0)) captured
 
--- the packet in the body of a packet block, which contains the number of the interface; a simple packet block has a packet of interface 0
+-- The packet in the body of a packet block. The body contains the number of its interface. In a simple packet block the interface is always
+-- 0.
 abbrev pub packet_in_body : BlockHeader → List InterfaceDescription → List ℕ → Option FilePacket
 packet_in_body header interfaces body =
     let order = header.byte_order in
@@ -101,14 +103,14 @@ block_result room header interfaces body =
 abbrev pub Contents : Type 0
 Contents = List FilePacket × NextPacket
 
--- The contents of a file, by the result of its first block, which begins at this place, and the contents after this block. An error ends
--- the packets.
+-- The contents of a file, from two parts: the result of its first block, and the contents `others` after this block. The block begins at
+-- the place `offset`. If its result is an error, no packet follows.
 abbrev pub before_others : ℕ → Result (Option FilePacket) PacketError → Contents → Contents
 before_others offset (Err error) others = ([], refused_at offset error)
 before_others offset (Ok None) others = others
 before_others offset (Ok (Some packet)) others = (packet ∷ others.0, others.1)
 
--- the item after the last block: the end of the file, or the error that refuses the bytes at this place as a block
+-- the item after the last block: the end of the file, or an error if these bytes at the place `offset` are not a block
 abbrev pub item_after : ℕ → List ℕ → Option BlockError → NextPacket
 item_after offset (byte ∷ bytes) (Some error) = next_by_refusal offset error
 item_after offset bytes refusal = packets.End
@@ -125,7 +127,7 @@ packets_of_blocks room section interfaces offset (block ∷ blocks) rest =
 
 -- ---- the laws
 
--- If bytes consist of blocks and a rest that is refused as a block, a reader reads the packets of the fold from them. The fold begins with
+-- If bytes consist of blocks and a rest that is refused as a block, a reader reads exactly the packets of the fold. The fold begins with
 -- the byte order, the interfaces and the place of the reader.
 abbrev pub ReadPacketsOfBlocks : ℕ → Type 0
 ReadPacketsOfBlocks room =
@@ -133,8 +135,8 @@ ReadPacketsOfBlocks room =
     → IsBytes bytes → IsBlockReading reader.section.byte_order bytes blocks rest → HasPackets room (Pcapng reader) bytes packets next
     → (packets, next) ≡ packets_of_blocks room reader.section.byte_order reader.section.interfaces.items reader.offset blocks rest
 
--- the same for all blocks of a file, whose first block is a section header block; the fold begins without an interface, at the start of the
--- file
+-- A reader of a whole file reads exactly the packets of the fold over all blocks of the file. The first block is a section header block.
+-- The fold begins at the start of the file, without an interface.
 abbrev pub FilesHavePacketsOfBlocks : ℕ → Type 0
 FilesHavePacketsOfBlocks room =
     (reader : PcapngReader) (file bytes : List ℕ) (blocks : List (List ℕ)) (rest : List ℕ) (packets : List FilePacket) (next : NextPacket)

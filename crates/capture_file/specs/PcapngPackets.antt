@@ -11,25 +11,26 @@ use Rattle.capture_file.specs.declared.pcapng.errors.BodyError.TheVariants.{Inte
 use Rattle.capture_file.specs.declared.pcapng.interface_description.InterfaceDescription.{InterfaceDescription}
 use Rattle.capture_file.specs.declared.pcapng.block_body.PacketBlock.{PacketBlock}
 
--- ---- an enhanced packet block (section 4.3), with its interface in its first four bytes, or an obsolete packet block (appendix A), with
--- its interface in its first two bytes
+-- ---- an enhanced packet block (section 4.3) or an obsolete packet block (appendix A); an enhanced packet block contains the number of its
+-- interface in bytes 0 to 3, and an obsolete packet block in bytes 0 and 1
 
--- the packet in a body: the upper and the lower half of the timestamp, the captured length, the original length, and the captured bytes
+-- The packet in a body. From byte 4 on, the body contains the upper and the lower half of the timestamp, the captured length, the original
+-- length, and the captured bytes.
 pub record IsTimedPacket (order : ByteOrder) (interface : ℕ) (body : List ℕ) (packet : PacketBlock) : Type 0 where
   pub of_interface : packet.interface ≡ interface
   pub timestamp : packet.timestamp ≡ Some (number_at order body 4 * 2 ^ 32 + number_at order body 8)
   pub original_len : packet.original_len ≡ number_at order body 16
   pub captured : packet.captured.now ≡ slice_range body timed_captured_at (timed_captured_at + number_at order body timed_captured_len_at)
 
--- the errors, in this order: an interface that does not exist, in a section with `count` interfaces before the packet; fewer captured bytes
--- than the block counts
+-- The errors, in this order: the number of the interface is not below `count`, the number of interfaces before the packet; the body
+-- contains fewer captured bytes than its captured length.
 abbrev pub captured_refusal : ByteOrder → ℕ → ℕ → List ℕ → Option BodyError
 captured_refusal order interface count body = first_of (
     refused_if (nat_le count interface) (Interface interface count)
     ∷ below (timed_captured_at + number_at order body timed_captured_len_at) body
     ∷ [])
 
--- the error for fewer bytes than these fields, and then the errors above
+-- the error for a body that is too short for its fields, and then the errors of `captured_refusal`
 abbrev pub timed_refusal : ByteOrder → ℕ → ℕ → List ℕ → Option BodyError
 timed_refusal order interface count body = first_of (below timed_captured_at body ∷ captured_refusal order interface count body ∷ [])
 
@@ -39,7 +40,8 @@ timed_refusal order interface count body = first_of (below timed_captured_at bod
 abbrev pub first_snap_len : List InterfaceDescription → Option ℕ
 first_snap_len interfaces = option_map (λ interface. interface.snap_len) (slice_get interfaces 0)
 
--- the number of captured bytes: the original length, or the snap length if it is smaller; a snap length of 0 is no limit (section 4.2)
+-- The number of captured bytes: the original length, or the snap length if the snap length is smaller. A snap length of 0 means no limit
+-- (section 4.2).
 abbrev pub captured_len : ℕ → ℕ → ℕ
 captured_len original_len snap_len = if snap_len == 0 then original_len else min original_len snap_len
 
@@ -59,12 +61,12 @@ abbrev pub IsSimplePacket : ByteOrder → List InterfaceDescription → List ℕ
 IsSimplePacket order interfaces body packet =
     (snap_len : ℕ) × (first_snap_len interfaces ≡ Some snap_len) × IsSimplePacketOf order snap_len body packet
 
--- the errors, in this order: no interface; fewer captured bytes than required
+-- the error if the section has no interface, or if the body is too short for the captured bytes
 abbrev pub simple_captured_refusal : ByteOrder → Option ℕ → List ℕ → Option BodyError
 simple_captured_refusal order None body = Some (Interface 0 0)
 simple_captured_refusal order (Some snap_len) body = below (simple_end order snap_len body) body
 
--- the error for fewer bytes than the original length field, and then the errors above
+-- the error for a body that is too short for the original length, and then the errors of `simple_captured_refusal`
 abbrev pub simple_refusal : ByteOrder → List InterfaceDescription → List ℕ → Option BodyError
 simple_refusal order interfaces body =
     first_of (below simple_captured_at body ∷ simple_captured_refusal order (first_snap_len interfaces) body ∷ [])

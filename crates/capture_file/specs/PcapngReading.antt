@@ -20,7 +20,7 @@ IsNextBlock section bytes buffer (TooLong header) =
 IsNextBlock section bytes buffer End = bytes ≡ []
 IsNextBlock section bytes buffer (Refused error) = (bytes ≢ []) × (block_refusal section bytes ≡ Some error)
 
--- the input is at its end, if no block or only a part of a block was read
+-- if no whole block was read, the input is at its end
 abbrev pub IsLastBlock : NextBlock → Option (List ℕ) → Type 0
 IsLastBlock End still_left = IsAtEnd still_left
 IsLastBlock (Refused (CutOff required len)) still_left = IsAtEnd still_left
@@ -38,7 +38,8 @@ pub record ReadsAfter (section : ByteOrder) (first : List ℕ) (left still_left 
 abbrev pub ReadsNextBlock : ByteOrder → Option (List ℕ) → Option (List ℕ) → List ℕ → NextBlock → Type 0
 ReadsNextBlock section left still_left buffer next = ReadsAfter section [] left still_left buffer next
 
--- Reading failed within a block: after these bytes, which followed its first bytes. Together they are cut off as a block.
+-- Reading failed within a block. The first bytes of the block were read before, and other bytes after them. Together they are only a part
+-- of the block.
 pub record FailsAfter (section : ByteOrder) (first : List ℕ) (left still_left : Option (List ℕ)) : Type 0 where
   pub bytes : List ℕ
   pub consumed : Consumes left still_left bytes

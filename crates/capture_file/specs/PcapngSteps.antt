@@ -24,7 +24,7 @@ use Rattle.capture_file.specs.declared.reader.pcapng_reader.PcapngReader.{Pcapng
 abbrev pub refused_at : ℕ → PacketError → NextPacket
 refused_at offset error = packets.Refused (record { offset = offset; error = error })
 
--- the next item after a block was read: its packet, an error, or none so far
+-- The next item after a block was read: the packet of the block, or an error. None if the block contains no packet.
 abbrev pub next_by_taken : ℕ → Result (Option CapturedPacket) PacketError → Option NextPacket
 next_by_taken offset (Ok None) = None
 next_by_taken offset (Ok (Some packet)) = Some (packets.Whole packet)
@@ -43,7 +43,8 @@ is_description type = type == section_header_type || type == interface_descripti
 abbrev pub is_packet : ℕ → Bool
 is_packet type = type == enhanced_packet_type || (type == obsolete_packet_type || type == simple_packet_type)
 
--- the next item if the buffer has no room for a block; a block of another type is skipped
+-- The next item if the buffer has no room for a block. None if the block is neither a description nor a packet block, since such a block is
+-- skipped.
 abbrev pub next_by_too_long : ℕ → BlockHeader → Option NextPacket
 next_by_too_long offset header =
     if is_description header.block_type then Some (refused_at offset (errors.TooLong header.block_type header.total_len))
@@ -54,7 +55,7 @@ next_by_too_long offset header =
 abbrev pub offset_after : ℕ → BlockHeader → ℕ
 offset_after offset header = min (offset + header.total_len) (2 ^ 64 - 1)
 
--- the reader after a block, and the next item, if the block determines it
+-- The reader after a block, and the next item. None if the block contains no packet and is not refused.
 abbrev pub IsStep : PcapngReader → List ℕ → NextBlock → PcapngReader → Option NextPacket → Type 0
 IsStep before buffer (blocks.Whole header) after next =
     (after.offset ≡ offset_after before.offset header)
@@ -74,7 +75,7 @@ pub record ReadsStep (before : PcapngReader) (left still_left : Option (List ℕ
   pub is_step : IsStep before buffer block after next
   pub texts : after.texts ≡ noted block buffer next before.texts
 
--- this number of blocks were read into a buffer of this length, and none of them determines the next item
+-- A number of blocks were read into a buffer of `room` bytes. None of these blocks contains a packet or is refused.
 abbrev pub PassesBlocks : ℕ → ℕ → PcapngReader → Option (List ℕ) → Option (List ℕ) → PcapngReader → Type 0
 PassesBlocks room zero before left still_left after = (after ≡ before) × (still_left ≡ left)
 PassesBlocks room (suc count) before left still_left after =
@@ -92,7 +93,7 @@ pub record FailsToPass (room : ℕ) (before : PcapngReader) (left still_left : O
 abbrev pub HasPassed : ℕ → PcapngReader → Option (List ℕ) → PcapngReader → Type 0
 HasPassed room before left after = (count : ℕ) × (middle : Option (List ℕ)) × PassesBlocks room count before left middle after
 
--- blocks were read up to a block that determines the next item
+-- blocks were read up to the first block that contains a packet or is refused
 pub record ReadsBlockPacket (before : PcapngReader) (left still_left : Option (List ℕ)) (after : PcapngReader) (buffer : List ℕ)
     (next : NextPacket) : Type 0 where
   pub count : ℕ

@@ -13,7 +13,8 @@ pub const NANOSECONDS_PER_SECOND: u128 = 1_000_000_000;
 pub struct PacketTime {
     /// Whole seconds, before the offset is added.
     pub seconds: u64,
-    /// The remaining fraction of a second, in units of the resolution. In a malformed record of a classic capture it can be above a second.
+    /// The remaining fraction of a second, in units of the resolution. In a malformed record of a classic capture it can be more than a
+    /// second.
     pub fraction: u64,
     /// The unit of the fraction.
     pub resolution: TimeResolution,
@@ -64,7 +65,8 @@ pub fn nanoseconds_of(time: PacketTime) -> u128
         + nanoseconds_in(time.resolution, time.fraction)
 }
 
-/// Seconds since the beginning of 1970 and an offset, counted from 2^63 seconds before the beginning of 1970.
+/// The sum of an offset and a number of seconds since the beginning of 1970. It is counted from 2^63 seconds before 1970, so that it is
+/// never negative.
 fn shifted_seconds(seconds: u64, offset: i64) -> u128
     ensures value { result ≡ shifted_seconds seconds offset }
     ensures bound { result < 2 ^ 65 }

@@ -14,8 +14,9 @@ use Rattle.capture_link.specs.declared.network_protocol.NetworkProtocol.TheVaria
 abbrev pub is_ip_family : ℕ → Bool
 is_ip_family number = number == 2 || (number == 24 || (number == 28 || number == 30))
 
--- The next protocol according to the address family of a loopback frame. `None` is IP. The family has the byte order of the machine that
--- captured the frame, so a family of IP counts in either order. Another family is the number in this order.
+-- The next protocol according to the address family of a loopback frame. `None` is IP. The machine that captured the frame wrote the family
+-- in its own byte order, so an IP family is accepted in either byte order. For any other family the number is read in the byte order
+-- `order`.
 abbrev pub by_family : ByteOrder → List ℕ → ℕ → Option NetworkProtocol
 by_family order frame place =
     if is_ip_family (number_at BigEndian frame place) || is_ip_family (number_at LittleEndian frame place) then None

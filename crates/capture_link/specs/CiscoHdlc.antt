@@ -7,11 +7,11 @@ use Rattle.capture_link.specs.declared.link.header.EtherHeader.{EtherHeader}
 use Rattle.capture_link.specs.declared.link.header.FirstHeader.{FirstHeader}
 use Rattle.capture_link.specs.declared.link.header.FirstHeader.TheVariants.{EtherType}
 
--- an address, a control byte, and the number of a protocol, which is its ether type except for two protocols
+-- An address, a control byte, and the number of a protocol. The number is an ether type, except for two protocols.
 abbrev pub cisco_hdlc : EtherHeader
 cisco_hdlc = record { len = 4; ether_type_at = 2 }
 
--- a LINKTYPE_PPP_HDLC frame with an address of Cisco HDLC: 0F to one station, or 8F to all stations
+-- a LINKTYPE_PPP_HDLC frame that begins with an address of Cisco HDLC: 0F for one station, or 8F for all stations
 abbrev pub is_cisco_hdlc : List ℕ → Bool
 is_cisco_hdlc frame = nat_le 1 (length frame) && (slice_index frame 0 == 0x0F || slice_index frame 0 == 0x8F)
 
@@ -31,8 +31,7 @@ is_cisco_protocol number = number == slarp || number == cdp
 abbrev pub link_type_number : ℕ
 link_type_number = 104
 
--- The header with this number of a protocol. A protocol of Cisco HDLC is not read, so the next protocol is then the number of the link
--- type.
+-- The header with this protocol number. SLARP and CDP are not read. For them the next protocol is the number of the link type.
 abbrev pub by_cisco_number : ℕ → FirstHeader
 by_cisco_number number =
     if is_cisco_protocol number then unread cisco_hdlc.len link_type_number else EtherType cisco_hdlc

@@ -17,7 +17,7 @@ ethernet_len = 14
 abbrev pub ethernet_type_at : ℕ
 ethernet_type_at = 12
 
--- the end of the Ethernet header at this place, without tags, and the place of its ether type (IEEE 802.3, clause 3.2)
+-- the Ethernet header at this place: its end without tags, and the place of its ether type (IEEE 802.3, clause 3.2)
 abbrev pub ethernet : ℕ → EtherHeader
 ethernet place = record { len = place + ethernet_len; ether_type_at = place + ethernet_type_at }
 

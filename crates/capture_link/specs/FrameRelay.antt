@@ -9,7 +9,7 @@ use Rattle.capture_link.specs.declared.link.header.FirstHeader.{FirstHeader}
 use Rattle.capture_link.specs.declared.link.header.FirstHeader.TheVariants.{EtherType, Whole}
 use Rattle.capture_link.specs.declared.network_protocol.NetworkProtocol.TheVariants.{FrameRelay, Nlpid}
 
--- the header that ends with this network layer protocol ID: IPv4 follows CC, IPv6 follows 8E, and a SNAP header follows 80
+-- The header that ends with this network layer protocol ID. IPv4 follows CC, IPv6 follows 8E, and a SNAP header follows 80.
 abbrev pub by_nlpid : List ℕ → ℕ → ℕ → Result FirstHeader LinkHeaderCutOff
 by_nlpid frame place nlpid =
     if nlpid == 0x80 then snap_at frame (place + 1)
@@ -24,12 +24,13 @@ nlpid_at frame place = with_bytes frame (place + 1) (by_nlpid frame place (slice
 abbrev pub is_unnumbered : ℕ → Bool
 is_unnumbered header = bit_and header 0x0101FF == 0x000103
 
--- a two-byte address, and the ether type of IPv4 or IPv6 directly after it, without a control byte, as Cisco's equipment writes it
+-- A two-byte address, and directly after it the ether type of IPv4 or IPv6. Cisco's equipment writes such frames, which have no control
+-- byte.
 abbrev pub has_ether_type : List ℕ → Bool
 has_ether_type frame =
     bit_and (be_number frame 0 3) 0x010100 == 0x000100 && (be_number frame 2 2 == ipv4_ether_type || be_number frame 2 2 == ipv6_ether_type)
 
--- the header of a frame without the control byte 03 after a two-byte address
+-- the header of a frame that does not begin with a two-byte address and the control byte 03
 abbrev pub without_control : List ℕ → FirstHeader
 without_control frame =
     if has_ether_type frame then EtherType (record { len = 4; ether_type_at = 2 })

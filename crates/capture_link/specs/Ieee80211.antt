@@ -12,13 +12,13 @@ use Rattle.capture_link.specs.declared.network_protocol.NetworkProtocol.TheVaria
 
 -- ---- the header of a data frame (IEEE 802.11, clauses 9.2.3 and 9.3.2)
 
--- The Frame Control field of a data frame with data that is neither encrypted nor followed by more fragments. In its first byte, the
--- version (bits 0 and 1) is 0, and the type (bits 2 and 3) is 2, data. Bit 6 is not set, which marks a frame without data. In its second
--- byte, neither More Fragments (bit 2) nor Protected Frame (bit 6) is set.
+-- The frame is a data frame with data. The data is not encrypted, and no more fragments follow. In the first byte of Frame Control the
+-- version (bits 0 and 1) is 0, the type (bits 2 and 3) is 2, and bit 6, which marks a frame without data, is 0. In the second byte the bits
+-- More Fragments (bit 2) and Protected Frame (bit 6) are 0.
 abbrev pub carries_data : List ℕ → ℕ → Bool
 carries_data frame place = bit_and (slice_index frame place) 0x4F == 0x08 && bit_and (slice_index frame (place + 1)) 0x44 == 0
 
--- a QoS Control field is present: bit 7 of the first byte, which belongs to the subtype, is set
+-- a QoS Control field is present: bit 7 of the first byte of Frame Control is set, which is a bit of the subtype
 abbrev pub has_qos_control : List ℕ → ℕ → Bool
 has_qos_control frame place = flag frame place 0x80
 
@@ -30,7 +30,7 @@ has_ht_control frame place = has_qos_control frame place && flag frame (place + 
 abbrev pub has_fourth_address : List ℕ → ℕ → Bool
 has_fourth_address frame place = bit_and (slice_index frame (place + 1)) 0x03 == 0x03
 
--- a length that counts only if a field is present
+-- the length of a field that may be absent: `len` if it is present, otherwise 0
 abbrev pub len_if : Bool → ℕ → ℕ
 len_if is_there len = if is_there then len else 0
 
@@ -42,8 +42,8 @@ qos_at frame place = place + 24 + len_if (has_fourth_address frame place) 6
 abbrev pub body_at : List ℕ → ℕ → ℕ
 body_at frame place = qos_at frame place + len_if (has_qos_control frame place) 2 + len_if (has_ht_control frame place) 4
 
--- The body is one whole data unit. Its fragment number, the low bits of byte 22, is 0. The bit A-MSDU Present of the QoS Control field,
--- which marks several data units, is not set.
+-- The body is one whole data unit. The fragment number, in the low bits of byte 22, is 0. The bit A-MSDU Present of the QoS Control field,
+-- which announces several data units, is 0.
 abbrev pub has_whole_unit : List ℕ → ℕ → Bool
 has_whole_unit frame place =
     bit_and (slice_index frame (place + 22)) 0x0F == 0
@@ -67,8 +67,8 @@ frame_at frame place = with_bytes frame (place + 2) (
 
 -- ---- a radiotap header (LINKTYPE_IEEE802_11_RADIOTAP)
 
--- A radiotap header contains a version, an unused byte, a length of two bytes, and bits for the present fields in four bytes. The length is
--- little-endian. If the version is 0, and the length counts at least these eight bytes, the frame follows the header.
+-- A radiotap header begins with eight bytes: a version, an unused byte, a little-endian length of two bytes, and four bytes of bits for the
+-- fields that are present. If the version is 0 and the length is at least 8, the frame follows the header.
 abbrev pub by_radiotap : List ℕ → ℕ → ℕ → Result FirstHeader LinkHeaderCutOff
 by_radiotap frame version len =
     if version == 0 && nat_le 8 len then frame_at frame len

@@ -31,8 +31,8 @@ use Rattle.capture_link.specs.declared.network_protocol.NetworkProtocol.TheVaria
 
 -- ---- headers with an ether type
 
--- LINKTYPE_IPOIB: a global routing header of 40 bytes, and the encapsulation header of IP over InfiniBand (RFC 4391, section 6), which
--- contains the ether type and two reserved bytes
+-- LINKTYPE_IPOIB: a global routing header of 40 bytes, and then the encapsulation header of IP over InfiniBand (RFC 4391, section 6). The
+-- encapsulation header consists of the ether type and two reserved bytes.
 abbrev pub infiniband : EtherHeader
 infiniband = record { len = 44; ether_type_at = 40 }
 
@@ -45,16 +45,17 @@ is_vlan_tag ether_type =
 abbrev pub tag_len : ℕ
 tag_len = 4
 
--- the length of a header with this many tags
+-- the length of a header with this number of tags
 abbrev pub tagged_len : EtherHeader → ℕ → ℕ
 tagged_len header tags = header.len + tags * tag_len
 
--- the ether type after this number of tags: the ether type of the header, or the last two bytes of a tag
+-- The ether type after this number of tags. Without tags it is the ether type of the header. Otherwise it is in the last two bytes of the
+-- last tag.
 abbrev pub ether_type_after : EtherHeader → List ℕ → ℕ → ℕ
 ether_type_after header frame zero = be_number frame header.ether_type_at 2
 ether_type_after header frame (suc tags) = be_number frame (tagged_len header tags + 2) 2
 
--- this number of ether types, from the first on, are ether types of tags
+-- the first ether types, this number of them, all announce tags
 abbrev pub IsTagged : EtherHeader → List ℕ → ℕ → Type 0
 IsTagged header frame tags = (tag : ℕ) → tag < tags → is_vlan_tag (ether_type_after header frame tag) ≡ true
 
@@ -66,20 +67,21 @@ is_ip ether_type = ether_type == ipv4_ether_type || ether_type == ipv6_ether_typ
 abbrev pub by_ether_type : ℕ → Option NetworkProtocol
 by_ether_type ether_type = if is_ip ether_type then None else Some (UnknownEtherType ether_type)
 
--- the header that ends after an ether type, or after the header that follows it: a PPPoE header, or a stack of MPLS labels
+-- The header that ends after an ether type. If a PPPoE header or a stack of MPLS labels follows the ether type, the header ends after it.
 abbrev pub after_ether_type : List ℕ → ℕ → ℕ → Result LinkHeader LinkHeaderCutOff
 after_ether_type frame place ether_type =
     if ether_type == pppoe_session then session_at frame place
     else if ether_type == mpls || ether_type == mpls_multicast then stack_at frame (UnknownEtherType ether_type) place
     else Ok (record { len = place; next = by_ether_type ether_type; end = None })
 
--- the header that ends with an LLC header, or with the ether type of a SNAP header after it
+-- The header that ends with an LLC header. If a SNAP header with an ether type follows, the header ends after that ether type, like
+-- `after_ether_type`.
 abbrev pub after_llc : List ℕ → Result FirstHeader LinkHeaderCutOff → Result LinkHeader LinkHeaderCutOff
 after_llc frame (Ok (Whole header)) = Ok header
 after_llc frame (Ok (EtherType header)) = after_ether_type frame header.len (be_number frame header.ether_type_at 2)
 after_llc frame (Err error) = Err error
 
--- The header that ends after the last ether type of a header and its tags, which end at this place. After a tag, a number
+-- The header that ends after the last ether type of a header and its tags. The last ether type ends at this place. After a tag, a number
 -- below the least ether type is a length, and an LLC header follows (IEEE 802.3, clause 3.2.6).
 abbrev pub after_tags : EtherHeader → List ℕ → ℕ → ℕ → Result LinkHeader LinkHeaderCutOff
 after_tags header frame place ether_type =
@@ -92,8 +94,8 @@ pub record HasTags (header : EtherHeader) (frame : List ℕ) (tags : ℕ) : Type
   pub last : is_vlan_tag (ether_type_after header frame tags) ≡ false
   pub there : tagged_len header tags ≤ length frame
 
--- The frame has a whole link header with an ether type. Its length includes the tags and the header after them, and this protocol comes
--- next, up to this end, if the header states one.
+-- The frame has a whole link header with an ether type. `len` is its length, with the tags and the header after them. `next` is the
+-- protocol after it. `end` is the end of what follows, if the header states it.
 pub record HasEtherHeader (header : EtherHeader) (frame : List ℕ) (len : ℕ) (next : Option NetworkProtocol) (end : Option ℕ) : Type 0 where
   pub tags : ℕ
   pub has : HasTags header frame tags
@@ -106,13 +108,13 @@ pub record EndsInTag (header : EtherHeader) (frame : List ℕ) (tags : ℕ) : Ty
   pub there : tagged_len header tags ≤ length frame
   pub ends : length frame < tagged_len header (suc tags)
 
--- the frame ends within a tag, whose end is at this length
+-- the frame ends within a tag; with the whole tag it would have this length
 pub record NeedsTag (header : EtherHeader) (frame : List ℕ) (required_len : ℕ) : Type 0 where
   pub tags : ℕ
   pub in_tag : EndsInTag header frame tags
   pub is_required_len : required_len ≡ tagged_len header (suc tags)
 
--- the frame ends within the header after its last ether type, which needs this number of bytes
+-- the frame ends within the header after its last ether type; with the whole header it would have this length
 pub record NeedsAfterTags (header : EtherHeader) (frame : List ℕ) (required_len : ℕ) : Type 0 where
   pub tags : ℕ
   pub has : HasTags header frame tags
@@ -120,8 +122,8 @@ pub record NeedsAfterTags (header : EtherHeader) (frame : List ℕ) (required_le
   pub says : after_tags header frame (tagged_len header tags) (ether_type_after header frame tags) ≡ Err error
   pub is_required_len : required_len ≡ error.required_len
 
--- the frame ends within a header with an ether type, within a tag, or within the header after its last ether type; at least this number of
--- bytes is needed
+-- The frame ends within a header with an ether type, within a tag, or within the header after the last ether type. It needs at least this
+-- number of bytes.
 abbrev pub NeedsEtherHeader : EtherHeader → List ℕ → ℕ → Type 0
 NeedsEtherHeader header frame required_len =
     ((length frame < header.len) × (required_len ≡ header.len))
@@ -158,8 +160,8 @@ first_header InfiniBand order frame = Ok (EtherType infiniband)
 first_header Pktap order frame = after_tap frame
 first_header LinuxCooked2 order frame = cooked_header linux_cooked_2 device_type_at_2 frame
 
--- The whole link header has this length, and this protocol comes next, according to the first header; `None` is IP. What follows the header
--- has this end, if the header states it; `None` is the end of the frame.
+-- A frame with this first header has a whole link header. `len` is the length of the link header. `next` is the protocol after it, where
+-- `None` is IP. `end` is the end of what follows, if the header states it. Otherwise what follows ends with the frame.
 abbrev pub HasWhole : List ℕ → ℕ → Option NetworkProtocol → Option ℕ → Result FirstHeader LinkHeaderCutOff → Type 0
 HasWhole frame len next end (Ok (Whole header)) = (len ≡ header.len) × (next ≡ header.next) × (end ≡ header.end)
 HasWhole frame len next end (Ok (EtherType header)) = HasEtherHeader header frame len next end
@@ -169,7 +171,7 @@ HasWhole frame len next end (Err error) = ⊥
 abbrev pub HasLinkHeader : LinkType → ByteOrder → List ℕ → ℕ → Option NetworkProtocol → Option ℕ → Type 0
 HasLinkHeader link_type order frame len next end = HasWhole frame len next end (first_header link_type order frame)
 
--- the frame ends within its link header, according to the first header; this is the length of the link header, as far as it is known
+-- A frame with this first header ends within its link header. `required_len` is the length of the link header, as far as it is known.
 abbrev pub NeedsWhole : List ℕ → ℕ → Result FirstHeader LinkHeaderCutOff → Type 0
 NeedsWhole frame required_len (Ok (Whole header)) = ⊥
 NeedsWhole frame required_len (Ok (EtherType header)) = NeedsEtherHeader header frame required_len
@@ -179,7 +181,8 @@ NeedsWhole frame required_len (Err error) = required_len ≡ error.required_len
 abbrev pub NeedsLinkHeader : LinkType → ByteOrder → List ℕ → ℕ → Type 0
 NeedsLinkHeader link_type order frame required_len = NeedsWhole frame required_len (first_header link_type order frame)
 
--- the bytes of a frame after a header of this length, up to this end, if the header states it, or up to the end of the frame
+-- The bytes of a frame after a header of this length. They end at the place `end`, if the header states it, and otherwise at the end of the
+-- frame.
 pub record AreBytesAfter (frame : List ℕ) (len : ℕ) (end : Option ℕ) (found : IpBytes) : Type 0 where
   pub start : found.start ≡ len
   pub is_end_stated : found.is_end_stated ≡ is_some end
@@ -187,7 +190,8 @@ pub record AreBytesAfter (frame : List ℕ) (len : ℕ) (end : Option ℕ) (foun
   pub within : end_in frame end ≤ length frame
   pub bytes : found.bytes.now ≡ slice_range frame len (end_in frame end)
 
--- the content of a frame after a header of this length: the packet in the bytes after it, or another protocol
+-- The content of a frame after a header of this length. `None` means that an IP packet follows, in the bytes after the header. Otherwise
+-- another protocol follows.
 abbrev pub IsCutAfter : List ℕ → ℕ → Option NetworkProtocol → Option ℕ → Frame → Type 0
 IsCutAfter frame len None end (Ip found) = AreBytesAfter frame len end found
 IsCutAfter frame len (Some protocol) end (Other other) = other ≡ protocol

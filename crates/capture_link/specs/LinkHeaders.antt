@@ -6,7 +6,7 @@ use Rattle.capture_link.specs.declared.link.header.FirstHeader.TheVariants.{Ethe
 use Rattle.capture_link.specs.declared.link.header.LinkHeader.{LinkHeader}
 use Rattle.capture_link.specs.declared.network_protocol.NetworkProtocol.TheVariants.{LinkType}
 
--- the error for a frame that is shorter than its header, which has this length
+-- the error for a frame that is shorter than its header; the header has this length
 abbrev pub cut_off : List ℕ → ℕ → LinkHeaderCutOff
 cut_off frame required_len = record { required_len = required_len; len = length frame }
 
@@ -14,22 +14,23 @@ cut_off frame required_len = record { required_len = required_len; len = length 
 abbrev pub with_bytes : {A : Type 0} → List ℕ → ℕ → Result A LinkHeaderCutOff → Result A LinkHeaderCutOff
 with_bytes frame required_len says = if nat_lt (length frame) required_len then Err (cut_off frame required_len) else says
 
--- the end of what follows the link header: the end that the header states, or the end of the frame
+-- the end of the bytes after the link header: the end that the header states, or otherwise the end of the frame
 abbrev pub end_in : List ℕ → Option ℕ → ℕ
 end_in frame None = length frame
 end_in frame (Some end) = end
 
--- the frame contains the whole header, and what follows it up to its end
+-- the frame contains the whole header, and the bytes after it up to their stated end
 abbrev pub IsHeaderWithin : List ℕ → LinkHeader → Type 0
 IsHeaderWithin frame header = (header.len ≤ end_in frame header.end) × (end_in frame header.end ≤ length frame)
 
--- The frame contains a whole header. A header with an ether type contains both bytes of the ether type, but the frame may end within it.
+-- The frame contains a whole header. If the header contains an ether type, only its place is known so far. Then the ether type is within
+-- the header, but the frame may end before.
 abbrev pub Fits : List ℕ → FirstHeader → Type 0
 Fits frame (Whole header) = IsHeaderWithin frame header
 Fits frame (EtherType header) = header.ether_type_at + 2 ≤ header.len
 
--- The result for a header with an unknown version or a wrong length: what follows the header cannot be found. The next protocol is then
--- the number of the link type. The length counts the bytes that were examined.
+-- The result for a header with an unknown version or a wrong length, so that what follows it can't be found. The next protocol is the
+-- number of the link type. The length is the number of bytes that were examined.
 abbrev pub unread : ℕ → ℕ → FirstHeader
 unread len number = Whole (record { len = len; next = Some (LinkType number); end = None })
 
@@ -38,6 +39,6 @@ abbrev pub first_len : FirstHeader → ℕ
 first_len (Whole header) = header.len
 first_len (EtherType header) = header.len
 
--- The greatest place at which an inner frame begins. A header before it states this place as its own length, in a field of at most 32 bits.
+-- The greatest place at which an inner frame can begin. The header before it states its own length in a field of at most 32 bits.
 abbrev pub max_frame_place : ℕ
 max_frame_place = 2 ^ 32

@@ -12,7 +12,7 @@ use Rattle.capture_link.specs.declared.link.header.FirstHeader.TheVariants.{Ethe
 abbrev pub linux_cooked : EtherHeader
 linux_cooked = record { len = 16; ether_type_at = 14 }
 
--- the same of LINKTYPE_LINUX_SLL2
+-- the length of a LINKTYPE_LINUX_SLL2 header without tags, and the place of its protocol
 abbrev pub linux_cooked_2 : EtherHeader
 linux_cooked_2 = record { len = 20; ether_type_at = 0 }
 
@@ -20,7 +20,7 @@ linux_cooked_2 = record { len = 20; ether_type_at = 0 }
 abbrev pub device_type_at : ℕ
 device_type_at = 2
 
--- the same of LINKTYPE_LINUX_SLL2
+-- the place of the device type in a LINKTYPE_LINUX_SLL2 header
 abbrev pub device_type_at_2 : ℕ
 device_type_at_2 = 8
 

@@ -7,11 +7,12 @@ use Rattle.capture_link.specs.declared.link.header.FirstHeader.{FirstHeader}
 use Rattle.capture_link.specs.declared.link.header.FirstHeader.TheVariants.{EtherType, Whole}
 use Rattle.capture_link.specs.declared.network_protocol.NetworkProtocol.TheVariants.{Llc, Nlpid, Snap}
 
--- the organization codes before an ether type: 000000 (RFC 1042), and 0000F8, which a bridge writes (IEEE 802.1H)
+-- the organization codes that an ether type follows: 000000 (RFC 1042), and 0000F8 from a bridge (IEEE 802.1H)
 abbrev pub is_ether_code : ℕ → Bool
 is_ether_code organization_code = organization_code == 0 || organization_code == 0x0000F8
 
--- a SNAP header: an organization code of three bytes, and a protocol of two bytes, which is an ether type after some codes
+-- A SNAP header: an organization code of three bytes, and a protocol number of two bytes. After some organization codes the number is an
+-- ether type.
 abbrev pub by_organization_code : List ℕ → ℕ → ℕ → FirstHeader
 by_organization_code frame place organization_code =
     if is_ether_code organization_code then EtherType (record { len = place + 5; ether_type_at = place + 3 })

@@ -1,5 +1,5 @@
--- Headers with metadata, which a system writes before a packet or a frame when it captures it. They are in the registry of link types of
--- tcpdump.org.
+-- Headers with metadata. A system writes such a header before each packet or frame that it captures. The registry of link types of
+-- tcpdump.org describes them.
 use Rattle.std.specs.Prelude.{ℕ, ◌+◌, ◌*◌, ◌/◌, ◌==◌, ◌||◌, ◌&&◌, Bool, nat_le, nat_lt, if◌then◌else◌, List, slice_index, Option, Some, None, Result, Ok}
 use Rattle.net_base.specs.Bytes.{be_number}
 use Rattle.capture_texts.specs.LinkTypes.{avs_number, link_type_with, pflog_number, pktap_number, ppi_number, prism_number}
@@ -19,11 +19,11 @@ use Rattle.capture_link.specs.declared.network_protocol.NetworkProtocol.TheVaria
 
 -- ---- a packet after its address family
 
--- the next protocol according to an address family, which is a family of IP or not
+-- the next protocol according to an address family: IP if `is_ip` is true, otherwise the number of the family
 abbrev pub family_protocol : ℕ → Bool → Option NetworkProtocol
 family_protocol family is_ip = if is_ip then None else Some (AddressFamily family)
 
--- a whole header of this length with an address family, which is a family of IP or not
+-- a whole header of this length with this address family, which is a family of IP if `is_ip` is true
 abbrev pub with_family : ℕ → ℕ → Bool → FirstHeader
 with_family len family is_ip = Whole (record { len = len; next = family_protocol family is_ip; end = None })
 
@@ -39,7 +39,8 @@ filter_fields_len = 2
 abbrev pub least_filter_len : ℕ
 least_filter_len = 45
 
--- The header with this number in its length field, which does not count the padding after the fields. A shorter header is not read.
+-- The header with this number in its length field. The field does not count the padding after the other fields. If it is below the least
+-- length, the header is not read.
 abbrev pub by_filter_len : List ℕ → ℕ → Result FirstHeader LinkHeaderCutOff
 by_filter_len frame len =
     if nat_lt len least_filter_len then Ok (unread filter_fields_len pflog_number)
@@ -65,8 +66,8 @@ is_solaris_ip family = family == solaris_ipv4 || family == solaris_ipv6
 abbrev pub ipnet_len : ℕ
 ipnet_len = 24
 
--- LINKTYPE_IPNET, of Solaris: a version and the address family in one byte each, the kind of the frame in two bytes, and the length of the
--- packet, two interfaces and two zones in four bytes each
+-- LINKTYPE_IPNET, of Solaris. The header contains a version and the address family in one byte each, and the kind of the frame in two
+-- bytes. The length of the packet, two interfaces and two zones follow in four bytes each.
 abbrev pub ipnet_header : List ℕ → Result FirstHeader LinkHeaderCutOff
 ipnet_header frame = with_bytes frame ipnet_len (Ok (with_family ipnet_len (slice_index frame 1) (is_solaris_ip (slice_index frame 1))))
 
@@ -88,12 +89,13 @@ is_avs magic = magic == avs_1 || magic == avs_2
 abbrev pub avs_fields_len : ℕ
 avs_fields_len = 8
 
--- the frame after a header of AVS of this length, which counts at least the first fields, in a frame of the link type with this number
+-- The frame after a header of AVS. `number` is the number of the link type, and `len` is the stated length of the header, which is at least
+-- the length of its first fields.
 abbrev pub by_avs_len : List ℕ → ℕ → ℕ → Result FirstHeader LinkHeaderCutOff
 by_avs_len frame number len = if nat_le avs_fields_len len then frame_at frame len else Ok (unread avs_fields_len number)
 
--- LINKTYPE_IEEE802_11_AVS. A header of AVS contains the number that identifies it and its length, in four bytes each, and more fields. The
--- number also states the version. The length is at the same place in every version, so the number does not matter.
+-- LINKTYPE_IEEE802_11_AVS. A header of AVS begins with a number of four bytes, which identifies it and its version. Its length follows in
+-- four bytes, and then more fields. The number is not checked, since every version has the length at the same place.
 abbrev pub after_avs : List ℕ → Result FirstHeader LinkHeaderCutOff
 after_avs frame = with_bytes frame avs_fields_len (by_avs_len frame avs_number (be_number frame 4 4))
 
@@ -101,15 +103,16 @@ after_avs frame = with_bytes frame avs_fields_len (by_avs_len frame avs_number (
 abbrev pub prism_len : ℕ
 prism_len = 144
 
--- LINKTYPE_IEEE802_11_PRISM: a Prism header, or a header of AVS in its place, if it begins with the number of version 1 or 2
+-- LINKTYPE_IEEE802_11_PRISM. The frame begins with a Prism header, or with a header of AVS if its first number is the number of AVS version
+-- 1 or 2.
 abbrev pub after_prism : List ℕ → Result FirstHeader LinkHeaderCutOff
 after_prism frame = with_bytes frame avs_fields_len (
     if is_avs (be_number frame 0 4) then by_avs_len frame prism_number (be_number frame 4 4) else frame_at frame prism_len)
 
 -- ---- a frame of a link type that the header states
 
--- The first header of a frame at this place, of this link type, which has this number. Frames of four link types are read. The address
--- family of a loopback frame is little-endian, if it is not a family of IP.
+-- The first header of an inner frame at this place. `number` is the number of its link type. Frames of four link types are read. In a
+-- loopback frame an address family other than IP is read as little-endian.
 abbrev pub enclosed_in : List ℕ → ℕ → ℕ → Option LinkType → Result FirstHeader LinkHeaderCutOff
 enclosed_in frame place number (Some BsdLoopback) = family_at LittleEndian frame place
 enclosed_in frame place number (Some Ethernet) = ethernet_at frame place
@@ -117,7 +120,7 @@ enclosed_in frame place number (Some RawIp) = Ok (Whole (record { len = place; n
 enclosed_in frame place number (Some Ieee80211) = frame_at frame place
 enclosed_in frame place number other = Ok (unread place number)
 
--- the same, of the link type with this number
+-- the first header of an inner frame at this place, of the link type with this number
 abbrev pub enclosed_at : List ℕ → ℕ → ℕ → Result FirstHeader LinkHeaderCutOff
 enclosed_at frame place number = with_bytes frame place (enclosed_in frame place number (link_type_with number))
 
@@ -125,14 +128,15 @@ enclosed_at frame place number = with_bytes frame place (enclosed_in frame place
 abbrev pub ppi_fields_len : ℕ
 ppi_fields_len = 8
 
--- the frame after a LINKTYPE_PPI header with this version and length: the version is 0, and the length counts at least the first fields
+-- The frame after a LINKTYPE_PPI header with this version and length. It is read only if the version is 0 and the length is at least the
+-- length of the first fields.
 abbrev pub by_ppi : List ℕ → ℕ → ℕ → Result FirstHeader LinkHeaderCutOff
 by_ppi frame version len =
     if version == 0 && nat_le ppi_fields_len len then enclosed_at frame len (short_at LittleEndian frame 4)
     else Ok (unread ppi_fields_len ppi_number)
 
--- LINKTYPE_PPI, Per-Packet Information: a version and flags in one byte each, the length of the header in two bytes, and a link type in
--- four bytes, whose number has 16 bits. The numbers are little-endian.
+-- LINKTYPE_PPI, Per-Packet Information. The header begins with a version and flags in one byte each, its length in two bytes, and a link
+-- type in four bytes. The numbers are little-endian. Only 16 bits of the link type are its number.
 abbrev pub after_ppi : List ℕ → Result FirstHeader LinkHeaderCutOff
 after_ppi frame = with_bytes frame ppi_fields_len (by_ppi frame (slice_index frame 0) (short_at LittleEndian frame 2))
 
@@ -144,14 +148,14 @@ tap_fields_len = 12
 abbrev pub packet_record : ℕ
 packet_record = 1
 
--- the frame after a LINKTYPE_PKTAP header with this length and type of record: the record is a packet, and the length counts at least the
--- first fields
+-- The frame after a LINKTYPE_PKTAP header with this length and this type of record. It is read only if the record is a packet and the
+-- length is at least the length of the first fields.
 abbrev pub by_tap : List ℕ → ℕ → ℕ → Result FirstHeader LinkHeaderCutOff
 by_tap frame len record_type =
     if nat_le tap_fields_len len && record_type == packet_record then enclosed_at frame len (short_at LittleEndian frame 8)
     else Ok (unread tap_fields_len pktap_number)
 
--- LINKTYPE_PKTAP, of the packet tap of Apple: the length of the header, a type of record, and a link type, whose number has 16 bits, in
--- four bytes each, and more fields. The numbers are little-endian.
+-- LINKTYPE_PKTAP, of the packet tap of Apple. The header begins with its length, a type of record, and a link type, in four bytes each.
+-- More fields follow. The numbers are little-endian. Only 16 bits of the link type are its number.
 abbrev pub after_tap : List ℕ → Result FirstHeader LinkHeaderCutOff
 after_tap frame = with_bytes frame tap_fields_len (by_tap frame (number_at LittleEndian frame 0) (number_at LittleEndian frame 4))

@@ -6,8 +6,8 @@ use Rattle.capture_link.specs.declared.link.LinkHeaderCutOff.{LinkHeaderCutOff}
 use Rattle.capture_link.specs.declared.link.header.LinkHeader.{LinkHeader}
 use Rattle.capture_link.specs.declared.network_protocol.NetworkProtocol.{NetworkProtocol}
 
--- A packet with this first byte is an IP packet. Its version is 4, with a header of at least five words (RFC 791, section 3.1), or 6. No
--- label names the next protocol. A pseudowire begins with other bytes (RFC 4928, section 3).
+-- A packet with this first byte is an IP packet: of version 4 with a header of at least five words (RFC 791, section 3.1), or of version 6.
+-- The labels do not name the next protocol, so its first byte decides. A pseudowire begins with other bytes (RFC 4928, section 3).
 abbrev pub begins_ip : ℕ → Bool
 begins_ip first = first / 16 == 4 && nat_le 5 (first % 16) || first / 16 == 6
 
@@ -20,13 +20,14 @@ abbrev pub after_stack : List ℕ → NetworkProtocol → ℕ → Result LinkHea
 after_stack frame other place = with_bytes frame (place + 1) (
     Ok (record { len = place; next = by_first_byte other (slice_index frame place); end = None }))
 
--- the label stack at this place, if it has at most this number of labels; a label has four bytes, and the lowest bit of its third byte
--- marks the last label (section 2.1)
+-- The header that ends with the label stack at this place, which has at most this number of labels. A label has four bytes. The lowest bit
+-- of its third byte is set in the last label (section 2.1).
 abbrev pub stack_within : ℕ → List ℕ → NetworkProtocol → ℕ → Result LinkHeader LinkHeaderCutOff
 stack_within zero frame other place = Err (cut_off frame (place + 4))
 stack_within (suc more) frame other place = with_bytes frame (place + 4) (
     if flag frame (place + 2) 0x01 then after_stack frame other (place + 4) else stack_within more frame other (place + 4))
 
--- the label stack at this place, after the number of this protocol; a frame contains fewer labels than bytes
+-- The header that ends with the label stack at this place. `protocol` is the protocol whose number precedes the stack. There are fewer
+-- labels than bytes in the frame.
 abbrev pub stack_at : List ℕ → NetworkProtocol → ℕ → Result LinkHeader LinkHeaderCutOff
 stack_at frame other place = stack_within (length frame) frame other place

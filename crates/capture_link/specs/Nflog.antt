@@ -40,23 +40,23 @@ linux_ipv6 = 10
 abbrev pub is_linux_ip : ℕ → Bool
 is_linux_ip family = family == linux_ipv4 || family == linux_ipv6
 
--- a header up to this place, whose packet is not found
+-- a header that is not read; its bytes up to this place were examined
 abbrev pub unread_log : ℕ → FirstHeader
 unread_log place = unread place nflog_number
 
--- The byte order of the attributes, which is the order of the machine that logged the packet. The type of the first attribute, in bytes 6
--- and 7, is above 0 and below 256. So its most significant byte is 0, and its other byte is not.
+-- The byte order of the attributes, which is the byte order of the machine that logged the packet. Bytes 6 and 7 are the type of the first
+-- attribute, which is above 0 and below 256. So one of these bytes is 0, and it is the most significant byte.
 abbrev pub attribute_order : List ℕ → Option ByteOrder
 attribute_order frame =
     if slice_index frame 6 == 0 then (if slice_index frame 7 == 0 then None else Some BigEndian)
     else (if slice_index frame 7 == 0 then Some LittleEndian else None)
 
--- the end of a packet, if the frame contains all of it; otherwise the packet ends with the frame
+-- the end of a packet, if it is within the frame; otherwise none, so that the packet ends with the frame
 abbrev pub end_within : List ℕ → ℕ → Option ℕ
 end_within frame end = if nat_le end (length frame) then Some end else None
 
--- The header up to the packet, which begins after the fields of the attribute at this place, and ends with this attribute, whose length is
--- given. Byte 0 is the address family.
+-- The header up to the packet. The attribute at this place, with this length, contains the packet after its first fields. Byte 0 is the
+-- address family.
 abbrev pub payload_at : List ℕ → ℕ → ℕ → FirstHeader
 payload_at frame place len = Whole (record {
   len = place + attribute_fields_len;
@@ -64,44 +64,45 @@ payload_at frame place len = Whole (record {
   end = end_within frame (place + len);
 })
 
--- The attribute at this place: its fields, and a value. Its length counts the fields, but not the padding up to a multiple of four. A
--- header with a shorter length is not read.
+-- The attribute at this place: its fields, and a value. Its length counts the fields and the value, but not the padding up to a multiple of
+-- four. If the length is shorter than the fields, the header is not read.
 abbrev pub attribute_at : ByteOrder → List ℕ → ℕ → Result Attribute LinkHeaderCutOff
 attribute_at order frame place = with_bytes frame (place + attribute_fields_len) (
     if nat_lt (short_at order frame place) attribute_fields_len then Ok (Last (unread_log (place + attribute_fields_len)))
     else if short_at order frame (place + 2) == payload_type then Ok (Last (payload_at frame place (short_at order frame place)))
     else with_bytes frame (place + padded (short_at order frame place)) (Ok (Other (place + padded (short_at order frame place)))))
 
--- the header, if this is its next attribute, and this header follows from the place after another attribute
+-- The header after this attribute. If the attribute is not the last one, `next` returns the header from the place of the next attribute.
 abbrev pub after_attribute : (ℕ → Result FirstHeader LinkHeaderCutOff) → Result Attribute LinkHeaderCutOff
     → Result FirstHeader LinkHeaderCutOff
 after_attribute next (Ok (Last header)) = Ok header
 after_attribute next (Ok (Other end)) = next end
 after_attribute next (Err error) = Err error
 
--- the header with attributes from this place on, if it has at most this number of attributes; a frame without a packet is not read
+-- The header whose attributes continue at this place. At most this number of attributes is read. Without an attribute that contains a
+-- packet, the header is not read.
 abbrev pub attributes_within : ℕ → ByteOrder → List ℕ → ℕ → Result FirstHeader LinkHeaderCutOff
 attributes_within zero order frame place = Ok (unread_log place)
 attributes_within (suc more) order frame place =
     if nat_lt place (length frame) then after_attribute (λ next. attributes_within more order frame next) (attribute_at order frame place)
     else Ok (unread_log place)
 
--- the header with all its attributes; a frame contains fewer attributes than bytes
+-- the header with all its attributes; there are fewer attributes than bytes in the frame
 abbrev pub attributes : ByteOrder → List ℕ → Result FirstHeader LinkHeaderCutOff
 attributes order frame = attributes_within (length frame) order frame attributes_at
 
--- the header with attributes in this byte order, if the order is known
+-- the header with attributes in this byte order; if the byte order is unknown, the header is not read
 abbrev pub by_order : List ℕ → Option ByteOrder → Result FirstHeader LinkHeaderCutOff
 by_order frame None = Ok (unread_log shortest_len)
 by_order frame (Some order) = attributes order frame
 
--- A header begins with an address family, version 0, and the number of the group of logged packets, in two bytes. Attributes follow. A
--- header of another version is not read.
+-- A header begins with an address family, version 0, and two bytes with the number of a group of logged packets. Attributes follow. If the
+-- version is not 0, the header is not read.
 abbrev pub log_header : List ℕ → Result FirstHeader LinkHeaderCutOff
 log_header frame = with_bytes frame shortest_len (
     if slice_index frame 1 == 0 then by_order frame (attribute_order frame) else Ok (unread_log shortest_len))
 
--- the frame contains the attribute at this place, and its header, if the header ends in it
+-- the frame contains the attribute at this place; if it is the last attribute, the frame contains the header
 abbrev pub IsWithin : List ℕ → ℕ → Attribute → Type 0
 IsWithin frame place (Last header) = Fits frame header
 IsWithin frame place (Other end) = (place + attribute_fields_len ≤ end) × (end ≤ length frame)

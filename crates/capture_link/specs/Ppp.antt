@@ -14,54 +14,54 @@ use Rattle.capture_link.specs.declared.network_protocol.NetworkProtocol.TheVaria
 abbrev pub by_ppp_protocol : ℕ → Option NetworkProtocol
 by_ppp_protocol number = if number == 0x0021 || number == 0x0057 then None else Some (PppProtocol number)
 
--- The header that ends with this protocol number, or with the stack of MPLS labels after it. The numbers are 0281 and, for a multicast
--- packet, 0283 (RFC 3032, section 4.3).
+-- The header that ends with this protocol number. After 0281, or 0283 for a multicast packet, a stack of MPLS labels follows (RFC 3032,
+-- section 4.3), and the header ends with the stack.
 abbrev pub after_protocol : List ℕ → ℕ → ℕ → Result LinkHeader LinkHeaderCutOff
 after_protocol frame place number =
     if number == 0x0281 || number == 0x0283 then stack_at frame (PppProtocol number) place
     else Ok (record { len = place; next = by_ppp_protocol number; end = None })
 
--- The header that ends after the Protocol field at this place, a number of two bytes, or of one byte if it is compressed. A number of one
--- byte is odd, and the first byte of a number of two bytes is even (RFC 1661, sections 2 and 6.5).
+-- The header that ends after the Protocol field at this place. The field has two bytes, or one byte if it is compressed. If its first byte
+-- is odd, the field has one byte (RFC 1661, sections 2 and 6.5).
 abbrev pub protocol_at : List ℕ → ℕ → Result LinkHeader LinkHeaderCutOff
 protocol_at frame place = with_bytes frame (place + 1) (
     if flag frame place 0x01 then after_protocol frame (place + 1) (slice_index frame place)
     else with_bytes frame (place + 2) (after_protocol frame (place + 2) (be_number frame place 2)))
 
--- the frame begins with the Address and Control fields FF 03, which may be left out (RFC 1662, section 3.1; RFC 1661, section 6.6)
+-- the frame begins with the Address and Control fields FF 03; a sender may leave them out (RFC 1662, section 3.1; RFC 1661, section 6.6)
 abbrev pub has_address : List ℕ → Bool
 has_address frame = nat_le 2 (length frame) && be_number frame 0 2 == 0xFF03
 
--- the Protocol field follows the Address and Control fields
+-- the header of a PPP frame: the Protocol field, after the Address and Control fields if they are present
 abbrev pub ppp_header : List ℕ → Result LinkHeader LinkHeaderCutOff
 ppp_header frame = protocol_at frame (if has_address frame then 2 else 0)
 
--- a PPPoE header that ends at this place, and whose payload is not read; the next protocol is its ether type
+-- A PPPoE header that ends at this place. Its payload is not read, so that the next protocol is the ether type of a PPPoE session.
 abbrev pub unread_session : ℕ → LinkHeader
 unread_session place = record { len = place; next = Some (EtherType pppoe_session); end = None }
 
--- The header up to the packet in a PPPoE payload with this start and this end, after the PPP header in the payload has been read with this
--- result. A payload without a whole PPP header is not read.
+-- The header up to the packet in a PPPoE payload with this start and this end. The PPP header in the payload was read with this result. If
+-- the payload is too short for its PPP header, it is not read.
 abbrev pub in_payload : ℕ → ℕ → Result LinkHeader LinkHeaderCutOff → LinkHeader
 in_payload start end (Ok header) = record { len = header.len; next = header.next; end = Some end }
 in_payload start end (Err error) = unread_session start
 
 -- The header up to the packet in a PPPoE payload with this start and this end. Bytes after the payload, such as the padding of a short
--- Ethernet frame, are not part of it. If the frame ends before the payload, the payload ends with the frame.
+-- Ethernet frame, do not belong to the packet. If the frame ends before the payload does, the payload ends with the frame.
 abbrev pub session_payload : List ℕ → ℕ → ℕ → Result LinkHeader LinkHeaderCutOff
 session_payload frame start end =
     if nat_le end (length frame) then Ok (in_payload start end (protocol_at (take end frame) start))
     else protocol_at frame start
 
--- A PPPoE header at this place (RFC 2516, section 4). It contains version 1 and type 1 in a byte, the code, which is 0 in a session, the
--- number of the session, and the length of the payload that follows, in bytes. The payload begins with the Protocol field of PPP.
+-- A PPPoE header at this place (RFC 2516, section 4). Its first byte contains version 1 and type 1. The code follows, which is 0 in a
+-- session. The number of the session and the length of the payload have two bytes each. The payload begins with the Protocol field of PPP.
 abbrev pub session_at : List ℕ → ℕ → Result LinkHeader LinkHeaderCutOff
 session_at frame place = with_bytes frame (place + 6) (
     if be_number frame place 2 == 0x1100 then session_payload frame (place + 6) (place + 6 + be_number frame (place + 4) 2)
     else Ok (unread_session (place + 6)))
 
--- The header begins a discovery packet: version 1 and type 1 in a byte, and a code other than 0, which is the code of a session (RFC 2516,
--- sections 5 and 6).
+-- The header begins a discovery packet. Its first byte contains version 1 and type 1. Its code is not 0, which is the code of a session
+-- (RFC 2516, sections 5 and 6).
 abbrev pub is_discovery : List ℕ → Bool
 is_discovery frame = slice_index frame 0 == 0x11 && not (be_number frame 0 2 == 0x1100)
 
@@ -69,6 +69,7 @@ is_discovery frame = slice_index frame 0 == 0x11 && not (be_number frame 0 2 == 
 abbrev pub discovery : LinkHeader
 discovery = record { len = 6; next = Some (EtherType pppoe_discovery); end = None }
 
--- A LINKTYPE_PPP_ETHER frame begins with a PPPoE header. No ether type precedes it, so its code determines whether it is a session.
+-- A LINKTYPE_PPP_ETHER frame begins with a PPPoE header. No ether type precedes the header, so its code tells a session from a discovery
+-- packet.
 abbrev pub pppoe_frame : List ℕ → Result LinkHeader LinkHeaderCutOff
 pppoe_frame frame = with_bytes frame 6 (if is_discovery frame then Ok discovery else session_at frame 0)

@@ -52,12 +52,12 @@ pub enum Frame<'a> {
 /// The bytes of a frame after its link header.
 #[derive(Debug, PartialEq, Eq, Drop)]
 pub struct IpBytes<'a> {
-    /// The bytes up to the end that the link header states, or up to the end of the frame. They begin with the IP packet. Padding may
-    /// follow it.
+    /// The bytes after the link header, up to the end that the header states, or otherwise up to the end of the frame. They begin with the
+    /// IP packet. Padding may follow the packet.
     pub bytes: &'a [u8],
     /// The place of these bytes, in bytes from the start of the frame: the length of the link header.
     pub start: usize,
-    /// Whether the link header states the end of these bytes. Then none of them is missing, even if the capture cut the frame after them.
+    /// Whether the link header states the end of these bytes. If it does, none of them is missing, even if the capture cut the frame.
     pub is_end_stated: bool,
 }
 
@@ -120,9 +120,9 @@ const IPV6_FAMILY_DARWIN: u32 = 30;
 /// the header of a PPPoE session (RFC 2516) or a stack of MPLS labels (RFC 3032). A stack of MPLS labels is also skipped after the PPP
 /// protocols 0281 and 0283.
 ///
-/// A PPPoE header states the length of its payload, and LINKTYPE_NFLOG states the length of the packet. What follows is not part of the
-/// packet. If the frame ends before the payload, the payload ends with the frame. If a PPPoE payload is too short for its PPP header, the
-/// protocol is the ether type 8864. A PPPoE discovery packet of LINKTYPE_PPP_ETHER has the ether type 8863.
+/// A PPPoE header states the length of its payload, and LINKTYPE_NFLOG states the length of the packet. Bytes after this length do not
+/// belong to the packet. If the frame is shorter, the packet ends with the frame. If a PPPoE payload is too short for its PPP header, the
+/// protocol is the ether type 8864. For a PPPoE discovery packet of LINKTYPE_PPP_ETHER the protocol is the ether type 8863.
 ///
 /// These numbers identify an IP packet:
 /// - the ether types 0800 and 86DD
@@ -132,7 +132,7 @@ const IPV6_FAMILY_DARWIN: u32 = 30;
 /// - the LLC header 06 06 03
 ///
 /// An ether type follows the organization codes 000000 and 0000F8 of a SNAP header. In Cisco HDLC the numbers 8035 and 2000 are not ether
-/// types, and in a Linux cooked frame of a netlink device no number is one.
+/// types. In a Linux cooked frame from a netlink device no number is an ether type.
 ///
 /// # Errors
 ///
@@ -153,7 +153,7 @@ pub fn network_packet(
     }
 }
 
-/// The bytes after a link header, up to the end that it states, or up to the end of the frame.
+/// The bytes after a link header, up to the end that the header states, or otherwise up to the end of the frame.
 fn bytes_after(header: LinkHeader, frame: &[u8]) -> IpBytes<'_>
     requires { IsHeaderWithin frame.now header }
     ensures { AreBytesAfter frame.now header.len header.end result }
@@ -242,8 +242,8 @@ fn tagged_header(header: EtherHeader, frame: &[u8]) -> Result<LinkHeader, LinkHe
     after_tags(header, frame, len, ether_type)
 }
 
-/// The header that ends after the last ether type of a header and its tags, which end at this place. After a tag, a number below 1536 is
-/// the length of a frame with an LLC header.
+/// The header that ends after the last ether type of a header and its tags. The last ether type ends at this place. After a tag, a number
+/// below 1536 is the length of a frame with an LLC header.
 fn after_tags(
     header: EtherHeader,
     frame: &[u8],

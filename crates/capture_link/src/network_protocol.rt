@@ -5,8 +5,8 @@ pub enum NetworkProtocol {
     EtherType(u16),
     /// A protocol with this address family in a loopback header.
     AddressFamily(u32),
-    /// An unknown protocol: the frame is of the link type with this number, which is not read, or its header is not read. The number is 104
-    /// for SLARP and CDP in Cisco HDLC, and 253 for netlink in a Linux cooked frame.
+    /// An unknown protocol in a frame of the link type with this number. Either the link type or the link header is not read. The number is
+    /// 104 for SLARP and CDP in Cisco HDLC, and 253 for netlink in a Linux cooked frame.
     LinkType(u16),
     /// An IEEE 802.11 frame with a body that is not read. The frame is not a data frame, contains no data, is encrypted, or contains
     /// something other than one whole data unit.

@@ -18,7 +18,7 @@ use Rattle.capture_packet.specs.declared.content.Content.TheVariants.{Ip, IpHead
 use Rattle.capture_packet.specs.declared.transport.Transport.{Transport}
 use Rattle.capture_packet.specs.declared.transport.Transport.TheVariants as transports
 
--- the transport, or none if there is an error that refuses it
+-- the transport, or none if an error refuses it
 abbrev pub unless_refused : Option HeaderSliceError → Option TransportSlice → Option TransportSlice
 unless_refused None transport = transport
 unless_refused (Some error) transport = None
@@ -35,7 +35,8 @@ has_ports (Some protos.Icmpv4) = false
 has_ports (Some protos.Icmpv6) = false
 has_ports None = false
 
--- bytes after IP headers begin with ports: they are at least four bytes of UDP or TCP, and not from a later fragment
+-- The bytes after the IP headers begin with ports. The protocol is UDP or TCP, there are at least four bytes, and they are not from a later
+-- fragment.
 abbrev pub begins_with_ports_by : Bool → Option Proto → List ℕ → Bool
 begins_with_ports_by is_later_fragment proto bytes = not is_later_fragment && (has_ports proto && nat_le 4 (length bytes))
 
@@ -44,7 +45,8 @@ abbrev pub begins_with_ports : TransportInIp → Bool
 begins_with_ports found =
     begins_with_ports_by found.is_later_fragment (proto_over (by_value found.addresses) found.protocol.0) found.payload.now
 
--- the ports of source and destination, bytes 0 and 1, and bytes 2 and 3, if these bytes begin with ports; `proto` is their protocol
+-- The source port (bytes 0 and 1) and the destination port (bytes 2 and 3), if these bytes begin with ports. `proto` is the protocol of the
+-- bytes.
 abbrev pub ports_at : Bool → Option Proto → List ℕ → Option (ℕ × ℕ)
 ports_at is_later_fragment proto bytes =
     if begins_with_ports_by is_later_fragment proto bytes then Some (be_number bytes 0 2, be_number bytes 2 2) else None
@@ -53,8 +55,9 @@ ports_at is_later_fragment proto bytes =
 abbrev pub ports_in : TransportInIp → Option (ℕ × ℕ)
 ports_in found = ports_at found.is_later_fragment (proto_over (by_value found.addresses) found.protocol.0) found.payload.now
 
--- The transport of an IP packet, if its header is read. Otherwise the ports, which are bytes 0 and 1, and bytes 2 and 3, of a UDP or TCP
--- header (RFC 768; RFC 9293, section 3.1), and the bytes after the IP headers. Without ports, only these bytes.
+-- The transport of an IP packet. If its header is read, this is the transport itself. Otherwise it is the bytes after the IP headers, with
+-- the two ports if the bytes begin with ports. UDP and TCP have the source port in bytes 0 and 1, and the destination port in bytes 2 and 3
+-- (RFC 768; RFC 9293, section 3.1).
 abbrev pub Holds : TransportInIp → Transport → Type 0
 Holds found (transports.Read transport) = read_in found ≡ Some transport
 Holds found (transports.Ports source destination payload) =

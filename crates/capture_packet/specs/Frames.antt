@@ -43,7 +43,7 @@ pub record IsCarried (is_cut : Bool) (bytes : List ℕ) (packet : Packet) : Type
 abbrev pub IsUnread : Bool → List ℕ → IpError → Packet → Type 0
 IsUnread is_cut_off bytes error packet = ShowsRefused bytes packet.content × (packet.verdict ≡ unread_verdict is_cut_off error)
 
--- An IP packet, with accepted or refused headers. Neither a missing end nor a missing length refuses them.
+-- An IP packet. Its headers are accepted or refused. A packet without an end or without a length is not refused for that.
 abbrev pub IsIpPacket : Bool → List ℕ → Packet → Type 0
 IsIpPacket is_cut bytes packet = (packet.hop_limit ≡ hop_limit_of bytes)
     × MatchOption (lax_refusal bytes) (IsCarried is_cut bytes packet)
@@ -55,12 +55,12 @@ IsInTunnels nested packet = (map by_value packet.tunnels.items ≡ nested.outers
 
 -- ---- frames
 
--- Whether the capture cut the bytes after a link header. If the link header states their end, the frame contains it, and the capture cut
--- none of them.
+-- Whether the capture cut the bytes after a link header. If the link header states where these bytes end, the frame contains all of them.
+-- Then none was cut, even if the frame was cut after them.
 abbrev pub are_bytes_cut : Bool → Bool → Bool
 are_bytes_cut is_cut is_end_stated = is_cut && not is_end_stated
 
--- the packet in the frame: an IP packet, which is the innermost if it contains others, or another protocol
+-- the packet in the frame: another protocol, or an IP packet, which is the innermost packet if there are tunnels
 abbrev pub IsInFrame : Bool → Frame → Packet → Type 0
 IsInFrame is_cut (Ip found) packet = IsInTunnels (innermost (are_bytes_cut is_cut found.is_end_stated) found.bytes.now) packet
 IsInFrame is_cut (Other protocol) packet = packet ≡ in_no_tunnel (NotIp protocol) (untested OtherProtocol)
@@ -76,7 +76,7 @@ abbrev pub link_verdict : Bool → LinkHeaderCutOff → Verdict
 link_verdict true error = untested CutOff
 link_verdict false error = Refused (refusals.Link error)
 
--- the packet of a frame that ends within its link header
+-- the result for a frame that ends within its link header
 pub record IsHeaderCutOff (link_type : LinkType) (order : ByteOrder) (frame : List ℕ) (is_cut : Bool) (packet : Packet) : Type 0 where
   pub error : LinkHeaderCutOff
   pub needs : NeedsLinkHeader link_type order frame error.required_len

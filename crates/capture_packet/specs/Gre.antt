@@ -6,8 +6,8 @@ use Rattle.net_base.specs.Bytes.{be_number}
 abbrev pub first_bits : List ℕ → ℕ
 first_bits header = be_number header 0 2
 
--- The first four bytes are present, and a receiver accepts them. The version, in bits 13 to 15, is 0 (RFC 2784, section 2.3.1). Bits 1, 4
--- and 5 are not set (RFC 2784, section 2.3). Bits 2 and 3 are bits of optional fields (RFC 2890), and bits 6 to 12 are ignored.
+-- The header is read. Its first four bytes are present, the version in bits 13 to 15 is 0 (RFC 2784, section 2.3.1), and the reserved bits
+-- 1, 4 and 5 are 0 (RFC 2784, section 2.3). Bits 2 and 3 announce optional fields (RFC 2890). Bits 6 to 12 are ignored.
 abbrev pub is_read : List ℕ → Bool
 is_read header = nat_le 4 (length header) && bit_and (first_bits header) 0x4C07 == 0
 

@@ -10,28 +10,29 @@ use Rattle.transport_part.specs.declared.transport_slice.TransportSlice.TheVaria
 use Rattle.capture_packet.specs.declared.transport.Transport.{Transport}
 use Rattle.capture_packet.specs.declared.transport.Transport.TheVariants.{Ports, Read, Unread}
 
--- the present bytes after the transport header, or after the IP headers if no transport header is read
+-- the bytes after the transport header, as far as they are present; if no transport header is read, the bytes after the IP headers
 abbrev pub payload_in : Transport → List ℕ
 payload_in (Read transport) = payload_of transport
 payload_in (Ports source destination payload) = payload.now
 payload_in (Unread payload) = payload.now
 
--- the number of bytes after the headers of an IP packet that the IP header counts, present or not
+-- the number of bytes after the headers of an IP packet, according to the IP header; some of these bytes may be missing
 abbrev pub counted_payload_len : List ℕ → TransportInIp → ℕ
 counted_payload_len packet found = counted_len found.is_length_missing packet - found.payload_offset
 
--- the length of a UDP datagram: its length field, if it counts a header and at most the bytes that the IP header counts (RFC 768)
+-- The length of a UDP datagram (RFC 768). It is the length field, if the field is at least 8 and at most the number of bytes that the IP
+-- header counts. Otherwise it is that number of bytes.
 abbrev pub datagram_len : ℕ → ℕ → ℕ
 datagram_len counted_len length = if nat_lt length 8 then counted_len else min counted_len length
 
--- the length of a transport with its header, if the IP header counts this number of bytes after the IP headers
+-- the length of a transport with its header; the IP header counts this number of bytes after the IP headers
 abbrev pub transport_len : ℕ → TransportSlice → ℕ
 transport_len counted_len (Udp packet) = datagram_len counted_len (length_field packet)
 transport_len counted_len (Tcp segment) = counted_len
 transport_len counted_len (Icmpv4 message) = counted_len
 transport_len counted_len (Icmpv6 message) = counted_len
 
--- the length of the payload of a transport, present or not
+-- the length of the payload of a transport; some bytes of the payload may be missing
 abbrev pub payload_len : ℕ → Transport → ℕ
 payload_len counted_len (Read transport) =
     transport_len counted_len transport - (layout_of (proto_of transport) (bytes_of transport)).header_len

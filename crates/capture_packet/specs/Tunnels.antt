@@ -21,8 +21,8 @@ abbrev pub packet_of_version : ℕ → List ℕ → Option (List ℕ)
 packet_of_version number bytes =
     if nat_le (fixed_len number) (length bytes) && version bytes == number then Some bytes else None
 
--- these bytes, if they begin with a packet of this ether type: 0800 is IPv4 (RFC 2784, section 3), and 86DD is IPv6 (RFC 7676, section
--- 3.1)
+-- These bytes, if they begin with an IP packet of this ether type. The ether type 0800 is IPv4 (RFC 2784, section 3), and 86DD is IPv6 (RFC
+-- 7676, section 3.1).
 abbrev pub packet_of_type : ℕ → List ℕ → Option (List ℕ)
 packet_of_type ether_type bytes =
     if ether_type == 0x0800 then packet_of_version 4 bytes
@@ -54,7 +54,7 @@ pub record Outer : Type 0 where
   pub addresses : Addresses
   pub protocol : ℕ
 
--- the outer packet that the program describes, with the bytes of its addresses instead of references to them
+-- the value of an outer packet, wherever its addresses are stored
 abbrev pub by_value : Tunnel → Outer
 by_value tunnel = record { addresses = addresses.by_value tunnel.addresses; protocol = tunnel.protocol.0 }
 
@@ -69,18 +69,18 @@ abbrev pub opened_with : Outer → Bool → Bool → List ℕ → Option Opened
 opened_with outer is_fragment is_cut payload =
     option_map (λ bytes. record { outer = outer; bytes = bytes; is_cut = is_cut }) (payload_packet is_fragment outer.protocol payload)
 
--- The end of an IP packet is missing. If its header states a length, fewer bytes are present. If its header states no length, the packet
--- extends to the end of the bytes, and that end is missing, since the capture or an outer packet is cut off.
+-- The end of an IP packet is missing. There are two cases. The header states a length, and fewer bytes are present. Or the header states no
+-- length, and `is_cut` is true, since the capture or an outer packet is cut off.
 abbrev pub is_end_missing : Bool → List ℕ → Bool
 is_end_missing is_cut packet = is_cut_off (lacks_len packet) packet || (is_cut && lacks_len packet)
 
--- the tunnel in an outer packet, according to its IP headers; an error refuses them, so there is no tunnel
+-- the tunnel in an outer packet with these IP headers; if they are refused, there is no tunnel
 abbrev pub opened_after : Bool → List ℕ → Result Headers IpError → Option Opened
 opened_after is_cut packet (Err error) = None
 opened_after is_cut packet (Ok headers) = opened_with (record { addresses = headers.addresses; protocol = headers.protocol.0 })
     headers.is_fragment (is_end_missing is_cut packet) (drop headers.len (counted (lacks_len packet) packet))
 
--- the tunnel in an outer packet, if no error refuses the outer packet
+-- the tunnel in an outer packet; if an error refuses the packet, there is no tunnel
 abbrev pub opened_unless : Option IpError → Bool → List ℕ → Option Opened
 opened_unless (Some error) is_cut packet = None
 opened_unless None is_cut packet = opened_after is_cut packet (headers_of (lacks_len packet) packet)
@@ -105,7 +105,7 @@ alone is_cut packet = record { outers = []; bytes = packet; is_cut = is_cut }
 abbrev pub in_tunnel : Outer → Nested → Nested
 in_tunnel outer nested = record { outers = outer ∷ nested.outers; bytes = nested.bytes; is_cut = nested.is_cut }
 
--- the packet that `read` finds in this tunnel, or `outside` if there is no tunnel
+-- if there is a tunnel, the packet that `read` returns for it, and otherwise `outside`
 abbrev pub inside : Option Opened → (Opened → Nested) → Nested → Nested
 inside None read outside = outside
 inside (Some tunnel) read outside = in_tunnel tunnel.outer (read tunnel)

@@ -36,7 +36,7 @@ zero_length = refusals.Transport Udp (Len (record {
   layer_start_offset = 0;
 }))
 
--- the error that refuses a packet with a checksum that is not tested for this reason, if there is one
+-- the error of a packet whose checksum is not tested for this reason, if the reason is an error
 abbrev pub refusal_if_untested : Untested → Option Refusal
 refusal_if_untested ZeroLength = Some zero_length
 refusal_if_untested Fragment = None
@@ -65,30 +65,30 @@ IsOnChecksum found LengthMissing = ⊥
 IsOnChecksum found (TooLong required_len) = ⊥
 IsOnChecksum found (Refused refusal) = ⊥
 
--- the verdict on an accepted transport of one of the four protocols: a packet that states no length is not tested, since the number of bytes
--- that its checksum covers is unknown; a fragment stays a fragment
+-- The verdict on an accepted transport of one of the four protocols. If the packet states no length, its checksum is not tested, since the
+-- number of covered bytes is unknown. For a fragment the verdict is always `Fragment`.
 abbrev pub JudgesRead : TransportInIp → Verdict → Type 0
 JudgesRead found verdict =
     MatchBool (found.is_length_missing && not found.is_fragment) (verdict ≡ LengthMissing) (IsOnChecksum found verdict)
 
--- the verdict on an accepted transport: any other protocol has no checksum that is read, whether the packet is a fragment, is cut off or
--- states no length
+-- The verdict on an accepted transport. The checksum of any other protocol is not read. The verdict is then `OtherProtocol`, even for a
+-- fragment, for a packet that is cut off, and for a packet without a length.
 abbrev pub JudgesAccepted : TransportInIp → Verdict → Type 0
 JudgesAccepted found verdict =
     MatchOption (proto_over (by_value found.addresses) found.protocol.0) (verdict ≡ untested OtherProtocol) (λ proto. JudgesRead found verdict)
 
--- Only the first bytes of a transport are present. Either the IP header counts more bytes than are present. Or it states no length, so that
--- the packet extends to the end of its frame, and the capture cut the frame.
+-- Only the first bytes of a transport are present. There are two cases. The IP header counts more bytes than are present. Or the IP header
+-- states no length, so that the packet ends with its frame, and the capture cut the frame.
 abbrev pub is_transport_cut_off : Bool → TransportInIp → Bool
 is_transport_cut_off is_cut found = found.is_cut_off || (is_cut && found.is_length_missing)
 
--- the verdict on a refused transport: if the packet is cut off, an incomplete header does not refuse it
+-- The verdict on a transport with this error. If the packet is cut off and only its length is wrong, the verdict is `CutOff`.
 abbrev pub refused : Bool → Proto → HeaderSliceError → Verdict
 refused true proto (Len error) = untested CutOff
 refused true proto (Content error) = Refused (refusals.Transport proto (Content error))
 refused false proto error = Refused (refusals.Transport proto error)
 
--- the verdict on the transport of an IP packet; a refused transport is one of the four protocols
+-- The verdict on the transport of an IP packet. Only a transport of one of the four protocols can be refused.
 abbrev pub JudgesTransport : Bool → TransportInIp → Verdict → Type 0
 JudgesTransport is_cut found verdict = MatchOption (transports.refusal found) (JudgesAccepted found verdict)
     (λ error. IfSome (transports.proto_in found) (λ proto. verdict ≡ refused (is_transport_cut_off is_cut found) proto error))
@@ -99,9 +99,9 @@ JudgesTransport is_cut found verdict = MatchOption (transports.refusal found) (J
 abbrev pub counts_no_payload : List ℕ → ℕ → ℕ → Bool
 counts_no_payload packet offset len = version packet == 6 && (offset == 40 && len == 0)
 
--- Only the first bytes of a packet are present, by the error that refuses its headers. Either its header counts more bytes than there are,
--- whatever the capture states about its frame. Or the capture cut its frame, and its header is incomplete or states no length. If only the
--- bytes after the packet were cut, the packet is whole.
+-- Only the first bytes of a packet are present. The error that refuses its headers shows this. There are two cases. The header counts more
+-- bytes than are present, whether the capture cut the frame or not. Or the capture cut the frame, and the header is incomplete or states no
+-- length.
 abbrev pub is_cut_off : Bool → List ℕ → Option IpError → Bool
 is_cut_off is_cut packet (Some (PacketCutOff required_len len)) = true
 is_cut_off is_cut packet (Some (HeaderCutOff required_len len)) = is_cut
@@ -115,7 +115,8 @@ is_cut_off is_cut packet (Some (JumboPayloadUnexpected payload_len)) = false
 is_cut_off is_cut packet (Some (JumboPayloadFragment offset)) = false
 is_cut_off is_cut packet None = false
 
--- the verdict on a packet with refused IP headers: if the packet is cut off, an incomplete header does not refuse it
+-- The verdict on a packet with this error in its IP headers. If the packet is cut off and its headers are incomplete, the verdict is
+-- `CutOff`.
 abbrev pub unread_verdict : Bool → IpError → Verdict
 unread_verdict true (HeaderCutOff required_len len) = untested CutOff
 unread_verdict true (ExtensionHeaderCutOff protocol offset required_len len) = untested CutOff

@@ -6,11 +6,11 @@ use net_base::IpNumber;
 /// The content of a packet, as far as it can be read.
 #[derive(Debug, PartialEq, Eq, Drop)]
 pub enum Content<'a> {
-    /// Nothing is read. The record is too long, or its link header is cut off. Or the packet contains neither 20 bytes of version 4 nor 40
-    /// bytes of version 6.
+    /// Nothing is read. The record is too long, the link header is cut off, or the fixed part of the IP header is incomplete (20 bytes of
+    /// version 4, or 40 bytes of version 6).
     Unread,
-    /// The IP headers of a packet are refused or cut off. But its first 20 bytes of version 4 or 40 bytes of version 6 are present, and
-    /// contain these addresses.
+    /// The IP headers of a packet are refused or cut off. But the fixed part of the IP header (20 bytes of version 4, or 40 bytes of
+    /// version 6) is present, and contains these addresses.
     IpHeader(IpAddresses<'a>),
     /// The frame contains no IP packet.
     NotIp(NetworkProtocol),
@@ -24,9 +24,10 @@ pub enum Content<'a> {
         proto: Option<Proto>,
         /// The transport.
         transport: Transport<'a>,
-        /// The length of the payload in bytes: of the bytes after the transport header, or after the IP headers if no transport header is
-        /// read. If the packet is cut off, this is the length by its IP header, and fewer bytes are present. A UDP datagram ends where its
-        /// length field states it, if it counts a header (RFC 768). If no length is stated, the bytes of the frame count.
+        /// The length of the payload, in bytes. The payload begins after the transport header, or after the IP headers if no transport
+        /// header is read. Its end follows from the IP header. In a UDP datagram it follows from the length field, if the field counts at
+        /// least a header (RFC 768). If no length is stated, the payload ends with the frame. If the packet is cut off, fewer bytes are
+        /// present.
         payload_len: usize,
     },
 }

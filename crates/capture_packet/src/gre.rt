@@ -32,8 +32,8 @@ const IPV4: u16 = ether_type::IPV4;
 /// The protocol type of IPv6 (RFC 7676, section 3.1).
 const IPV6: u16 = ether_type::IPV6;
 
-/// The IP packet after the GRE header at the front of these bytes. None if the header is cut off, is of another version, or has a reserved
-/// bit that a receiver refuses, and if another protocol follows.
+/// The IP packet after the GRE header at the front of these bytes. None if the header is cut off, has another version or a reserved bit
+/// that a receiver refuses, or if another protocol follows.
 pub(crate) fn packet_after_gre(bytes: &[u8]) -> Option<&[u8]>
     ensures { option_map (λ packet. packet.now) result ≡ packet_after_gre bytes.now }
 {

@@ -6,8 +6,7 @@ use crate::transport::ports_in;
 use ip_part::{IpAddresses, Proto, TransportInIp, transport_in_ip_lax};
 use net_base::IpNumber;
 
-/// The packet that an ICMP error is about, by the first bytes of it that the error quotes (RFC 792; RFC 4443, section 3; RFC 4884,
-/// section 4).
+/// The packet that an ICMP error quotes. The error contains its first bytes (RFC 792; RFC 4443, section 3; RFC 4884, section 4).
 #[derive(Clone, Copy, Debug, PartialEq, Eq)]
 pub struct QuotedPacket<'a> {
     /// The addresses of the quoted packet, which its checksum covers.

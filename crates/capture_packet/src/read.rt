@@ -18,8 +18,8 @@ use capture_texts::{ByteOrder, LinkType};
 use ip_part::{IpError, TransportInIp, fixed_header, transport_in_ip, transport_in_ip_lax};
 use transport_part::Untested;
 
-/// The maximum length in bytes of a packet that is read, and of a block of a pcapng file. It is twice the maximum that libpcap captures of
-/// a packet.
+/// The maximum length in bytes of a packet that is read, and of a block of a pcapng file. It is twice the maximum captured length of
+/// libpcap.
 pub const MAX_PACKET_LEN: usize = 524_288;
 
 /// The packet in a frame of this link type, as far as it can be read, and the verdict on its checksum. `order` is the byte order of the
@@ -104,7 +104,7 @@ fn read_ip_packet<'a>(packet: &'a [u8], is_cut: bool) -> Packet<'a>
     }
 }
 
-/// The packet in an outer packet, if there is one, and room for one more tunnel.
+/// The packet in an outer packet, if there is one and `tunnels` has room for one more tunnel.
 fn next_packet<'a>(tunnels: &Tunnels<'_>, outer: &TransportInIp<'a>) -> Option<&'a [u8]>
     ensures full { array_vec_len tunnels.now ≡ max_tunnels → result ≡ None }
     ensures room { array_vec_len tunnels.now < max_tunnels → option_map (λ packet. packet.now) result
@@ -116,8 +116,8 @@ fn next_packet<'a>(tunnels: &Tunnels<'_>, outer: &TransportInIp<'a>) -> Option<&
     packet_in_payload(outer)
 }
 
-/// Whether a packet with refused headers is cut off. Its header counts more bytes than are present. Or it is incomplete or states no
-/// length, in a frame that the capture cut.
+/// Whether a packet with refused headers is cut off. There are two cases. The header counts more bytes than are present. Or the capture cut
+/// the frame, and the header is incomplete or states no length.
 fn is_cut_off(packet: &[u8], is_cut: bool) -> bool
     ensures { result ≡ specs.is_cut_off is_cut packet.now (refusal packet.now) }
 {
@@ -139,7 +139,8 @@ fn is_cut_off(packet: &[u8], is_cut: bool) -> bool
     }
 }
 
-/// Whether an IPv6 header counts no byte of the extension header at this place, which has this number of bytes.
+/// Whether the payload length of an IPv6 packet is 0, so that no byte of its first extension header is counted. `len` is the number of
+/// counted bytes from `offset` on.
 fn counts_no_payload(packet: &[u8], offset: usize, len: usize) -> bool
     ensures { result ≡ specs.counts_no_payload packet.now offset len }
 {
@@ -202,7 +203,8 @@ fn unread<'a>(
     }
 }
 
-/// The verdict on an IP packet with refused headers. If the packet is cut off, an incomplete header does not refuse it.
+/// The verdict on an IP packet with this error in its headers. If the packet is cut off and its headers are incomplete, the verdict is
+/// `CutOff`.
 fn unread_verdict(error: IpError, is_cut_off: bool) -> Verdict
     ensures { result ≡ specs.unread_verdict is_cut_off error }
 {

@@ -19,8 +19,8 @@ use transport_part::{TransportSlice, Untested};
 pub enum Transport<'a> {
     /// A transport with a header that is read.
     Read(TransportSlice<'a>),
-    /// No header is read: it is refused or incomplete, or the packet is the first fragment. But the first four bytes are present, and
-    /// contain the ports of UDP or TCP (RFC 768; RFC 9293, section 3.1).
+    /// Only the ports of a UDP or TCP header are read (RFC 768; RFC 9293, section 3.1). The header is refused or incomplete, or the packet
+    /// is the first fragment.
     Ports {
         /// The port of the sender: bytes 0 and 1.
         source: u16,
@@ -29,8 +29,8 @@ pub enum Transport<'a> {
         /// The bytes after the IP headers.
         payload: &'a [u8],
     },
-    /// Neither a header nor ports are read: the protocol is another, fewer than four bytes are present, or the packet is a later fragment.
-    /// These are the bytes after the IP headers.
+    /// The bytes after the IP headers. Neither a header nor ports are read: the protocol is another one, fewer than four bytes are present,
+    /// or the packet is a later fragment.
     Unread(&'a [u8]),
 }
 
@@ -86,7 +86,8 @@ pub(crate) fn read_transport<'a>(
     }
 }
 
-/// The verdict on the checksum of a transport with a header that is read. A checksum covers all bytes of a packet.
+/// The verdict on the checksum of a transport with a header that is read. It is not tested if bytes are missing, since the checksum covers
+/// all bytes.
 #[inline(always)]
 fn tested(found: &TransportInIp<'_>, transport: &TransportSlice<'_>) -> Verdict
     requires { kept found.now ≡ Some transport.now }
@@ -101,7 +102,7 @@ fn tested(found: &TransportInIp<'_>, transport: &TransportSlice<'_>) -> Verdict
     Verdict::Checksum(transport.checksum_verdict(found.addresses))
 }
 
-/// The verdict on a packet without a transport header. If its protocol is one of the four, it is a fragment.
+/// The verdict on a packet without a transport that is read: a fragment of one of the four protocols, or any packet of another protocol.
 fn untested(found: &TransportInIp<'_>) -> Verdict
     requires { kept found.now ≡ None }
     ensures { JudgesAccepted found.now result }
@@ -147,7 +148,7 @@ fn has_ports(found: &TransportInIp<'_>) -> bool
     matches!(found.proto(), Some(Proto::Udp | Proto::Tcp))
 }
 
-/// The verdict on a refused transport. If the packet is cut off, an incomplete header does not refuse it.
+/// The verdict on a transport with this error. If the packet is cut off and only its length is wrong, the verdict is `CutOff`.
 fn refused(found: &TransportInIp<'_>, error: HeaderSliceError, is_cut: bool) -> Verdict
     requires { refusal found.now ≡ Some error }
     ensures { JudgesTransport is_cut found.now result }

@@ -15,9 +15,9 @@ pub enum Verdict {
     /// - `Fragment`: the packet is a fragment.
     /// - `CutOff`: the frame or the packet is cut off.
     Checksum(ChecksumVerdict),
-    /// The IP header states no length, so that the number of bytes that the checksum covers is not known (RFC 791, section 3.1; RFC 8200,
-    /// section 3). A host captures such a packet before its network card splits it. A fragment without a length, and a packet of another
-    /// protocol without a length, are `Untested`.
+    /// The IP header states no length (RFC 791, section 3.1; RFC 8200, section 3). So it is unknown how many bytes the checksum covers. A
+    /// host captures such a packet before its network card splits it. If the packet is a fragment or of another protocol, the verdict is
+    /// `Untested` instead.
     LengthMissing,
     /// The packet is not read, because the buffer has no room for it.
     TooLong {

@@ -33,7 +33,7 @@ compression_name Xz = codes "xz"
 compression_name Bzip2 = codes "bzip2"
 compression_name Lz4 = codes "lz4"
 
--- the compression of the capture, if this error refuses it because it is compressed
+-- the compression of the capture, if the capture is refused because it is compressed
 abbrev pub compression_of : CaptureError → Option Compression
 compression_of (Header (refusals.Classic (Magic magic))) = compression_with magic
 compression_of other = None

@@ -15,7 +15,7 @@ use Rattle.capture_request.specs.declared.capture_error.CaptureError.TheVariants
 abbrev pub max_packets : ℕ
 max_packets = 18446744073709551614
 
--- this error is the reason why the beginning of a capture is refused
+-- the beginning of a capture is refused for this reason
 abbrev pub IsRefusedCapture : OpenError → List ℕ → Type 0
 IsRefusedCapture error bytes =
     (still_left : Option (List ℕ)) × (buffer : List ℕ) × (length buffer ≡ max_packet_len)

@@ -14,12 +14,12 @@ abbrev pub compressed_text : Compression → List ℕ
 compressed_text compression =
     codes "The capture is compressed, and is read by " ++ (compression_name compression ++ codes " -dc FILE | capture_report.")
 
--- The text of an error. If the capture is compressed, it is the text for a compressed capture. Nothing is stated of the text of another
--- error.
+-- The text of an error. If the capture is compressed, this is the text for a compressed capture. For any other error the statement holds
+-- for every text.
 abbrev pub IsErrorText : CaptureError → List ℕ → Type 0
 IsErrorText error text = MatchOption (compression_of error) (Unit {0}) (λ compression. text ≡ compressed_text compression)
 
--- the start of a line: the name of the program, and the name of the capture if there is one
+-- the start of an error's line: the name of the program, and then the name of the capture if there is one
 abbrev pub line_start : Option (List ℕ) → List ℕ
 line_start None = codes "capture_report: "
 line_start (Some name) = codes "capture_report: " ++ (name ++ codes ": ")
@@ -38,13 +38,13 @@ filter_words =
 abbrev pub first_word : List ℕ → List ℕ
 first_word name = before_first (λ byte. byte == 32) name
 
--- the options that select packets, if the name of a capture begins with a word of a filter, for example `tcp port 80`
+-- The hint at the options that select packets. It is empty unless the name of the capture begins with a word of a filter, as in `tcp port
+-- 80`.
 abbrev pub hint_of : List ℕ → List ℕ
 hint_of name =
     if list_any (λ word. bytes_eq word (first_word name)) filter_words then codes "; filters are --host, --port and --protocol" else []
 
--- the text of the error of a capture that can't be opened: the cause, and then the options that select packets if the name begins like a
--- filter
+-- the text for a capture that can't be opened: it ends with the hint at the options that select packets
 abbrev pub EndsInHint : List ℕ → List ℕ → Type 0
 EndsInHint name text = (cause : List ℕ) × (text ≡ cause ++ hint_of name)
 
@@ -58,33 +58,33 @@ IsOneLine IsLine lines = (line : List ℕ) × IsLine line × (lines ≡ line ∷
 abbrev pub IsOpenErrorLine : List ℕ → List ℕ → Type 0
 IsOpenErrorLine name line = IsLineOf (Some (shown_name name)) (EndsInHint name) line
 
--- The lines for the end of the report of the capture with this name. There is no line if the capture was read to its end, or to the last
--- requested packet. Otherwise there is the line of its error.
+-- The lines that are written when the report of the capture with this name ends. There is no line if the capture was read to its end, or to
+-- the last requested packet. Otherwise there is one line with the error.
 abbrev pub AreEndLines : Option (List ℕ) → Result (Unit {0}) CaptureError → List (List ℕ) → Type 0
 AreEndLines name (Ok done) lines = lines ≡ []
 AreEndLines name (Err Enough) lines = lines ≡ []
 AreEndLines name (Err error) lines = IsOneLine (IsLineOf name (IsErrorText error)) lines
 
--- The name in the line of an error within a capture. `count` is the number of named captures. If it is 0, standard input is read, and the
--- line contains no name.
+-- The name that the line of an error within a capture contains. `count` is the number of named captures. If it is 0, standard input is
+-- read, and the line contains no name.
 abbrev pub line_name : ℕ → List ℕ → Option (List ℕ)
 line_name count name = if count == 0 then None else Some (shown_name name)
 
 -- ---- what is written of the lines
 
--- the bytes that were written are the whole or a beginning of each line
+-- the whole or a beginning of each line was written, in the order of the lines
 abbrev pub AreBegun : List (List ℕ) → List ℕ → Type 0
 AreBegun [] written = written ≡ []
 AreBegun (line ∷ lines) written =
     (begun : List ℕ) × (rest : List ℕ) × (others : List ℕ) × (line ≡ begun ++ rest) × AreBegun lines others × (written ≡ begun ++ others)
 
--- At least a beginning of each line was written, in the order of the lines. If `AreWhole` holds, the whole of each line was written.
+-- A beginning of each line was written, in the order of the lines. If `AreWhole` holds, each line was written completely.
 pub record WritesLines (before after : Option (List ℕ)) (AreWhole : Type 0) (lines : List (List ℕ)) : Type 0 where
   pub written : List ℕ
   pub appends : Appends before after written
   pub begun : AreBegun lines written
   pub whole : AreWhole → written ≡ concat lines
 
--- the same for some lines for which the statement `AreLines` holds
+-- there are lines for which `AreLines` holds, and `WritesLines` holds for these lines
 abbrev pub WritesSome : Option (List ℕ) → Option (List ℕ) → Type 0 → (List (List ℕ) → Type 0) → Type 0
 WritesSome before after AreWhole AreLines = (lines : List (List ℕ)) × AreLines lines × WritesLines before after AreWhole lines

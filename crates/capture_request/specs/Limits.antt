@@ -12,13 +12,13 @@ abbrev pub is_full : Option ℕ → ℕ → Bool
 is_full None counted = false
 is_full (Some limit) counted = not (nat_lt counted limit)
 
--- at most as many packets were counted as are requested
+-- the number of counted packets is at most the requested number, if a number is requested
 abbrev pub IsWithin : Option ℕ → ℕ → Type 0
 IsWithin None counted = Unit {0}
 IsWithin (Some limit) counted = counted ≤ limit
 
--- The report of a capture ended early exactly if the requested number of packets was counted. Nothing is stated if the beginning of the
--- capture was refused, or if no further packet could be counted.
+-- If the result is `Enough`, the requested number of packets was counted. If the result is another end of the packets, the requested number
+-- was not reached. The other results are a refused beginning and a full counter. For them the statement always holds.
 abbrev pub EndsByLimit : Option ℕ → ℕ → Result (Unit {0}) CaptureError → Type 0
 EndsByLimit limit counted (Ok done) = is_full limit counted ≡ false
 EndsByLimit limit counted (Err Enough) = is_full limit counted ≡ true
@@ -34,7 +34,7 @@ abbrev pub EndsWithoutLimit : Result (Unit {0}) CaptureError → Type 0
 EndsWithoutLimit (Err Enough) = ⊥
 EndsWithoutLimit other = Unit {0}
 
--- before the last of these packets, fewer packets were counted than are requested; nothing is stated if there is no packet
+-- Before the last of these packets, fewer packets were counted than are requested. If there is no packet, the statement always holds.
 abbrev pub EndsWithRequested : Option ℕ → Choice → SummaryTables → List FilePacket → Type 0
 EndsWithRequested limit choice before packets =
     (packets ≡ [])

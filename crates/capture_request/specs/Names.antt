@@ -2,11 +2,11 @@
 use Rattle.std.specs.Prelude.{ℕ, ◌==◌, if◌then◌else◌, List, [], ◌∷◌}
 use Rattle.capture_facts.specs.ShownText.{shown_text}
 
--- a name without the mark NUL (0), with which a name begins if it is escaped
+-- A name without its mark. An escaped name begins with the mark NUL (0).
 abbrev pub without_mark : List ℕ → List ℕ
 without_mark [] = []
 without_mark (byte ∷ name) = if byte == 0 then name else byte ∷ name
 
--- a name as headings and lines of errors show it
+-- a name as it appears in headings and in the lines of errors
 abbrev pub shown_name : List ℕ → List ℕ
 shown_name name = shown_text (without_mark name)

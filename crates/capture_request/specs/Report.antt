@@ -29,8 +29,8 @@ use Rattle.capture_request.specs.declared.capture_error.CaptureError.TheVariants
 use Rattle.capture_summary.specs.declared.capture_info.CaptureInfo.{CaptureInfo}
 use Rattle.capture_summary.specs.declared.flow.Flow.{Flow}
 
--- A packet was counted once in each table: in the rows of its protocol, of its verdict and of its flow. `info` is the data that the capture
--- contains about it.
+-- A packet was counted in every table. It was counted once by its protocol, once by its verdict and once by its flow. `info` is the data
+-- that the capture contains about the packet.
 pub record CountsRead (packet : Packet) (info : CaptureInfo) (before after : SummaryTables) : Type 0 where
   pub flow : Option Flow
   pub is_flow : IsFlowOf packet.content flow
@@ -49,7 +49,7 @@ pub record CountsPacket (choice : Choice) (IsPacket : Packet → Type 0) (info :
 
 -- ---- how a packet is read
 
--- the result for a packet that is too long for the buffer, which is not read
+-- the packet was not read, since the buffer has no room for its bytes
 abbrev pub IsTooLong : ℕ → Packet → Type 0
 IsTooLong required_len packet = packet ≡ in_no_tunnel Unread (TooLong required_len)
 
@@ -70,7 +70,7 @@ abbrev pub packet_time : FilePacket → Option PacketTime
 packet_time (kept packet frame) = packet.time
 packet_time (too_long packet) = packet.time
 
--- the data that the capture contains about a packet: its link type, its time, and the length of its frame
+-- what the capture states about a packet: its link type, its time, and the length of its frame
 abbrev pub captured_info : CapturedPacket → CaptureInfo
 captured_info packet = record {
   link_type = Some packet.link_type;
@@ -78,8 +78,8 @@ captured_info packet = record {
   len = Some (record { original = packet.original_len; captured = packet.captured_len });
 }
 
--- The data that the capture contains about a packet that is too long. A record of a classic capture contains the original length, and
--- requires as many bytes as were captured. A block of a pcapng file is not read, so that the original length is unknown.
+-- What the capture states about a packet that is longer than the buffer. For a classic capture the original length is known, and the
+-- required length is the captured length. For a pcapng file the original length is unknown, since the block was skipped.
 abbrev pub too_long_info : TooLongPacket → CaptureInfo
 too_long_info packet = record {
   link_type = packet.link_type;
@@ -98,7 +98,7 @@ info_of (too_long packet) = too_long_info packet
 abbrev pub CountsCaptured : Choice → FilePacket → SummaryTables → SummaryTables → Type 0
 CountsCaptured choice packet before after = CountsPacket choice (IsPacketOf packet) (info_of packet) before after
 
--- the chosen ones among these packets were counted, in their order
+-- each of these packets was counted if it is chosen, in the order of the packets
 abbrev pub CountsEach : Choice → SummaryTables → List FilePacket → SummaryTables → Type 0
 CountsEach choice before [] after = after ≡ before
 CountsEach choice before (packet ∷ packets) after =
@@ -117,29 +117,29 @@ ReadsWholePackets reader left still_left still_reader =
 
 -- ---- the end of the packets
 
--- the packets were read to the end of the input, or to a record or block that is cut off or refused
+-- the packets were read until the input ended, or until a record or block was cut off or refused
 abbrev pub IsReadToEnd : Result (Unit {0}) CaptureError → Type 0
 IsReadToEnd (Ok done) = Unit {0}
 IsReadToEnd (Err (RecordCutOff number offset required_len len)) = Unit {0}
 IsReadToEnd (Err (Refused error)) = Unit {0}
 IsReadToEnd other = ⊥
 
--- The result `ended` reports the item after the last packet. The next packet would have this number. The end of the input is no error. An
--- error contains how many bytes are missing, or why a block is refused.
+-- `ended` is the result for the item after the last packet. The end of the input is no error. If a record or block is cut off, the error
+-- contains the number of the packet, and both lengths. If a block is refused, the error contains the reason.
 abbrev pub IsAnsweredBy : NextPacket → ℕ → Result (Unit {0}) CaptureError → Type 0
 IsAnsweredBy next number (Ok done) = next ≡ packets.End
 IsAnsweredBy next number (Err (RecordCutOff its_number offset required len)) = (next ≡ packets.CutOff required len) × (its_number ≡ number)
 IsAnsweredBy next number (Err (Refused error)) = next ≡ packets.Refused error
 IsAnsweredBy next number other = ⊥
 
--- the next item was read; it is `next`, which is not a packet, and `after` is the reader after it
+-- The next item was read. It is `next`, and it is not a packet. `after` is the reader after it.
 abbrev pub ReadsEnd : CaptureReader → Option (List ℕ) → NextPacket → Option (List ℕ) → CaptureReader → Type 0
 ReadsEnd before left next still_left after =
     (ends : EndsWith max_packet_len before left next) × (still_left ≡ ends.still_left) × (after ≡ ends.after)
 
--- The next item was read, or reading it failed, and this result reports it. The item is not a packet: the input ends here or within a
--- record or block, or the next block is refused. An error within a record or block contains this number, and the place where the record or
--- block begins. `after` is the reader after the item.
+-- No further packet could be read, and `ended` is the result. Either the next item was read and is not a packet, or reading it failed. An
+-- error within a record or block contains the number of the packet, and the place where the record or block begins. `after` is the reader
+-- at the end.
 abbrev pub EndsAtItem : ℕ → CaptureReader → Option (List ℕ) → Option (List ℕ) → CaptureReader → Result (Unit {0}) CaptureError → Type 0
 EndsAtItem number before left still_left after (Ok done) = ReadsEnd before left packets.End still_left after
 EndsAtItem number before left still_left after (Err (RecordCutOff its_number offset required len)) =
@@ -149,15 +149,16 @@ EndsAtItem number before left still_left after (Err (Read its_number offset erro
     FailsToRead max_packet_len before left still_left after × (its_number ≡ number) × (offset ≡ offset_of after)
 EndsAtItem number before left still_left after other = ⊥
 
--- The report of a capture ended with this result. `count` is the number of packets of this capture and of the captures before it. No item
--- was read if the requested number of packets was counted, or if no further packet can be counted. Otherwise the item after the last packet
--- ended the report. That item is in the place of the packet with this number. `after` is the reader at the end.
+-- The report of a capture ended with this result. `count` is the number of packets of this capture and of the captures before it. If the
+-- requested number of packets was counted, or if no further packet can be counted, nothing was read after the last packet. Otherwise the
+-- item after the last packet ended the report. A packet there would have had this number. `after` is the reader at the end.
 abbrev pub HasEnded : ℕ → ℕ → CaptureReader → Option (List ℕ) → Option (List ℕ) → CaptureReader → Result (Unit {0}) CaptureError → Type 0
 HasEnded count number before left still_left after (Err Enough) = (still_left ≡ left) × (after ≡ before)
 HasEnded count number before left still_left after (Err TooManyPackets) = (max_packets ≤ count) × (still_left ≡ left) × (after ≡ before)
 HasEnded count number before left still_left after ended = EndsAtItem number before left still_left after ended
 
--- the next packet, which has this number, was read and counted if it is chosen; or there is no next packet, and nothing was counted
+-- One of two things happened. The next packet, which has this number, was read, and was counted if it is chosen. Or there is no next
+-- packet, and nothing was counted.
 abbrev pub ReportsNext : Choice → ℕ → CaptureReader → Option (List ℕ) → Option (List ℕ) → CaptureReader → SummaryTables → SummaryTables → Option (Result (Unit {0}) CaptureError) → Type 0
 ReportsNext choice number reader left still_left still_reader before after None = ReportsOne choice reader left still_left still_reader before after
 ReportsNext choice number reader left still_left still_reader before after (Some ended) =
@@ -168,9 +169,9 @@ abbrev pub EndsAfter : CaptureReader → List FilePacket → Result (Unit {0}) C
 EndsAfter reader packets ended bytes =
     (next : NextPacket) × HasPackets max_packet_len reader bytes packets next × IsAnsweredBy next (length packets + 1) ended
 
--- The packets of a capture were read from the first one on, and then the report of the capture ended with this result. `first` is the
--- reader after the beginning of the capture, and `last` is the reader at the end. `counted` is the number of packets before these, in other
--- captures. The bytes of the capture begin with these packets. If the bytes were read to their end, they contain no other packet.
+-- These packets of a capture were read, and then the report of the capture ended with this result. `first` is the reader before these
+-- packets, and `last` is the reader at the end. `counted` is the number of packets in the captures before this one. The bytes of the
+-- capture begin with these packets. If the bytes were read to their end, they contain no other packet.
 pub record ReadsUntil (first : CaptureReader) (left still_left : Option (List ℕ)) (packets : List FilePacket) (counted : ℕ) (last : CaptureReader)
     (ended : Result (Unit {0}) CaptureError) : Type 0 where
   pub middle : Option (List ℕ)

@@ -181,7 +181,7 @@ static FILTER_WORDS: [&str; 16] = [
     "proto",
 ];
 
-/// The text that follows if the name of a capture begins like a filter.
+/// The hint that follows an error if the name of the capture begins like a filter.
 const FILTER_HINT: &str = "; filters are --host, --port and --protocol";
 
 /// Writes the line of a capture that can't be opened. It contains the name of the program, the name of the capture, and the text of the

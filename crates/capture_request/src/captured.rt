@@ -6,15 +6,15 @@ use capture_file::reader::CapturedPacket;
 use capture_packet::{Content, NetworkProtocol, Packet, Verdict, read_packet};
 use transport_part::Untested;
 
-/// Returns a packet that is not read, since its `required_len` bytes are more than the buffer can contain.
+/// Returns the result for a packet that is not read, since the buffer has no room for its `required_len` bytes.
 pub fn packet_without_room<'a>(required_len: u32) -> Packet<'a>
     ensures { IsTooLong required_len result }
 {
     Packet::in_no_tunnel(Content::Unread, Verdict::TooLong { required_len })
 }
 
-/// Returns the packet in a frame. The link type of its capture or interface determines how the frame is read. A frame of an unknown link
-/// type contains no IP packet.
+/// Returns the packet in a frame. The frame is read by the link type of its capture or interface. If the link type is unknown, the packet
+/// is not an IP packet.
 pub fn packet_in_frame<'a>(captured: &CapturedPacket, frame: &'a [u8]) -> Packet<'a>
     ensures { IsReadAs captured.now.link_type captured.now frame.now result }
 {

@@ -1,8 +1,8 @@
 //! What is requested of the report of a capture, what the report counts, and how it ends.
 //!
 //! `Parts` are the options of a report. `packet_in_frame` reads the packet of a record or block. `CaptureError` is the reason why a report
-//! ends before its capture does, and `WriteError` is the reason why a report can't be written. `ExitStatus` is the status that the program
-//! then returns. `capture_run` writes the report, and `capture_selection` writes the packets that have a line in it to another capture.
+//! ends before its capture does, and `WriteError` is the reason why a report can't be written. `ExitStatus` is the exit status of the
+//! program. `capture_run` writes the report. `capture_selection` writes the packets that have a line in the report to another capture.
 //!
 //! ```
 //! let parts = Parts::from_flags(false, false, true, false);

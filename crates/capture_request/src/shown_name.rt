@@ -6,8 +6,8 @@ ghost use Rattle.capture_request.specs.Names.{without_mark};
 /// The name of standard input among the captures.
 pub const STANDARD_INPUT: &str = "-";
 
-/// The first character of a name that is not UTF-8. The bytes of the name follow, escaped. No other name begins with it, since the name of
-/// a file contains no NUL.
+/// The mark at the start of a name that is not UTF-8. The escaped bytes of the name follow. No other name begins with this character, since
+/// the name of a file contains no NUL.
 pub const ESCAPED: char = '\0';
 
 /// Returns a name without the mark of an escaped name.

@@ -32,7 +32,7 @@ pub record Progress : Type 0 where
   pub is_empty : Bool
   pub capture : Option CaptureReader
 
--- the part of these reports that is kept from capture to capture
+-- the fields of the struct that are kept from capture to capture
 abbrev pub progress_of : CaptureReports → Progress
 progress_of reports = record { summary = reports.summary; status = reports.status; is_empty = reports.is_empty; capture = reports.capture }
 
@@ -49,16 +49,17 @@ unopened before = record {
   capture = before.capture;
 }
 
--- The reader of the only capture whose beginning was accepted, after one more capture. `before` is the reader before that capture, and the
--- last argument is the reader of that capture. `is_empty` is true if no beginning was accepted before.
+-- The reader that is kept for the summary, after one more capture. It is kept only while one capture has an accepted beginning. `before` is
+-- the reader kept before. The last argument is the reader of the new capture, or `None` if its beginning was refused. `is_empty` is true if
+-- no beginning was accepted before.
 abbrev pub only_capture : Bool → Option CaptureReader → Option CaptureReader → Option CaptureReader
 only_capture is_empty before None = before
 only_capture true before (Some reader) = Some reader
 only_capture false before (Some reader) = None
 
--- A capture with the bytes `left` was reported. `text` is the text of its packets, and `lines` are the lines of its error, which contain
--- the name `shown`. The bytes are `None` if they are unknown. `reader` is the reader after the packets. It is kept for the summary if no
--- other capture has an accepted beginning.
+-- A capture was reported. `left` contains its bytes, or is `None` if they are unknown. `text` is the text of its packets. `lines` is the
+-- line of its error, if there is one, which contains the name `shown`. `reader` is the reader after the packets. It is kept for the summary
+-- if no other capture has an accepted beginning.
 pub record ReportsOpened (parts : Parts) (shown : Option (List ℕ)) (left : Option (List ℕ)) (before after : Progress) (text : List ℕ) (lines : List (List ℕ)) : Type 0 where
   pub ended : Result (Unit {0}) CaptureError
   pub still_left : Option (List ℕ)
@@ -71,23 +72,24 @@ pub record ReportsOpened (parts : Parts) (shown : Option (List ℕ)) (left : Opt
   pub limit : EndsByLimit parts.limit after.summary.packets ended
   pub within : IsWithin parts.limit before.summary.packets → IsWithin parts.limit after.summary.packets
 
--- What a name gives: `None` if nothing can be opened by the name, or an input with these bytes. The bytes are `None` if they are unknown.
+-- The result of opening a name. The outer `Option` is `None` if the name can't be opened. The inner `Option` contains the bytes of the
+-- opened input, or is `None` if they are unknown.
 abbrev pub Given : Type 0
 Given = Option (Option (List ℕ))
 
--- The name gives this. `Misses` is the statement about a name that can't be opened, `Opens` is the statement about an opened input, and
--- `remaining` returns the bytes of an input.
+-- Opening the name has this result. `Misses` is the statement about a name that can't be opened. `Opens` is the statement about an opened
+-- input. `remaining` returns the bytes of an input.
 abbrev pub Gives : {R : Type 0} → (List ℕ → Type 0) → (List ℕ → R → Type 0) → (R → Option (List ℕ)) → List ℕ → Given → Type 0
 Gives Misses Opens remaining name None = Misses name
 Gives {R} Misses Opens remaining name (Some left) = (input : R) × Opens name input × (left ≡ remaining input)
 
--- The capture that a name gives was reported, or the name gives none. `text` is the text of its packets, and `lines` are the lines of its
--- error.
+-- The capture with this name was opened with the result `given`, and was reported. `text` is the text of its packets. `lines` contains the
+-- line of its error, if there is one. If the capture can't be opened, there is only the line of this error.
 abbrev pub ReportsGiven : Parts → Option (List ℕ) → List ℕ → Given → Progress → Progress → List ℕ → List (List ℕ) → Type 0
 ReportsGiven parts shown name None before after text lines = (after ≡ unopened before) × (text ≡ []) × IsOneLine (IsOpenErrorLine name) lines
 ReportsGiven parts shown name (Some left) before after text lines = ReportsOpened parts shown left before after text lines
 
--- the capture with this name was reported, or the name gives none
+-- the capture with this name was opened and reported, or the error of opening it was reported
 abbrev pub ReportsNamed : (List ℕ → Given → Type 0) → Parts → Option (List ℕ) → List ℕ → Progress → Progress → List ℕ → List (List ℕ) → Type 0
 ReportsNamed Reads parts shown name before after text lines =
     (given : Given) × Reads name given × ReportsGiven parts shown name given before after text lines
@@ -103,13 +105,13 @@ abbrev pub heading_in : Format → ℕ → List ℕ → List ℕ
 heading_in formats.Text place name = text_heading place name
 heading_in formats.Json place name = json_line (file_members (without_mark name))
 
--- some packets may have a line
+-- whether lines of packets are requested
 abbrev pub has_lines : Lines → Bool
 has_lines lines.All = true
 has_lines lines.Wrong = true
 has_lines lines.None = false
 
--- the line before the packets of a capture; it is empty if there is only one capture, or if no packet has a line
+-- The heading before the packets of a capture. It is empty if at most one capture is named, or if no packet may have a line.
 abbrev pub heading_of : Parts → ℕ → ℕ → List ℕ → List ℕ
 heading_of parts count place name = if nat_lt 1 count && has_lines parts.lines then heading_in parts.format place name else []
 
@@ -122,8 +124,8 @@ ReportsHeaded Reads parts count place name before after text lines =
     ((packets : List ℕ) × ReportsNamed Reads parts (line_name count name) name before after packets lines
     × (text ≡ heading_of parts count place name ++ packets))
 
--- The captures with these names were reported in their order, and the first of them has this place. `count` is the number of all named
--- captures. `text` is the text of these captures, and `lines` are the lines of their errors.
+-- The captures with these names were reported in their order. `place` is the place of the first of them among all named captures, and
+-- `count` is the number of all named captures. `text` is the text of these captures, and `lines` are the lines of their errors.
 abbrev pub ReportsEach : (List ℕ → Given → Type 0) → Parts → ℕ → ℕ → List (List ℕ) → Progress → Progress → List ℕ → List (List ℕ) → Type 0
 ReportsEach Reads parts count place [] before after text lines = (after ≡ before) × (text ≡ []) × (lines ≡ [])
 ReportsEach Reads parts count place (name ∷ names) before after text lines =
@@ -132,7 +134,7 @@ ReportsEach Reads parts count place (name ∷ names) before after text lines =
     × ReportsEach Reads parts count (place + 1) names between after others other_lines
     × (text ≡ first ++ others) × (lines ≡ first_lines ++ other_lines)
 
--- the captures that are read; without a name standard input is read
+-- the names of the captures that are read: if no capture is named, only the name of standard input
 abbrev pub captures_of : List (List ℕ) → List (List ℕ)
 captures_of [] = codes "-" ∷ []
 captures_of (name ∷ names) = name ∷ names
@@ -148,8 +150,8 @@ pub record IsRun (Reads : List ℕ → Given → Type 0) (parts : Parts) (names 
 
 -- ---- what is written of a report
 
--- A report was written to one writer, and at least a beginning of each line of its errors was written to another writer. If `AreWhole`
--- holds, each line is whole.
+-- A report was written to one writer, and the lines of its errors were written to another writer. If `AreWhole` holds, each line was
+-- written completely. Otherwise perhaps only a beginning of a line was written.
 pub record WritesReport (before after errors_before errors_after : Option (List ℕ)) (AreWhole : Type 0) (IsReport : List ℕ → List (List ℕ) → Type 0) : Type 0 where
   pub text : List ℕ
   pub lines : List (List ℕ)
@@ -163,8 +165,8 @@ WritesRun before after errors_before errors_after IsReport =
     (text : List ℕ) × (lines : List (List ℕ)) × IsReport text lines × Appends before after text
     × Appends errors_before errors_after (concat lines)
 
--- The first of these captures were reported. At least a beginning of each line of their errors was written, and nothing else was written to
--- the same writer.
+-- Some of these captures were reported, from the first one on. A beginning of each line of their errors was written, and nothing else was
+-- written to that writer.
 pub record TellsFirst (Reads : List ℕ → Given → Type 0) (parts : Parts) (count : ℕ) (names : List (List ℕ)) (before : Progress) (errors_before errors_after : Option (List ℕ)) : Type 0 where
   pub first : List (List ℕ)
   pub others : List (List ℕ)

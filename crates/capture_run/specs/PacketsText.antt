@@ -25,12 +25,13 @@ use Rattle.capture_request.specs.declared.capture_error.CaptureError.TheVariants
 abbrev pub IsPacketText : Parts → ℕ → Option PacketTime → FilePacket → List ℕ → Type 0
 IsPacketText parts number first packet text = IsTextOfOne (IsPacketOf packet) parts number first (info_of packet) text
 
--- the first time of a packet, first among the packets before these, and then among these packets
+-- The first time that a packet has. `first` is the first time of the packets before these, if there is one. Otherwise the first time of
+-- these packets counts.
 abbrev pub first_time : Option PacketTime → List FilePacket → Option PacketTime
 first_time first [] = first
 first_time first (packet ∷ packets) = first_time (option_or first (packet_time packet)) packets
 
--- the text of these packets in their order; the first of them has this number
+-- the texts of these packets, one after the other; the first packet has this number
 abbrev pub IsPacketsText : Parts → ℕ → Option PacketTime → List FilePacket → List ℕ → Type 0
 IsPacketsText parts number first [] text = text ≡ []
 IsPacketsText parts number first (packet ∷ packets) text =
@@ -44,9 +45,9 @@ pub record WritesPacket (parts : Parts) (number : ℕ) (first now_first : Option
   pub is_text : IsPacketText parts number first reports.packet text
 
 -- The report of the packets of a capture, after its beginning. `packets` are all packets that were read until the report ended. The chosen
--- packets among them were counted, and `text` is the text of all. The first packet has number 1, whether it is chosen or not. If the report
--- ended since the requested number of packets was counted, the last of `packets` is the last requested one. `reader` is the reader after
--- the beginning of the capture, and `last` is the reader after the packets.
+-- packets were counted, and `text` consists of their texts. The first packet has number 1, whether it is chosen or not. If a number of
+-- packets is requested, no packet is read after the last requested packet. `reader` is the reader before the packets, and `last` is the
+-- reader after them.
 pub record WritesPackets (reader last : CaptureReader) (parts : Parts) (first : Option PacketTime) (left still_left : Option (List ℕ)) (ended : Result (Unit {0}) CaptureError) (before after : SummaryTables) (text : List ℕ) : Type 0 where
   pub packets : List FilePacket
   pub read : ReadsUntil reader left still_left packets before.packets last ended
@@ -54,7 +55,7 @@ pub record WritesPackets (reader last : CaptureReader) (parts : Parts) (first : 
   pub counted : CountsEach parts.choice before packets after
   pub is_text : IsPacketsText parts 1 first packets text
 
--- the report of a capture with an accepted beginning; no packet before it has a time
+-- the report of a capture with an accepted beginning; times are shown since the first packet of this capture
 pub record WritesCapture (parts : Parts) (left still_left : Option (List ℕ)) (ended : Result (Unit {0}) CaptureError) (before after : SummaryTables) (last : CaptureReader) (text : List ℕ) : Type 0 where
   pub reader : CaptureReader
   pub after_beginning : Option (List ℕ)
@@ -73,8 +74,8 @@ empty_line lines.All = codes "\n"
 empty_line lines.Wrong = codes "\n"
 empty_line lines.None = []
 
--- The summary in a format. As text it is the facts of the capture and the tables, after an empty line if lines are requested too. As JSON
--- it is an object.
+-- The summary in a format. As text it consists of the facts of the capture and the tables. An empty line comes first if lines of packets
+-- are requested. As JSON the summary is an object.
 abbrev pub summary_in : Format → Lines → ℕ → Option CaptureReader → SummaryTables → List ℕ
 summary_in formats.Text lines top capture tables = empty_line lines ++ (facts_text capture ++ summary_text top tables)
 summary_in formats.Json lines top capture tables = json_summary capture top tables

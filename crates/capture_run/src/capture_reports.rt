@@ -36,7 +36,7 @@ pub(crate) struct CaptureReports {
     status: ExitStatus,
     /// Whether no header of a capture was accepted so far.
     is_empty: bool,
-    /// The reader of the only capture whose header was accepted, as it was after its packets. `None` after the headers of several captures.
+    /// The reader of the only capture whose header was accepted, after its packets. `None` if no header was accepted, or if several were.
     capture: Option<CaptureReader>,
     /// The last failure to write the line of an error.
     unwritten: Option<io::Error>,
@@ -64,8 +64,8 @@ impl CaptureReports {
     }
 
     /// Reads a capture, and adds its chosen packets to the counts of the captures before it. Writes the line of each chosen packet that has
-    /// a line. Packet numbers and times start again in each capture. Packets that are not chosen have a number too, and their times count
-    /// as a first time.
+    /// a line. Numbers and times of packets start again in each capture. The first packet of a capture has number 1, and times are shown
+    /// since the first time of a packet. Both are independent of the choice of packets.
     ///
     /// The inner error is the reason why the capture was refused, or why its records can't be read further. Packets before the error are
     /// counted, and another capture can follow.
@@ -268,8 +268,8 @@ fn greater(status: ExitStatus, other: ExitStatus) -> ExitStatus
     }
 }
 
-/// Returns the reader of the only capture whose header was accepted, after one more capture. `capture` is the reader before it, and `reader`
-/// is the reader of this capture, if its header was accepted.
+/// Returns the reader that is kept for the summary, after one more capture. `capture` is the reader that was kept before. `reader` is the
+/// reader of the new capture, if its header was accepted.
 fn only_capture(
     is_empty: bool,
     capture: Option<CaptureReader>,

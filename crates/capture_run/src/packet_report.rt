@@ -43,7 +43,7 @@ impl PacketReport {
         }
     }
 
-    /// Starts a capture. The times of its packets are written since its own first packet.
+    /// Starts a new capture. Its lines show times since the first packet of this capture.
     pub fn start_capture(&mut self)
         ensures { self.new ≡ record self.old { first = None } }
     {
@@ -93,7 +93,8 @@ impl PacketReport {
         self.add_packet(output, number, &captured_info(captured), &packet)
     }
 
-    /// Counts a packet that is too long for the buffer if it is chosen, and writes its line if it has one. Its checksum is not tested.
+    /// Counts a packet for which the buffer has no room, if the packet is chosen. Writes its line if it has one. Its checksum is not
+    /// tested.
     pub fn add_too_long<W: Write>(
         &mut self,
         output: &mut W,

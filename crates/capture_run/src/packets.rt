@@ -16,9 +16,9 @@ use crate::{CaptureError, MAX_PACKET_LEN, WriteError};
 use capture_file::reader::{CaptureReader, NextPacket};
 use std::io::{Read, Write};
 
-/// Reads a capture and counts its chosen packets. Writes the line of each chosen packet that has a line. The inner error gives the reason why
-/// the capture is refused, or why its packets can't be read further. If a number of packets is requested, the report ends with the last of
-/// them, and no byte after that packet is read. `capture` becomes the reader after the packets, if the header of the capture is accepted.
+/// Reads a capture and counts its chosen packets. Writes the line of each chosen packet that has a line. The inner error is the reason why
+/// the capture is refused, or why no further packet can be read. If a number of packets is requested, no byte is read after the last
+/// requested packet. If the header of the capture is accepted, `capture` becomes the reader after the packets.
 pub(crate) fn report_packets<R: Read, W: Write>(
     packets: &mut PacketReport,
     capture: &mut Option<CaptureReader>,
@@ -57,8 +57,8 @@ fn read_header<R: Read>(input: &mut R, buffer: &mut [u8]) -> Result<CaptureReade
     }
 }
 
-/// Counts each packet that is chosen, and writes its line if it has one. The inner error gives the reason why the packets can't be read
-/// further, or it is `Enough` if the requested number of packets was counted. After an outer error nothing more can be written or counted.
+/// Counts each chosen packet, and writes its line if it has one. The inner error is the reason why no further packet can be read. It is
+/// `Enough` if the requested number of packets was counted. After an outer error nothing more can be written or counted.
 ///
 /// If a capture was truncated, exactly the packets whose record or block ends before the cut are counted. This holds for both forms of
 /// captures.
@@ -96,8 +96,8 @@ fn report_each_packet<R: Read, W: Write>(
     Ok(Err(CaptureError::TooManyPackets))
 }
 
-/// Counts the next packet if it is chosen, and writes its line if it has one. The result is `Some` if the capture ends here, or if the next
-/// packet can't be read.
+/// Counts the next packet if it is chosen, and writes its line if it has one. The result is `Some` if there is no next packet, or if it
+/// can't be read.
 fn report_next<R: Read, W: Write>(
     input: &mut R,
     output: &mut W,

@@ -60,7 +60,7 @@ pub fn run<O: Open, W: Write, E: Write>(
     }
 }
 
-/// Reports the captures with these names, or standard input if there is no name.
+/// Reports the captures with these names. If there is no name, it reports standard input.
 fn report_captures<O: Open, W: Write, E: Write>(
     sources: &Sources<'_, O>,
     reports: CaptureReports,
@@ -142,7 +142,8 @@ fn report_headed<O: Open, W: Write, E: Write>(
     report_capture(capture, opener, reports, buffer, outputs)
 }
 
-/// The name of a capture in the line of an error within it. If no capture is named, standard input is read, and the line contains no name.
+/// The name that the line of an error within a capture contains. If no capture is named, standard input is read, and the line contains no
+/// name.
 fn line_name<'a>(count: usize, name: &'a str) -> Option<&'a str>
     ensures { option_map (λ text. shown_name text.now) result ≡ line_name count name.now }
 {

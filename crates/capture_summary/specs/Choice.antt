@@ -20,18 +20,18 @@ use Rattle.capture_protocols.specs.declared.protocol.Protocol.TheVariants.{Udp, 
 abbrev pub every_packet : Choice
 every_packet = record { hosts = None; ports = None; protocols = None }
 
--- the statement holds for a value in one of these places
+-- the statement holds for one of these values; places without a value do not count
 abbrev pub HasAny : {X : Type 0} → (X → Type 0) → List (Option X) → Type 0
 HasAny Statement [] = ⊥
 HasAny Statement (place ∷ places) = IsSomeAnd place Statement ⊎ HasAny Statement places
 
--- the source or the final destination is in the network; an unknown destination has no address
+-- The source or the final destination is in the network. If the final destination is unknown, only the source is compared.
 abbrev pub IsSourceOrDestination : Addresses → Network → Type 0
 IsSourceOrDestination (Ipv4 source destination) host = IsIpv4In source host ⊎ IsIpv4In destination host
 IsSourceOrDestination (Ipv6 source (Some destination)) host = IsIpv6In source host ⊎ IsIpv6In destination host
 IsSourceOrDestination (Ipv6 source None) host = IsIpv6In source host
 
--- the port is the source port or the destination port
+-- the packet has ports, and this is one of the two
 abbrev pub IsPortOf : Option (FlowProtocol × ℕ × ℕ) → ℕ → Type 0
 IsPortOf None port = ⊥
 IsPortOf (Some ports) port = (port ≡ ports.1) ⊎ (port ≡ ports.2)
@@ -44,8 +44,8 @@ QuotesHost quoted host = IsSomeAnd quoted (λ packet. IsSourceOrDestination pack
 abbrev pub QuotesPort : Option Quoted → ℕ → Type 0
 QuotesPort quoted port = IsSomeAnd quoted (λ packet. IsSomeAnd packet.ports (λ ports. (port ≡ ports.0) ⊎ (port ≡ ports.1)))
 
--- An IP packet is from or to this host, or it is an ICMP error that quotes such a packet. If the headers of the packet are refused, the
--- addresses in its fixed header are used.
+-- An IP packet is from or to this host, or it is an ICMP error that quotes a packet from or to the host. If the headers of the packet are
+-- refused, the addresses in its fixed header are compared.
 abbrev pub HasHost : Content → Network → Type 0
 HasHost contents.Unread host = ⊥
 HasHost (contents.IpHeader addresses) host = IsSourceOrDestination (by_value addresses) host
@@ -53,16 +53,17 @@ HasHost (contents.NotIp protocol) host = ⊥
 HasHost (contents.Ip addresses protocol proto transport payload_len) host =
     IsSourceOrDestination (by_value addresses) host ⊎ QuotesHost (quoted_in transport) host
 
--- one of these tunnels has an end in the network: the source or the destination of its outer packet
+-- one of these tunnels has an end in the network; the ends of a tunnel are the source and the destination of its outer packet
 abbrev pub HasTunnelEnd : List Tunnel → Network → Type 0
 HasTunnelEnd [] host = ⊥
 HasTunnelEnd (tunnel ∷ tunnels) host = IsSourceOrDestination (by_value tunnel.addresses) host ⊎ HasTunnelEnd tunnels host
 
--- the packet matches this host: it is from or to the host, or quotes such a packet, or the host is an end of one of its tunnels
+-- The packet matches this host. It is from or to the host, or it quotes a packet from or to the host, or the host is an end of one of its
+-- tunnels.
 abbrev pub MatchesHost : Packet → Network → Type 0
 MatchesHost packet host = HasHost packet.content host ⊎ HasTunnelEnd packet.tunnels.items host
 
--- a packet from or to this port, or an ICMP error that quotes such a packet
+-- the packet is from or to this port, or it is an ICMP error that quotes a packet from or to the port
 abbrev pub HasPort : Content → ℕ → Type 0
 HasPort contents.Unread port = ⊥
 HasPort (contents.IpHeader addresses) port = ⊥
@@ -78,7 +79,7 @@ is_among chosen Icmpv4 = chosen.icmpv4
 is_among chosen Icmpv6 = chosen.icmpv6
 is_among chosen other = false
 
--- a packet is chosen: it matches one of the hosts, one of the ports and one of the protocols of the choice, each if they are given
+-- A packet is chosen. If the choice has hosts, the packet matches one of them. The same holds for ports and for protocols.
 pub record IsChosen (choice : Choice) (packet : Packet) : Type 0 where
   pub hosts : IfSome choice.hosts (HasAny (MatchesHost packet))
   pub ports : IfSome choice.ports (HasAny (HasPort packet.content))

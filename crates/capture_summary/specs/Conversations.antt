@@ -9,7 +9,7 @@ use Rattle.capture_summary.specs.contracts.flow.FlowProtocolPartialEq.TheImpl as
 use Rattle.std.specs.contracts.net.socket_addr.SocketAddrOrd.TheImpl as address_ord
 use Rattle.std.specs.contracts.net.socket_addr.SocketAddrPartialEq.TheImpl as address_eq
 
--- two flows are the same: `==` returns true for their protocols, for their sources and for their destinations
+-- two flows are the same: their protocols, their sources and their destinations are equal by `==`
 abbrev pub is_same_flow : Flow → Flow → Bool
 is_same_flow flow other =
     (protocol_eq.ghosts).eq flow.protocol other.protocol
@@ -19,11 +19,11 @@ is_same_flow flow other =
 abbrev pub reversed : Flow → Flow
 reversed flow = record { protocol = flow.protocol; source = flow.destination; destination = flow.source }
 
--- two flows are of one conversation: they are the same, or one is the reverse of the other
+-- two flows belong to one conversation: they are the same, or one is the reverse of the other
 abbrev pub IsOneConversation : Flow → Flow → Type 0
 IsOneConversation flow other = (other ≡ flow) ⊎ (other ≡ reversed flow)
 
--- whether two flows are of one conversation
+-- whether two flows belong to one conversation
 abbrev pub is_one_conversation : Flow → Flow → Bool
 is_one_conversation flow other = is_same_flow flow other || is_same_flow (reversed flow) other
 
@@ -31,11 +31,11 @@ is_one_conversation flow other = is_same_flow flow other || is_same_flow (revers
 abbrev pub canonical : Flow → Flow
 canonical flow = if is_gt ((address_ord.ghosts).cmp flow.source flow.destination) then reversed flow else flow
 
--- the row of a conversation without packets; this direction is seen first
+-- the row of a conversation before its first packet, which has this flow
 abbrev pub new_row : Flow → ConversationCount
 new_row flow = record { flow = flow; forward = no_packets; reverse = no_packets }
 
--- a row with one more packet: in the direction of the row's flow, otherwise in the other direction
+-- A row with one more packet of this flow. If the flow is the flow of the row, `forward` counts the packet. Otherwise `reverse` counts it.
 abbrev pub row_counted : Flow → ℕ → ConversationCount → ConversationCount
 row_counted flow len row =
     if is_same_flow flow row.flow

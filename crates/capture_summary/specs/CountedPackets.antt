@@ -1,4 +1,4 @@
--- The packets that the rows of the table of flows count: the packets of a conversation, each in its direction.
+-- Which packets the rows of the table of flows count. A row counts the packets of one conversation, each in its direction.
 use Rattle.std.specs.Prelude.{◌≡◌, ℕ, Bool, false, not, ◌&&◌, if◌then◌else◌, List, [], fold, All, Option, Some, None}
 use Rattle.std.specs.List.{AllPairs}
 use Rattle.capture_summary.specs.Conversations.{is_one_conversation, is_same_flow, reversed}
@@ -12,7 +12,7 @@ use Rattle.capture_summary.specs.declared.flow.Flow.{Flow}
 abbrev pub empty_table : FlowTable
 empty_table = record { rows = []; without_ports = no_packets; without_room = no_packets }
 
--- the table after packets in their order; each packet is a flow, or none if it has no ports, and a length in bytes
+-- The table after these packets, in their order. A packet is a pair of a flow and a length in bytes. A packet without ports has no flow.
 abbrev pub table_of : List (Option Flow × ℕ) → FlowTable
 table_of packets = fold (λ table packet. table_counted packet.0 packet.1 table) empty_table packets
 
@@ -29,17 +29,17 @@ count_of test packets = fold (λ count packet. if has_flow test packet.0 then co
 abbrev pub goes_forward : Flow → Flow → Bool
 goes_forward flow packet = is_same_flow packet flow
 
--- a packet goes back: it goes in the direction of the flow only with source and destination exchanged; a packet from an address and port to
--- the same address and port does not go back
+-- A packet goes back: with source and destination exchanged it has the direction of the flow, and without the exchange it has not. A packet
+-- from an address and port to itself never goes back.
 abbrev pub goes_back : Flow → Flow → Bool
 goes_back flow packet = not (is_same_flow packet flow) && is_same_flow (reversed packet) flow
 
--- a row counts the packets in the direction of its flow in one count, and the packets that go back in the other count
+-- `forward` counts the packets in the direction of the row's flow, and `reverse` counts the packets that go back
 pub record CountsBothDirections (packets : List (Option Flow × ℕ)) (row : ConversationCount) : Type 0 where
   pub forward : row.forward ≡ count_of (goes_forward row.flow) packets
   pub reverse : row.reverse ≡ count_of (goes_back row.flow) packets
 
--- each row counts the packets of its conversation in both directions, and no two rows are of one conversation
+-- each row counts the packets of its conversation in both directions, and no two rows belong to one conversation
 pub record AreConversationsOf (packets : List (Option Flow × ℕ)) (rows : List ConversationCount) : Type 0 where
   pub counts : All (CountsBothDirections packets) rows
   pub apart : AllPairs (λ row later. is_one_conversation row.flow later.flow ≡ false) rows

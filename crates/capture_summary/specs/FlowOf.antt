@@ -24,8 +24,8 @@ flow_protocol (Some protos.Icmpv4) = None
 flow_protocol (Some protos.Icmpv6) = None
 flow_protocol None = None
 
--- The protocol of a transport with ports, and the ports: bytes 0 and 1, and bytes 2 and 3, of its header. If the header is not read, the
--- protocol is the protocol of the IP packet.
+-- The protocol of a transport with ports, and its two ports. The source port is in bytes 0 and 1 of the header, and the destination port in
+-- bytes 2 and 3. If the header is not read, the protocol is taken from the IP header.
 abbrev pub ports_of : Option Proto → Transport → Option (FlowProtocol × ℕ × ℕ)
 ports_of proto (transports.Read (slices.Udp packet)) = Some (flow_protocols.Udp, be_number packet 0 2, be_number packet 2 2)
 ports_of proto (transports.Read (slices.Tcp segment)) = Some (flow_protocols.Tcp, be_number segment 0 2, be_number segment 2 2)
@@ -41,7 +41,7 @@ HasPorts None flow = ⊥
 HasPorts (Some ports) flow =
     (flow.protocol ≡ ports.0) × (IsPlainSocket flow.source ports.1 × IsPlainSocket flow.destination ports.2)
 
--- this is the flow of a packet: none if it has no ports or no known destination
+-- the flow of a packet; none if the packet has no ports, or if its final destination is unknown
 abbrev pub IsFlowOf : Content → Option Flow → Type 0
 IsFlowOf contents.Unread flow = flow ≡ None
 IsFlowOf (contents.IpHeader addresses) flow = flow ≡ None

@@ -6,7 +6,8 @@ use Rattle.capture_summary.specs.declared.count.Count.{Count}
 use Rattle.capture_summary.specs.declared.conversation_count.ConversationCount.{ConversationCount}
 use Rattle.capture_summary.specs.declared.flow.Flow.{Flow}
 
--- the rows, the count of the packets without ports, and the count of the packets of conversations that found no room
+-- The rows, and two more counts. `without_ports` counts the packets without ports. `without_room` counts the packets of conversations for
+-- which the table had no room.
 pub record FlowTable : Type 0 where
   pub rows : List ConversationCount
   pub without_ports : Count
@@ -20,8 +21,8 @@ max_conversations = 65536
 abbrev pub place_of : Flow → List ConversationCount → Option ℕ
 place_of flow rows = position (λ row. is_one_conversation flow row.flow) rows
 
--- The table after a packet of a flow. The row of its conversation has one more packet, or a new row is at the end. If there is no room for
--- a new row, the count of packets without room has one more packet.
+-- The table after a packet of a flow. If its conversation has a row, the row counts the packet. Otherwise a new row at the end counts it.
+-- If there is no room for a new row, `without_room` counts it.
 abbrev pub flow_counted : Flow → ℕ → FlowTable → Option ℕ → FlowTable
 flow_counted flow len table (Some place) =
     record table { rows = slice_set table.rows place (row_counted flow len (slice_index_or table.rows place (new_row flow))) }
@@ -30,7 +31,7 @@ flow_counted flow len table None =
     then record table { rows = table.rows ++ row_counted flow len (new_row flow) ∷ [] }
     else record table { without_room = counted len table.without_room }
 
--- the table after a packet of a flow, or without ports
+-- the table after a packet, which has a flow or has no ports
 abbrev pub table_counted : Option Flow → ℕ → FlowTable → FlowTable
 table_counted (Some flow) len table = flow_counted flow len table (place_of flow table.rows)
 table_counted None len table = record table { without_ports = counted len table.without_ports }

@@ -36,7 +36,7 @@ protocol_rows counts = map (λ kind. (protocol_word kind, slice_index_or counts 
 
 -- ---- the table of checksums
 
--- the row of a checksum that is not tested; a UDP packet without a length is refused
+-- The row of a packet whose checksum is not tested for this reason. A UDP packet with length field 0 is in the row of refused packets.
 abbrev pub untested_kind : Untested → VerdictKind
 untested_kind reasons.Fragment = Fragment
 untested_kind reasons.CutOff = CutOff
@@ -164,7 +164,8 @@ refusal_rows counts = map (λ kind. (refusal_word kind, slice_index counts (refu
 
 -- ---- the table of link types
 
--- The row of the link type of a packet. A capture contains a link type that is read, the number of another link type, or no link type.
+-- The row of the link type of a packet. The argument is a link type that is read, the number of another link type, or `None` if the capture
+-- does not state the link type.
 abbrev pub link_kind : Option (Result LinkType ℕ) → LinkKind
 link_kind (Some (Ok link_type)) = Known link_type
 link_kind (Some (Err number)) = OtherLink

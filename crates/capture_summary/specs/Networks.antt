@@ -13,7 +13,7 @@ use Rattle.capture_summary.specs.declared.network.NetworkError.TheVariants as er
 
 -- ---- the addresses of a network
 
--- whether two numbers have the same bits before this number of bits at the end
+-- whether two numbers differ only in their last `host_bits` bits
 abbrev pub have_same_start : ℕ → ℕ → ℕ → Bool
 have_same_start host_bits first second = first / 2 ^ host_bits == second / 2 ^ host_bits
 
@@ -41,7 +41,7 @@ number_of (V6 ip) = ipv6_bits ip
 abbrev pub single_address : IpAddr → Network
 single_address address = record { address = address; host_bits = 0 }
 
--- the network with these bits after the prefix, in which the address has no bit that is 1
+-- The network of an address with `host_bits` bits after its prefix. It is an error if one of these bits of the address is 1.
 abbrev pub network_after : IpAddr → ℕ → Result Network NetworkError
 network_after address host_bits =
     if number_of address % 2 ^ host_bits == 0 then Ok (record { address = address; host_bits = host_bits }) else Err errors.HostBits
@@ -67,12 +67,12 @@ network_error_text errors.HostBits = codes "the address has bits other than 0 af
 abbrev pub IsNumberText : List ℕ → Type 0
 IsNumberText text = IsNumeral 10 (without_leading_plus text) × (digits_value 10 (without_leading_plus text) < 2 ^ 32)
 
--- the network of an address and the text of the length of its prefix
+-- the network of an address and a prefix length that is given as text
 pub record ReadsLength (address : IpAddr) (text : List ℕ) (result : Result Network NetworkError) : Type 0 where
   pub number : IsNumberText text → result ≡ network_of address (digits_value 10 (without_leading_plus text))
   pub other : ¬ (IsNumberText text) → result ≡ Err errors.PrefixLength
 
--- the network with these texts before and after its slash
+-- the network with this text before its slash, and this text after it
 abbrev pub ReadsPrefixed : List ℕ → List ℕ → Result Network NetworkError → Type 0
 ReadsPrefixed text prefix_len result =
     (IsNoAddress text × (result ≡ Err errors.Address))
@@ -88,7 +88,7 @@ ReadsSingle text result =
 abbrev pub is_slash : ℕ → Bool
 is_slash byte = byte == 47
 
--- the network of a text: an address, or an address and the length of its prefix with the first slash of the text between them
+-- The network in a text. The text is an address, or an address, a slash and the length of the prefix. The first slash counts.
 pub record ReadsNetwork (text : List ℕ) (result : Result Network NetworkError) : Type 0 where
   pub single : position_or_len is_slash text ≡ length text → ReadsSingle text result
   pub prefixed : position_or_len is_slash text < length text → ReadsPrefixed (before_first is_slash text) (after_first is_slash text) result

@@ -8,7 +8,7 @@ use Rattle.capture_summary.specs.declared.time_span.TimeSpan.{TimeSpan}
 abbrev pub average_len : ℕ → ℕ → Option ℕ
 average_len packets bytes = if packets == 0 then None else Some (bytes / packets)
 
--- the amount per second, in whole numbers, for this amount in this time
+-- the amount per second, rounded down; `nanoseconds` is the time in which the whole amount was counted
 abbrev pub per_second : ℕ → ℕ → ℕ
 per_second amount nanoseconds = amount * nanoseconds_per_second / nanoseconds
 

@@ -12,7 +12,7 @@ earlier first second = if nat_lt (nanoseconds_of second) (nanoseconds_of first) 
 abbrev pub later : PacketTime → PacketTime → PacketTime
 later first second = if nat_lt (nanoseconds_of first) (nanoseconds_of second) then second else first
 
--- the times of some packets, if one of them has a time, extended by the time of one more packet
+-- The earliest and the latest time, after one more packet. `None` means that no packet so far has a time.
 abbrev pub with_time : Option TimeSpan → Option PacketTime → Option TimeSpan
 with_time span None = span
 with_time None (Some time) = Some (record { earliest = time; latest = time })

@@ -10,17 +10,16 @@ use crate::{FlowProtocol, Network, Protocol};
 use capture_packet::{Content, Packet, Transport, Tunnel};
 use ip_part::IpAddresses;
 
-/// The greatest number of hosts in a choice, and of ports.
+/// The greatest number of hosts in a choice, and the greatest number of ports.
 pub const MAX_CHOSEN: usize = 16;
 
 /// The packets that are chosen. A packet is chosen if it matches every field that is set.
 #[derive(Clone, Copy, Debug, PartialEq, Eq)]
 pub struct Choice {
-    /// If set, only these packets are chosen: packets with a source or destination address in one of these networks, ICMP errors that quote
-    /// such a packet, and packets in a tunnel whose outer packet is such a packet.
+    /// If set, only packets from or to one of these networks are chosen. An ICMP error that quotes such a packet is chosen too. So is a
+    /// packet in tunnels, if the outer packet of one tunnel is from or to one of the networks.
     pub hosts: Option<[Option<Network>; MAX_CHOSEN]>,
-    /// If set, only these packets are chosen: packets whose source or destination port is one of these, and ICMP errors that quote such a
-    /// packet.
+    /// If set, only packets from or to one of these ports are chosen. An ICMP error that quotes such a packet is chosen too.
     pub ports: Option<[Option<u16>; MAX_CHOSEN]>,
     /// If set, only packets of these protocols are chosen.
     pub protocols: Option<Protocols>,
@@ -35,8 +34,8 @@ impl Choice {
     };
 
     /// Whether this packet is chosen. A packet without addresses matches no host, and a packet without ports matches no port. If the final
-    /// destination is not known, only the source is compared with the hosts. An ICMP error also matches the addresses and the ports of the
-    /// packet that it quotes, but only its own protocol. A packet in tunnels also matches the addresses of the outer packets.
+    /// destination is not known, only the source is compared with the hosts. An ICMP error also matches a host or a port of the packet that
+    /// it quotes. But it matches only its own protocol. A packet in tunnels also matches the addresses of the outer packets.
     pub fn includes(&self, packet: &Packet<'_>) -> bool
         ensures { IsTrue result ↔ IsChosen self.now packet.now }
     {
@@ -74,7 +73,7 @@ impl Protocols {
     }
 }
 
-/// Whether a packet matches one of these hosts, if hosts are given.
+/// Whether a packet matches one of these hosts. If no hosts are given, every packet does.
 fn includes_hosts(hosts: &Option<[Option<Network>; MAX_CHOSEN]>, packet: &Packet<'_>) -> bool
     ensures { IsTrue result ↔ IfSome hosts.now (HasAny (MatchesHost packet.now)) }
 {
@@ -166,7 +165,7 @@ fn is_source_or_destination(addresses: IpAddresses<'_>, host: &Network) -> bool
     }
 }
 
-/// Whether a packet, or the packet that it quotes, is from or to one of these ports, if ports are given.
+/// Whether a packet, or the packet that it quotes, is from or to one of these ports. If no ports are given, every packet is.
 fn includes_ports(ports: &Option<[Option<u16>; MAX_CHOSEN]>, content: &Content<'_>) -> bool
     ensures { IsTrue result ↔ IfSome ports.now (HasAny (HasPort content.now)) }
 {
@@ -229,7 +228,7 @@ fn quotes_port(transport: &Transport<'_>, port: u16) -> bool
     }
 }
 
-/// Whether a packet is of one of these protocols, if protocols are given.
+/// Whether a packet is of one of these protocols. If no protocols are given, every packet is.
 fn includes_protocols(protocols: Option<Protocols>, content: &Content<'_>) -> bool
     ensures { IsTrue result ↔ IfSome protocols (λ chosen. is_among chosen (content_protocol content.now) ≡ true) }
 {

@@ -37,7 +37,7 @@ impl ConversationCount {
             || these.packets == others.packets && these.bytes > others.bytes
     }
 
-    /// The order for a sort that puts the busiest conversations first: the busier conversation is less.
+    /// The order for sorting. The busier conversation is less, so that sorting puts the busiest conversations first.
     pub(crate) fn order(&self, other: &ConversationCount) -> Ordering
         ensures { is_lt result ≡ is_busier self.now other.now }
     {

@@ -72,7 +72,7 @@ impl Flow {
         }
     }
 
-    /// Whether both flows are the same, so that a packet of one flow has the direction of the other.
+    /// Whether both flows have the same protocol, source and destination. Then a packet of one flow has the direction of the other flow.
     pub(crate) fn is_same(&self, other: &Flow) -> bool
         ensures same { IsTrue result ↔ (self.now ≡ other.now) }
         ensures counted { result ≡ is_same_flow self.now other.now }
@@ -94,7 +94,7 @@ impl Flow {
     }
 }
 
-/// Addresses with ports are equal exactly if they are the same.
+/// Whether two addresses with ports are equal.
 fn equal_address(a: &SocketAddr, b: &SocketAddr) -> bool
     ensures same { IsTrue result ↔ (a.now ≡ b.now) }
     ensures equal { result ≡ (address_eq.ghosts).eq a.now b.now }

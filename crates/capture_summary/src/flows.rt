@@ -12,9 +12,9 @@ pub const MAX_CONVERSATIONS: usize = 65_536;
 
 /// The counts of the packets by flow, in a row for each conversation.
 ///
-/// Each packet is in exactly one count. A packet with ports is counted in its direction, in the row of its conversation. If its
-/// conversation comes after the first `MAX_CONVERSATIONS`, it is in the count of packets without room. A packet without ports is in the
-/// count of packets without ports.
+/// Each packet is in exactly one count. A packet with ports is counted in its direction, in the row of its conversation. If
+/// `MAX_CONVERSATIONS` other conversations have rows already, the packet is in the count of packets without room. A packet without ports
+/// has a count of its own.
 #[derive(Drop)]
 pub struct Flows {
     /// The place of the row of a conversation, by its canonical direction. The hashes have random keys, because the author of a capture
@@ -59,7 +59,8 @@ impl Flows {
         }
     }
 
-    /// Counts a packet of this length in bytes, of this flow or without ports. The number that `packets` returns must be below `u64::MAX`.
+    /// Counts a packet of this length in bytes. `flow` is its flow, or `None` if it has no ports. The number that `packets` returns must be
+    /// below `u64::MAX`.
     ///
     /// # Errors
     ///
@@ -116,8 +117,9 @@ impl Flows {
         self.without_room
     }
 
-    /// The conversations with the most packets, at most `top` of them, the busiest first. If two have the same number of packets, the one
-    /// with more bytes comes first. If they also have the same number of bytes, the one seen first comes first.
+    /// The conversations with the most packets, at most `top` of them, the busiest first. Of two conversations with the same number of
+    /// packets, the conversation with more bytes comes first. If these numbers are also equal, the conversation that was seen first comes
+    /// first.
     ///
     /// # Errors
     ///

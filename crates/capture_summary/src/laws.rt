@@ -31,14 +31,15 @@ pub fn conversations_of()
     ensures { (packets : List (Option Flow × ℕ)) → AreConversationsOf packets (table_of packets).rows }
 {}
 
-/// A packet with source and destination exchanged is counted in the other direction of the same row, unless both directions are the same.
+/// If source and destination of a packet are exchanged, the same row counts it in the other direction. If source and destination are equal,
+/// the exchange changes nothing.
 pub fn exchanged()
     ensures row { (packet flow : Flow) → is_one_conversation (reversed packet) flow ≡ is_one_conversation packet flow }
     ensures direction { (packet flow : Flow) → is_same_flow flow (reversed flow) ≡ false
         → goes_back flow (reversed packet) ≡ goes_forward flow packet }
 {}
 
-/// The number of conversations that are counted, and how many of the busiest are listed if no other number is requested.
+/// The greatest number of conversations with separate counts, and the number of busiest conversations that are listed by default.
 pub fn limits()
     ensures counted { MAX_CONVERSATIONS ≡ max_conversations }
     ensures listed { BUSIEST ≡ default_top }

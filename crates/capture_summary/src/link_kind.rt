@@ -12,7 +12,7 @@ pub enum LinkKind {
     Known(LinkType),
     /// A link type that is not read.
     Other,
-    /// An unknown link type: in a pcapng block that is too long, the link type is in bytes that were not kept.
+    /// An unknown link type. The packet is in a pcapng block that was skipped, so its interface is not known.
     Unknown,
 }
 
@@ -51,7 +51,8 @@ impl LinkKind {
         }
     }
 
-    /// The row of the link type of a packet. A capture contains a link type that is read, the number of another link type, or no link type.
+    /// The row of the link type of a packet. The argument is a link type that is read, the number of another link type, or `None` if the
+    /// capture does not state the link type.
     pub fn of(link_type: Option<Result<LinkType, u16>>) -> LinkKind
         ensures { result ≡ specs.link_kind link_type }
     {

@@ -6,7 +6,7 @@ use std::fmt;
 use std::net::IpAddr;
 use std::str::FromStr;
 
-/// The addresses of one IP version that have the same bits as an address, except for some bits at the end.
+/// A network: all addresses of one IP version that begin with the same bits as `address`. Only the last `host_bits` bits can differ.
 #[derive(Clone, Copy, Debug, PartialEq, Eq)]
 pub struct Network {
     /// An address of the network.
@@ -75,14 +75,14 @@ impl Network {
     }
 }
 
-/// Whether two numbers have the same bits before this number of bits at the end.
+/// Whether two numbers differ only in their last `host_bits` bits.
 fn has_same_start(first: u128, second: u128, host_bits: u32) -> bool
     ensures { result ≡ have_same_start host_bits first second }
 {
     start(first, host_bits) == start(second, host_bits)
 }
 
-/// The bits of a number before this number of bits at the end.
+/// The bits of a number, without the last `host_bits` bits.
 fn start(number: u128, host_bits: u32) -> u128
     ensures { result ≡ number / 2 ^ host_bits }
 {
@@ -92,7 +92,7 @@ fn start(number: u128, host_bits: u32) -> u128
     }
 }
 
-/// Whether this number of bits at the end of a number are 0.
+/// Whether the last `host_bits` bits of a number are 0.
 fn has_zeros_at_end(number: u128, host_bits: u32) -> bool
     ensures { IsTrue result ↔ (number % 2 ^ host_bits ≡ 0) }
 {
@@ -155,7 +155,7 @@ impl FromStr for Network {
     }
 }
 
-/// The network with these texts before and after its slash.
+/// The network with this text before its slash, and this text after it.
 fn prefixed(address: &str, prefix_len: &str) -> Result<Network, NetworkError>
     ensures { ReadsPrefixed address.now prefix_len.now result }
 {

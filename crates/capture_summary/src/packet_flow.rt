@@ -31,7 +31,7 @@ pub fn flow_of(packet: &Packet<'_>) -> Option<Flow>
     })
 }
 
-/// The protocol of a flow, and the ports of source and destination. `proto` is the protocol of a transport with a header that is not read.
+/// The protocol of a flow, and its source and destination port. If the transport header is not read, `proto` is the protocol.
 pub(crate) fn ports(
     proto: Option<Proto>,
     transport: &Transport<'_>,
@@ -58,7 +58,7 @@ pub(crate) fn ports(
     }
 }
 
-/// The protocol of the flows with packets of this protocol.
+/// The protocol of a flow, if packets of this protocol have flows.
 fn flow_protocol(proto: Option<Proto>) -> Option<FlowProtocol>
     ensures { result ≡ specs.flow_protocol proto }
 {

@@ -1,12 +1,12 @@
 use crate::CaptureInfo;
 use capture_file::PacketTime;
 
-/// The place of a packet in its capture, and the data about the packet there.
+/// The number of a packet in its capture, and what the capture states about the packet.
 #[derive(Clone, Copy, Debug, PartialEq, Eq)]
 pub struct PacketInfo {
     /// The number of the packet. The first packet of a capture is number 1.
     pub number: u64,
-    /// The first capture time of the packets before the packet, if there is one.
+    /// The first capture time in the packets before this packet, if there is one.
     pub first: Option<PacketTime>,
     /// The data about the packet.
     pub capture: CaptureInfo,

@@ -29,7 +29,7 @@ impl Rates {
     }
 }
 
-/// The amount per second, for this amount in this time.
+/// The amount per second, rounded down. `nanoseconds` is the time in which the whole amount was counted.
 fn per_second(amount: u128, nanoseconds: u128) -> u128
     requires amount { amount < 2 ^ 96 }
     requires time { 0 < nanoseconds }

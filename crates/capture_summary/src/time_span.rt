@@ -13,7 +13,7 @@ pub struct TimeSpan {
 }
 
 impl TimeSpan {
-    /// The times of some packets, if one of them has a time, extended by the time of one more packet.
+    /// The earliest and the latest time, after one more packet. `None` means that no packet so far has a time.
     pub fn with_time(span: Option<TimeSpan>, time: Option<PacketTime>) -> Option<TimeSpan>
         ensures { result ≡ with_time span time }
     {

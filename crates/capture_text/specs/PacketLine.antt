@@ -32,22 +32,22 @@ use Rattle.capture_words.specs.TimeText.{time_text}
 use Rattle.capture_text.specs.VerdictText.{is_other_protocol, verdict_text}
 use Rattle.capture_words.specs.declared.times.Times.{Times}
 
--- the number of bytes that were captured, unless it is the length
+-- the number of captured bytes; the text is empty if all `len` bytes were captured
 abbrev pub captured_text : ℕ → ℕ → List ℕ
 captured_text len captured_len = if captured_len == len then [] else codes ", " ++ (decimal captured_len ++ codes " captured")
 
--- the length of a frame in bytes, and how many of them were captured; without a length it states that the length is unknown
+-- the length of a frame in bytes, and the number of captured bytes if it differs; if the length is unknown, the text states this
 abbrev pub frame_text : Option FrameLen → List ℕ
 frame_text None = codes " length unknown: "
 frame_text (Some len) = codes " length " ++ (decimal len.original ++ (captured_text len.original len.captured ++ codes ": "))
 
--- the length of a payload in bytes, and how many of them were captured
+-- the length of a payload in bytes, and the number of captured bytes if it differs
 abbrev pub payload_text : ℕ → List ℕ → List ℕ
 payload_text payload_len payload = codes ", payload " ++ (decimal payload_len ++ captured_text payload_len (length payload))
 
 -- ---- the transport of an IP packet
 
--- the addresses with the ports of UDP and TCP: bytes 0 and 1, and bytes 2 and 3, of their headers
+-- the addresses with the ports of a UDP or TCP header: the source port in bytes 0 and 1, and the destination port in bytes 2 and 3
 abbrev pub ports_text : Addresses → List ℕ → List ℕ
 ports_text addresses header = endpoints_text addresses (be_number header 0 2) (be_number header 2 2)
 
@@ -61,7 +61,7 @@ IsTcpText addresses segment text =
     (header : List ℕ) × IsHeaderText segment header
     × (text ≡ ports_text addresses segment ++ (codes " TCP " ++ header))
 
--- a name, or this text instead if there is no name
+-- this name, or this text if there is no name
 abbrev pub name_or : Option (List ℕ) → List ℕ → List ℕ
 name_or (Some name) text = name
 name_or None text = text
@@ -126,8 +126,8 @@ network_number (Nlpid number) = codes "NLPID " ++ hex_padded 2 number
 abbrev pub network_text : NetworkProtocol → List ℕ
 network_text protocol = name_or (network_protocol_name protocol) (network_number protocol)
 
--- This is the text of the content of a packet, with the length of its payload. It is empty if the packet is not read. If the IP headers are
--- refused, it contains only the addresses.
+-- The text of the content of a packet, with the length of its payload. If the packet is not read, the text is empty. If its IP headers are
+-- refused, the text contains only the addresses.
 abbrev pub IsContentText : Content → List ℕ → Type 0
 IsContentText contents.Unread text = text ≡ []
 IsContentText (contents.IpHeader addresses) text = text ≡ addresses_text (by_value addresses)
@@ -146,11 +146,11 @@ hop_limit_text (Some (limits.Ipv6 limit)) = codes ", hop limit " ++ decimal limi
 abbrev pub details_text : Bool → Packet → List ℕ
 details_text verbose packet = if verbose then hop_limit_text packet.hop_limit else []
 
--- the verdict after the content of a packet, with a semicolon before it; it is empty if the protocol is not read
+-- a semicolon and the verdict, after the content of a packet; the text is empty if the protocol is not read
 abbrev pub verdict_part : Verdict → List ℕ
 verdict_part verdict = if is_other_protocol verdict then [] else codes "; " ++ verdict_text verdict
 
--- the end of a line; it is only the verdict if the packet is not read
+-- the end of a line: the verdict, with a semicolon before it unless the packet is not read
 abbrev pub end_text : Content → Verdict → List ℕ
 end_text contents.Unread verdict = verdict_text verdict
 end_text (contents.IpHeader addresses) verdict = verdict_part verdict

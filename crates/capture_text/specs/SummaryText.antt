@@ -52,7 +52,7 @@ counts_row row =
     else name_cell name_width row.0 ++ (codes " " ++ (number_cell 11 row.1.packets ++ (codes " "
     ++ (number_cell 17 row.1.bytes ++ codes "\n"))))
 
--- ---- tables: each counts this number of packets, and is left out if the number is 0
+-- ---- tables: a table after an empty line; `packets` is the number of packets that it counts, and without packets it is left out
 
 -- a table that counts packets
 abbrev pub packets_table : ℕ → List ℕ → List (List ℕ × ℕ) → List ℕ
@@ -69,12 +69,12 @@ abbrev pub conversations_head : ℕ → List ℕ → List ℕ
 conversations_head width title =
     name_cell width title ++ codes "   packets         bytes   packets >       bytes >   packets <       bytes <\n"
 
--- the name of a conversation, by one of its directions
+-- the name of a conversation, from the flow of one of its directions
 abbrev pub conversation_name : Flow → List ℕ
 conversation_name flow =
     flow_protocol_word flow.protocol ++ codes " " ++ socket_text flow.source ++ codes " <> " ++ socket_text flow.destination
 
--- the width of the longest name of these conversations, and at least the width of other names
+-- the width of the column of names: the length of the longest name of these conversations, but at least the width in the other tables
 abbrev pub conversation_width : List ConversationCount → ℕ
 conversation_width rows = fold (λ width row. max width (length (conversation_name row.flow))) name_width rows
 
@@ -99,7 +99,7 @@ conversation_rows busiest without_ports without_room width =
     ++ (counted_row width (codes "packets without ports") without_ports
     ++ counted_row width (codes "packets of other flows") without_room)))
 
--- there are neither conversations nor packets that no conversation counts
+-- the table of conversations has no rows: there are no conversations, and every packet is counted by a conversation
 abbrev pub is_without_rows : List ConversationCount → Count → Count → Bool
 is_without_rows busiest without_ports without_room =
     length busiest == 0 && (without_ports.packets == 0 && without_room.packets == 0)

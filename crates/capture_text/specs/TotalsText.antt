@@ -13,19 +13,19 @@ abbrev pub average_text : Option ℕ → List ℕ
 average_text None = []
 average_text (Some bytes) = codes ", bytes a packet " ++ decimal bytes
 
--- the numbers of packets and bytes, their average, and the number of conversations with a count of their own
+-- the numbers of packets and bytes, the average number of bytes of a packet, and the number of conversations that have a row
 abbrev pub counts_text : SummaryTables → List ℕ
 counts_text tables =
     codes "packets " ++ (decimal tables.packets ++ (codes ", bytes " ++ (decimal tables.bytes
     ++ (average_text (average_len tables.packets tables.bytes)
     ++ (codes "\nconversations " ++ (decimal (length tables.flows.rows) ++ codes "\n"))))))
 
--- the numbers of packets and bits per second, if they are known
+-- the numbers of packets and bits per second; the text is empty if there are no rates
 abbrev pub rates_text : Option Rates → List ℕ
 rates_text None = []
 rates_text (Some rates) = codes ", packets a second " ++ (decimal rates.packets ++ (codes ", bits a second " ++ decimal rates.bits))
 
--- the date and time of a packet after its name
+-- the line of the first or last packet: the word `first` or `last`, and the date and time of the packet
 abbrev pub named_time_text : List ℕ → PacketTime → List ℕ
 named_time_text name time = name ++ (codes " packet " ++ (absolute_text time ++ codes "\n"))
 
@@ -35,7 +35,7 @@ duration_line tables span =
     codes "duration " ++ (elapsed_text span.earliest span.latest
     ++ (rates_text (rates_of tables.packets tables.bytes span) ++ codes "\n"))
 
--- the times of the packets; the text is empty if no time is known
+-- the times of the first and the last packet, and the duration; the text is empty if no time is known
 abbrev pub times_text : SummaryTables → Option TimeSpan → List ℕ
 times_text tables None = []
 times_text tables (Some span) =

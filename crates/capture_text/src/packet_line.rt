@@ -55,7 +55,7 @@ pub fn write_packet_line<W: Write>(
     writeln!(output)
 }
 
-/// Writes the length of a frame in bytes. If not all of them were captured, it also writes how many were.
+/// Writes the length of a frame in bytes. If fewer bytes were captured, it also writes their number.
 fn write_frame_len<W: Write>(output: &mut W, len: Option<FrameLen>) -> io::Result<()>
     ensures { OnOk result (Appends (W.contents output.old) (W.contents output.new) (frame_text len)) }
 {
@@ -318,7 +318,7 @@ fn write_protocol<W: Write>(
     }
 }
 
-/// Writes the length of a payload in bytes. If not all of them were captured, it also writes how many were.
+/// Writes the length of a payload in bytes. If fewer bytes were captured, it also writes their number.
 fn write_payload_len<W: Write>(output: &mut W, payload_len: usize, payload: &[u8]) -> io::Result<()>
     ensures { OnOk result (Appends (W.contents output.old) (W.contents output.new) (payload_text payload_len payload.now)) }
 {
@@ -326,7 +326,7 @@ fn write_payload_len<W: Write>(output: &mut W, payload_len: usize, payload: &[u8
     write_captured(output, payload_len as u64, payload.len() as u64)
 }
 
-/// Writes how many of `len` bytes were captured, unless all were captured.
+/// Writes the number of captured bytes, unless all `len` bytes were captured.
 fn write_captured<W: Write>(output: &mut W, len: u64, captured_len: u64) -> io::Result<()>
     ensures { OnOk result (Appends (W.contents output.old) (W.contents output.new) (captured_text len captured_len)) }
 {

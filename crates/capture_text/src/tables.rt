@@ -20,11 +20,11 @@ const NAME_WIDTH: usize = 25;
 const MOST_CONVERSATION_NAME_LEN: usize = 128;
 
 /// Writes the numbers of packets, bytes and conversations, and the times of the packets. Then it writes the tables of link types,
-/// protocols, checksums, refusals and conversations. The protocol with the most packets is first, as `Summary::protocols_by_packets` orders
-/// the rows. The last table lists the conversations in `busiest`.
+/// protocols, checksums, refusals and conversations. The rows of protocols are in the order of `Summary::protocols_by_packets`, the
+/// protocol with the most packets first. The last table lists the conversations in `busiest`.
 ///
-/// A table has a name and columns of numbers, which are aligned to the right. A row that counts no packet is left out, and so is a table
-/// without rows.
+/// A table has a name and columns of numbers, which are aligned to the right. Rows that count no packet are left out. A table without rows
+/// is left out too.
 ///
 /// # Errors
 ///
@@ -46,7 +46,7 @@ pub fn write_summary<W: Write>(
     write_conversations(output, busiest, flows.without_ports(), flows.without_room())
 }
 
-/// Writes a table after an empty line. The table is left out if `packets`, the number of packets that it counts, is 0.
+/// Writes an empty line and a table. `packets` is the number of packets that the table counts. If it is 0, nothing is written.
 fn write_table<W: Write>(
     output: &mut W,
     title: &str,
@@ -107,8 +107,8 @@ fn write_count<W: Write>(output: &mut W, name: &str, count: Count) -> io::Result
     writeln!(output, "{name:<NAME_WIDTH$} {packets:>11} {bytes:>17}")
 }
 
-/// Writes the conversations with the most packets, and the packets that no conversation counts, after an empty line. Nothing is written if
-/// there are neither conversations nor packets that no conversation counts.
+/// Writes an empty line and the table of the busiest conversations. Its last rows count the packets that belong to no conversation, and the
+/// packets of conversations that found no room. If the table has no rows, nothing is written.
 ///
 /// # Errors
 ///
@@ -134,7 +134,7 @@ pub fn write_conversations<W: Write>(
     write_counted(output, "packets of other flows", width, without_room)
 }
 
-/// Whether there are neither conversations nor packets that no conversation counts.
+/// Whether the table of conversations has no rows: there are no conversations, and every packet is counted by a conversation.
 fn is_without_rows(busiest: &[ConversationCount], without_ports: Count, without_room: Count) -> bool
     ensures { result ≡ specs.is_without_rows busiest.now without_ports without_room }
 {

@@ -11,7 +11,7 @@ use std::io;
 use std::io::Write;
 
 /// Writes the numbers of packets, bytes and conversations, and the average number of bytes of a packet. If a time is known, it also writes
-/// the times of the packets. It writes the rates per second unless the earliest and the latest time are equal.
+/// the times of the first and the last packet, the duration, and the rates per second. Without a duration there are no rates.
 pub(crate) fn write_totals<W: Write>(output: &mut W, summary: &Summary) -> io::Result<()>
     ensures { OnOk result (Appends (W.contents output.old) (W.contents output.new) (specs.totals_text summary.now)) }
 {
@@ -33,7 +33,7 @@ fn write_average<W: Write>(output: &mut W, average: Option<u64>) -> io::Result<(
     }
 }
 
-/// Writes the times of the packets, if a time is known.
+/// Writes the times of the first and the last packet, and the duration, if a time is known.
 fn write_times<W: Write>(
     output: &mut W,
     summary: &Summary,
@@ -49,7 +49,7 @@ fn write_times<W: Write>(
     write_duration_line(output, summary, span)
 }
 
-/// Writes the date and time of a packet after its name.
+/// Writes the line of the first or last packet: this name, and the date and time of the packet.
 fn write_named_time<W: Write>(output: &mut W, name: &str, time: PacketTime) -> io::Result<()>
     ensures { OnOk result (Appends (W.contents output.old) (W.contents output.new) (specs.named_time_text name.now time)) }
 {

@@ -5,7 +5,8 @@ use Rattle.std.specs.Borrow.{Bor}
 use Rattle.ip_part.specs.declared.ip_addresses.IpAddresses.{IpAddresses}
 use Rattle.ip_part.specs.declared.ip_addresses.IpAddresses.TheVariants as borrowed
 
--- source and destination over IPv4 (RFC 791, section 3.1) or IPv6 (RFC 8200, section 3); the final destination over IPv6 may be unknown
+-- Source and final destination over IPv4 (RFC 791, section 3.1) or IPv6 (RFC 8200, section 3). Over IPv6 the final destination may be
+-- unknown.
 pub data Addresses : Type 0 where
   Ipv4 : List ℕ → List ℕ → Addresses
   Ipv6 : List ℕ → Option (List ℕ) → Addresses

@@ -5,7 +5,7 @@ use Rattle.std.specs.List.{concat}
 use Rattle.ip_part.specs.declared.ip_error.IpError.{IpError}
 use Rattle.ip_part.specs.declared.ip_error.IpError.TheVariants.{HeaderCutOff, Version, HeaderLength, TotalLength, PacketCutOff, ExtensionHeaderCutOff, JumboPayloadMissing, JumboPayloadLength, JumboPayloadUnexpected, JumboPayloadFragment}
 
--- a packet in which the transport was not found
+-- the text of an error of a packet whose transport was not found
 abbrev pub ip_text : IpError → List ℕ
 ip_text (HeaderCutOff required_len len) = concat (
     codes "IP Error: the header has at least " ∷ decimal required_len ∷ codes " bytes, and " ∷ decimal len ∷ codes " are there." ∷ [])

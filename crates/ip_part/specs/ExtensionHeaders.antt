@@ -68,13 +68,13 @@ extension_len number bytes =
 abbrev pub max_extension_len : ℕ
 max_extension_len = 2048
 
--- the number that an extension header names for the bytes after it (RFC 8200, section 4)
+-- the number of the header or protocol after an extension header (RFC 8200, section 4)
 abbrev pub next_number : List ℕ → ℕ
 next_number bytes = slice_index bytes 0
 
 -- ---- fragments
 
--- the place of a fragment in its packet, in units of 8 bytes: the high 13 bits of bytes 2 and 3 (RFC 8200, section 4.5)
+-- the offset of a fragment in its packet, in units of 8 bytes: the high 13 bits of bytes 2 and 3 (RFC 8200, section 4.5)
 abbrev pub fragment_offset : List ℕ → ℕ
 fragment_offset bytes = be_number bytes 2 2 / 8
 
@@ -86,8 +86,8 @@ is_later_fragment number bytes = number == fragment && not (fragment_offset byte
 abbrev pub has_more_fragments : ℕ → List ℕ → Bool
 has_more_fragments number bytes = number == fragment && flag bytes 3 1
 
--- these bytes are a fragment header, and the packet has other fragments. In an atomic fragment neither condition is
--- true (RFC 6946).
+-- These bytes are the fragment header of a packet with several fragments: its offset is above 0, or more fragments follow. An atomic
+-- fragment has neither (RFC 6946).
 abbrev pub is_one_of_fragments : ℕ → List ℕ → Bool
 is_one_of_fragments number bytes = is_later_fragment number bytes || has_more_fragments number bytes
 
@@ -102,9 +102,10 @@ has_segments_left number bytes = number == routing && not (slice_index bytes 3 =
 abbrev pub entry : List ℕ → ℕ → List ℕ
 entry bytes index = slice_range bytes (8 + index * 16) (24 + index * 16)
 
--- the final destination by a routing header with segments left. Type 0: its last address, and the length byte is twice the number
--- of addresses (RFC 2460, section 4.4). Type 2: its home address (RFC 6275, section 6.4.1). Type 4: the first entry of its
--- segment list, which is the last segment (RFC 8754, section 2). For any other type, or without an address, it is unknown.
+-- The final destination by a routing header with segments left. In type 0 it is the last address of the header, and the length byte is
+-- twice the number of addresses (RFC 2460, section 4.4). In type 2 it is the home address (RFC 6275, section 6.4.1). In type 4 it is the
+-- first entry of the segment list, which is the last segment (RFC 8754, section 2). In any other type, or if there is no address, it is
+-- unknown.
 abbrev pub final_destination : List ℕ → Option (List ℕ)
 final_destination bytes =
     let words : ℕ = slice_index bytes 1 in
@@ -113,40 +114,41 @@ final_destination bytes =
     else if slice_index bytes 2 == 2 || slice_index bytes 2 == 4 then Some (entry bytes 0)
     else None
 
--- the final destination with a routing header after the other headers
+-- the final destination after one more extension header; only a routing header with segments left changes it
 abbrev pub destination_after : Option (List ℕ) → ℕ → List ℕ → Option (List ℕ)
 destination_after destination number bytes = if has_segments_left number bytes then final_destination bytes else destination
 
 -- ---- home address
 
--- the source with destination options after the other headers: their home address, if there is one (RFC 6275, sections 6.3 and 9.3.1)
+-- the source after one more extension header; only destination options with a home address change it (RFC 6275, sections 6.3 and 9.3.1)
 abbrev pub source_after : List ℕ → ℕ → List ℕ → List ℕ
 source_after source number bytes = if number == destination_options then home_address_after source bytes else source
 
 -- ---- chains of extension headers
 
--- an extension header of a packet: the number that the previous header names for it, and its bytes
+-- An extension header of a packet: its bytes, and its number, which the previous header contains.
 pub record ExtensionHeader : Type 0 where
   pub number : ℕ
   pub bytes : List ℕ
 
--- its length is the length that it states
+-- the extension header has exactly the length that it states
 pub record IsWhole (header : ExtensionHeader) : Type 0 where
   pub known : is_extension header.number ≡ true
   pub shortest : 8 ≤ length header.bytes
   pub len : length header.bytes ≡ extension_len header.number header.bytes
 
--- Consecutive extension headers. The first has this number, and each names the number of the next. The last names the
--- protocol. `is_ipv6` is true over IPv6. `may_be_extended` is true if an extension header may come next. Over IPv4
--- none follows the first. Over IPv6 none follows the header of a later fragment, whose payload is from the middle of
--- a packet. If an extension header may come next, the protocol is not an extension header.
+-- Extension headers, one after the other. The first has this number, and each contains the number of the next. The last contains the number
+-- of the protocol. `is_ipv6` is true over IPv6. `may_be_extended` is true if an extension header may come next. Over IPv4 no second
+-- extension header follows. Over IPv6 no extension header follows the fragment header of a later fragment, since the payload of such a
+-- fragment is from the middle of a packet. Where an extension header may come next, the protocol is not the number of one.
 abbrev pub IsChain : Bool → Bool → ℕ → List ExtensionHeader → ℕ → Type 0
 IsChain is_ipv6 may_be_extended number [] protocol = (number ≡ protocol) × (may_be_extended && is_extension number ≡ false)
 IsChain is_ipv6 may_be_extended number (header ∷ headers) protocol =
     (may_be_extended ≡ true) × (header.number ≡ number) × IsWhole header
     × IsChain is_ipv6 (is_ipv6 && not (is_later_fragment header.number header.bytes)) (next_number header.bytes) headers protocol
 
--- The same up to one more extension header, of this number, which may come there: the refused header, if there is one.
+-- Extension headers, one after the other, as in `IsChain`. After them one more extension header may come, and it has this number. It is the
+-- extension header that is refused.
 abbrev pub LeadsTo : Bool → Bool → ℕ → List ExtensionHeader → ℕ → Type 0
 LeadsTo is_ipv6 may_be_extended number [] next = (number ≡ next) × (may_be_extended ≡ true) × (is_extension next ≡ true)
 LeadsTo is_ipv6 may_be_extended number (header ∷ headers) next =
@@ -180,16 +182,17 @@ begins_with_jumbo_payload (header ∷ headers) = header.number == hop_by_hop_opt
 abbrev pub front_of : ℕ → List ℕ → ExtensionHeader
 front_of number rest = record { number = number; bytes = take (extension_len number rest) rest }
 
--- The rest is shorter than an extension header of this number: shorter than 8 bytes, the least length of an extension
--- header, or shorter than the length by its length byte.
+-- The rest is too short for an extension header of this number. It is shorter than 8 bytes, the least length of an extension header, or
+-- shorter than the length that the header states.
 abbrev pub LacksBytes : ℕ → List ℕ → ℕ → Type 0
 LacksBytes number rest required_len =
     ((length rest < 8) × (required_len ≡ 8))
     ⊎ ((8 ≤ length rest) × (length rest < extension_len number rest) × (required_len ≡ extension_len number rest))
 
--- This error refuses the extension header of this number at the front of the rest. The header begins at this offset. The IP header
--- contains this payload length, or the packet is a jumbogram. The extension header is cut off, or breaks RFC 2675, section 3: first
--- hop-by-hop options contain a jumbo payload option although the payload length is not 0, or a jumbogram contains a fragment header.
+-- This error refuses the extension header of this number at the front of the rest. The header begins at this offset. The payload length of
+-- the packet is given, and whether the packet is a jumbogram. The header is cut off, or it breaks RFC 2675, section 3. Two headers break
+-- it: hop-by-hop options with a jumbo payload option directly after an IPv6 header whose payload length is not 0, and a fragment header in
+-- a jumbogram.
 abbrev pub RefusesNext : ℕ → Bool → ℕ → ℕ → List ℕ → IpError → Type 0
 RefusesNext payload_len is_jumbogram offset number rest (ExtensionHeaderCutOff protocol place required_len len) =
     (protocol.0 ≡ number) × (place ≡ offset) × (len ≡ length rest) × LacksBytes number rest required_len

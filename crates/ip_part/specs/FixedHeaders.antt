@@ -4,7 +4,7 @@ use Rattle.net_base.specs.IpHeaders.{version}
 use Rattle.ip_part.specs.declared.fixed_part.FixedHeader.{FixedHeader}
 use Rattle.ip_part.specs.declared.fixed_part.FixedHeader.TheVariants as borrowed
 
--- source, destination, the number of hops that are left, and the number of the protocol or of the next header
+-- source, destination, the time to live or hop limit, and the number of the protocol or of the next header
 pub data Fixed : Type 0 where
   Ipv4 : List ℕ → List ℕ → ℕ → ℕ → Fixed
   Ipv6 : List ℕ → List ℕ → ℕ → ℕ → Fixed

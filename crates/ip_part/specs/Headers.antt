@@ -4,9 +4,10 @@ use Rattle.net_base.specs.declared.ip_number.IpNumber.{IpNumber}
 use Rattle.ip_part.specs.Addresses.{Addresses, by_value}
 use Rattle.ip_part.specs.declared.headers.Headers as borrowed
 
--- addresses, the number of the next header, and the length of the headers read so far; whether the bytes after them are
--- only a part of a packet, and whether they are from its middle; whether an extension header may come next; the payload
--- length of an IPv6 header, or 0 over IPv4; whether hop-by-hop options directly after the IPv6 header contain the length
+-- What the headers read so far contain: the addresses, the number of the next header, and the length of these headers. `is_fragment` is
+-- true if the bytes after them are only a part of a packet, and `is_later_fragment` if these bytes are from its middle. `may_be_extended`
+-- is true if an extension header may come next. `payload_len` is the payload length of an IPv6 header, or 0 over IPv4. `is_jumbogram` is
+-- true if hop-by-hop options directly after the IPv6 header contain the length.
 pub record Headers : Type 0 where
   pub addresses : Addresses
   pub protocol : IpNumber

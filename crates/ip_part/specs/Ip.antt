@@ -27,7 +27,7 @@ ipv6_header packet = take 40 packet
 abbrev pub total_len : List ℕ → ℕ
 total_len packet = be_number (ipv4_header packet) 2 2
 
--- an IPv4 header that is shorter than five words or cut off
+-- the errors of an IPv4 header: it states a length below five words, or it is cut off
 abbrev pub ipv4_header_refusal : List ℕ → Option IpError
 ipv4_header_refusal packet = first_of (
     refused_if (nat_lt (length packet) 20) (HeaderCutOff 20 (length packet))
@@ -35,7 +35,8 @@ ipv4_header_refusal packet = first_of (
     ∷ refused_if (nat_lt (length packet) (ipv4_header_len packet)) (HeaderCutOff (ipv4_header_len packet) (length packet))
     ∷ [])
 
--- and then a total length below the header length; 0 is allowed, since it states no length
+-- The errors of an IPv4 header, and then the error for a total length below the header length. A total length of 0 is no error here, since
+-- it states no length.
 abbrev pub ipv4_refusal : List ℕ → Option IpError
 ipv4_refusal packet = first_of (
     ipv4_header_refusal packet
@@ -47,11 +48,11 @@ ipv4_refusal packet = first_of (
 abbrev pub payload_len : List ℕ → ℕ
 payload_len packet = be_number (ipv6_header packet) 4 2
 
--- the number that the IPv6 header names for the bytes after it (RFC 8200, section 3)
+-- the number of the header or protocol after the IPv6 header (RFC 8200, section 3)
 abbrev pub next_header : List ℕ → ℕ
 next_header packet = slice_index (ipv6_header packet) 6
 
--- hop-by-hop options directly after the IPv6 header must contain the length, since the payload length is 0 (RFC 2675, section 3)
+-- the packet has payload length 0 and begins with hop-by-hop options, which must then contain the length (RFC 2675, section 3)
 abbrev pub has_len_in_options : List ℕ → Bool
 has_len_in_options packet = payload_len packet == 0 && next_header packet == hop_by_hop_options
 
@@ -63,14 +64,14 @@ options_at rest = take (extension_len hop_by_hop_options rest) rest
 abbrev pub len_in_options : List ℕ → Option ℕ
 len_in_options rest = jumbo_payload_len (options_at rest)
 
--- the jumbo payload length of a packet, which counts the bytes after the IPv6 header
+-- the jumbo payload length of a packet, if it has one; it counts the bytes after the IPv6 header
 abbrev pub jumbo_len : List ℕ → Option ℕ
 jumbo_len packet = if has_len_in_options packet then len_in_options (drop 40 packet) else None
 
 abbrev pub is_jumbogram : List ℕ → Bool
 is_jumbogram packet = is_some (jumbo_len packet)
 
--- options that must contain the length are cut off, so the number of counted bytes is unknown
+-- the error for hop-by-hop options that must contain the length and are cut off, so that the number of counted bytes is unknown
 abbrev pub options_refusal : List ℕ → Option IpError
 options_refusal rest = first_of (
     refused_if (nat_lt (length rest) 8) (HeaderCutOff 48 (40 + length rest))
@@ -78,7 +79,7 @@ options_refusal rest = first_of (
     (HeaderCutOff (40 + extension_len hop_by_hop_options rest) (40 + length rest))
     ∷ [])
 
--- the longest payload that the payload length can count; a jumbo payload length is greater (RFC 2675, section 2)
+-- the greatest number of bytes that the payload length can count; a jumbo payload length must be greater (RFC 2675, section 2)
 abbrev pub max_payload_len : ℕ
 max_payload_len = 65535
 
@@ -86,21 +87,21 @@ abbrev pub jumbo_len_refusal : Option ℕ → Option IpError
 jumbo_len_refusal None = None
 jumbo_len_refusal (Some len) = refused_if (nat_le len max_payload_len) (JumboPayloadLength len)
 
--- and then a jumbo payload length that is not greater
+-- the error for hop-by-hop options that are cut off, and then the error for a jumbo payload length that is too small
 abbrev pub len_in_options_refusal : List ℕ → Option IpError
 len_in_options_refusal rest = first_of (options_refusal rest ∷ jumbo_len_refusal (len_in_options rest) ∷ [])
 
 abbrev pub jumbo_refusal : List ℕ → Option IpError
 jumbo_refusal packet = if has_len_in_options packet then len_in_options_refusal (drop 40 packet) else None
 
--- an IPv6 header that is cut off, and then the errors of a jumbogram
+-- the error for an IPv6 header that is cut off, and then the errors of hop-by-hop options that must contain the length
 abbrev pub ipv6_refusal : List ℕ → Option IpError
 ipv6_refusal packet = first_of (
     refused_if (nat_lt (length packet) 40) (HeaderCutOff 40 (length packet))
     ∷ jumbo_refusal packet
     ∷ [])
 
--- an empty slice, a version other than 4 and 6, or an error of that version
+-- the errors of an IP header: the slice is empty, the version is neither 4 nor 6, or the header of that version has an error
 abbrev pub header_refusal : List ℕ → Option IpError
 header_refusal packet =
     if length packet == 0 then Some (HeaderCutOff 1 0)
@@ -112,13 +113,13 @@ header_refusal packet =
 abbrev pub ipv4_stated_len : List ℕ → Option ℕ
 ipv4_stated_len packet = if total_len packet == 0 then None else Some (total_len packet)
 
--- the number that means that nothing follows a header (RFC 8200, section 4.7)
+-- the number in a header that nothing follows, "no next header" (RFC 8200, section 4.7)
 abbrev pub no_next_header : ℕ
 no_next_header = 59
 
--- The number of bytes that an IPv6 header states: its 40 bytes and the jumbo payload length (RFC 2675, section 2), or
--- otherwise the payload length (RFC 8200, section 3). A payload length of 0 states no length, unless the next header
--- is "no next header": then the packet ends with its header (RFC 8200, section 4.7).
+-- The number of bytes that an IPv6 header states, header included. It is 40 plus the jumbo payload length, if there is one (RFC 2675,
+-- section 2), and otherwise 40 plus the payload length (RFC 8200, section 3). A payload length of 0 states no length. But if the next
+-- header is "no next header", the packet ends with its header (RFC 8200, section 4.7).
 abbrev pub ipv6_stated_len : Option ℕ → ℕ → ℕ → Option ℕ
 ipv6_stated_len (Some jumbo_len) payload_len next_header = Some (40 + jumbo_len)
 ipv6_stated_len None payload_len next_header =
@@ -132,8 +133,8 @@ stated_len packet =
 abbrev pub lacks_len : List ℕ → Bool
 lacks_len packet = is_none (stated_len packet)
 
--- the number of bytes that the header counts, header included: all bytes if the length is missing, otherwise the
--- stated length, or the 40 bytes of an IPv6 header that states none
+-- The number of bytes that the header counts, header included. If the first argument is true, the length is missing, and all bytes are
+-- counted. Otherwise it is the stated length, or 40 for an IPv6 header that states no length.
 abbrev pub counted_len : Bool → List ℕ → ℕ
 counted_len is_length_missing packet =
     if is_length_missing then length packet
@@ -144,12 +145,12 @@ counted_len is_length_missing packet =
 abbrev pub counted : Bool → List ℕ → List ℕ
 counted is_length_missing packet = take (counted_len is_length_missing packet) packet
 
--- the final destination of an IPv4 packet, by the options after the first 20 bytes of its header
+-- the final destination of an IPv4 packet, according to the options in its header
 abbrev pub ipv4_destination : List ℕ → List ℕ
 ipv4_destination header = ipv4_destination_by (slice_range header 16 20) (options_of ipv4_option (drop 20 header))
 
--- An authentication header comes directly after an IPv4 header whose protocol is 51 (RFC 4302, section 3.1). In a
--- later fragment those bytes are from the middle of a packet.
+-- An authentication header comes directly after the IPv4 header. The protocol of the IPv4 header is 51 (RFC 4302, section 3.1), and the
+-- packet is not a later fragment, whose bytes are from the middle of a packet.
 abbrev pub has_authentication : List ℕ → Bool
 has_authentication header = slice_index header 9 == authentication && ipv4_fragment_offset header == 0
 
@@ -185,8 +186,8 @@ first_headers packet =
     if version packet == 4 then ipv4_headers (ipv4_header_len packet) (ipv4_header packet)
     else ipv6_headers (is_jumbogram packet) (ipv6_header packet)
 
--- a header must state a length and states none: IPv4 counts its header (RFC 791, section 3.1), and with payload
--- length 0 hop-by-hop options contain the length (RFC 2675, section 3)
+-- The error of a header that states no length although it must. The total length of IPv4 counts at least the header (RFC 791, section 3.1).
+-- If the payload length of IPv6 is 0, hop-by-hop options after the header must contain the length (RFC 2675, section 3).
 abbrev pub own_len_refusal : Addresses → ℕ → ℕ → Option IpError
 own_len_refusal (Ipv4 source destination) number len = Some (TotalLength 0 len)
 own_len_refusal (Ipv6 source destination) number len = refused_if (number == hop_by_hop_options) JumboPayloadMissing
@@ -215,7 +216,7 @@ extension_header headers rest = take (extension_len headers.protocol.0 rest) res
 abbrev pub is_first_options : Headers → Bool
 is_first_options headers = headers.len == 40 && headers.protocol.0 == hop_by_hop_options
 
--- a jumbo payload length next to a payload length; a fragment of a jumbogram (RFC 2675, section 3)
+-- the errors of RFC 2675, section 3: a jumbo payload option in a packet whose payload length is not 0, and a fragment header in a jumbogram
 abbrev pub jumbogram_refusal : Headers → List ℕ → Option IpError
 jumbogram_refusal headers header = first_of (
     refused_if (not (headers.payload_len == 0) && (is_first_options headers && is_some (jumbo_payload_len header)))
@@ -223,7 +224,7 @@ jumbogram_refusal headers header = first_of (
     ∷ refused_if (headers.is_jumbogram && headers.protocol.0 == fragment) (JumboPayloadFragment headers.len)
     ∷ [])
 
--- the next extension header is cut off, or has an error that concerns a jumbogram
+-- the errors of the next extension header: it is cut off, or it breaks RFC 2675, section 3
 abbrev pub extension_refusal : Headers → List ℕ → Option IpError
 extension_refusal headers rest = first_of (
     refused_if (nat_lt (length rest) 8) (ExtensionHeaderCutOff headers.protocol headers.len 8 (length rest))
@@ -232,7 +233,7 @@ extension_refusal headers rest = first_of (
     ∷ jumbogram_refusal headers (extension_header headers rest)
     ∷ [])
 
--- addresses with this extension header after the other headers
+-- the addresses after one more extension header of this number
 abbrev pub with_header : Addresses → ℕ → List ℕ → Addresses
 with_header (Ipv4 source destination) number header = Ipv4 source destination
 with_header (Ipv6 source destination) number header = Ipv6 (source_after source number header) (destination_after destination number header)
@@ -241,8 +242,8 @@ with_header (Ipv6 source destination) number header = Ipv6 (source_after source 
 abbrev pub addresses_after : Headers → List ℕ → Addresses
 addresses_after headers header = with_header headers.addresses headers.protocol.0 header
 
--- the contents of the headers with an extension header after them. The bytes after the header of a later fragment are
--- no header, since they are from the middle of a packet. Over IPv4 no extension header follows the first.
+-- The contents of the headers after one more extension header. No header follows the fragment header of a later fragment, since the bytes
+-- after it are from the middle of a packet. Over IPv4 no second extension header follows.
 abbrev pub headers_after : Headers → List ℕ → Headers
 headers_after headers header = record {
   addresses = addresses_after headers header;
@@ -262,7 +263,7 @@ abbrev pub unless_refused : {T E : Type 0} → Option E → Result T E → Resul
 unless_refused (Some error) result = Err error
 unless_refused None result = result
 
--- the contents of the headers with all extension headers after them, if there are fewer than this number
+-- the contents of the headers after all further extension headers; at most this number of them is read
 unfoldable pub headers_to_transport : ℕ → Headers → List ℕ → Result Headers IpError
 headers_to_transport zero headers bytes = Ok headers
 headers_to_transport (suc more) headers bytes =
@@ -286,8 +287,8 @@ error_of (Err error) = Some error
 abbrev pub is_cut_off : Bool → List ℕ → Bool
 is_cut_off is_length_missing packet = nat_lt (length packet) (counted_len is_length_missing packet)
 
--- the errors, in this order: of an IP header that is cut off, invalid, or without a length; of a packet that is cut
--- off; of an extension header that is cut off or not allowed with a jumbogram
+-- The error that refuses a packet. The errors come in this order: errors of the IP header, which is cut off, invalid or without a length; a
+-- packet that is cut off; errors of the extension headers.
 abbrev pub refusal : List ℕ → Option IpError
 refusal packet = first_of (
     strict_header_refusal packet
@@ -295,11 +296,11 @@ refusal packet = first_of (
     ∷ error_of (headers_of false packet)
     ∷ [])
 
--- the same, without the errors for a header that states no length and for a packet that is cut off
+-- the error that refuses a packet in the lax call, which accepts a header without a length and a packet that is cut off
 abbrev pub lax_refusal : List ℕ → Option IpError
 lax_refusal packet = first_of (header_refusal packet ∷ error_of (headers_of (lacks_len packet) packet) ∷ [])
 
--- the transport of a packet: the contents of its headers, and the counted bytes after them
+-- the transport of a packet, from the contents of its headers and from the counted bytes after them
 pub record Carries (packet : List ℕ) (transport : TransportInIp) : Type 0 where
   pub headers : Headers
   pub read : headers_of transport.is_length_missing packet ≡ Ok headers
@@ -322,11 +323,12 @@ abbrev pub after_ipv4_header : Bool → List ℕ → List ℕ
 after_ipv4_header is_length_missing packet =
     drop (ipv4_header_len packet) (if is_length_missing then packet else take (total_len packet) packet)
 
--- the protocol number of an IPv4 packet, by its header and the bytes after it; an authentication header names the number if there is one
+-- The protocol number of an IPv4 packet, from its header and the bytes after it. If there is an authentication header, the number is in
+-- that header.
 abbrev pub ipv4_protocol : List ℕ → List ℕ → ℕ
 ipv4_protocol header after = if has_authentication header then next_number after else slice_index header 9
 
--- the payload of an IPv4 packet by its header and the bytes after it
+-- the payload of an IPv4 packet, from its header and the bytes after it
 abbrev pub ipv4_payload : List ℕ → List ℕ → List ℕ
 ipv4_payload header after = if has_authentication header then drop (extension_len authentication after) after else after
 
@@ -351,7 +353,7 @@ pub record IsOverIpv6 (packet : List ℕ) (transport : TransportInIp) : Type 0 w
   pub payload : transport.payload.now ≡ drop 40 (if transport.is_length_missing then packet else take (40 + payload_len packet) packet)
   pub header_len : transport.header_len ≡ 40
 
--- the bytes after the bytes that the IP header counts
+-- the bytes of a packet after the bytes that the IP header counts
 abbrev pub padding : Bool → List ℕ → List ℕ
 padding is_length_missing packet = drop (counted_len is_length_missing packet) packet
 
@@ -361,7 +363,7 @@ padding is_length_missing packet = drop (counted_len is_length_missing packet) p
 abbrev pub ip_header : List ℕ → List ℕ
 ip_header packet = if version packet == 4 then ipv4_header packet else ipv6_header packet
 
--- the number that the IP header names for the bytes after it
+-- the number of the header or protocol after the IP header
 abbrev pub first_number : List ℕ → ℕ
 first_number packet = if version packet == 4 then slice_index (ipv4_header packet) 9 else next_header packet
 
@@ -391,7 +393,8 @@ abbrev pub has_fragment_offset : List ℕ → List ExtensionHeader → Bool
 has_fragment_offset packet extensions =
     if version packet == 4 then not (ipv4_fragment_offset (ipv4_header packet) == 0) else is_later_fragment_by extensions
 
--- this transport is the only reading of the packet; the options of extension headers follow one another
+-- The packet consists of its headers and the payload of this transport, and no other transport fits the packet. Options in the extension
+-- headers follow one another.
 pub record IsAfterHeaders (packet : List ℕ) (transport : TransportInIp) : Type 0 where
   pub extensions : List ExtensionHeader
   pub reads : Reads transport.is_length_missing packet extensions transport.protocol.0 transport.payload.now

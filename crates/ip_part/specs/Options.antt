@@ -7,8 +7,8 @@ use Rattle.net_base.specs.Bytes.{be_number}
 
 -- ---- sequences of options
 
--- the option at the front of the options of an IPv4 header. Kind 0 ends the list, and kind 1 is one byte. In any other option the
--- second byte is the length of the option (RFC 791, section 3.1). None at the end, and if that length is impossible.
+-- The option at the front of the options of an IPv4 header. Kind 0 ends the list, and an option of kind 1 has one byte. In any other option
+-- the second byte is the length of the option (RFC 791, section 3.1). None at the end of the list, or if the length is impossible.
 abbrev pub ipv4_option : List ℕ → Option (List ℕ)
 ipv4_option bytes =
     if length bytes == 0 || slice_index bytes 0 == 0 then None
@@ -16,8 +16,8 @@ ipv4_option bytes =
     else if nat_lt (length bytes) 2 || (nat_lt (slice_index bytes 1) 2 || nat_lt (length bytes) (slice_index bytes 1)) then None
     else Some (take (slice_index bytes 1) bytes)
 
--- the option at the front of the options of an extension header. Type 0 is one byte. In any other option the second
--- byte is the length of its data (RFC 8200, section 4.2). None at the end, and if that length goes beyond it.
+-- The option at the front of the options of an extension header. An option of type 0 has one byte. In any other option the second byte is
+-- the length of its data (RFC 8200, section 4.2). None at the end of the options, or if the data would go beyond the end.
 abbrev pub ipv6_option : List ℕ → Option (List ℕ)
 ipv6_option bytes =
     if length bytes == 0 then None
@@ -31,17 +31,17 @@ AreOptions front bytes [] = front bytes ≡ None
 AreOptions front bytes (option ∷ options) =
     (rest : List ℕ) × (bytes ≡ option ++ rest) × (front bytes ≡ Some option) × AreOptions front rest options
 
--- the first option and others after it, or none
+-- a first option and then the options of the rest; without a first option there are no options
 abbrev pub with_first : Option (List ℕ) → (List ℕ → List (List ℕ)) → List (List ℕ)
 with_first None others = []
 with_first (Some option) others = option ∷ others option
 
--- the options in the bytes, if there are fewer than this number
+-- the options in the bytes, at most this number of them
 unfoldable pub options_within : (List ℕ → Option (List ℕ)) → ℕ → List ℕ → List (List ℕ)
 options_within front zero bytes = []
 options_within front (suc more) bytes = with_first (front bytes) (λ option. options_within front more (drop (length option) bytes))
 
--- the options in the bytes; each is at least one byte long
+-- the options in the bytes; their number is at most the number of bytes
 abbrev pub options_of : (List ℕ → Option (List ℕ)) → List ℕ → List (List ℕ)
 options_of front bytes = options_within front (suc (length bytes)) bytes
 
@@ -62,7 +62,8 @@ is_route_left route =
     && (slice_index route 2 % 4 == 0
     && not (nat_lt (length route) (slice_index route 2)))))
 
--- the final destination by a source route: its last address, if it has an address left (RFC 1122, section 3.2.1.8)
+-- The final destination, for a packet with or without a source route. If the route has an address left, this is its last address (RFC 1122,
+-- section 3.2.1.8). Otherwise it is the destination in the header.
 abbrev pub routed : List ℕ → Option (List ℕ) → List ℕ
 routed destination None = destination
 routed destination (Some route) = if is_route_left route then slice_range route (length route - 4) (length route) else destination
@@ -77,16 +78,18 @@ ipv4_destination_by destination options = routed destination (find is_source_rou
 abbrev pub is_ipv6_option : ℕ → ℕ → List ℕ → Bool
 is_ipv6_option kind len option = slice_index option 0 == kind && length option == 2 + len
 
--- the first such option of an extension header; its options come after its first two bytes (RFC 8200, sections 4.3 and 4.6)
+-- the first option of an extension header with this type and this length; the options come after the first two bytes (RFC 8200, sections
+-- 4.3 and 4.6)
 abbrev pub ipv6_option_of : ℕ → ℕ → List ℕ → Option (List ℕ)
 ipv6_option_of kind len header = find (is_ipv6_option kind len) (options_of ipv6_option (drop 2 header))
 
--- the source with one more option. A home address option is option 0xC9 with 16 bytes of data. It contains the home
--- address of a mobile node, instead of its current address (RFC 6275, section 6.3).
+-- The source after one more option. A home address option, 0xC9 with 16 bytes of data, replaces the source by the home address of a mobile
+-- node (RFC 6275, section 6.3). Any other option changes nothing.
 abbrev pub home_address_or : List ℕ → List ℕ → List ℕ
 home_address_or source option = if is_ipv6_option 0xC9 16 option then slice_range option 2 18 else source
 
--- The source with the options of an extension header. The last home address counts. RFC 6275, section 6.3, allows only one.
+-- The source after the options of an extension header. If there are several home addresses, the last one counts. RFC 6275, section 6.3,
+-- allows only one.
 abbrev pub home_address_after : List ℕ → List ℕ → List ℕ
 home_address_after source header = fold home_address_or source (options_of ipv6_option (drop 2 header))
 

@@ -144,7 +144,7 @@ pub(crate) fn extension_len(protocol: IpNumber, rest: &[u8]) -> usize
     }
 }
 
-/// The contents of the headers with this extension header after them.
+/// The contents of the headers after this further extension header.
 #[inline(always)]
 fn headers_after<'a>(headers: &Headers<'a>, header: &'a [u8]) -> Headers<'a>
     requires whole { length header.now ≡ extension_len headers.now.protocol.0 header.now }
@@ -195,7 +195,7 @@ fn has_more_fragments(number: IpNumber, header: &[u8]) -> bool
     number == ip_number::IPV6_FRAGMENTATION_HEADER && header[3] & 1 != 0
 }
 
-/// The addresses with this extension header after the headers.
+/// The addresses after this further extension header.
 #[inline(always)]
 fn addresses_after<'a>(headers: &Headers<'a>, header: &'a [u8]) -> IpAddresses<'a>
     requires whole { length header.now ≡ extension_len headers.now.protocol.0 header.now }
@@ -214,7 +214,7 @@ fn addresses_after<'a>(headers: &Headers<'a>, header: &'a [u8]) -> IpAddresses<'
     }
 }
 
-/// The source with this extension header after the headers.
+/// The source after this further extension header.
 #[inline(always)]
 fn source_after<'a>(source: &'a [u8; 16], number: IpNumber, header: &'a [u8]) -> &'a [u8; 16]
     requires { 8 ≤ length header.now }
@@ -226,7 +226,7 @@ fn source_after<'a>(source: &'a [u8; 16], number: IpNumber, header: &'a [u8]) ->
     home_address_after(source, header)
 }
 
-/// The final destination with this extension header after the headers.
+/// The final destination after this further extension header.
 #[inline(always)]
 fn destination_after<'a>(
     destination: Option<&'a [u8; 16]>,

@@ -41,8 +41,8 @@ pub enum FixedHeader<'a> {
     Ipv4 {
         /// The address of the sender: bytes 12 to 15.
         source: &'a [u8; 4],
-        /// The address of the receiver: bytes 16 to 19. Under a source route with an address left it is not the final address, which a
-        /// checksum covers (RFC 1122, section 3.2.1.8).
+        /// The address of the receiver: bytes 16 to 19. A checksum covers the final address. If a source route has an address left, the
+        /// final address is another one (RFC 1122, section 3.2.1.8).
         destination: &'a [u8; 4],
         /// The number of hops that are left: byte 8.
         time_to_live: u8,
@@ -53,7 +53,7 @@ pub enum FixedHeader<'a> {
     Ipv6 {
         /// The address of the sender: bytes 8 to 23. A mobile node may have another home address (RFC 6275, section 9.3.1).
         source: &'a [u8; 16],
-        /// The address of the receiver: bytes 24 to 39. With a routing header it may not be the final address, which a checksum covers
+        /// The address of the receiver: bytes 24 to 39. A checksum covers the final address, which can differ if there is a routing header
         /// (RFC 8200, section 8.1).
         destination: &'a [u8; 16],
         /// The number of hops that are left: byte 7.

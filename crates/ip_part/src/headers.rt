@@ -16,8 +16,8 @@ pub(crate) struct Headers<'a> {
     pub is_fragment: bool,
     /// The fragment offset is above 0: the bytes after the headers are from the middle of a packet.
     pub is_later_fragment: bool,
-    /// An extension header may come next. Over IPv6 any may come, except in a later fragment. Over IPv4 an
-    /// authentication header comes, directly after the IPv4 header.
+    /// An extension header may come next. Over IPv6 this can be any extension header, except in a later fragment. Over IPv4 only an
+    /// authentication header may come, directly after the IPv4 header.
     pub may_be_extended: bool,
     /// The payload length of an IPv6 header (RFC 8200, section 3), or 0 over IPv4.
     pub payload_len: usize,

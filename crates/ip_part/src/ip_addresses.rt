@@ -1,4 +1,4 @@
-/// The addresses of an IP packet, as its transport's checksum covers them. They are bytes of the packet.
+/// The addresses of an IP packet that the checksum of its transport covers. They are references to bytes of the packet.
 ///
 /// ```
 /// use etherparse_transport::ip::{IpAddresses, transport_in_ip};
@@ -23,8 +23,8 @@ pub enum IpAddresses<'a> {
         /// The address of the sender: the home address of a mobile node if the destination options contain one (RFC
         /// 6275, section 9.3.1), otherwise the address in the header.
         source: &'a [u8; 16],
-        /// The address of the final receiver (RFC 8200, section 8.1). `None` if a routing header with segments left
-        /// does not give the last address in a known way.
+        /// The address of the final receiver (RFC 8200, section 8.1). `None` if a routing header with segments left is of an unknown type,
+        /// or contains no address.
         destination: Option<&'a [u8; 16]>,
     },
 }

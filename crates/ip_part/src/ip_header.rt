@@ -28,8 +28,8 @@ pub(crate) const IPV6_LEN: usize = Ipv6Header::LEN;
 /// The longest payload that the payload length of IPv6 can count (RFC 2675, section 2).
 const MAX_PAYLOAD_LEN: usize = 65_535;
 
-/// Reads the IP header and the number of bytes that it counts, header included. A header without a length is refused
-/// if it must state one, and otherwise counts its own bytes.
+/// Reads the IP header and the number of bytes that it counts, header included. If a header states no length, it is refused if it must
+/// state one. Otherwise it counts only its own bytes.
 #[inline(always)]
 pub(crate) fn read_ip_header_with_len(packet: &[u8]) -> Result<(Headers<'_>, usize), IpError>
     ensures refused { RefusesExactly result (strict_header_refusal packet.now) }
@@ -48,7 +48,7 @@ pub(crate) fn read_ip_header_with_len(packet: &[u8]) -> Result<(Headers<'_>, usi
     }
 }
 
-/// The number of bytes that an IPv6 header counts if it states no length: its own.
+/// The number of bytes that an IPv6 header counts if it states no length, which is its own length.
 fn len_of_header(headers: &Headers<'_>) -> Result<usize, IpError>
     requires { is_ipv6 (by_value headers.now.addresses) ≡ true }
     ensures refused { RefusesExactly result (missing_len_refusal (headers_by_value headers.now)) }
@@ -113,7 +113,7 @@ fn total_len(header: &[u8]) -> u16
     u16::from_be_bytes([header[2], header[3]])
 }
 
-/// Whether an IPv4 header belongs to a fragment that is not a whole packet: more fragments follow, or its offset is above 0.
+/// Whether the packet with this IPv4 header is one of several fragments: more fragments follow, or its offset is above 0.
 #[inline(always)]
 fn is_fragment(header: &[u8]) -> bool
     requires { 20 ≤ length header.now }

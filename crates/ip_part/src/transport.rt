@@ -30,12 +30,13 @@ pub struct TransportInIp<'a> {
     pub addresses: IpAddresses<'a>,
     /// The protocol of the payload.
     pub protocol: IpNumber,
-    /// The bytes after all headers that the IP header counts. If a length is stated, they exclude the padding.
+    /// The bytes after all headers, up to the end that the IP header states. Padding is not part of the payload. If the IP header states no
+    /// length, these are all bytes after the headers.
     pub payload: &'a [u8],
     /// The start of the payload, in bytes from the start of the packet: the length of all headers.
     pub payload_offset: usize,
-    /// The payload is only a part of the packet's payload: more fragments follow, or its offset is above 0. A checksum over the
-    /// whole payload can't be checked then. A packet with a fragment header for which neither is true is whole (RFC 6946).
+    /// The payload is only a part of the payload of the original packet: more fragments follow, or the fragment offset is above 0. Then its
+    /// checksum can't be checked. A fragment header for which neither is true belongs to a whole packet (RFC 6946).
     pub is_fragment: bool,
     /// The payload is a later fragment: its fragment offset is above 0. Then its first bytes are from the middle of a
     /// packet, not a transport header.

@@ -98,7 +98,7 @@ impl<'a> TransportSlice<'a> {
     }
 
     /// The packet that an ICMP error is about, from its IP header on, as far as the error contains it. None if this is not an ICMP error.
-    /// `ip::transport_in_ip_lax` reads the quoted packet, of which usually only the beginning is there.
+    /// `ip::transport_in_ip_lax` reads the quoted packet, which usually is not complete.
     pub fn quoted_packet(&self) -> Option<&'a [u8]>
         ensures { option_map (λ packet. packet.now) result ≡ quoted_by self.now }
     {

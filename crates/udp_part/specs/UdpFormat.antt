@@ -15,7 +15,7 @@ use Rattle.udp_part.specs.declared.udp_header.UdpHeader.{UdpHeader}
 
 -- ---- accepted bytes
 
--- eight bytes, each bit of which has a meaning
+-- a header of eight bytes without reserved bits
 abbrev pub layout : HeaderLayout
 layout = record { header_len = 8; masks = replicate 8 0xff }
 

@@ -376,7 +376,7 @@ pub static PACKETS: [Row; 46] = [
     ], &[
         (10, &[0x34, 0x6F]), (16, &[0x0A, 0, 0, 2]), (22, &[0, 0, 0x13, 0x88]),
     ]),
-    // GRE, of which only the address is replaced
+    // GRE: only the address is replaced
     (ADDRESS, OTHER, &[
         0x45, 0, 0, 0x20, 0x12, 0x34, 0, 0, 0x40, 0x2F, 0x34, 0x3D, 0x0A, 0, 0, 2, 0xC6, 0x33, 0x64, 9, 0, 0, 8, 0, 0, 1, 2, 3,
         4, 5, 6, 7,

@@ -207,7 +207,7 @@ pub static PACKETS: [Row; 25] = [
     ], &[
         (8, &[0x20, 1, 0x0D, 0xB8, 0, 1]), (23, &[7]), (42, &[0x87, 0xF5, 0x9C, 0x40]),
     ]),
-    // GRE, of which only the address is replaced
+    // GRE: only the address is replaced
     (ADDRESS, OTHER, &[
         0x60, 1, 0x23, 0x45, 0, 8, 0x2F, 0x40, 0xFD, 0, 0, 0, 0, 0, 0, 0, 0, 0, 0, 0, 0, 0, 0, 2, 0x20, 1, 0x0D, 0xB8, 0, 2, 0,
         0, 0, 0, 0, 0, 0, 0, 0, 9, 0, 0, 8, 0, 0, 0, 0, 0,

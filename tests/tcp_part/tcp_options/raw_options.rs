@@ -1,4 +1,5 @@
-//! Options of every kind, known or not: worked rows, and every kind and length byte beside a plain function of what stands there.
+//! Options of every kind, known or not. There are worked rows, and a sweep over every kind and length byte, which is compared with a plain
+//! function.
 
 use super::TcpOptionElement::{
     MaximumSegmentSize, Noop, SelectiveAcknowledgement, SelectiveAcknowledgementPermitted,

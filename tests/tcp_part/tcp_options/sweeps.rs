@@ -1,5 +1,5 @@
-//! Reads TCP headers of every small length, data offset and byte 12, and options of every kind and size. Compares the results with plain
-//! functions, which were written from the format tables.
+//! Reads TCP headers with every small length and data offset, with every byte 12, and with options of every kind and size. Compares the
+//! results with plain functions. These functions were written from the format tables, not from the library.
 
 use super::TcpOptionElement::{
     MaximumSegmentSize, Noop, SelectiveAcknowledgement, SelectiveAcknowledgementPermitted,
@@ -65,7 +65,7 @@ fn has_fields(header: &TcpHeader, ns: bool, options: &[u8]) -> bool {
         && header.options() == options
 }
 
-/// Tests that both calls, and the struct of the bytes, read the same header, and that it is written as it was read.
+/// Tests that both calls and the slice struct read the same header, and that writing it returns the bytes that were read.
 fn expect_accepted(rt: &impl Abort, slice: &[u8], header_len: usize) {
     let (front, after) = expect_some(rt, slice.split_at_checked(header_len));
     let (header, rest) = expect_ok(rt, TcpHeader::from_slice(slice));
@@ -116,7 +116,7 @@ fn expect_error(
     expect_at(rt, key, &expect_some(rt, error), expected);
 }
 
-/// The numbers of slices with each result: too short, a data offset that is too small, cut off, and accepted.
+/// How many slices had each result. The results are: too short, a data offset that is too small, cut off, and accepted.
 type Counts = (usize, usize, usize, usize);
 
 /// Returns the counts after a slice of this length with this result.
@@ -275,7 +275,7 @@ fn every_option_kind_and_size_is_read_or_refused(rt: HostRuntime) {
 #[rattlefmt::skip]
 static WHOLE: [(u8, u8); 8] = [(2, 4), (3, 3), (4, 2), (5, 10), (5, 18), (5, 26), (5, 34), (8, 10)];
 
-/// Tests an option that is cut off after `len` bytes. An option of kind 5 requires two bytes, and then as many as its size.
+/// Tests an option that is cut off after `len` bytes. For kind 5 the error first requires two bytes, and then the size of the option.
 fn expect_cut_off(rt: &impl Abort, kind: u8, size: u8, len: usize) {
     let mut bytes = [0; 40];
     bytes[0] = kind;

@@ -1,5 +1,5 @@
-//! Replaces parts of packets of every small length in chains, and updates their checksums. Compares the results with sums of the changed
-//! packets.
+//! Replaces parts of a packet several times, and updates its checksum each time. This is done for packets of every small length. The result
+//! is compared with the checksum of the changed packet.
 
 use crate::expect::{bytes_to, expect_at, expect_equal, expect_ok, expect_some};
 use etherparse_transport::checksum::Sum16BitWords;
@@ -38,7 +38,7 @@ impl Numbers {
     }
 }
 
-/// A packet after some replacements, the change by these replacements, and the UDP checksum that was updated after each of them.
+/// A packet after some replacements, the change by these replacements, and the UDP checksum that each of them updated.
 #[derive(Drop)]
 struct Chain {
     packet: Vec<u8>,

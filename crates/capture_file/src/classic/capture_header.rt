@@ -22,7 +22,7 @@ pub struct CaptureHeader {
 /// The magic number of the modified format of older Linux systems (libpcap's `KUZNETZOV_TCPDUMP_MAGIC`).
 const MODIFIED_MAGIC: u32 = 0xA1B2_CD34;
 
-/// The major version that is read, and its least minor version (draft-ietf-opsawg-pcap, section 4).
+/// The major version that is read, and the least minor version that is read (draft-ietf-opsawg-pcap, section 4).
 const MAJOR_VERSION: u16 = 2;
 
 const LEAST_MINOR_VERSION: u16 = 4;
@@ -47,7 +47,8 @@ impl CaptureHeader {
         CaptureHeader::from_slice(bytes)
     }
 
-    /// Reads a header as `from_bytes` does, or the first bytes of a header that is cut off, which are refused with `CutOff` or `Pcapng`.
+    /// Reads a header as `from_bytes` does. If there are fewer than 24 bytes, the error is `CutOff`, or `Pcapng` if they begin a pcapng
+    /// file.
     pub(crate) fn from_slice(bytes: &[u8]) -> Result<CaptureHeader, CaptureHeaderError>
         ensures refused { RefusesExactly result (header_refusal bytes.now) }
         ensures read { IfOk result (IsHeaderOf bytes.now) }
@@ -76,7 +77,7 @@ impl CaptureHeader {
     }
 }
 
-/// The error for the first four bytes of a file, if they are no magic number that is read.
+/// The error for a file whose first four bytes are not a magic number that is read.
 fn magic_error(bytes: &[u8]) -> CaptureHeaderError
     requires { 4 ≤ length bytes.now }
     ensures { result ≡ magic_error bytes.now }

@@ -10,7 +10,8 @@ use crate::pcapng::MIN_BLOCK_LEN;
 use std::io::{self, Read};
 use streams::{fill, fill_after, skip};
 
-/// The maximum captured length of a record that libpcap writes, in bytes (`MAXIMUM_SNAPLEN`). A buffer of this length has room for any.
+/// The maximum captured length of a record that libpcap writes, in bytes (`MAXIMUM_SNAPLEN`). A buffer of this length has room for any such
+/// record.
 pub const MAX_CAPTURED_LEN: usize = 262_144;
 
 /// The next item in a capture.
@@ -31,7 +32,7 @@ pub enum NextRecord {
     },
 }
 
-/// Reads the header of a capture. The inner result is the header, or the error that refuses it. Then at most 24 bytes were read.
+/// Reads the header of a capture. The inner result is the header, or the error that refuses it. At most 24 bytes are read.
 ///
 /// # Errors
 ///
@@ -64,7 +65,8 @@ pub(crate) fn read_header_after<R: Read>(
 
 /// Reads the next record of a capture, and its captured bytes into the buffer. `order` is the byte order of the numbers in the capture.
 ///
-/// A record without room in the buffer is skipped, so that the next record can be read. See `MAX_CAPTURED_LEN` for the room that suffices.
+/// A record without room in the buffer is skipped, so that the next record can be read. A buffer of `MAX_CAPTURED_LEN` bytes has room for
+/// every record that libpcap writes.
 ///
 /// # Errors
 ///

@@ -45,12 +45,13 @@ impl RecordHeader {
 pub enum Resolution {
     /// A millionth of a second.
     Microseconds,
-    /// A thousand millionth of a second.
+    /// A billionth of a second.
     Nanoseconds,
 }
 
 impl Resolution {
-    /// The resolution of captures with this magic number, if it is one of the classic format (draft-ietf-opsawg-pcap, section 4).
+    /// The resolution of captures with this magic number. `None` if it is not a magic number of the classic format (draft-ietf-opsawg-pcap,
+    /// section 4).
     pub fn from_magic(magic: u32) -> Option<Resolution>
         ensures { result ≡ resolution_with magic }
     {

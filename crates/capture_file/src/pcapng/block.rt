@@ -23,7 +23,8 @@ pub struct Block<'a> {
 }
 
 impl<'a> Block<'a> {
-    /// The block at the front of these bytes, in a section with this byte order, and the rest. The first block of a file needs no order.
+    /// The block at the front of these bytes, and the rest. `section` is the byte order of the section. For the first block of a file any
+    /// byte order works.
     ///
     /// # Errors
     ///

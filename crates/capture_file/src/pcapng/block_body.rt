@@ -111,7 +111,8 @@ impl<'a> PacketBlock<'a> {
     ///
     /// # Errors
     ///
-    /// In this order: `CutOff` below 20 bytes, `Interface` if it does not exist, and `CutOff` below the captured bytes of the block.
+    /// In this order: `CutOff` if there are fewer than 20 bytes, `Interface` if the section has no such interface, and `CutOff` if the body
+    /// contains fewer captured bytes than its captured length.
     pub fn from_enhanced(
         order: ByteOrder,
         interfaces: &[InterfaceDescription],
@@ -146,7 +147,8 @@ impl<'a> PacketBlock<'a> {
         timed_packet(order, interface, interfaces.len(), body)
     }
 
-    /// Reads the body of a simple packet block (section 4.4). Its packet is of the first interface, whose snap length limits its bytes.
+    /// Reads the body of a simple packet block (section 4.4). The packet was captured on the first interface. The snap length of this
+    /// interface limits the captured bytes.
     ///
     /// # Errors
     ///

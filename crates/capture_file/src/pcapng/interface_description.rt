@@ -16,7 +16,7 @@ const IF_TSOFFSET: u16 = 14;
 /// An interface description block (draft-ietf-opsawg-pcapng, section 4.2). The interfaces of a section are numbered from 0 in their order.
 #[derive(Clone, Copy, Debug, Default, PartialEq, Eq)]
 pub struct InterfaceDescription {
-    /// The number of the link type of the packets. `LinkType::from_number` returns it if it is read.
+    /// The number of the link type of the packets. `LinkType::from_number` returns the link type if it is one that is read.
     pub link_type: u16,
     /// The maximum number of captured bytes of a packet, or 0 if there is no such limit.
     pub snap_len: u32,
@@ -30,7 +30,7 @@ impl InterfaceDescription {
     /// The length of the body without options, in bytes: link type, two reserved bytes, and snap length.
     pub const LEN: usize = INTERFACE_DESCRIPTION_LEN;
 
-    /// Reads the body of an interface description block. If several options have the same code and length, the first option counts.
+    /// Reads the body of an interface description block. If several options have the same code and length, only the first one is used.
     ///
     /// # Errors
     ///

@@ -40,7 +40,7 @@ pub fn read_block<R: Read>(
     read_rest(input, section, &first[..len], buffer)
 }
 
-/// Reads the bytes after the first bytes of a block, unless the input ends within the first bytes.
+/// Reads the rest of a block. The first bytes of the block were read before. If the input ends within them, nothing is read.
 pub(crate) fn read_rest<R: Read>(
     input: &mut R,
     section: ByteOrder,
@@ -69,7 +69,7 @@ pub(crate) fn read_rest<R: Read>(
     }
 }
 
-/// Skips the bytes after the first bytes of a block without room in the buffer.
+/// Skips the rest of a block for which the buffer has no room. The first bytes of the block were read before.
 fn pass_over<R: Read>(
     input: &mut R,
     section: ByteOrder,

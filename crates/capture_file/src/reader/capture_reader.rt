@@ -22,8 +22,8 @@ pub enum CaptureReader {
 }
 
 impl CaptureReader {
-    /// Reads the header of a classic capture, or the first block of a pcapng file. It uses the buffer for the block. The inner error is the
-    /// reason why the input is refused.
+    /// Reads the header of a classic capture, or the first block of a pcapng file. The block is read into the buffer. If the input is not a
+    /// capture that is read, the inner error is the reason.
     ///
     /// # Errors
     ///
@@ -60,7 +60,7 @@ impl CaptureReader {
     ) -> io::Result<NextPacket>
         ensures reads { IfOk result (ReadsPacket self.old (R.remaining input.old) (R.remaining input.new) self.new buffer.new) }
         ensures within { IfOk result (IsNextWithin (length buffer.new)) }
-        // After an error, or if the next packet is cut off, the reader is at the start of the record or block of this packet.
+        // If reading fails or the next packet is cut off, the reader stays at the start of the record or block of this packet.
         ensures fails { OnErr result (FailsToRead (length buffer.old) self.old (R.remaining input.old) (R.remaining input.new) self.new) }
         ensures cut_off { IfOk result (λ next. IfCutOff next (Seeks (length buffer.new) self.old (R.remaining input.old) self.new)) }
     {

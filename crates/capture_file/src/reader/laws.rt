@@ -7,8 +7,8 @@ ghost use Rattle.capture_file.specs.Places.{OffsetsArePlaces};
 ghost use Rattle.capture_file.specs.Readers.{LeavesOneReader};
 ghost use Rattle.capture_file.specs.declared.reader.capture_reader.CaptureReader.{CaptureReader};
 
-/// Any bytes after the beginning of a capture contain exactly one list of packets, and then the item that ends the list. If the bytes begin
-/// with some packets, these are the first packets of the list.
+/// Any bytes after the beginning of a capture contain exactly one list of packets, and then one item that ends the list. Reading some
+/// packets from the bytes gives the first packets of this list.
 pub fn one_list()
     ensures exists { (room : ℕ) (reader : CaptureReader) (bytes : List ℕ) → Exist (HasPackets room reader bytes) }
     ensures unique { (room : ℕ) (reader : CaptureReader) (bytes : List ℕ) → AreUnique (HasPackets room reader bytes) }
@@ -32,8 +32,8 @@ pub fn places()
     ensures { (room : ℕ) (file : List ℕ) → length file < 2 ^ 64 → OffsetsArePlaces room file }
 {}
 
-/// The bytes of some packets determine the reader after these packets, and the reader after the item that ends the packets. This reader
-/// contains the interfaces, the texts and the number of packets with a comment that were read before that place.
+/// The bytes of a capture determine the reader after any number of its packets, and the reader after the item that ends the packets. The
+/// reader contains the interfaces, the texts, and the number of packets with a comment.
 pub fn one_reader()
     ensures { (room : ℕ) (reader : CaptureReader) (bytes : List ℕ) → LeavesOneReader room reader bytes }
 {}

@@ -1,16 +1,16 @@
 use crate::reader::{CapturedPacket, PlacedPacketError};
 use crate::{LinkType, PacketTime};
 
-/// The next item of a capture, in one form for both forms of files.
+/// The next item of a capture. Both file formats have this form here.
 #[derive(Clone, Copy, Debug, PartialEq, Eq)]
 pub enum NextPacket {
-    /// A packet. Its captured bytes are in the buffer, from its `start` on.
+    /// A packet. Its captured bytes begin at the place `start` of the buffer.
     Whole(CapturedPacket),
     /// A packet that is longer than the buffer. It was skipped.
     TooLong(TooLongPacket),
     /// The end of the capture.
     End,
-    /// The first bytes of a record or block. The capture ends within it.
+    /// A record or block that is incomplete, since the capture ends within it.
     CutOff {
         /// The length of the record or block in bytes. It is a lower bound if the capture ends before the length field is complete.
         required_len: usize,

@@ -92,8 +92,7 @@ impl PcapngReader {
         Err(io::Error::from(ErrorKind::FileTooLarge))
     }
 
-    /// Reads the next block. The result is `None` if the block contains no packet and is not refused. Then the caller reads the block after
-    /// it.
+    /// Reads one block. The result is `None` if the block contains no packet and is not refused. The caller then reads the next block.
     fn read_step<R: Read>(
         &mut self,
         input: &mut R,
@@ -134,7 +133,8 @@ impl PcapngReader {
     }
 }
 
-/// Returns the next item if the next block is longer than the buffer. It is `None` if the block is skipped, since no packet needs it.
+/// Returns the next item if a block is longer than the buffer. `None` means that the block is skipped: it contains no packet, and no later
+/// packet depends on it.
 fn next_by_too_long(offset: u64, header: BlockHeader) -> Option<NextPacket>
     ensures next { result ≡ next_by_too_long offset header }
     ensures within { (len : ℕ) → IfSome result (IsNextWithin len) }
@@ -162,7 +162,7 @@ fn next_by_too_long(offset: u64, header: BlockHeader) -> Option<NextPacket>
 /// The greatest number of interfaces of a section. A section that describes more interfaces is refused.
 pub const MAX_INTERFACES: usize = 1024;
 
-/// The part of a section of a pcapng file that its packets depend on, up to the next block.
+/// What the blocks read so far state about the current section of a pcapng file. Later packets of the section depend on it.
 #[derive(Clone, Debug, Drop)]
 pub struct Section {
     /// The byte order of the numbers in the section.

@@ -10,7 +10,7 @@ use crate::link::header::{EtherHeader, FirstHeader, expect_len, short_at};
 /// The number of LINKTYPE_C_HDLC. It is the next protocol of a frame with a protocol of Cisco HDLC, which is not read.
 const LINK_TYPE: u16 = 104;
 
-/// An address, a control byte, and the number of a protocol, which is its ether type except for two protocols.
+/// An address, a control byte, and the number of a protocol. The number is an ether type, except for two protocols.
 const CISCO_HDLC: EtherHeader = EtherHeader {
     len: 4,
     ether_type_at: 2,

@@ -18,13 +18,13 @@ const SHORTEST_LEN: usize = 4;
 /// 1.
 const ADDRESS_AND_CONTROL_MASK: u32 = 0x01_01_FF;
 
-/// These bits in a frame with a two-byte address and unnumbered information.
+/// The value of the bits of `ADDRESS_AND_CONTROL_MASK` in a frame with a two-byte address and unnumbered information.
 const UNNUMBERED: u32 = 0x00_01_03;
 
 /// The bits of the first three bytes that identify a two-byte address.
 const ADDRESS_MASK: u32 = 0x01_01_00;
 
-/// These bits in a frame with a two-byte address.
+/// The value of the bits of `ADDRESS_MASK` in a frame with a two-byte address.
 const TWO_BYTE_ADDRESS: u32 = 0x00_01_00;
 
 /// A two-byte address and an ether type, without a control byte, as Cisco's equipment writes them.
@@ -57,8 +57,8 @@ pub(super) fn frame_relay(frame: &[u8]) -> Result<FirstHeader, LinkHeaderCutOff>
     }
 }
 
-/// The header of a frame without the control byte of unnumbered information after a two-byte address: an ether type of IP, or a header that
-/// is not read.
+/// The header of a frame that does not begin with a two-byte address and the control byte of unnumbered information. Such a header is read
+/// only if it contains an ether type of IP.
 fn without_control(frame: &[u8], header: u32) -> FirstHeader
     requires { (4 ≤ length frame.now) × (header ≡ be_number frame.now 0 3) }
     ensures is { result ≡ specs.without_control frame.now }

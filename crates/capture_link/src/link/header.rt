@@ -15,7 +15,8 @@ pub(super) struct LinkHeader {
     pub len: usize,
     /// The next network protocol. `None` is IP.
     pub next: Option<NetworkProtocol>,
-    /// The end of what follows the header, in bytes from the start of the frame, if the header states it. `None` is the end of the frame.
+    /// The end of the bytes after the header, in bytes from the start of the frame. `None` if the header does not state it. Then they end
+    /// with the frame.
     pub end: Option<usize>,
 }
 
@@ -38,8 +39,8 @@ pub(super) enum FirstHeader {
 }
 
 impl FirstHeader {
-    /// The result for a header with an unknown version or a wrong length: what follows the header cannot be found. The next protocol is
-    /// then the number of the link type. `len` counts the bytes that were examined.
+    /// The result for a header with an unknown version or a wrong length, so that what follows it can't be found. The next protocol is the
+    /// number of the link type. `len` is the number of bytes that were examined.
     pub fn unread(len: usize, number: u16) -> FirstHeader
         ensures { result ≡ unread len number }
     {

@@ -28,10 +28,11 @@ const QOS_CONTROL_LEN: usize = 2;
 /// The length of the HT Control field, in bytes.
 const HT_CONTROL_LEN: usize = 4;
 
-/// The bits of the first byte of the Frame Control field for the version, the type, and the absence of data.
+/// The bits of the first byte of the Frame Control field that contain the version and the type, and the bit that marks a frame without
+/// data.
 const KIND_MASK: u8 = 0x4F;
 
-/// These bits of a data frame with data: version 0 and type 2.
+/// The value of the bits of `KIND_MASK` in a data frame with data: version 0 and type 2.
 const DATA: u8 = 0x08;
 
 /// The bit of the subtype of a data frame that is set if a QoS Control field is present.
@@ -115,7 +116,7 @@ fn other_frame(frame: &[u8], place: usize) -> FirstHeader
     })
 }
 
-/// Whether the frame is a data frame with data that is neither encrypted nor followed by more fragments.
+/// Whether the frame is a data frame with data. The data must not be encrypted, and no more fragments may follow.
 fn carries_data(frame: &[u8], place: usize) -> bool
     requires { (place ≤ max_frame_place) × (place + 2 ≤ length frame.now) }
     ensures { result ≡ specs.carries_data frame.now place }
@@ -123,7 +124,7 @@ fn carries_data(frame: &[u8], place: usize) -> bool
     frame[place] & KIND_MASK == DATA && frame[place + 1] & FRAGMENTED_OR_PROTECTED == 0
 }
 
-/// The place of the QoS Control field, or its place if it were present: after three or four addresses.
+/// The place of the QoS Control field, after three or four addresses. If the field is absent, the body begins at this place.
 fn qos_at(frame: &[u8], place: usize) -> usize
     requires { (place ≤ max_frame_place) × (place + 2 ≤ length frame.now) }
     ensures is { result ≡ specs.qos_at frame.now place }
@@ -154,7 +155,7 @@ fn body_at(frame: &[u8], place: usize) -> usize
     }
 }
 
-/// Whether the body is one whole data unit, and neither a later fragment nor several units together.
+/// Whether the body is one whole data unit: not a later fragment, and not several units.
 fn has_whole_unit(frame: &[u8], place: usize) -> bool
     requires { (place ≤ max_frame_place) × (specs.body_at frame.now place ≤ length frame.now) }
     ensures { result ≡ specs.has_whole_unit frame.now place }

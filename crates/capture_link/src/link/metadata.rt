@@ -1,4 +1,4 @@
-//! Headers with metadata, which a system writes before a packet or a frame when it captures it.
+//! Headers with metadata. A system writes such a header before each packet or frame that it captures.
 
 ghost use Rattle.std.specs.Prelude.{◌≡◌, ◌≤◌, IfErr, IfOk, length};
 ghost use Rattle.capture_link.specs.Metadata as specs;
@@ -77,7 +77,7 @@ pub(super) fn ipnet_header(frame: &[u8]) -> Result<FirstHeader, LinkHeaderCutOff
     Ok(with_family(IPNET_LEN, u32::from(frame[1]), is_ip))
 }
 
-/// A whole header of this length with an address family, which is a family of IP or not.
+/// A whole header of this length with this address family, which is a family of IP if `is_ip` is true.
 pub(super) fn with_family(len: usize, family: u32, is_ip: bool) -> FirstHeader
     ensures { result ≡ specs.with_family len family is_ip }
 {
@@ -88,7 +88,7 @@ pub(super) fn with_family(len: usize, family: u32, is_ip: bool) -> FirstHeader
     })
 }
 
-/// The next network protocol with an address family, which is a family of IP or not. `None` is IP.
+/// The next network protocol according to an address family: `None`, which is IP, if `is_ip` is true, otherwise the number of the family.
 pub(super) fn family_protocol(family: u32, is_ip: bool) -> Option<NetworkProtocol>
     ensures { result ≡ specs.family_protocol family is_ip }
 {
@@ -130,7 +130,7 @@ pub(super) fn after_avs(frame: &[u8]) -> Result<FirstHeader, LinkHeaderCutOff>
     by_avs_len(frame, AVS, number_at(ByteOrder::BigEndian, frame, 4))
 }
 
-/// The first header of an IEEE 802.11 frame after a header of AVS of this length, in a frame of the link type with this number.
+/// The first header of an IEEE 802.11 frame after a header of AVS of this length. `number` is the number of the link type.
 fn by_avs_len(frame: &[u8], number: u16, len: u32) -> Result<FirstHeader, LinkHeaderCutOff>
     requires { 8 ≤ length frame.now }
     ensures is { result ≡ specs.by_avs_len frame.now number len }

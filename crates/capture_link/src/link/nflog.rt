@@ -29,10 +29,10 @@ const LINUX_IPV4: u8 = 2;
 
 const LINUX_IPV6: u8 = 10;
 
-/// What an attribute determines.
+/// The result of reading an attribute.
 #[derive(Clone, Copy)]
 enum Attribute {
-    /// The header, whose last attribute this is.
+    /// The header, which ends with this attribute.
     Last(FirstHeader),
     /// The place of the next attribute.
     Other(usize),
@@ -54,7 +54,8 @@ pub(super) fn log_header(frame: &[u8]) -> Result<FirstHeader, LinkHeaderCutOff>
     }
 }
 
-/// The byte order of the attributes. The type of the first attribute has one byte that is 0, which is the most significant byte.
+/// The byte order of the attributes. The type of the first attribute is above 0 and below 256. So one of its two bytes is 0, and it is the
+/// most significant byte.
 fn attribute_order(frame: &[u8]) -> Option<ByteOrder>
     requires { 8 ≤ length frame.now }
     ensures { result ≡ specs.attribute_order frame.now }
@@ -104,7 +105,8 @@ fn attribute_at(order: ByteOrder, frame: &[u8], place: usize) -> Result<Attribut
     Ok(Attribute::Other(end))
 }
 
-/// The header up to the packet in the attribute of this length at this place, and the end of the packet, unless the frame ends before it.
+/// The header up to the packet. The attribute at this place, with this length, contains the packet. If the packet ends within the frame,
+/// the header states this end.
 fn payload_at(frame: &[u8], place: usize, len: u16) -> FirstHeader
     requires { (place + 4 ≤ length frame.now) × (4 ≤ len) }
     ensures is { result ≡ specs.payload_at frame.now place len }

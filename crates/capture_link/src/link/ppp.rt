@@ -91,8 +91,8 @@ pub(super) fn session_at(frame: &[u8], place: usize) -> Result<LinkHeader, LinkH
     }
 }
 
-/// The header up to the packet in a PPPoE payload of this length, in bytes, which begins at this place. If the frame ends before the
-/// payload, the payload ends with the frame.
+/// The header up to the packet in a PPPoE payload. The payload begins at this place and has this length, in bytes. If the frame ends before
+/// the payload does, the payload ends with the frame.
 fn session_payload(
     frame: &[u8],
     place: usize,
@@ -111,8 +111,8 @@ fn session_payload(
     }
 }
 
-/// The header up to the packet in a PPPoE payload, which begins at this place and ends with these bytes of a frame. A payload without a
-/// whole PPP header is not read.
+/// The header up to the packet in a PPPoE payload. The payload begins at this place, and ends where these bytes of a frame end. If it is
+/// too short for its PPP header, it is not read.
 fn whole_payload(bytes: &[u8], place: usize) -> LinkHeader
     requires { place ≤ length bytes.now }
     ensures is { result ≡ specs.in_payload place (length bytes.now) (specs.protocol_at bytes.now place) }
@@ -128,7 +128,7 @@ fn whole_payload(bytes: &[u8], place: usize) -> LinkHeader
     }
 }
 
-/// A PPPoE header that ends at this place, and whose payload is not read. The next protocol is its ether type.
+/// A PPPoE header that ends at this place. Its payload is not read, so that the next protocol is the ether type of a PPPoE session.
 fn unread_session(place: usize) -> LinkHeader
     ensures { result ≡ specs.unread_session place }
 {
