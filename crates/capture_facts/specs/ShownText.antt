@@ -7,7 +7,7 @@ use Rattle.std.specs.Str.{chars, is_utf8}
 use Rattle.capture_words.specs.Numbers.{hex_padded}
 use Rattle.capture_texts.specs.declared.kept_text.KeptText.{KeptText}
 
--- a character; the number of a control character is written in its place, so that no text can end a line or control a terminal
+-- The form in which a character is shown. A control character is shown by its number, so that no text can end a line or control a terminal.
 abbrev pub shown_char : ℕ → List ℕ
 shown_char char = if is_control char then codes "\\x" ++ hex_padded 2 char else encode_utf8 char
 
@@ -15,23 +15,23 @@ shown_char char = if is_control char then codes "\\x" ++ hex_padded 2 char else 
 abbrev pub shown_text : List ℕ → List ℕ
 shown_text text = flat_map shown_char (chars text)
 
--- a byte that is written as it is in the escaped form of a text: a printable character of ASCII, but not a backslash (92)
+-- a byte that the escaped form of a text contains unchanged: a printable character of ASCII other than a backslash (92)
 abbrev pub is_plain : ℕ → Bool
 is_plain byte = is_in_range 32 126 byte && not (byte == 92)
 
--- a byte of a text that is not UTF-8: every other byte is written by its number
+-- the form in which a byte of a text that is not UTF-8 is shown; a byte that is not plain is shown by its number
 abbrev pub escaped_byte : ℕ → List ℕ
 escaped_byte byte = if is_plain byte then byte ∷ [] else codes "\\x" ++ hex_padded 2 byte
 
--- the bytes of a text, which may be no UTF-8
+-- the form in which the bytes of a text are shown, whether the text is UTF-8 or not
 abbrev pub shown_bytes : List ℕ → List ℕ
 shown_bytes bytes = if is_utf8 bytes then shown_text bytes else flat_map escaped_byte bytes
 
--- what follows a text
+-- the mark after a text that was cut
 abbrev pub end_text : Bool → List ℕ
 end_text true = codes "..."
 end_text false = []
 
--- a text, as far as it is kept
+-- the form in which a text is shown, as far as it was kept
 abbrev pub shown_kept : KeptText → List ℕ
 shown_kept text = shown_bytes text.bytes.items ++ end_text text.is_cut

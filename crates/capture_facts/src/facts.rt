@@ -13,9 +13,9 @@ use capture_texts::InterfaceTexts;
 use std::io;
 use std::io::Write;
 
-/// Writes what a capture is, if there is one: the type of its file, its byte order, and the snap length and the time resolution. A pcapng
-/// file has the last two for each interface, and the texts of the section and of each interface. `capture` is the reader of the capture
-/// after its packets. Of a pcapng file it knows the section that was read last, and the interfaces that were described up to there.
+/// Writes the facts of a capture, if there is one: the type of its file, its byte order, its snap length and its time resolution. In a
+/// pcapng file the last two belong to an interface, and there are texts of the section and of each interface. `capture` is the reader of
+/// the capture after its packets. Its section is the last section of a pcapng file, with the interfaces that were described so far.
 ///
 /// # Errors
 ///

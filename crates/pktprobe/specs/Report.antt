@@ -13,22 +13,22 @@ use Rattle.etherparse_transport.specs.Layer.{word_of}
 use Rattle.etherparse_transport.specs.Proto.{Proto}
 use Rattle.etherparse_transport.specs.Proto.TheVariants.{Udp, Tcp, Icmpv4, Icmpv6}
 
--- the answer to an input that is no line of the stated form
+-- the answer if the input is not a line of the stated form
 abbrev pub bad_input : List ℕ × ℕ
 bad_input = (codes "bad input\n", 2)
 
--- `ok`, the header in lower case hex, and how many bytes follow it
+-- the text `ok`, the header in lower case hex, and the number of bytes after the header
 abbrev pub accepted_text : List ℕ → ℕ → List ℕ
 accepted_text header rest_len = codes "ok " ++ encode_lower header ++ codes " " ++ decimal rest_len ++ codes "\n"
 
--- `refused len`, the layer, the length that it requires, and the length that there is; `refused offset` and a data offset that is too
--- small
+-- The text for a refused packet. If its length is refused: `refused len`, the layer, the required length, and the length that is present.
+-- If its data offset is too small: `refused offset` and the data offset.
 abbrev pub refused_text : HeaderSliceError → List ℕ
 refused_text (Len error) =
     codes "refused len " ++ word_of error.layer ++ codes " " ++ decimal error.required_len ++ codes " " ++ decimal error.len ++ codes "\n"
 refused_text (Content (DataOffsetTooSmall data_offset)) = codes "refused offset " ++ decimal data_offset ++ codes "\n"
 
--- a packet is refused by the format's refusal, or accepted with its canonical header
+-- the answer to a packet: its format refuses it with this error, or it is accepted with its canonical header
 abbrev pub decided : Proto → List ℕ → Option HeaderSliceError → List ℕ × ℕ
 decided protocol bytes (Some error) = (refused_text error, 1)
 decided protocol bytes None =
@@ -39,7 +39,7 @@ decided protocol bytes None =
 abbrev pub packet_report : Proto → List ℕ → List ℕ × ℕ
 packet_report protocol bytes = decided protocol bytes (refusal protocol bytes)
 
--- the answer to what the digits stand for, if they are hex digits of either case, an even number of them
+-- The answer to the decoded digits of a packet. If they are not hex digits, or if their number is odd, the input is bad.
 abbrev pub bytes_report : Proto → Result (List ℕ) FromHexError → List ℕ × ℕ
 bytes_report protocol (Ok bytes) = packet_report protocol bytes
 bytes_report protocol (Err error) = bad_input
@@ -49,15 +49,16 @@ abbrev pub request_report : Option (Proto × List ℕ) → List ℕ × ℕ
 request_report (Some request) = bytes_report request.0 (decode_of request.1)
 request_report None = bad_input
 
--- the line of an input: the input, without one line feed at its end
+-- the line of an input; a line feed at the end of the input is left out
 abbrev pub line_of : List ℕ → List ℕ
 line_of input = if ends_with nat_eq input (codes "\n") then take (length input - 1) input else input
 
--- the digits of a line that begins with this word, its space included
+-- the digits of a line that begins with this word; the word ends with a space
 abbrev pub digits_after : List ℕ → Proto → List ℕ → Option (Proto × List ℕ)
 digits_after word protocol line = if starts_with nat_eq line word then Some (protocol, drop (length word) line) else None
 
--- a line begins with the word of a protocol and one space, and the digits are all that comes after these
+-- The protocol and the digits of a line. The line begins with the name of the protocol and one space, and the digits are the rest of the
+-- line.
 abbrev pub request_of : List ℕ → Option (Proto × List ℕ)
 request_of line =
     option_or (digits_after (codes "udp ") Udp line)
@@ -69,12 +70,12 @@ request_of line =
 abbrev pub max_line_len : ℕ
 max_line_len = 8192
 
--- how many bytes of an input decide its answer: those of the longest line, its line feed, and one byte more, with which the line is
--- too long
+-- The number of bytes of an input that decide its answer. They are the longest line, its line feed, and one more byte, which shows that a
+-- line is too long.
 abbrev pub max_input_len : ℕ
 max_input_len = max_line_len + 2
 
--- the answer to a line; one that is too long is of no stated form
+-- the answer to a line; a line that is too long is a bad input
 abbrev pub line_report : List ℕ → List ℕ × ℕ
 line_report line = if nat_lt max_line_len (length line) then bad_input else request_report (request_of line)
 

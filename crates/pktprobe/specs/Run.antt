@@ -1,10 +1,10 @@
--- What one run of the program reads and writes, as far as the bytes of its reader and its writer are known.
+-- What one run of the program reads and writes. If the bytes of its reader or writer are unknown, nothing is stated about them.
 use Rattle.std.specs.Prelude.{◌≡◌, ℕ, List, take, Option, IfSome}
 use Rattle.std.specs.Io.KnownBytes.{Appends, Consumes}
 use Rattle.streams.specs.Streams.{AppendsBeginning}
 use Rattle.pktprobe.specs.Report.{max_input_len, report}
 
--- the input is all that the reader had left, and the reader gave its first 8,194 bytes, or all of it, and no more
+-- The input consists of all bytes that the reader had left. The first 8,194 of these bytes were read, or all of them if there are fewer.
 pub record ReadsInput (left still_left : Option (List ℕ)) (input : List ℕ) : Type 0 where
   pub is_all : IfSome left (λ all. input ≡ all)
   pub consumes : Consumes left still_left (take max_input_len input)

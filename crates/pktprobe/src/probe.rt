@@ -19,10 +19,10 @@ use streams::{fill, write_whole};
 /// The longest line, in bytes.
 const MAX_LINE_LEN: usize = 8192;
 
-/// How many bytes `run` reads at the most: the longest line, its line feed, and one byte more, with which the line is too long.
+/// The greatest number of bytes that `run` reads: the longest line, its line feed, and one more byte, which shows that a line is too long.
 const MAX_INPUT_LEN: usize = MAX_LINE_LEN + 2;
 
-/// The longest packet that the digits of a line stand for, in bytes: two digits a byte, after the shortest word and the space.
+/// The length of the longest packet in a line, in bytes. The packet is written with two digits a byte, after the shortest word and a space.
 const MAX_PACKET_LEN: usize = (MAX_LINE_LEN - 4) / 2;
 
 /// The longest header, that of TCP, in bytes.
@@ -37,7 +37,7 @@ const ACCEPTED: u8 = 0;
 /// The status of a refused packet.
 const REFUSED: u8 = 1;
 
-/// The status of an input that is no line of the stated form.
+/// The status if the input is not a line of the stated form.
 const BAD_INPUT: u8 = 2;
 
 /// The status of a run in which reading or writing failed.
@@ -45,7 +45,7 @@ const FAULT: u8 = 3;
 
 /// Reads an input, writes the text of its answer, and returns a status.
 ///
-/// The status is that of the answer, or 3 where a read, a write or the flush failed, or a write took nothing. After a failed
+/// The result is the status of the answer. It is 3 if a read, a write or the flush failed, or if a write accepted no byte. After a failed
 /// read nothing is written.
 pub fn run<R: Read, W: Write>(input: &mut R, output: &mut W) -> u8
     ensures written { result ≢ 3 → WritesReport (R.remaining input.old) (R.remaining input.new)
@@ -94,14 +94,14 @@ pub fn answer(input: &[u8]) -> (ArrayVec<u8, 160>, u8)
     packet_answer(protocol, &bytes[..len])
 }
 
-/// The input without one line feed at its end.
+/// The input. If it ends with a line feed, this line feed is left out.
 fn line_of(input: &[u8]) -> &[u8]
     ensures { result.now ≡ line_of input.now }
 {
     input.strip_suffix(b"\n").unwrap_or(input)
 }
 
-/// The protocol that a line names and the digits after its word and one space. None where the line does not begin so.
+/// The protocol that a line names, and the digits after the name and one space. None if the line does not begin with a name and a space.
 fn request_of(line: &[u8]) -> Option<(Proto, &[u8])>
     ensures { option_map (λ request. (request.0, request.1.now)) result ≡ request_of line.now }
 {
@@ -120,7 +120,7 @@ fn request_of(line: &[u8]) -> Option<(Proto, &[u8])>
     None
 }
 
-/// The answer to an input that is no line of the stated form.
+/// The answer if the input is not a line of the stated form.
 fn bad_input() -> (ArrayVec<u8, 160>, u8)
     ensures text { result.0.items ≡ bad_input.0 }
     ensures status { result.1 ≡ bad_input.1 }
@@ -130,8 +130,8 @@ fn bad_input() -> (ArrayVec<u8, 160>, u8)
     (text, BAD_INPUT)
 }
 
-/// Decodes the digits into the front of `bytes`, and returns how many bytes they are. None where one of them is no hex digit, or
-/// their number is odd.
+/// Decodes hex digits into the front of `bytes`, and returns the number of bytes. None if one of them is not a hex digit, or if their
+/// number is odd.
 fn decode_digits(digits: &[u8], bytes: &mut [u8]) -> Option<usize>
     requires { length digits.now ≤ 2 * length bytes.old }
     ensures { MatchResult (decode_of digits.now)
@@ -157,7 +157,7 @@ fn packet_answer(protocol: Proto, bytes: &[u8]) -> (ArrayVec<u8, 160>, u8)
     }
 }
 
-/// The text for an accepted packet: its header, and how many bytes come after it.
+/// The text for an accepted packet: its header, and the number of bytes after the header.
 fn accepted_text(header: &[u8], rest_len: usize) -> ArrayVec<u8, 160>
     requires { length header.now ≤ MAX_HEADER_LEN }
     ensures { result.items ≡ accepted_text header.now rest_len }

@@ -9,7 +9,7 @@ use Rattle.streams.specs.Streams.{AppendsBeginning}
 use Rattle.pktprobe.proofs.ReportLemmas.{first_bytes_decide}
 use Rattle.pktprobe.proofs.probe.respond.Goals as goal
 
--- the input of which some bytes were read: all that the reader had left, or else these bytes
+-- the input: all bytes that the reader had left, or the bytes that were read if the others are unknown
 abbrev input_of : Option (List ℕ) → List ℕ → List ℕ
 input_of None read = read
 input_of (Some all) read = all
