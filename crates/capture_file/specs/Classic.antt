@@ -51,8 +51,8 @@ pub record IsHeaderOf (bytes : List ℕ) (header : CaptureHeader) : Type 0 where
 abbrev pub form_in : ByteOrder → List ℕ → Option (ByteOrder × Resolution)
 form_in order bytes = option_map (λ resolution. (order, resolution)) (resolution_with (number_at order bytes 0))
 
--- The byte order in which the first four bytes are a magic number, and the resolution of this number. None if they are a magic number in
--- neither byte order.
+-- The byte order in which the first four bytes are a magic number, and the resolution that this number means. None if they are not a magic
+-- number in either byte order.
 abbrev pub form_of : List ℕ → Option (ByteOrder × Resolution)
 form_of bytes = option_or (form_in BigEndian bytes) (form_in LittleEndian bytes)
 
@@ -70,7 +70,7 @@ magic_error bytes =
 abbrev pub is_version_read : ℕ → ℕ → Bool
 is_version_read major minor = major == 2 && nat_le 4 minor
 
--- The error for a version that is not read. Bytes without a magic number are refused by `magic_error`, so there is no error here.
+-- The error for a version that is not read. If there is no magic number, the result is `None`, since `magic_error` refuses the bytes.
 abbrev pub version_refusal : Option (ByteOrder × Resolution) → List ℕ → Option CaptureHeaderError
 version_refusal None bytes = None
 version_refusal (Some form) bytes =

@@ -78,7 +78,7 @@ next_by_record capture (records.TooLong header) = packets.TooLong (long_record c
 next_by_record capture records.End = packets.End
 next_by_record capture (records.CutOff required_len len) = packets.CutOff required_len len
 
--- the place after a record that begins at `offset`, which is at most 2^64 - 1
+-- the place after a record that begins at `offset`; the number saturates at 2^64 - 1
 abbrev pub offset_after_record : ℕ → RecordHeader → ℕ
 offset_after_record offset header = min (offset + (record_header_len + header.captured_len)) (2 ^ 64 - 1)
 
@@ -88,7 +88,7 @@ offset_by_record offset (records.Whole header) = offset_after_record offset head
 offset_by_record offset (records.TooLong header) = offset_after_record offset header
 offset_by_record offset other = offset
 
--- the next record was read, and the next item is the item for this record
+-- the next record was read, and `next` is the item that this record determines
 pub record ReadsRecordPacket (before : ClassicReader) (left still_left : Option (List ℕ)) (after : ClassicReader) (buffer : List ℕ)
     (next : NextPacket) : Type 0 where
   pub next_record : NextRecord

@@ -13,7 +13,8 @@ pub struct TimeSpan {
 }
 
 impl TimeSpan {
-    /// The earliest and the latest time, after one more packet. `None` means that no packet so far has a time.
+    /// The earliest and the latest time after one more packet. `span` contains them before the packet, or is `None` if no packet has a time
+    /// yet.
     pub fn with_time(span: Option<TimeSpan>, time: Option<PacketTime>) -> Option<TimeSpan>
         ensures { result ≡ with_time span time }
     {

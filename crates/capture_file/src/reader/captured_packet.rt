@@ -13,7 +13,7 @@ const SIMPLE_START: usize = BODY_AT + SIMPLE_CAPTURED_AT;
 /// A).
 const TIMED_START: usize = BODY_AT + TIMED_CAPTURED_AT;
 
-/// The data that a capture contains about a packet. Both file formats have this form here.
+/// The data that a capture contains about a packet. The struct is the same for both file formats.
 #[derive(Clone, Copy, Debug, PartialEq, Eq)]
 pub struct CapturedPacket {
     /// The link type of the packet, or the number of a link type that is not read.

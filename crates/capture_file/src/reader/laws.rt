@@ -32,8 +32,8 @@ pub fn places()
     ensures { (room : ℕ) (file : List ℕ) → length file < 2 ^ 64 → OffsetsArePlaces room file }
 {}
 
-/// The bytes of a capture determine the reader after any number of its packets, and the reader after the item that ends the packets. The
-/// reader contains the interfaces, the texts, and the number of packets with a comment.
+/// After any number of packets, the bytes of the capture determine the reader. They also determine the reader after the item that ends the
+/// packets. A reader contains the interfaces, the texts, and the number of packets with a comment.
 pub fn one_reader()
     ensures { (room : ℕ) (reader : CaptureReader) (bytes : List ℕ) → LeavesOneReader room reader bytes }
 {}

@@ -1,7 +1,7 @@
 use crate::reader::{CapturedPacket, PlacedPacketError};
 use crate::{LinkType, PacketTime};
 
-/// The next item of a capture. Both file formats have this form here.
+/// The next item of a capture. The items are the same for both file formats.
 #[derive(Clone, Copy, Debug, PartialEq, Eq)]
 pub enum NextPacket {
     /// A packet. Its captured bytes begin at the place `start` of the buffer.
