@@ -36,6 +36,8 @@ mod icmp_part;
 #[cfg(test)]
 mod ip_part;
 #[cfg(test)]
+mod ip_translation;
+#[cfg(test)]
 mod net_base;
 mod packets;
 mod summaries;

@@ -1,0 +1,3 @@
+pub mod EmbeddedLemmas
+pub mod ListedLemmas
+pub mod WorkedExamples

@@ -1,0 +1,118 @@
+-- Worked examples of the definitions, so that a wrong definition fails before any code does.
+use Rattle.std.proofs.Common.{◌≡◌, true, false, List, ℕ, [], ◌∷◌, Some, None, refl}
+use Rattle.ip_translation.specs.Prefixes.{embedded, extracted, is_embedded, is_not_global, prefix_address, prefix_refusal, to_ipv4_refusal, to_ipv6_refusal, well_known_octets, with_zero_suffix}
+use Rattle.ip_translation.specs.declared.address_error.AddressError.TheVariants.{NotEmbedded, NotGlobal}
+use Rattle.ip_translation.specs.declared.prefix64.Prefix64.{Prefix64}
+use Rattle.ip_translation.specs.declared.prefix64.Prefix64.TheVariants.{Bits32, Bits40, Bits48, Bits56, Bits64, Bits96}
+use Rattle.ip_translation.specs.declared.prefix64_error.Prefix64Error.TheVariants.{Len, ReservedOctet, SuffixBits}
+
+-- ---- the rows of RFC 6052, section 2.4, for 192.0.2.33
+
+test_net : List ℕ
+test_net = 192 ∷ 0 ∷ 2 ∷ 33 ∷ []
+
+-- 2001:db8::/32 and 2001:db8:c000:221::
+row_32 : embedded (Bits32 (0x20 ∷ 0x01 ∷ 0x0d ∷ 0xb8 ∷ [])) test_net
+    ≡ 0x20 ∷ 0x01 ∷ 0x0d ∷ 0xb8 ∷ 0xc0 ∷ 0x00 ∷ 0x02 ∷ 0x21 ∷ 0 ∷ 0 ∷ 0 ∷ 0 ∷ 0 ∷ 0 ∷ 0 ∷ 0 ∷ []
+unfolding test_net
+row_32 = refl
+
+-- 2001:db8:100::/40 and 2001:db8:1c0:2:21::
+row_40 : embedded (Bits40 (0x20 ∷ 0x01 ∷ 0x0d ∷ 0xb8 ∷ 0x01 ∷ [])) test_net
+    ≡ 0x20 ∷ 0x01 ∷ 0x0d ∷ 0xb8 ∷ 0x01 ∷ 0xc0 ∷ 0x00 ∷ 0x02 ∷ 0x00 ∷ 0x21 ∷ 0 ∷ 0 ∷ 0 ∷ 0 ∷ 0 ∷ 0 ∷ []
+unfolding test_net
+row_40 = refl
+
+-- 2001:db8:122::/48 and 2001:db8:122:c000:2:2100::
+row_48 : embedded (Bits48 (0x20 ∷ 0x01 ∷ 0x0d ∷ 0xb8 ∷ 0x01 ∷ 0x22 ∷ [])) test_net
+    ≡ 0x20 ∷ 0x01 ∷ 0x0d ∷ 0xb8 ∷ 0x01 ∷ 0x22 ∷ 0xc0 ∷ 0x00 ∷ 0x00 ∷ 0x02 ∷ 0x21 ∷ 0 ∷ 0 ∷ 0 ∷ 0 ∷ 0 ∷ []
+unfolding test_net
+row_48 = refl
+
+-- 2001:db8:122:300::/56 and 2001:db8:122:3c0:0:221::
+row_56 : embedded (Bits56 (0x20 ∷ 0x01 ∷ 0x0d ∷ 0xb8 ∷ 0x01 ∷ 0x22 ∷ 0x03 ∷ [])) test_net
+    ≡ 0x20 ∷ 0x01 ∷ 0x0d ∷ 0xb8 ∷ 0x01 ∷ 0x22 ∷ 0x03 ∷ 0xc0 ∷ 0x00 ∷ 0x00 ∷ 0x02 ∷ 0x21 ∷ 0 ∷ 0 ∷ 0 ∷ 0 ∷ []
+unfolding test_net
+row_56 = refl
+
+-- 2001:db8:122:344::/64 and 2001:db8:122:344:c0:2:2100::
+row_64 : embedded (Bits64 (0x20 ∷ 0x01 ∷ 0x0d ∷ 0xb8 ∷ 0x01 ∷ 0x22 ∷ 0x03 ∷ 0x44 ∷ [])) test_net
+    ≡ 0x20 ∷ 0x01 ∷ 0x0d ∷ 0xb8 ∷ 0x01 ∷ 0x22 ∷ 0x03 ∷ 0x44 ∷ 0x00 ∷ 0xc0 ∷ 0x00 ∷ 0x02 ∷ 0x21 ∷ 0 ∷ 0 ∷ 0 ∷ []
+unfolding test_net
+row_64 = refl
+
+-- 2001:db8:122:344::/96 and 2001:db8:122:344::192.0.2.33
+row_96 : embedded (Bits96 (0x20 ∷ 0x01 ∷ 0x0d ∷ 0xb8 ∷ 0x01 ∷ 0x22 ∷ 0x03 ∷ 0x44 ∷ 0 ∷ 0 ∷ 0 ∷ [])) test_net
+    ≡ 0x20 ∷ 0x01 ∷ 0x0d ∷ 0xb8 ∷ 0x01 ∷ 0x22 ∷ 0x03 ∷ 0x44 ∷ 0 ∷ 0 ∷ 0 ∷ 0 ∷ 192 ∷ 0 ∷ 2 ∷ 33 ∷ []
+unfolding test_net
+row_96 = refl
+
+-- 64:ff9b::/96 and 64:ff9b::192.0.2.33
+row_of_well_known : embedded (Bits96 well_known_octets) test_net
+    ≡ 0x00 ∷ 0x64 ∷ 0xff ∷ 0x9b ∷ 0 ∷ 0 ∷ 0 ∷ 0 ∷ 0 ∷ 0 ∷ 0 ∷ 0 ∷ 192 ∷ 0 ∷ 2 ∷ 33 ∷ []
+unfolding test_net
+row_of_well_known = refl
+
+-- ---- an address with a suffix
+
+-- 2001:db8:122:c000:2:21ff:0:1
+with_suffix : List ℕ
+with_suffix = 0x20 ∷ 0x01 ∷ 0x0d ∷ 0xb8 ∷ 0x01 ∷ 0x22 ∷ 0xc0 ∷ 0x00 ∷ 0x00 ∷ 0x02 ∷ 0x21 ∷ 0xff ∷ 0 ∷ 0 ∷ 0 ∷ 1 ∷ []
+
+prefix_48 : Prefix64
+prefix_48 = Bits48 (0x20 ∷ 0x01 ∷ 0x0d ∷ 0xb8 ∷ 0x01 ∷ 0x22 ∷ [])
+
+suffix_ignored : is_embedded prefix_48 with_suffix ≡ true
+unfolding prefix_48 with_suffix
+suffix_ignored = refl
+
+extracted_48 : extracted prefix_48 with_suffix ≡ test_net
+unfolding prefix_48 with_suffix test_net
+extracted_48 = refl
+
+suffix_cleared : with_zero_suffix prefix_48 with_suffix ≡ embedded prefix_48 test_net
+unfolding prefix_48 with_suffix test_net
+suffix_cleared = refl
+
+other_prefix : to_ipv4_refusal (Bits48 (0x20 ∷ 0x01 ∷ 0x0d ∷ 0xb8 ∷ 0x01 ∷ 0x23 ∷ [])) with_suffix ≡ Some NotEmbedded
+unfolding with_suffix
+other_prefix = refl
+
+-- ---- prefixes
+
+address_of_48 : prefix_address prefix_48 ≡ 0x20 ∷ 0x01 ∷ 0x0d ∷ 0xb8 ∷ 0x01 ∷ 0x22 ∷ 0 ∷ 0 ∷ 0 ∷ 0 ∷ 0 ∷ 0 ∷ 0 ∷ 0 ∷ 0 ∷ 0 ∷ []
+unfolding prefix_48
+address_of_48 = refl
+
+accepted_48 : prefix_refusal (prefix_address prefix_48) 48 ≡ None
+unfolding prefix_48
+accepted_48 = refl
+
+length_47 : prefix_refusal (prefix_address prefix_48) 47 ≡ Some (Len 47)
+unfolding prefix_48
+length_47 = refl
+
+length_40 : prefix_refusal (prefix_address prefix_48) 40 ≡ Some SuffixBits
+unfolding prefix_48
+length_40 = refl
+
+reserved_bit : prefix_refusal (0 ∷ 0 ∷ 0 ∷ 0 ∷ 0 ∷ 0 ∷ 0 ∷ 0 ∷ 1 ∷ 0 ∷ 0 ∷ 0 ∷ 0 ∷ 0 ∷ 0 ∷ 0 ∷ []) 96 ≡ Some ReservedOctet
+reserved_bit = refl
+
+-- ---- global addresses
+
+-- 192.0.2.33 is an address of TEST-NET-1 (RFC 5735, section 4)
+test_net_refused : to_ipv6_refusal (Bits96 well_known_octets) test_net ≡ Some NotGlobal
+unfolding test_net
+test_net_refused = refl
+
+other_prefix_allowed : to_ipv6_refusal prefix_48 test_net ≡ None
+unfolding prefix_48 test_net
+other_prefix_allowed = refl
+
+-- the ends of 172.16.0.0/12
+first_private : is_not_global (172 ∷ 16 ∷ 0 ∷ 0 ∷ []) ≡ true
+first_private = refl
+
+after_private : is_not_global (172 ∷ 32 ∷ 0 ∷ 0 ∷ []) ≡ false
+after_private = refl

@@ -1,0 +1,249 @@
+ghost use Rattle.std.specs.Prelude.{◌≡◌, ◌≤◌, IfOk, IfSome, MatchOption, false, length, nat_eq, slice_index, take, true};
+ghost use Rattle.std.specs.Cmp.Lexicographic.{pointwise};
+ghost use Rattle.net_base.specs.Refusals.{RefusesExactly};
+ghost use Rattle.ip_translation.specs.Prefixes as specs;
+
+use crate::{AddressError, Prefix64Error};
+
+/// A prefix of IPv6 addresses that contain an IPv4 address (RFC 6052, section 2.2).
+///
+/// Octet 8 of such an address, bits 64 to 71, is reserved and 0. No variant contains it.
+#[derive(Clone, Copy, Debug, PartialEq, Eq, Hash)]
+pub enum Prefix64 {
+    /// 32 bits: octets 0 to 3.
+    Bits32([u8; 4]),
+    /// 40 bits: octets 0 to 4.
+    Bits40([u8; 5]),
+    /// 48 bits: octets 0 to 5.
+    Bits48([u8; 6]),
+    /// 56 bits: octets 0 to 6.
+    Bits56([u8; 7]),
+    /// 64 bits: octets 0 to 7.
+    Bits64([u8; 8]),
+    /// 96 bits: octets 0 to 7, and octets 9 to 11.
+    Bits96([u8; 11]),
+}
+
+impl Prefix64 {
+    /// The well-known prefix, 64:ff9b::/96 (RFC 6052, section 2.1).
+    pub const WELL_KNOWN: Prefix64 = Prefix64::Bits96(WELL_KNOWN_OCTETS);
+
+    /// The prefix of this length, in bits, at the front of an address.
+    ///
+    /// # Errors
+    ///
+    /// The call checks these cases, in this order:
+    /// - `Len` if the length is not 32, 40, 48, 56, 64 or 96.
+    /// - `ReservedOctet` if bits 64 to 71 are not all 0 (RFC 6052, section 2.2).
+    /// - `SuffixBits` if a bit after the prefix is not 0.
+    pub fn new(address: [u8; 16], len: u8) -> Result<Prefix64, Prefix64Error>
+        ensures refused { RefusesExactly result (specs.prefix_refusal address len) }
+        ensures kept { IfOk result (λ prefix. specs.prefix_address prefix ≡ address) }
+        ensures len { IfOk result (λ prefix. specs.prefix_len prefix ≡ len) }
+    {
+        let Some(prefix) = prefix_of(&address, len) else {
+            return Err(Prefix64Error::Len(len));
+        };
+        if address[RESERVED_AT] != 0 {
+            return Err(Prefix64Error::ReservedOctet);
+        }
+        if prefix.address() != address {
+            return Err(Prefix64Error::SuffixBits);
+        }
+        Ok(prefix)
+    }
+
+    /// The length of the prefix in bits: 32, 40, 48, 56, 64 or 96.
+    pub fn len(&self) -> u8
+        ensures { result ≡ specs.prefix_len self.now }
+    {
+        match self {
+            Prefix64::Bits32(_) => 32,
+            Prefix64::Bits40(_) => 40,
+            Prefix64::Bits48(_) => 48,
+            Prefix64::Bits56(_) => 56,
+            Prefix64::Bits64(_) => 64,
+            Prefix64::Bits96(_) => 96,
+        }
+    }
+
+    /// The address of the prefix, with zeros after the prefix.
+    pub fn address(&self) -> [u8; 16]
+        ensures { result ≡ specs.prefix_address self.now }
+    {
+        self.embed([0; 4])
+    }
+
+    /// The IPv6 address that contains an IPv4 address: the prefix, the address, and a suffix of zeros (RFC 6052, section 2.3).
+    pub fn embed(&self, ipv4: [u8; 4]) -> [u8; 16]
+        ensures embedded { result ≡ specs.embedded self.now ipv4 }
+        // `extract` returns the same IPv4 address.
+        ensures is_embedded { specs.is_embedded self.now result ≡ true }
+        ensures extracted { specs.extracted self.now result ≡ ipv4 }
+    {
+        self.join(ipv4)
+    }
+
+    /// Prefix, IPv4 address and suffix, with the reserved octet.
+    fn join(&self, ipv4: [u8; 4]) -> [u8; 16]
+        ensures joined { result ≡ specs.embedded self.now ipv4 }
+        ensures len { length (specs.octets self.now) ≡ specs.octet_count self.now }
+    {
+        let [w, x, y, z] = ipv4;
+        match self {
+            Prefix64::Bits32(start) => {
+                let [a, b, c, d] = *start;
+                [a, b, c, d, w, x, y, z, 0, 0, 0, 0, 0, 0, 0, 0]
+            }
+            Prefix64::Bits40(start) => {
+                let [a, b, c, d, e] = *start;
+                [a, b, c, d, e, w, x, y, 0, z, 0, 0, 0, 0, 0, 0]
+            }
+            Prefix64::Bits48(start) => {
+                let [a, b, c, d, e, f] = *start;
+                [a, b, c, d, e, f, w, x, 0, y, z, 0, 0, 0, 0, 0]
+            }
+            Prefix64::Bits56(start) => {
+                let [a, b, c, d, e, f, g] = *start;
+                [a, b, c, d, e, f, g, w, 0, x, y, z, 0, 0, 0, 0]
+            }
+            Prefix64::Bits64(start) => {
+                let [a, b, c, d, e, f, g, h] = *start;
+                [a, b, c, d, e, f, g, h, 0, w, x, y, z, 0, 0, 0]
+            }
+            Prefix64::Bits96(start) => {
+                let [a, b, c, d, e, f, g, h, i, j, k] = *start;
+                [a, b, c, d, e, f, g, h, 0, i, j, k, w, x, y, z]
+            }
+        }
+    }
+
+    /// The IPv4 address in an IPv6 address (RFC 6052, section 2.3). `None` if the address does not begin with the prefix, or if bits 64 to 71
+    /// are not 0, as section 2.2 requires. The suffix may have any value, which section 2.2 tells a translator to ignore.
+    pub fn extract(&self, address: &[u8; 16]) -> Option<[u8; 4]>
+        ensures extracted { MatchOption result (specs.is_embedded self.now address.now ≡ false)
+            (λ ipv4. (specs.is_embedded self.now address.now ≡ true) × (ipv4 ≡ specs.extracted self.now address.now)) }
+        // `embed` returns the same address, with a suffix of zeros.
+        ensures embedded { IfSome result (λ ipv4. specs.embedded self.now ipv4 ≡ specs.with_zero_suffix self.now address.now) }
+    {
+        let (is_prefix, ipv4) = self.front(address);
+        if address[RESERVED_AT] == 0 && is_prefix {
+            Some(ipv4)
+        } else {
+            None
+        }
+    }
+
+    /// The address in an IPv6 packet for an address in an IPv4 packet, as `embed` returns it.
+    ///
+    /// # Errors
+    ///
+    /// `NotGlobal` if the prefix is the well-known prefix, and the address is not global (RFC 6052, section 3.1).
+    pub fn to_ipv6(&self, ipv4: [u8; 4]) -> Result<[u8; 16], AddressError>
+        ensures refused { RefusesExactly result (specs.to_ipv6_refusal self.now ipv4) }
+        ensures embedded { IfOk result (λ address. address ≡ specs.embedded self.now ipv4) }
+    {
+        if self.is_excluded(ipv4) {
+            return Err(AddressError::NotGlobal);
+        }
+        Ok(self.embed(ipv4))
+    }
+
+    /// The address in an IPv4 packet for an address in an IPv6 packet, as `extract` returns it.
+    ///
+    /// # Errors
+    ///
+    /// The call checks these cases, in this order:
+    /// - `NotEmbedded` if `extract` returns `None`.
+    /// - `NotGlobal` if the prefix is the well-known prefix, and the IPv4 address is not global (RFC 6052, section 3.1).
+    pub fn to_ipv4(&self, address: &[u8; 16]) -> Result<[u8; 4], AddressError>
+        ensures refused { RefusesExactly result (specs.to_ipv4_refusal self.now address.now) }
+        ensures extracted { IfOk result (λ ipv4. ipv4 ≡ specs.extracted self.now address.now) }
+    {
+        let Some(ipv4) = self.extract(address) else {
+            return Err(AddressError::NotEmbedded);
+        };
+        if self.is_excluded(ipv4) {
+            return Err(AddressError::NotGlobal);
+        }
+        Ok(ipv4)
+    }
+
+    /// Whether the prefix must not represent this address.
+    fn is_excluded(&self, ipv4: [u8; 4]) -> bool
+        ensures { result ≡ specs.is_excluded self.now ipv4 }
+    {
+        match self {
+            Prefix64::Bits96(start) => *start == WELL_KNOWN_OCTETS && is_not_global(ipv4),
+            _ => false,
+        }
+    }
+
+    /// Whether an address begins with the prefix, and the IPv4 address after it.
+    fn front(&self, address: &[u8; 16]) -> (bool, [u8; 4])
+        ensures prefix { result.0 ≡ pointwise nat_eq (take (specs.octet_count self.now) (specs.without_reserved address.now)) (specs.octets self.now) }
+        ensures ipv4 { result.1 ≡ specs.extracted self.now address.now }
+    {
+        let [a, b, c, d, e, f, g, h, _, i, j, k, l, m, n, o] = *address;
+        match self {
+            Prefix64::Bits32(start) => ([a, b, c, d] == *start, [e, f, g, h]),
+            Prefix64::Bits40(start) => ([a, b, c, d, e] == *start, [f, g, h, i]),
+            Prefix64::Bits48(start) => ([a, b, c, d, e, f] == *start, [g, h, i, j]),
+            Prefix64::Bits56(start) => ([a, b, c, d, e, f, g] == *start, [h, i, j, k]),
+            Prefix64::Bits64(start) => ([a, b, c, d, e, f, g, h] == *start, [i, j, k, l]),
+            Prefix64::Bits96(start) => ([a, b, c, d, e, f, g, h, i, j, k] == *start, [l, m, n, o]),
+        }
+    }
+}
+
+/// The place of the reserved octet, which contains bits 64 to 71 (RFC 6052, section 2.2).
+const RESERVED_AT: usize = 8;
+
+/// The prefix of this length at the front of an address, whatever bits come after it.
+fn prefix_of(address: &[u8; 16], len: u8) -> Option<Prefix64>
+    ensures { MatchOption result (specs.is_prefix_len len ≡ false) (λ prefix. (specs.is_prefix_len len ≡ true) × (specs.prefix_len prefix ≡ len)
+        × (slice_index address.now 8 ≡ 0 → specs.prefix_address prefix ≡ specs.network address.now len)) }
+{
+    let [a, b, c, d, e, f, g, h, _, i, j, k, _, _, _, _] = *address;
+    match len {
+        32 => Some(Prefix64::Bits32([a, b, c, d])),
+        40 => Some(Prefix64::Bits40([a, b, c, d, e])),
+        48 => Some(Prefix64::Bits48([a, b, c, d, e, f])),
+        56 => Some(Prefix64::Bits56([a, b, c, d, e, f, g])),
+        64 => Some(Prefix64::Bits64([a, b, c, d, e, f, g, h])),
+        96 => Some(Prefix64::Bits96([a, b, c, d, e, f, g, h, i, j, k])),
+        _ => None,
+    }
+}
+
+/// The octets of 64:ff9b::/96 (RFC 6052, section 2.1).
+const WELL_KNOWN_OCTETS: [u8; 11] = [0, 0x64, 0xff, 0x9b, 0, 0, 0, 0, 0, 0, 0];
+
+/// Whether an address is special (RFC 5735, section 4) or shared (RFC 6598).
+fn is_not_global(ipv4: [u8; 4]) -> bool
+    ensures { result ≡ specs.is_not_global ipv4 }
+{
+    is_in([0, 0, 0, 0], 8, ipv4)
+        || is_in([10, 0, 0, 0], 8, ipv4)
+        || is_in([100, 64, 0, 0], 10, ipv4)
+        || is_in([127, 0, 0, 0], 8, ipv4)
+        || is_in([169, 254, 0, 0], 16, ipv4)
+        || is_in([172, 16, 0, 0], 12, ipv4)
+        || is_in([192, 0, 0, 0], 24, ipv4)
+        || is_in([192, 0, 2, 0], 24, ipv4)
+        || is_in([192, 88, 99, 0], 24, ipv4)
+        || is_in([192, 168, 0, 0], 16, ipv4)
+        || is_in([198, 18, 0, 0], 15, ipv4)
+        || is_in([198, 51, 100, 0], 24, ipv4)
+        || is_in([203, 0, 113, 0], 24, ipv4)
+        || is_in([224, 0, 0, 0], 4, ipv4)
+        || is_in([240, 0, 0, 0], 4, ipv4)
+}
+
+/// Whether an address begins with the first bits of a block, as many as this.
+fn is_in(block: [u8; 4], bits: u32, ipv4: [u8; 4]) -> bool
+    requires { (1 ≤ bits) × (bits ≤ 32) }
+    ensures { result ≡ specs.is_in block bits ipv4 }
+{
+    u32::from_be_bytes(ipv4) >> (32 - bits) == u32::from_be_bytes(block) >> (32 - bits)
+}

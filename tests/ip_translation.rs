@@ -1,0 +1,129 @@
+//! Tests of the crate `ip_translation`: IPv4 addresses in IPv6 addresses. The rows are from RFC 6052, section 2.4.
+
+use crate::expect::{expect_at, expect_equal, expect_ok, expect_text};
+use ip_translation::{AddressError, Prefix64, Prefix64Error};
+use std::process::Abort;
+
+/// A prefix and its length, and the IPv6 address that contains 192.0.2.33.
+struct Row {
+    prefix: [u8; 16],
+    len: u8,
+    address: [u8; 16],
+}
+
+#[rattlefmt::skip]
+static ROWS: [Row; 7] = [
+    Row { prefix: [0x20, 0x01, 0x0D, 0xB8, 0, 0, 0, 0, 0, 0, 0, 0, 0, 0, 0, 0], len: 32,
+        address: [0x20, 0x01, 0x0D, 0xB8, 0xC0, 0x00, 0x02, 0x21, 0, 0, 0, 0, 0, 0, 0, 0] },
+    Row { prefix: [0x20, 0x01, 0x0D, 0xB8, 0x01, 0, 0, 0, 0, 0, 0, 0, 0, 0, 0, 0], len: 40,
+        address: [0x20, 0x01, 0x0D, 0xB8, 0x01, 0xC0, 0x00, 0x02, 0x00, 0x21, 0, 0, 0, 0, 0, 0] },
+    Row { prefix: [0x20, 0x01, 0x0D, 0xB8, 0x01, 0x22, 0, 0, 0, 0, 0, 0, 0, 0, 0, 0], len: 48,
+        address: [0x20, 0x01, 0x0D, 0xB8, 0x01, 0x22, 0xC0, 0x00, 0x00, 0x02, 0x21, 0, 0, 0, 0, 0] },
+    Row { prefix: [0x20, 0x01, 0x0D, 0xB8, 0x01, 0x22, 0x03, 0, 0, 0, 0, 0, 0, 0, 0, 0], len: 56,
+        address: [0x20, 0x01, 0x0D, 0xB8, 0x01, 0x22, 0x03, 0xC0, 0x00, 0x00, 0x02, 0x21, 0, 0, 0, 0] },
+    Row { prefix: [0x20, 0x01, 0x0D, 0xB8, 0x01, 0x22, 0x03, 0x44, 0, 0, 0, 0, 0, 0, 0, 0], len: 64,
+        address: [0x20, 0x01, 0x0D, 0xB8, 0x01, 0x22, 0x03, 0x44, 0x00, 0xC0, 0x00, 0x02, 0x21, 0, 0, 0] },
+    Row { prefix: [0x20, 0x01, 0x0D, 0xB8, 0x01, 0x22, 0x03, 0x44, 0, 0, 0, 0, 0, 0, 0, 0], len: 96,
+        address: [0x20, 0x01, 0x0D, 0xB8, 0x01, 0x22, 0x03, 0x44, 0x00, 0, 0, 0, 0xC0, 0x00, 0x02, 0x21] },
+    Row { prefix: [0x00, 0x64, 0xFF, 0x9B, 0, 0, 0, 0, 0, 0, 0, 0, 0, 0, 0, 0], len: 96,
+        address: [0x00, 0x64, 0xFF, 0x9B, 0, 0, 0, 0, 0, 0, 0, 0, 0xC0, 0x00, 0x02, 0x21] },
+];
+
+const TEST_NET: [u8; 4] = [192, 0, 2, 33];
+
+/// A row of the RFC, and the same row with another suffix, another reserved octet and another prefix.
+fn expect_row(rt: &impl Abort, row: &Row) {
+    let prefix = expect_ok(rt, Prefix64::new(row.prefix, row.len));
+    expect_at(rt, &row.len, &prefix.len(), &row.len);
+    expect_at(rt, &row.len, &prefix.address(), &row.prefix);
+    expect_at(rt, &row.len, &prefix.embed(TEST_NET), &row.address);
+    expect_at(rt, &row.len, &prefix.extract(&row.address), &Some(TEST_NET));
+    let mut other = row.address;
+    other[8] = 1;
+    expect_at(rt, &row.len, &prefix.extract(&other), &None);
+    let mut other = row.address;
+    other[3] = 0xFE;
+    expect_at(rt, &row.len, &prefix.extract(&other), &None);
+    let mut other = row.address;
+    other[15] = 0x21;
+    expect_at(rt, &row.len, &prefix.extract(&other), &Some(TEST_NET));
+}
+
+#[test]
+fn rows_of_the_rfc(rt: HostRuntime) {
+    for row in &ROWS {
+        expect_row(&rt, row);
+    }
+}
+
+/// What is no prefix.
+#[rattlefmt::skip]
+static NO_PREFIXES: [(u8, [u8; 16], Prefix64Error); 6] = [
+    (0, [0; 16], Prefix64Error::Len(0)),
+    (72, [0; 16], Prefix64Error::Len(72)),
+    (128, [1; 16], Prefix64Error::Len(128)),
+    (96, [0, 0, 0, 0, 0, 0, 0, 0, 1, 0, 0, 0, 0, 0, 0, 1], Prefix64Error::ReservedOctet),
+    (96, [0, 0, 0, 0, 0, 0, 0, 0, 0, 0, 0, 0, 0, 0, 0, 1], Prefix64Error::SuffixBits),
+    (32, [0, 0, 0, 0, 1, 0, 0, 0, 0, 0, 0, 0, 0, 0, 0, 0], Prefix64Error::SuffixBits),
+];
+
+#[test]
+fn no_prefixes(rt: HostRuntime) {
+    for (len, address, error) in &NO_PREFIXES {
+        expect_at(&rt, len, &Prefix64::new(*address, *len).err().as_ref(), &Some(error));
+    }
+}
+
+/// Addresses next to the ends of a block, and whether the well-known prefix may represent them.
+#[rattlefmt::skip]
+static GLOBAL: [([u8; 4], bool); 26] = [
+    ([0, 255, 255, 255], false), ([1, 0, 0, 0], true), ([9, 255, 255, 255], true), ([10, 0, 0, 0], false), ([11, 0, 0, 0], true),
+    ([100, 63, 255, 255], true), ([100, 64, 0, 0], false), ([100, 127, 255, 255], false), ([100, 128, 0, 0], true), ([127, 0, 0, 1], false),
+    ([169, 254, 1, 1], false), ([172, 15, 255, 255], true), ([172, 16, 0, 0], false), ([172, 31, 255, 255], false), ([172, 32, 0, 0], true),
+    ([192, 0, 0, 255], false), ([192, 0, 1, 0], true), ([192, 0, 2, 33], false), ([192, 88, 99, 1], false), ([192, 168, 0, 1], false),
+    ([198, 19, 255, 255], false), ([198, 20, 0, 0], true), ([198, 51, 100, 7], false), ([203, 0, 113, 1], false),
+    ([223, 255, 255, 255], true), ([255, 255, 255, 255], false),
+];
+
+fn expect_global(rt: &impl Abort, ipv4: [u8; 4], is_global: bool) {
+    let address = Prefix64::WELL_KNOWN.embed(ipv4);
+    let other = Prefix64::Bits32([0x20, 1, 0x0D, 0xB8]);
+    expect_at(rt, &ipv4, &other.to_ipv6(ipv4), &Ok(other.embed(ipv4)));
+    if is_global {
+        expect_at(rt, &ipv4, &Prefix64::WELL_KNOWN.to_ipv6(ipv4), &Ok(address));
+        expect_at(rt, &ipv4, &Prefix64::WELL_KNOWN.to_ipv4(&address), &Ok(ipv4));
+    } else {
+        expect_at(rt, &ipv4, &Prefix64::WELL_KNOWN.to_ipv6(ipv4), &Err(AddressError::NotGlobal));
+        expect_at(rt, &ipv4, &Prefix64::WELL_KNOWN.to_ipv4(&address), &Err(AddressError::NotGlobal));
+    }
+}
+
+#[test]
+fn global_addresses(rt: HostRuntime) {
+    for (ipv4, is_global) in &GLOBAL {
+        expect_global(&rt, *ipv4, *is_global);
+    }
+}
+
+#[test]
+fn errors(rt: HostRuntime) {
+    let outcome = Prefix64::WELL_KNOWN.to_ipv4(&[1; 16]);
+    expect_equal(&rt, &outcome, &Err(AddressError::NotEmbedded));
+    expect_text(
+        &rt,
+        &AddressError::NotEmbedded,
+        "Address Error: the IPv6 address contains no IPv4 address.",
+    );
+    expect_text(
+        &rt,
+        &AddressError::NotGlobal,
+        "Address Error: the well-known prefix allows only global IPv4 addresses.",
+    );
+    expect_text(
+        &rt,
+        &Prefix64Error::Len(33),
+        "Prefix Error: the length is 33 bits, and only 32, 40, 48, 56, 64 and 96 are allowed.",
+    );
+    expect_text(&rt, &Prefix64Error::ReservedOctet, "Prefix Error: bits 64 to 71 are not 0.");
+    expect_text(&rt, &Prefix64Error::SuffixBits, "Prefix Error: a bit after the prefix is not 0.");
+}
