@@ -40,6 +40,8 @@ mod ip_translation;
 #[cfg(test)]
 mod net_base;
 mod packets;
+#[cfg(test)]
+mod reassembly;
 mod summaries;
 #[cfg(test)]
 mod tcp_part;

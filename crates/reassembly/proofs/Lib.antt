@@ -1,0 +1,2 @@
+pub mod FragmentHeaderLemmas
+pub mod FragmentLemmas

@@ -1,0 +1,137 @@
+-- What a fragment of an IP packet contains (RFC 791, section 3.2; RFC 8200, section 4.5), and which packets are refused.
+use Rattle.std.specs.Prelude.{ℕ, zero, suc, ◌+◌, ◌*◌, ◌/◌, ◌==◌, Bool, false, not, ◌&&◌, nat_lt, if◌then◌else◌, List, [], ◌∷◌, length, take, drop, slice_index, slice_range, Option, Some, None, Ok, Err, Result}
+use Rattle.std.specs.Option.{option_map}
+use Rattle.net_base.specs.Bytes.{be_number, flag}
+use Rattle.net_base.specs.IpHeaders.{ipv4_fragment_offset, ipv4_header_len, ipv4_is_fragment, version}
+use Rattle.net_base.specs.IpNumbers.{icmpv6_number, tcp_number, udp_number}
+use Rattle.net_base.specs.Refusals.{first_of, refused_if}
+use Rattle.ip_part.specs.ExtensionHeaders.{extension_len, fragment, fragment_offset, is_extension, is_one_of_fragments, next_number}
+use Rattle.ip_part.specs.Headers.{Headers}
+use Rattle.ip_part.specs.Ip as ip
+use Rattle.ip_part.specs.Ip.{counted, headers_of, ipv4_header}
+use Rattle.ip_part.specs.declared.ip_error.IpError.{IpError}
+use Rattle.reassembly.specs.declared.fragment.Fragment.{Fragment}
+use Rattle.reassembly.specs.declared.fragment_error.FragmentError.{FragmentError}
+use Rattle.reassembly.specs.declared.fragment_error.FragmentError.TheVariants.{HeaderChainCutOff, Ip}
+use Rattle.reassembly.specs.declared.fragment_key.FragmentKey.{FragmentKey}
+use Rattle.reassembly.specs.declared.fragment_key.FragmentKey.TheVariants as keys
+
+-- ---- a fragment
+
+-- a fragment, wherever its bytes are stored: what all fragments of its packet have in common, the place of its first byte in the payload of
+-- the packet, whether more fragments come after it, and its bytes
+pub record FragmentValue : Type 0 where
+  pub key : FragmentKey
+  pub offset : ℕ
+  pub more_fragments : Bool
+  pub bytes : List ℕ
+
+abbrev pub by_value : Fragment → FragmentValue
+by_value fragment = record {
+  key = fragment.key;
+  offset = fragment.offset;
+  more_fragments = fragment.more_fragments;
+  bytes = fragment.payload.now;
+}
+
+-- ---- IPv4
+
+-- what all fragments of one packet have in common: source, destination, protocol and identification (RFC 791, section 3.2)
+abbrev pub ipv4_key : List ℕ → FragmentKey
+ipv4_key header =
+    keys.Ipv4 (slice_range header 12 16) (slice_range header 16 20) (record { 0 = slice_index header 9 }) (be_number header 4 2)
+
+-- the fragment in an IPv4 packet without padding, by its header; the offset in the header counts units of 8 bytes (RFC 791, section 3.1)
+abbrev pub ipv4_fragment_by : List ℕ → List ℕ → FragmentValue
+ipv4_fragment_by header packet = record {
+  key = ipv4_key header;
+  offset = ipv4_fragment_offset header * 8;
+  more_fragments = flag header 6 0x20;
+  bytes = drop (ipv4_header_len packet) packet;
+}
+
+-- this fragment, if the packet is not whole
+abbrev pub ipv4_fragment_in : List ℕ → Option FragmentValue
+ipv4_fragment_in packet =
+    if ipv4_is_fragment (ipv4_header packet) then Some (ipv4_fragment_by (ipv4_header packet) packet) else None
+
+-- ---- IPv6
+
+-- The place of the first fragment header in a packet without padding, if an extension header of this number begins at this place, with fewer
+-- than this number of headers from there on. Each header names the number of the next (RFC 8200, section 4).
+unfoldable pub fragment_header_from : ℕ → ℕ → ℕ → List ℕ → Option ℕ
+fragment_header_from zero number place packet = None
+fragment_header_from (suc more) number place packet =
+    if not (is_extension number && not (nat_lt (length packet) (place + 8))) then None
+    else if number == fragment then Some place
+    else if nat_lt (length packet) (place + extension_len number (drop place packet)) then None
+    else fragment_header_from more (next_number (drop place packet)) (place + extension_len number (drop place packet)) packet
+
+-- this place, from the IPv6 header on; each header is at least one byte long
+abbrev pub fragment_header_place : List ℕ → Option ℕ
+fragment_header_place packet = fragment_header_from (suc (length packet)) (slice_index packet 6) 40 packet
+
+-- what all fragments of one packet have in common: source, destination and identification (RFC 8200, section 4.5)
+abbrev pub ipv6_key : List ℕ → List ℕ → FragmentKey
+ipv6_key header fragment_header =
+    keys.Ipv6 (slice_range header 8 24) (slice_range header 24 40) (be_number fragment_header 4 4)
+
+-- the fragment in an IPv6 packet without padding, by its IPv6 header and the bytes from its fragment header on, if the packet is not whole;
+-- the offset in the fragment header counts units of 8 bytes (RFC 8200, section 4.5)
+abbrev pub ipv6_fragment_by : List ℕ → List ℕ → Option FragmentValue
+ipv6_fragment_by header rest =
+    if is_one_of_fragments fragment rest then Some (record {
+      key = ipv6_key header rest;
+      offset = fragment_offset rest * 8;
+      more_fragments = flag rest 3 1;
+      bytes = drop 8 rest;
+    }) else None
+
+-- the fragment with its fragment header at this place, if there is one
+abbrev pub ipv6_fragment_at : List ℕ → Option ℕ → Option FragmentValue
+ipv6_fragment_at packet None = None
+ipv6_fragment_at packet (Some place) = ipv6_fragment_by (take 40 packet) (drop place packet)
+
+abbrev pub ipv6_fragment_in : List ℕ → Option FragmentValue
+ipv6_fragment_in packet = ipv6_fragment_at packet (fragment_header_place packet)
+
+-- ---- the call
+
+-- the fragment in a packet of either version; the bytes that the IP header does not count are padding
+abbrev pub fragment_of : List ℕ → Option FragmentValue
+fragment_of packet =
+    if version packet == 4 then ipv4_fragment_in (counted false packet) else ipv6_fragment_in (counted false packet)
+
+-- the length of the transport header at the front of these bytes, as far as it is known: UDP (RFC 768), ICMPv6 (RFC 4443, section 2.1),
+-- and TCP, whose length is in the high four bits of byte 12, in words of four bytes (RFC 9293, section 3.1)
+abbrev pub transport_header_len : ℕ → List ℕ → ℕ
+transport_header_len protocol bytes =
+    if protocol == udp_number then 8
+    else if protocol == icmpv6_number then 4
+    else if not (protocol == tcp_number) then 0
+    else if nat_lt (length bytes) 20 then 20
+    else slice_index bytes 12 / 16 * 4
+
+-- the bytes of a transport are fewer than its header
+abbrev pub header_chain_refusal : ℕ → List ℕ → Option FragmentError
+header_chain_refusal protocol bytes =
+    refused_if (nat_lt (length bytes) (transport_header_len protocol bytes))
+    (HeaderChainCutOff (transport_header_len protocol bytes) (length bytes))
+
+-- the same for a first fragment, whose offset is 0; no other fragment contains a transport header
+abbrev pub first_refusal : Option FragmentValue → ℕ → List ℕ → Option FragmentError
+first_refusal None protocol bytes = None
+first_refusal (Some fragment) protocol bytes = if fragment.offset == 0 then header_chain_refusal protocol bytes else None
+
+-- the same for a packet whose headers were read
+abbrev pub transport_refusal : List ℕ → Result Headers IpError → Option FragmentError
+transport_refusal packet (Err error) = None
+transport_refusal packet (Ok headers) = first_refusal (fragment_of packet) headers.protocol.0 (drop headers.len (counted false packet))
+
+-- the errors, in this order: of a packet whose headers can't be read; of a first fragment over IPv6 without its whole header chain (RFC
+-- 7112, section 5)
+abbrev pub fragment_refusal : List ℕ → Option FragmentError
+fragment_refusal packet = first_of (
+    option_map Ip (ip.refusal packet)
+    ∷ (if version packet == 4 then None else transport_refusal packet (headers_of false packet))
+    ∷ [])

@@ -1,0 +1,22 @@
+//! Fragments of IP packets (RFC 791, section 3.2; RFC 8200, section 4.5): what a fragment contains, and packets put together.
+//!
+//! `Fragment::of` reads a fragment: the key that all fragments of one packet share, the place in the payload, and the bytes. A `Reassembly`
+//! puts the payload of one packet together, in a buffer that the caller lends. Fragments may come in any order and repeatedly. No call
+//! allocates or has a precondition.
+//!
+//! ```
+//! if let Some(fragment) = Fragment::of(packet)? {
+//!     let mut reassembly = Reassembly::new(fragment.key, &mut buffer);
+//!     let progress = reassembly.add(&fragment)?;
+//! }
+//! ```
+#![tactic(auto)]
+
+mod fragment;
+mod fragment_error;
+mod fragment_header;
+mod fragment_key;
+
+pub use fragment::Fragment;
+pub use fragment_error::FragmentError;
+pub use fragment_key::FragmentKey;
