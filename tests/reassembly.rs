@@ -1,9 +1,11 @@
 //! Tests of the crate `reassembly`.
 
-use crate::expect::{expect_at, expect_equal, expect_text};
+use crate::expect::{expect_at, expect_equal, expect_ok, expect_text};
 use ip_part::IpError;
 use net_base::ip_number;
-use reassembly::{Fragment, FragmentError, FragmentKey};
+use reassembly::{
+    Fragment, FragmentError, FragmentKey, MAX_FRAGMENTS, Progress, Reassembly, ReassemblyError,
+};
 use std::process::Abort;
 
 /// The key of the fragments over IPv4.
@@ -121,3 +123,135 @@ fn a_first_fragment_has_its_header_chain(rt: HostRuntime) {
         "Fragment Error: the transport header has at least 8 bytes, and the first fragment has 7.",
     );
 }
+
+/// A payload of 20 bytes.
+static PAYLOAD: [u8; 20] = [
+    1, 2, 3, 4, 5, 6, 7, 8, 9, 10, 11, 12, 13, 14, 15, 16, 17, 18, 19, 20,
+];
+
+/// A fragment of a packet over IPv4.
+fn fragment(offset: u16, more_fragments: bool, payload: &[u8]) -> Fragment<'_> {
+    Fragment {
+        key: KEY_OVER_IPV4,
+        offset,
+        more_fragments,
+        payload,
+    }
+}
+
+/// Orders of the three fragments of the payload, in which each arrives, and some repeatedly.
+static ORDERS: [[usize; 4]; 4] = [[0, 1, 1, 2], [2, 1, 2, 0], [1, 0, 0, 2], [2, 0, 0, 1]];
+
+/// Stops the test unless the fragments in this order give the payload back.
+fn expect_payload(rt: &impl Abort, order: &[usize; 4]) {
+    let fragments = [
+        fragment(0, true, &PAYLOAD[..8]),
+        fragment(8, true, &PAYLOAD[8..16]),
+        fragment(16, false, &PAYLOAD[16..]),
+    ];
+    let mut buffer = [0xFF; 24];
+    let mut reassembly = Reassembly::new(KEY_OVER_IPV4, &mut buffer);
+    for index in &order[..3] {
+        expect_at(
+            rt,
+            order,
+            &reassembly.add(&fragments[*index]),
+            &Ok(Progress::Incomplete),
+        );
+        expect_at(rt, order, &reassembly.payload(), &None);
+    }
+    expect_at(
+        rt,
+        order,
+        &reassembly.add(&fragments[order[3]]),
+        &Ok(Progress::Complete),
+    );
+    expect_at(rt, order, &reassembly.payload(), &Some(PAYLOAD.as_slice()));
+    expect_at(rt, order, &reassembly.key(), &KEY_OVER_IPV4);
+}
+
+#[test]
+fn fragments_in_any_order_give_the_payload_back(rt: HostRuntime) {
+    for order in &ORDERS {
+        expect_payload(&rt, order);
+    }
+}
+
+/// The place of a fragment, whether more fragments come after it, its bytes in the payload, and why it is refused after the bytes 8 to 16.
+#[rattlefmt::skip]
+static REFUSED: [(u16, bool, usize, usize, ReassemblyError); 8] = [
+    (8, true, 0, 0, ReassemblyError::Empty),
+    (0, true, 0, 7, ReassemblyError::LengthNotMultipleOf8 { len: 7 }),
+    (65_528, true, 0, 8, ReassemblyError::TooLong { end: 65_536 }),
+    (16, true, 0, 16, ReassemblyError::BufferTooSmall { required_len: 32, len: 24 }),
+    (0, false, 0, 4, ReassemblyError::BehindEnd),
+    (8, false, 8, 16, ReassemblyError::BehindEnd),
+    (8, true, 0, 8, ReassemblyError::Overlap),
+    (0, true, 0, 16, ReassemblyError::Overlap),
+];
+
+/// Stops the test unless the fragment of this row is refused, and nothing changes.
+fn expect_refused(rt: &impl Abort, row: &(u16, bool, usize, usize, ReassemblyError)) {
+    let mut buffer = [0; 24];
+    let mut reassembly = Reassembly::new(KEY_OVER_IPV4, &mut buffer);
+    expect_ok(rt, reassembly.add(&fragment(8, true, &PAYLOAD[8..16])));
+    let refused = fragment(row.0, row.1, &PAYLOAD[row.2..row.3]);
+    expect_at(rt, row, &reassembly.add(&refused), &Err(row.4));
+    expect_ok(rt, reassembly.add(&fragment(16, false, &PAYLOAD[16..])));
+    let last = reassembly.add(&fragment(0, true, &PAYLOAD[..8]));
+    expect_at(rt, row, &last, &Ok(Progress::Complete));
+}
+
+#[test]
+fn fragments_that_do_not_fit_are_refused(rt: HostRuntime) {
+    for row in &REFUSED {
+        expect_refused(&rt, row);
+    }
+}
+
+#[test]
+fn a_fragment_agrees_with_the_known_end(rt: HostRuntime) {
+    let mut buffer = [0; 24];
+    let mut reassembly = Reassembly::new(KEY_OVER_IPV4, &mut buffer);
+    expect_ok(&rt, reassembly.add(&fragment(8, false, &PAYLOAD[8..16])));
+    let other_end = reassembly.add(&fragment(16, false, &PAYLOAD[16..]));
+    expect_equal(&rt, &other_end, &Err(ReassemblyError::OtherEnd));
+    let behind_end = reassembly.add(&fragment(8, true, &PAYLOAD[8..16]));
+    expect_equal(&rt, &behind_end, &Err(ReassemblyError::BehindEnd));
+    let mut other_key = fragment(0, true, &PAYLOAD[..8]);
+    other_key.key = KEY_OVER_IPV6;
+    expect_equal(&rt, &reassembly.add(&other_key), &Err(ReassemblyError::OtherKey));
+}
+
+#[test]
+fn as_many_fragments_as_fit_are_added(rt: HostRuntime) {
+    let mut buffer = [0; 1040];
+    let mut reassembly = Reassembly::new(KEY_OVER_IPV4, &mut buffer);
+    for index in 0..MAX_FRAGMENTS {
+        let offset = expect_ok(&rt, u16::try_from(index * 8));
+        expect_ok(&rt, reassembly.add(&fragment(offset, true, &PAYLOAD[..8])));
+    }
+    let refused = reassembly.add(&fragment(1024, true, &PAYLOAD[..8]));
+    expect_equal(&rt, &refused, &Err(ReassemblyError::TooManyFragments));
+}
+
+#[test]
+fn errors_have_texts(rt: HostRuntime) {
+    for (error, text) in &TEXTS {
+        expect_text(&rt, error, text);
+    }
+}
+
+/// The text of each error.
+#[rattlefmt::skip]
+static TEXTS: [(ReassemblyError, &str); 9] = [
+    (ReassemblyError::OtherKey, "Reassembly Error: the fragment is of another packet."),
+    (ReassemblyError::Empty, "Reassembly Error: the fragment has no payload."),
+    (ReassemblyError::LengthNotMultipleOf8 { len: 7 }, "Reassembly Error: more fragments follow, and the length 7 is no multiple of 8."),
+    (ReassemblyError::TooLong { end: 65_536 }, "Reassembly Error: the fragment ends at 65536, which is above 65535."),
+    (ReassemblyError::BufferTooSmall { required_len: 32, len: 24 }, "Reassembly Error: the fragment ends at 32, and the buffer has 24 bytes."),
+    (ReassemblyError::OtherEnd, "Reassembly Error: two last fragments end at different places."),
+    (ReassemblyError::BehindEnd, "Reassembly Error: a fragment does not end before the last."),
+    (ReassemblyError::Overlap, "Reassembly Error: the fragment overlaps another."),
+    (ReassemblyError::TooManyFragments, "Reassembly Error: no more fragments fit."),
+];

@@ -1,12 +1,11 @@
 -- Laws of packets whose headers were read: their counted bytes begin with an IP header.
-use Rattle.std.proofs.Common.{◌≡◌, ◌≢◌, ℕ, zero, suc, ◌+◌, ◌*◌, ◌/◌, ◌%◌, ◌<◌, ◌≤◌, nat_lt, ◌==◌, Bool, true, false, not, ◌&&◌, if◌then◌else◌, List, [], ◌∷◌, length, length-take, take, drop, slice_index, Option, Some, None, is_none, unwrap_or, Ok, refl, sym, ◌∙◌, ap, subst, arith}
+use Rattle.std.proofs.Common.{◌≡◌, ◌≢◌, ℕ, ◌+◌, ◌*◌, ◌/◌, ◌%◌, ◌<◌, ◌≤◌, nat_lt, ◌==◌, Bool, true, false, not, ◌&&◌, if◌then◌else◌, List, [], ◌∷◌, length, take, drop, Option, Some, None, is_none, unwrap_or, Ok, refl, sym, ◌∙◌, ap, arith}
 use Rattle.std.proofs.lemmas.Bool.{ltb-false}
 use Rattle.std.proofs.lemmas.Bool.Decides.{nat_tests}
 use Rattle.std.proofs.lemmas.List.{get_or-take, length-take-le}
 use Rattle.net_base.specs.IpHeaders.{BeginsWithIpv4Header, BeginsWithIpv6Header, ipv4_header_len, version}
 use Rattle.net_base.specs.Refusals.{first_of, refused_if}
-use Rattle.ip_part.specs.Addresses.{Ipv4}
-use Rattle.ip_part.specs.Ip.{counted, counted_len, first_headers, headers_of, header_refusal, ipv4_header, ipv4_header_refusal, ipv4_headers, ipv4_refusal, ipv6_header, ipv6_headers, ipv6_refusal, ipv6_stated_len, is_cut_off, is_jumbogram, jumbo_len, lacks_len, missing_len_refusal, next_header, own_len_refusal, payload_len, refusal, strict_header_refusal, total_len}
+use Rattle.ip_part.specs.Ip.{counted, counted_len, first_headers, headers_of, header_refusal, ipv4_header, ipv4_header_refusal, ipv4_headers, ipv4_refusal, ipv6_header, ipv6_headers, ipv6_refusal, ipv6_stated_len, is_cut_off, is_jumbogram, jumbo_len, lacks_len, missing_len_refusal, next_header, payload_len, refusal, strict_header_refusal, total_len}
 use Rattle.ip_part.specs.Headers.{Headers}
 use Rattle.std.specs.Option.{option_map}
 use Rattle.reassembly.specs.Fragments.{first_refusal, fragment_of, fragment_refusal, transport_refusal}
@@ -17,15 +16,15 @@ use Rattle.ip_part.specs.declared.ip_error.IpError.TheVariants.{HeaderCutOff, To
 some_is_none : {A : Type 0} (a : A) → Some a ≡ None → ⊥
 some_is_none a is = cc is
 
-first_none : {E : Type 0} (rule : Option E) (rules : List (Option E)) → first_of (rule ∷ rules) ≡ None → rule ≡ None
+pub first_none : {E : Type 0} (rule : Option E) (rules : List (Option E)) → first_of (rule ∷ rules) ≡ None → rule ≡ None
 first_none None rules none = refl
 first_none (Some error) rules none = none
 
-next_none : {E : Type 0} (rule : Option E) (rules : List (Option E)) → first_of (rule ∷ rules) ≡ None → first_of rules ≡ None
+pub next_none : {E : Type 0} (rule : Option E) (rules : List (Option E)) → first_of (rule ∷ rules) ≡ None → first_of rules ≡ None
 next_none None rules none = none
 next_none (Some error) rules none = absurd (some_is_none error none)
 
-none_if : {E : Type 0} (is : Bool) (error : E) → refused_if is error ≡ None → is ≡ false
+pub none_if : {E : Type 0} (is : Bool) (error : E) → refused_if is error ≡ None → is ≡ false
 none_if true error none = absurd (some_is_none error none)
 none_if false error none = refl
 

@@ -1,2 +1,6 @@
+pub mod CountLemmas
+pub mod CutLemmas
 pub mod FragmentHeaderLemmas
 pub mod FragmentLemmas
+pub mod KeptLemmas
+pub mod PartLemmas

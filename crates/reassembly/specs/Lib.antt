@@ -2,5 +2,9 @@ pub use Rattle.ip_part.specs.Ip
 pub use Rattle.net_base.specs.Bytes
 pub use Rattle.net_base.specs.IpHeaders
 pub use Rattle.net_base.specs.Refusals
+pub mod Cuts
 pub mod ErrorTexts
 pub mod Fragments
+pub mod Parts
+pub mod Pieces
+pub mod Reassembly

@@ -1,3 +1,4 @@
+use crate::{Fragment, FragmentError};
 use net_base::IpNumber;
 
 /// What all fragments of one packet have in common, and no other packet of that time.
@@ -23,4 +24,26 @@ pub enum FragmentKey {
         /// The identification.
         identification: u32,
     },
+}
+
+impl FragmentKey {
+    ghost use Rattle.std.specs.Prelude.{◌≡◌, IfOk};
+    ghost use Rattle.std.specs.Option.{option_map};
+    ghost use Rattle.net_base.specs.Refusals.{RefusesExactly};
+    ghost use Rattle.reassembly.specs.Fragments.{fragment_of, fragment_refusal};
+
+    /// The key of the fragment in an IP packet. `None` if the packet is whole.
+    ///
+    /// # Errors
+    ///
+    /// The errors of `Fragment::of`.
+    pub fn of(packet: &[u8]) -> Result<Option<FragmentKey>, FragmentError>
+        ensures refused { RefusesExactly result (fragment_refusal packet.now) }
+        ensures found { IfOk result (λ key. key ≡ option_map (λ fragment. fragment.key) (fragment_of packet.now)) }
+    {
+        match Fragment::of(packet)? {
+            Some(fragment) => Ok(Some(fragment.key)),
+            None => Ok(None),
+        }
+    }
 }

@@ -16,7 +16,14 @@ mod fragment;
 mod fragment_error;
 mod fragment_header;
 mod fragment_key;
+#[doc(hidden)]
+pub mod laws;
+mod part;
+mod reassembly;
+mod reassembly_error;
 
 pub use fragment::Fragment;
 pub use fragment_error::FragmentError;
 pub use fragment_key::FragmentKey;
+pub use reassembly::{MAX_FRAGMENTS, Progress, Reassembly};
+pub use reassembly_error::ReassemblyError;

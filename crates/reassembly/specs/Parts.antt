@@ -1,0 +1,38 @@
+-- Where the pieces of a payload are in the lent buffer.
+use Rattle.std.specs.Prelude.{◌≡◌, ◌≤◌, ℕ, ◌+◌, Bool, nat_le, List, [], ◌∷◌, length, map, take, drop, Option, Some, false, ⊤}
+use Rattle.std.specs.List.{All, list_any}
+use Rattle.reassembly.specs.Pieces.{Piece, overlaps, total_len}
+use Rattle.reassembly.specs.Reassembly.{max_payload_len}
+use Rattle.reassembly.specs.declared.part.Part.{Part}
+
+-- the piece that a part of the buffer contains
+abbrev pub piece_in : List ℕ → Part → Piece
+piece_in buffer part = record { offset = part.offset; bytes = take part.len (drop part.offset buffer) }
+
+abbrev pub pieces_in : List ℕ → List Part → List Piece
+pieces_in buffer parts = map (piece_in buffer) parts
+
+-- the part is within the buffer
+abbrev pub Fits : List ℕ → Part → Type 0
+Fits buffer part = part.offset + part.len ≤ length buffer
+
+-- no two of these pieces overlap
+abbrev pub AreApart : List Piece → Type 0
+AreApart [] = ⊤
+AreApart (piece ∷ pieces) = (list_any (overlaps piece) pieces ≡ false) × AreApart pieces
+
+-- one of the parts ends at this place, or after it
+abbrev pub part_reaches : ℕ → List Part → Bool
+part_reaches place parts = list_any (λ part. nat_le place (part.offset + part.len)) parts
+
+-- the part ends at this place or before it
+abbrev pub EndsWithin : ℕ → Part → Type 0
+EndsWithin limit part = part.offset + part.len ≤ limit
+
+-- what is true of the parts of a reassembly, of their number of bytes, and of the known length of the payload
+pub record AreKept (buffer : List ℕ) (parts : List Part) (received : ℕ) (end : Option ℕ) : Type 0 where
+  pub fit : All (Fits buffer) parts
+  pub apart : AreApart (pieces_in buffer parts)
+  pub sum : received ≡ total_len (pieces_in buffer parts)
+  pub short : All (EndsWithin max_payload_len) parts
+  pub ended : (len : ℕ) → end ≡ Some len → All (EndsWithin len) parts

@@ -1,0 +1,17 @@
+//! Laws of the definitions. Each law is the contract of a function, so that it is checked with the calls.
+
+ghost use Rattle.std.specs.Prelude.{◌≤◌, List, ℕ, length};
+ghost use Rattle.reassembly.specs.Cuts.{AreAccepted, AreFrom, IsCut, after};
+ghost use Rattle.reassembly.specs.Fragments.{FragmentValue};
+ghost use Rattle.reassembly.specs.Reassembly.{IsPayload, empty};
+ghost use Rattle.reassembly.specs.declared.fragment_key.FragmentKey.{FragmentKey};
+
+/// Fragments that are cut from one payload are accepted in any order and repeatedly, and give the payload back if all of them arrive.
+pub fn fragments_give_the_payload_back()
+    ensures accepted { (key : FragmentKey) (room : ℕ) (payload : List ℕ) (fragments arrivals : List FragmentValue)
+        → IsCut key payload fragments → length payload ≤ 65535 → length payload ≤ room → length fragments ≤ 128
+        → AreFrom fragments arrivals → AreAccepted (empty key room) arrivals }
+    ensures given_back { (key : FragmentKey) (room : ℕ) (payload : List ℕ) (fragments arrivals : List FragmentValue)
+        → IsCut key payload fragments → length payload ≤ room → AreFrom fragments arrivals → AreFrom arrivals fragments
+        → IsPayload (after (empty key room) arrivals) payload }
+{}

@@ -1,0 +1,71 @@
+ghost use Rattle.std.specs.Prelude.{◌≡◌, ◌≤◌, ◌+◌, length};
+ghost use Rattle.std.specs.List.{All, list_any};
+ghost use Rattle.reassembly.specs.Parts.{EndsWithin, Fits, part_reaches, piece_in};
+ghost use Rattle.reassembly.specs.Pieces as pieces;
+ghost use Rattle.reassembly.specs.Reassembly as specs;
+
+/// A part of the buffer that contains bytes of the payload, at their place in the payload.
+#[derive(Clone, Copy, Debug, Default, PartialEq, Eq)]
+pub(crate) struct Part {
+    /// The place of the first byte.
+    pub offset: usize,
+    /// The number of bytes.
+    pub len: usize,
+}
+
+/// Whether one of the parts ends at this place or after it.
+pub(crate) fn is_reached(parts: &[Part], place: usize) -> bool
+    requires { All (EndsWithin 65535) parts.now }
+    ensures { result ≡ part_reaches place parts.now }
+{
+    let mut is_reached = false;
+    for part in parts {
+        is_reached = is_reached || place <= part.offset + part.len;
+    }
+    is_reached
+}
+
+/// Whether one of the parts contains a byte of the same place as this piece, and is not the same piece.
+pub(crate) fn has_conflict(buffer: &[u8], parts: &[Part], offset: usize, bytes: &[u8]) -> bool
+    requires fit { All (Fits buffer.now) parts.now }
+    requires room { offset + length bytes.now ≤ length buffer.now }
+    ensures { result ≡ list_any (λ part. specs.conflicts (record { offset = offset; bytes = bytes.now }) (piece_in buffer.now part)) parts.now }
+{
+    let mut has_conflict = false;
+    for part in parts {
+        has_conflict = has_conflict || conflicts(buffer, *part, offset, bytes);
+    }
+    has_conflict
+}
+
+/// Whether one of the parts is the same piece as this one.
+pub(crate) fn is_repeated(buffer: &[u8], parts: &[Part], offset: usize, bytes: &[u8]) -> bool
+    requires { All (Fits buffer.now) parts.now }
+    ensures { result ≡ list_any (λ part. pieces.is_same (record { offset = offset; bytes = bytes.now }) (piece_in buffer.now part)) parts.now }
+{
+    let mut is_repeated = false;
+    for part in parts {
+        is_repeated = is_repeated || is_same(buffer, *part, offset, bytes);
+    }
+    is_repeated
+}
+
+/// Whether a part contains a byte of the same place as this piece, and is not the same piece.
+#[tactic(auto, using(crate::proofs::PartLemmas::piece_len))]
+fn conflicts(buffer: &[u8], part: Part, offset: usize, bytes: &[u8]) -> bool
+    requires fits { Fits buffer.now part }
+    requires room { offset + length bytes.now ≤ length buffer.now }
+    ensures { result ≡ specs.conflicts (record { offset = offset; bytes = bytes.now }) (piece_in buffer.now part) }
+{
+    offset < part.offset + part.len
+        && part.offset < offset + bytes.len()
+        && !is_same(buffer, part, offset, bytes)
+}
+
+/// Whether a part is the same piece as this one.
+fn is_same(buffer: &[u8], part: Part, offset: usize, bytes: &[u8]) -> bool
+    requires { Fits buffer.now part }
+    ensures { result ≡ pieces.is_same (record { offset = offset; bytes = bytes.now }) (piece_in buffer.now part) }
+{
+    offset == part.offset && bytes == &buffer[part.offset..part.offset + part.len]
+}
