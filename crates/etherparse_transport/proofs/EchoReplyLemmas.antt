@@ -29,7 +29,7 @@ use Rattle.net_base.specs.PseudoHeader.{ipv6_pseudo_header}
 use Rattle.net_base.specs.Refusals.{refused_if}
 use Rattle.word_sum.specs.Checksum.{AcceptsChecksum, IsAllOnes, Verifies, checksum_of, folded, total}
 use Rattle.word_sum.proofs.ChecksumLemmas.{accepted_checksum, checksum_verifies, folded-some, total-append_twice}
-use Rattle.etherparse_transport.specs.EchoReplies.{IsIpv4Request, IsIpv6Request, icmpv4_refusal, icmpv4_reply, icmpv4_reply_to, icmpv6_refusal, icmpv6_reply, icmpv6_reply_to, ipv4_reply, ipv6_reply, message_after, is_all_ones}
+use Rattle.etherparse_transport.specs.EchoReplies.{IsIpv4Request, IsIpv6Request, icmpv4_refusal, icmpv4_reply, icmpv4_reply_to, icmpv6_refusal, icmpv6_reply, icmpv6_reply_to, ipv4_reply, ipv4_reply_start, ipv6_reply, message_after, is_all_ones}
 use Rattle.etherparse_transport.specs.declared.err.packet.answer_echo_error.AnswerEchoError.TheVariants.{Checksum, Len, NoEchoRequest}
 use Rattle.etherparse_transport.specs.Formats.{IsReadBack, proto_of, wire}
 use Rattle.etherparse_transport.specs.Packets.{IsReadAs, ipv4_fields, ipv4_header, ipv6_header, number_of}
@@ -170,6 +170,10 @@ start_of packet = record {
   offset_low = slice_index packet 7;
 }
 
+-- the start of the header of the reply
+abbrev pub reply_start_of : List ℕ → Start
+reply_start_of packet = record (start_of packet) { offset_high = 0x40; offset_low = 0 }
+
 pub starts : (packet : List ℕ) → 8 ≤ length packet → slice_index packet 0 ≡ 0x45 → packet ≡ start_bytes (start_of packet) ++ drop 8 packet
 starts (a ∷ (b ∷ (c ∷ (d ∷ (e ∷ (f ∷ (g ∷ (h ∷ rest)))))))) long first = ap (λ a. a ∷ (b ∷ (c ∷ (d ∷ (e ∷ (f ∷ (g ∷ (h ∷ rest)))))))) first
 starts [] long first = absurd (omega arith)
@@ -227,7 +231,7 @@ icmpv4_reply_valid echo payload =
 pub ipv4_reply_has : (packet source destination : List ℕ) (time_to_live : ℕ) (echo : IcmpEchoHeader) → IsIpv4Request packet
     → length source ≡ 4 → length destination ≡ 4
     → HasMessage
-    (ipv4_header (take 8 packet) time_to_live 1 source destination ++ (icmpv4.wire (icmpv4_reply echo (drop 8 (message_after 20 packet))) ++ drop 28 packet))
+    (ipv4_header (ipv4_reply_start packet) time_to_live 1 source destination ++ (icmpv4.wire (icmpv4_reply echo (drop 8 (message_after 20 packet))) ++ drop 28 packet))
     (addresses.Ipv4 source destination) 1
     (icmpv4.wire (icmpv4_reply echo (drop 8 (message_after 20 packet))) ++ drop 8 (message_after 20 packet))
 ipv4_reply_has packet source destination time_to_live echo is len len_too =
@@ -237,21 +241,21 @@ ipv4_reply_has packet source destination time_to_live echo is len len_too =
     let padding : List ℕ = drop (counted_len false packet) packet in
     let header : Icmpv4Header = icmpv4_reply echo payload in
     let sent : List ℕ = icmpv4.wire header ++ payload in
-    let start : Start = start_of packet in
-    let packet_is : packet ≡ start_bytes start ++ drop 8 packet = starts packet (omega (arith, is.end, is.there)) is.five_words in
+    let start : Start = reply_start_of packet in
+    let packet_is : packet ≡ start_bytes (start_of packet) ++ drop 8 packet = starts packet (omega (arith, is.end, is.there)) is.five_words in
     let payload_len : length payload ≡ length message - 8 = length-drop 8 message in
     let counts : start.len_high * 256 + start.len_low ≡ 20 + length sent =
     omega (arith, ap ip.total_len packet_is, ap (counted_len false) packet_is, is.end, shortest, payload_len) in
-    let part : ipv4_is_fragment (start_bytes start) ≡ false = sym (ap (λ bytes. ipv4_is_fragment (ip.ipv4_header bytes)) packet_is) ∙ is.whole in
+    let part : ipv4_is_fragment (start_bytes start) ≡ false = refl in
     let checksum : List ℕ = to_be_bytes w16 (checksum_of (total (ipv4_fields (start_bytes start) time_to_live 1 source destination 0))) in
     let front : List ℕ → List ℕ = front_ipv4 start time_to_live 1 (slice_index checksum 0) (slice_index checksum 1) in
     let has : HasMessage (front ((source ++ destination) ++ (sent ++ padding))) (addresses.Ipv4 source destination) 1 sent =
     message_over_ipv4 start time_to_live 1 _ _ source destination sent padding len len_too counts part refl in
     let after : drop 28 packet ≡ payload ++ padding =
     after_message_header 20 (counted_len false packet) packet (omega (arith, is.end, shortest)) is.there in
-    let reply_is : ipv4_header (take 8 packet) time_to_live 1 source destination ++ (icmpv4.wire header ++ drop 28 packet)
+    let reply_is : ipv4_header (ipv4_reply_start packet) time_to_live 1 source destination ++ (icmpv4.wire header ++ drop 28 packet)
     ≡ front ((source ++ destination) ++ (sent ++ padding)) =
-    ap (λ bytes. ipv4_header bytes time_to_live 1 source destination ++ (icmpv4.wire header ++ drop 28 packet)) (ap (take 8) packet_is)
+    ap (λ bytes. ipv4_header bytes time_to_live 1 source destination ++ (icmpv4.wire header ++ drop 28 packet)) (ap ipv4_reply_start packet_is)
     ∙ ap (λ bytes. front ((source ++ destination) ++ (icmpv4.wire header ++ bytes))) after
     ∙ ap (λ bytes. front ((source ++ destination) ++ bytes)) (sym (append_assoc (icmpv4.wire header) payload padding)) in
     let Has : List ℕ → Type 0 = λ bytes. HasMessage bytes (addresses.Ipv4 source destination) 1 sent in
@@ -261,7 +265,7 @@ pub ipv4_reply_read : (packet source destination : List ℕ) (time_to_live : ℕ
     → length source ≡ 4 → length destination ≡ 4
     → IsReadBack (headers.Icmpv4 (icmpv4_reply echo (drop 8 (message_after 20 packet)))) (drop 8 (message_after 20 packet))
     → IsReadAs
-    (ipv4_header (take 8 packet) time_to_live 1 source destination ++ (icmpv4.wire (icmpv4_reply echo (drop 8 (message_after 20 packet))) ++ drop 28 packet))
+    (ipv4_header (ipv4_reply_start packet) time_to_live 1 source destination ++ (icmpv4.wire (icmpv4_reply echo (drop 8 (message_after 20 packet))) ++ drop 28 packet))
     (addresses.Ipv4 source destination) (headers.Icmpv4 (icmpv4_reply echo (drop 8 (message_after 20 packet)))) (drop 8 (message_after 20 packet))
 ipv4_reply_read packet source destination time_to_live echo is len len_too reads =
     let payload : List ℕ = drop 8 (message_after 20 packet) in
@@ -272,11 +276,11 @@ ipv4_reply_read packet source destination time_to_live echo is len len_too reads
 
 pub ipv4_reply_verifies : (packet source destination after : List ℕ) (time_to_live : ℕ) → IsIpv4Request packet
     → length source ≡ 4 → length destination ≡ 4
-    → Verifies [] (ip.ipv4_header (ipv4_header (take 8 packet) time_to_live 1 source destination ++ after))
+    → Verifies [] (ip.ipv4_header (ipv4_header (ipv4_reply_start packet) time_to_live 1 source destination ++ after))
 ipv4_reply_verifies packet source destination after time_to_live is len len_too =
     let packet_is : packet ≡ start_bytes (start_of packet) ++ drop 8 packet = starts packet (omega (arith, is.end, is.there)) is.five_words in
     let Sums : List ℕ → Type 0 = λ start. Verifies [] (ip.ipv4_header (ipv4_header start time_to_live 1 source destination ++ after)) in
-    subst Sums (sym (ap (take 8) packet_is)) (ipv4_header_verifies (start_of packet) time_to_live 1 source destination after len len_too)
+    subst Sums (sym (ap ipv4_reply_start packet_is)) (ipv4_header_verifies (reply_start_of packet) time_to_live 1 source destination after len len_too)
 
 -- the first four of equal bytes
 pub first_four : (first second third fourth bytes : List ℕ) → first ≡ bytes → second ≡ bytes → third ≡ bytes → fourth ≡ bytes
@@ -288,21 +292,24 @@ first_four first second third fourth bytes is is_too is_third is_fourth =
     ∙ ap (λ third. slice_index bytes 0 ∷ slice_index bytes 1 ∷ slice_index third 2 ∷ slice_index fourth 3 ∷ []) is_third
     ∙ ap (λ fourth. slice_index bytes 0 ∷ slice_index bytes 1 ∷ slice_index bytes 2 ∷ slice_index fourth 3 ∷ []) is_fourth
 
+pub reply_start_len : (packet : List ℕ) → 6 ≤ length packet → length (ipv4_reply_start packet) ≡ 8
+reply_start_len packet there = omega (arith, length-append (take 6 packet) (0x40 ∷ 0 ∷ []), length-take-le 6 packet there)
+
 -- the bytes that are written are the reply
 pub ipv4_written : (packet new first part source : List ℕ) (time_to_live : ℕ) → IsIpv4Request packet
     → length source ≡ 4 → length (slice_range packet 12 16) ≡ 4
-    → first ≡ ipv4_header (take 8 packet) time_to_live 1 source (slice_range packet 12 16)
+    → first ≡ ipv4_header (ipv4_reply_start packet) time_to_live 1 source (slice_range packet 12 16)
     → part ≡ take 4 (icmpv4.wire (icmpv4_reply_to (message_after 20 packet)))
     → echoed (icmpv4.wire (icmpv4_reply_to (message_after 20 packet)) ++ drop 8 (message_after 20 packet)) ≡ echoed (message_after 20 packet)
     → new ≡ first ++ (part ++ drop (length first + length part) packet) → new ≡ ipv4_reply source time_to_live packet
 ipv4_written packet new first part source time_to_live is len len_too first_is part_is same new_is =
-    let start_len : length (take 8 packet) ≡ 8 = length-take-le 8 packet (omega (arith, is.end, is.there)) in
+    let start_len : length (ipv4_reply_start packet) ≡ 8 = reply_start_len packet (omega (arith, is.end, is.there)) in
     let destination : List ℕ = slice_range packet 12 16 in
-    let header : List ℕ = ipv4_header (take 8 packet) time_to_live 1 source destination in
-    let checksum : ℕ = checksum_of (total (ipv4_fields (take 8 packet) time_to_live 1 source destination 0)) in
+    let header : List ℕ = ipv4_header (ipv4_reply_start packet) time_to_live 1 source destination in
+    let checksum : ℕ = checksum_of (total (ipv4_fields (ipv4_reply_start packet) time_to_live 1 source destination 0)) in
     let fields : List ℕ = (time_to_live ∷ 1 ∷ to_be_bytes w16 checksum) ++ (source ++ destination) in
     let first_len : length first ≡ 20 =
-    omega (arith, ap length first_is, start_len, len, len_too, length-append source destination, length-append (take 8 packet) fields) in
+    omega (arith, ap length first_is, start_len, len, len_too, length-append source destination, length-append (ipv4_reply_start packet) fields) in
     let both_len : length first + length part ≡ 24 = omega (arith, first_len, ap length part_is) in
     let shortest : 8 ≤ length (message_after 20 packet) = (icmpv4_request (message_after 20 packet) is.message).shortest in
     new_is ∙ ap (λ n. first ++ (part ++ drop n packet)) both_len

@@ -205,11 +205,17 @@ icmpv4_reply_to message = icmpv4_reply (echo_of message 4) (drop echo_header_len
 abbrev pub icmpv6_reply_to : List ℕ → List ℕ → List ℕ → Icmpv6Header
 icmpv6_reply_to source destination message = icmpv6_reply source destination (echo_of message 4) (drop echo_header_len message)
 
--- The reply from this source, with this time to live. Its destination is the source of the request. The first eight bytes of the IP header,
--- the payload and the bytes after the packet stay.
+-- The first eight bytes of the reply: six bytes of the request, up to its identification, and then only the flag "don't fragment". The reply
+-- is an atomic datagram, which may have any identification (RFC 6864, section 4.1). The flags of the request are about the request: its
+-- reserved flag is 0 in what a host sends (RFC 791, section 3.1).
+abbrev pub ipv4_reply_start : List ℕ → List ℕ
+ipv4_reply_start packet = take 6 packet ++ (0x40 ∷ 0 ∷ [])
+
+-- The reply from this source, with this time to live. Its destination is the source of the request. Type of service, length and
+-- identification, the payload and the bytes after the packet stay.
 abbrev pub ipv4_reply : List ℕ → ℕ → List ℕ → List ℕ
 ipv4_reply source time_to_live packet =
-    ipv4_header (take 8 packet) time_to_live icmpv4_number source (slice_range packet 12 16)
+    ipv4_header (ipv4_reply_start packet) time_to_live icmpv4_number source (slice_range packet 12 16)
     ++ (icmpv4.wire (icmpv4_reply_to (ipv4_message packet)) ++ drop (ipv4_len_without_options + echo_header_len) packet)
 
 -- The same over IPv6, where the first six bytes stay. The pseudo header contains the source of the request as the destination.

@@ -62,8 +62,12 @@ pub fn answer_echo(packet: &mut [u8], hop_limit: u8) -> Result<usize, AnswerEcho
 /// the length of the reply in bytes, which is the length of the request. The bytes after the packet are not changed.
 ///
 /// The reply goes to the source of the request. Its source is the passed address, or the destination of the request if
-/// `None` is passed. It has the passed time to live, the type of a reply, and right checksums of header and message. All
-/// other fields and the payload are kept, among them type of service and identification.
+/// `None` is passed. It has the passed time to live, the type of a reply, and right checksums of header and message. Of the
+/// flags only "don't fragment" is set, whatever the flags of the request are. So the reply is an atomic datagram, in which the
+/// identification of the request has no meaning (RFC 6864, section 4.1). To send a reply in fragments, clear that flag, and
+/// choose an identification. All other fields and the payload are kept, among them type of service and identification.
+///
+/// A request with any time to live is answered, since a host accepts 0 and 1 too (RFC 1122, section 3.2.1.7).
 ///
 /// # Errors
 ///
@@ -102,8 +106,7 @@ pub fn answer_echo_ipv4(
     }
     let checksum = reply_header_checksum(&packet[..IPV4_LEN], time_to_live, passed);
     let reply = icmpv4_reply_to(&packet[IPV4_LEN..len]);
-    let mut start = [0; 8];
-    start.copy_from_slice(&packet[..8]);
+    let start = ipv4_reply_start(packet);
     let destination = addresses.source;
     let protocol = ip_number::ICMP;
     let ip_header = ipv4_fields(start, time_to_live, protocol, source, destination, checksum);
@@ -351,21 +354,44 @@ pub(crate) fn is_host_ipv6(address: [u8; 16]) -> bool
 
 // ---- the reply
 
+/// The first eight bytes of the reply to an IPv4 packet, up to its flags.
+fn ipv4_reply_start(packet: &[u8]) -> [u8; 8]
+    requires there { 6 ≤ length packet.now }
+    ensures { result ≡ specs.ipv4_reply_start packet.now }
+{
+    let mut start = [0; 8];
+    start[..FLAGS_AT].copy_from_slice(&packet[..FLAGS_AT]);
+    start[FLAGS_AT] = DONT_FRAGMENT;
+    start
+}
+
+/// The place of the flags, in bytes from the start of an IPv4 header (RFC 791, section 3.1).
+const FLAGS_AT: usize = 6;
+
+/// The flag "don't fragment" in the byte of the flags.
+const DONT_FRAGMENT: u8 = 0x40;
+
 /// The checksum of the IPv4 header of the reply, from the header of the request. The source of the reply is the passed address, or the
-/// destination of the request. The checksum changes by the time to live and by a passed address (RFC 1624).
+/// destination of the request. The checksum changes by flags and time to live, and by a passed address (RFC 1624).
 // perf: the update takes some 30 instructions less than a sum of the new header (27 Nov 2026).
 fn reply_header_checksum(header: &[u8], time_to_live: u8, source: Option<[u8; 4]>) -> u16
     requires len { length header.now ≡ 20 }
     requires accepted { Verifies [] header.now }
     ensures { result ≡ checksum_of (total
-        (ipv4_fields (take 8 header.now) time_to_live icmpv4_number (unwrap_or source (slice_range header.now 16 20))
+        (ipv4_fields (specs.ipv4_reply_start header.now) time_to_live icmpv4_number (unwrap_or source (slice_range header.now 16 20))
         (slice_range header.now 12 16) 0)) }
 {
-    let old = [header[IPV4_TIME_TO_LIVE_AT], header[IPV4_PROTOCOL_AT]];
+    let old = [
+        header[FLAGS_AT],
+        header[FLAGS_AT + 1],
+        header[IPV4_TIME_TO_LIVE_AT],
+        header[IPV4_PROTOCOL_AT],
+    ];
+    let new = [DONT_FRAGMENT, 0, time_to_live, ip_number::ICMP.0];
     let mut destination = [0; 4];
     destination.copy_from_slice(&header[IPV4_DESTINATION_AT..]);
     let checksum = [header[IPV4_CHECKSUM_AT], header[IPV4_CHECKSUM_AT + 1]];
-    let change = ChecksumChange::new().replace_2bytes(old, [time_to_live, ip_number::ICMP.0]);
+    let change = ChecksumChange::new().replace_4bytes(old, new);
     let change = replace_ipv4_if_passed(change, destination, source);
     change.apply(u16::from_be_bytes(checksum))
 }

@@ -1,4 +1,4 @@
-use Rattle.std.proofs.Common.{◌≡◌, ◌++◌, [], List, ℕ, false, ap, arith, drop, length, rules, slice_range, subst, sym, take, unwrap_or, ◌∙◌}
+use Rattle.std.proofs.Common.{◌≡◌, ◌++◌, ◌∷◌, [], List, ℕ, false, ap, arith, drop, length, rules, slice_range, subst, sym, take, unwrap_or, ◌∙◌}
 use Rattle.std.proofs.lemmas.List.{length-take-le}
 use Rattle.icmp_part.specs.IcmpEcho.{echo_of}
 use Rattle.icmp_part.specs.Icmpv4Format.{wire}
@@ -7,7 +7,7 @@ use Rattle.ip_part.specs.Addresses as addresses
 use Rattle.ip_part.specs.Ip as ip
 use Rattle.net_base.specs.IpHeaders.{ipv4_header_of}
 use Rattle.word_sum.specs.Checksum.{Verifies, checksum_of, total}
-use Rattle.etherparse_transport.specs.EchoReplies.{IsIpv4Request, icmpv4_refusal, icmpv4_reply_to, message_after}
+use Rattle.etherparse_transport.specs.EchoReplies.{IsIpv4Request, icmpv4_refusal, icmpv4_reply_to, ipv4_reply_start, message_after}
 use Rattle.etherparse_transport.specs.Formats.{IsReadBack}
 use Rattle.etherparse_transport.specs.Packets.{IsReadAs, ipv4_fields}
 use Rattle.etherparse_transport.specs.declared.transport_header.TransportHeader.TheVariants as headers
@@ -66,18 +66,18 @@ returns-clause-answered c =
     let from : List ℕ = unwrap_or c.args.source (slice_range packet 16 20) in
     let receiver : List ℕ = slice_range packet 12 16 in
     let is : c.in_ok-addresses.addresses ≡ ipv4_header_of packet = c.in_ok-addresses.ensures.addresses in
-    let start : c.copy_from_slice.new.self ≡ take 8 packet = search rules in
+    let start : c.ipv4_reply_start-start.result ≡ ipv4_reply_start packet = c.ipv4_reply_start-start.ensures in
     let checksum : ℕ = c.reply_header_checksum-checksum.result in
-    let checksum_is : checksum ≡ checksum_of (total (ipv4_fields (take 8 packet) time_to_live 1 from receiver 0)) =
+    let checksum_is : checksum ≡ checksum_of (total (ipv4_fields (ipv4_reply_start packet) time_to_live 1 from receiver 0)) =
     c.reply_header_checksum-checksum.ensures
-    ∙ ap (λ start. checksum_of (total (ipv4_fields start time_to_live 1 (unwrap_or c.args.source (slice_range header 16 20)) (slice_range header 12 16) 0))) (range_in_front 0 8 20 packet (omega arith))
-    ∙ ap (λ receiver. checksum_of (total (ipv4_fields (take 8 packet) time_to_live 1 (unwrap_or c.args.source (slice_range header 16 20)) receiver 0))) (range_in_front 12 4 20 packet (omega arith))
-    ∙ ap (λ destination. checksum_of (total (ipv4_fields (take 8 packet) time_to_live 1 (unwrap_or c.args.source destination) receiver 0))) (range_in_front 16 4 20 packet (omega arith)) in
+    ∙ ap (λ start. checksum_of (total (ipv4_fields start time_to_live 1 (unwrap_or c.args.source (slice_range header 16 20)) (slice_range header 12 16) 0))) (ap (λ bytes. bytes ++ (0x40 ∷ 0 ∷ [])) (range_in_front 0 6 20 packet (omega arith)))
+    ∙ ap (λ receiver. checksum_of (total (ipv4_fields (ipv4_reply_start packet) time_to_live 1 (unwrap_or c.args.source (slice_range header 16 20)) receiver 0))) (range_in_front 12 4 20 packet (omega arith))
+    ∙ ap (λ destination. checksum_of (total (ipv4_fields (ipv4_reply_start packet) time_to_live 1 (unwrap_or c.args.source destination) receiver 0))) (range_in_front 16 4 20 packet (omega arith)) in
     let first = c.deref-5.ensures.0 ∙ c.ipv4_fields-ip_header.ensures
     ∙ ap (λ start. ipv4_fields start time_to_live 1 found c.in_ok-addresses.addresses.source checksum) start
-    ∙ ap (λ source. ipv4_fields (take 8 packet) time_to_live 1 source c.in_ok-addresses.addresses.source checksum) (source c)
-    ∙ ap (λ addresses. ipv4_fields (take 8 packet) time_to_live 1 from addresses.source checksum) is
-    ∙ ap (ipv4_fields (take 8 packet) time_to_live 1 from receiver) checksum_is in
+    ∙ ap (λ source. ipv4_fields (ipv4_reply_start packet) time_to_live 1 source c.in_ok-addresses.addresses.source checksum) (source c)
+    ∙ ap (λ addresses. ipv4_fields (ipv4_reply_start packet) time_to_live 1 from addresses.source checksum) is
+    ∙ ap (ipv4_fields (ipv4_reply_start packet) time_to_live 1 from receiver) checksum_is in
     let second = c.to_bytes-header.ensures.written ∙ ap wire (reply c) in
     ipv4_written packet _ _ _ from time_to_live c.in_ok-addresses.ensures.request (source_len c) (destination_len c) first (first_four _ _ _ _ _ (c.deref.ensures.0 ∙ second) (c.deref-2.ensures.0 ∙ second) (c.deref-3.ensures.0 ∙ second) (c.deref-4.ensures.0 ∙ second)) (same c)
     c.replace_front.ensures
