@@ -1,5 +1,5 @@
 -- Options without a source route of any form have none that is read as a route.
-use Rattle.std.proofs.Common.{◌≡◌, ℕ, zero, suc, Bool, true, false, cond, if◌then◌else◌, is_some, List, [], ◌∷◌, length, drop, take, slice_index, ◌==◌, ◌||◌, nat_lt, Option, Some, None, refl, sym, ap, ◌∙◌}
+use Rattle.std.proofs.Common.{◌≡◌, ℕ, zero, suc, Bool, true, false, cond, if◌then◌else◌, is_some, List, length, drop, take, slice_index, ◌==◌, ◌||◌, nat_lt, Option, Some, None, refl, sym, ap, ◌∙◌}
 use Rattle.std.specs.Prelude.{unwrap_or}
 use Rattle.std.specs.List.{find}
 use Rattle.ip_part.specs.Options.{ipv4_option, is_source_route, options_of, options_within, with_first}

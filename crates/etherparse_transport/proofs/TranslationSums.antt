@@ -4,7 +4,7 @@ use Rattle.std.specs.Prelude.{IfOk, ◌↔◌}
 use Rattle.std.specs.Int.{to_be_bytes, w16, w32}
 use Rattle.std.proofs.Math.Logic.{⊎_elim}
 use Rattle.std.proofs.lemmas.Bool.Decides.{nat_tests}
-use Rattle.std.proofs.lemmas.List.{drop-drop, drop-take, get_or-take, length-drop, length-take-le, take-append-drop, take-take}
+use Rattle.std.proofs.lemmas.List.{drop-drop, drop-take, get_or-take, length-drop, length-take, length-take-le, take-append-drop, take-take, take_all}
 use lib.Seq.{drop-cons}
 use borrow.Rule.Slice.PartMut.{put_mid, take_put}
 use Rattle.net_base.specs.Bytes.{be_number}
@@ -21,8 +21,8 @@ use Rattle.net_base.specs.declared.ipv4_header.Ipv4Header.{Ipv4Header}
 use Rattle.net_base.specs.declared.ipv6_header.Ipv6Header.{Ipv6Header}
 use Rattle.word_sum.specs.UpdatedChecksum.{TurnsIntoBy, updated_checksum_of}
 use Rattle.etherparse_transport.specs.Ipv4Translations.{AreIpv4Addresses, IsHeaderAccepted, IsIpv4Accepted, IsIpv4Place, ipv4_addresses, ipv4_flow_message, ipv4_is_later_fragment, ipv4_quoted, ipv4_pseudo_header_of, sum_of_ipv4, IsIpv4ErrorAccepted, ipv4_proto, message_in_ipv4}
-use Rattle.etherparse_transport.specs.Ipv6Translations.{AreIpv6Addresses, IsIpv6Accepted, IsIpv6Place, ipv6_addresses, ipv6_flow_message, ipv6_is_later_fragment, ipv6_quoted, ipv6_pseudo_header_of, message_in_ipv6, sum_of_ipv6, IsIpv6ErrorAccepted}
-use Rattle.etherparse_transport.specs.Translations.{AreUpdatedAlike, HaveSums, IsAcceptedAlike, IsUpdated, is_query, is_reply, is_request, number, rest_of_message, quoted_by, quoted_in, with_bytes, with_number}
+use Rattle.etherparse_transport.specs.Ipv6Translations.{AreIpv6Addresses, IsIpv6Accepted, IsIpv6Place, ipv6_addresses, ipv6_flow_message, ipv6_is_later_fragment, ipv6_proto, ipv6_quoted, ipv6_pseudo_header_of, message_in_ipv6, sum_of_ipv6, IsIpv6ErrorAccepted}
+use Rattle.etherparse_transport.specs.Translations.{AreUpdatedAlike, HaveSums, IsAcceptedAlike, IsUpdated, least_summed, translated_in, translated_message, translated_udp, is_query, is_reply, is_request, number, rest_of_message, quoted_by, quoted_in, with_bytes, with_number}
 use Rattle.etherparse_transport.specs.declared.ip.ipv4_translation.Ipv4Translation.{Ipv4Translation}
 use Rattle.etherparse_transport.specs.declared.ip.ipv6_translation.Ipv6Translation.{Ipv6Translation}
 use Rattle.etherparse_transport.specs.declared.ip.message_place.Place.{Place}
@@ -30,7 +30,7 @@ use Rattle.net_base.specs.IpHeaders.{ipv4_header_len, ipv4_header_of, ipv6_heade
 use Rattle.etherparse_transport.proofs.EchoReplyLemmas.{is_number}
 use Rattle.etherparse_transport.proofs.TranslationLemmas.{put_is}
 use Rattle.etherparse_transport.proofs.UpdatedAlike.{difference_alike, sums_alike, two_pieces}
-use Rattle.etherparse_transport.proofs.TranslationReading.{drop_after, length_kept, index_after, index_before, number_len}
+use Rattle.etherparse_transport.proofs.TranslationReading.{drop_after, ipv4_flow_message_len, ipv6_flow_message_len, length_kept, index_after, index_before, number_len}
 
 -- ---- one word
 
@@ -244,7 +244,7 @@ ipv4_have_sums protos.Tcp old new len four four_too =
     both_sums _ _ old.source old.destination new.source new.destination _
     (ipv4_pseudo_header_is old.source old.destination 6 len four.source four.destination (omega arith))
     (ipv4_pseudo_header_is new.source new.destination 6 len four_too.source four_too.destination (omega arith))
-ipv4_have_sums protos.Icmpv4 old new len four four_too = (refl, refl)
+ipv4_have_sums protos.Icmpv4 old new len four four_too = refl
 ipv4_have_sums protos.Icmpv6 old new len four four_too =
     both_sums _ _ old.source old.destination new.source new.destination _
     (ipv4_pseudo_header_is old.source old.destination 58 len four.source four.destination (omega arith))
@@ -260,13 +260,150 @@ ipv6_have_sums protos.Tcp old new len four four_too =
     both_sums _ _ old.source old.destination new.source new.destination _
     (ipv6_pseudo_header_is old.source old.destination 6 len four.source four.destination (omega arith))
     (ipv6_pseudo_header_is new.source new.destination 6 len four_too.source four_too.destination (omega arith))
-ipv6_have_sums protos.Icmpv4 old new len four four_too = (refl, refl)
+ipv6_have_sums protos.Icmpv4 old new len four four_too = refl
 ipv6_have_sums protos.Icmpv6 old new len four four_too =
     both_sums _ _ old.source old.destination new.source new.destination _
     (ipv6_pseudo_header_is old.source old.destination 58 len four.source four.destination (omega arith))
     (ipv6_pseudo_header_is new.source new.destination 58 len four_too.source four_too.destination (omega arith))
 
+-- ---- a receiver's check of a part of a message
+
+-- the sum of bytes that come after others, whose number may be odd
+sum_after : List ℕ → List ℕ → ℕ
+sum_after [] bytes = total bytes
+sum_after (odd ∷ []) bytes = total (0 ∷ bytes)
+sum_after (high ∷ (low ∷ front)) bytes = sum_after front bytes
+
+joined_total : (front bytes : List ℕ) → total (front ++ bytes) ≡ total front + sum_after front bytes
+unfolding sum_after
+joined_total [] bytes = omega arith
+joined_total (odd ∷ []) [] = omega arith
+joined_total (odd ∷ []) (next ∷ rest) = omega arith
+joined_total (high ∷ (low ∷ front)) bytes = omega (arith, joined_total front bytes)
+
+sum_after_alike : (front front_too bytes : List ℕ) → length front ≡ length front_too → sum_after front bytes ≡ sum_after front_too bytes
+unfolding sum_after
+sum_after_alike [] [] bytes len = refl
+sum_after_alike [] (a ∷ rest) bytes len = absurd (omega (arith, len))
+sum_after_alike (a ∷ []) [] bytes len = absurd (omega (arith, len))
+sum_after_alike (a ∷ []) (b ∷ []) bytes len = refl
+sum_after_alike (a ∷ []) (b ∷ (c ∷ rest)) bytes len = absurd (omega (arith, len))
+sum_after_alike (a ∷ (b ∷ rest)) [] bytes len = absurd (omega (arith, len))
+sum_after_alike (a ∷ (b ∷ rest)) (c ∷ []) bytes len = absurd (omega (arith, len))
+sum_after_alike (a ∷ (b ∷ rest)) (c ∷ (d ∷ rest_too)) bytes len = sum_after_alike rest rest_too bytes (omega (arith, len))
+
+-- the same sum is added to both
+have_sums_and : (proto : Proto) (removed added before after sum : ℕ) → HaveSums proto removed added before after
+    → HaveSums proto removed added (before + sum) (after + sum)
+have_sums_and protos.Udp removed added before after sum have =
+    (turns_shifted before added after removed sum have.0, λ none. have.1 (omega (arith, none)), λ none. have.2 (omega (arith, none)))
+have_sums_and protos.Tcp removed added before after sum have =
+    (turns_shifted before added after removed sum have.0, λ none. have.1 (omega (arith, none)), λ none. have.2 (omega (arith, none)))
+have_sums_and protos.Icmpv4 removed added before after sum have = ap (λ n. n + sum) have
+have_sums_and protos.Icmpv6 removed added before after sum have =
+    (turns_shifted before added after removed sum have.0, λ none. have.1 (omega (arith, none)), λ none. have.2 (omega (arith, none)))
+
+-- 65535 times a number changes nothing
+ones_and_more : (n more : ℕ) → n ≢ 0 → IsAllOnes (n + more * 65535) ↔ IsAllOnes n
+ones_and_more n more some =
+    both_accepted n (n + more * 65535) (omega arith) some (λ none. some (omega (arith, none)))
+
+-- all bytes of the message are summed, and others after them
+alike_with_missing : (before after : ℕ) (message translated missing : List ℕ) → length translated ≡ length message
+    → ((sum : ℕ) → IsAcceptedAlike (before + sum) (after + sum) message translated)
+    → IsAllOnes (after + total (translated ++ missing)) ↔ IsAllOnes (before + total (message ++ missing))
+alike_with_missing before after message translated missing len alike =
+    let more : ℕ = sum_after message missing in
+    let was : before + total (message ++ missing) ≡ before + more + total message = omega (arith, joined_total message missing) in
+    let is : after + total (translated ++ missing) ≡ after + more + total translated =
+    omega (arith, joined_total translated missing, sum_after_alike translated message missing len) in
+    subst (λ n. IsAllOnes n ↔ IsAllOnes (before + total (message ++ missing))) (sym is)
+    (subst (λ n. IsAllOnes (after + more + total translated) ↔ IsAllOnes n) (sym was) (alike more))
+
+alike_within : (before after count : ℕ) (message translated missing : List ℕ) → length translated ≡ length message → length message ≤ count
+    → ((sum : ℕ) → IsAcceptedAlike (before + sum) (after + sum) message translated)
+    → IsAllOnes (after + total (take count translated ++ missing)) ↔ IsAllOnes (before + total (take count message ++ missing))
+alike_within before after count message translated missing len within alike =
+    let was : take count message ≡ message = take_all count message within in
+    let is : take count translated ≡ translated = take_all count translated (omega (arith, len, within)) in
+    subst (λ bytes. IsAllOnes (after + total (bytes ++ missing)) ↔ IsAllOnes (before + total (take count message ++ missing))) (sym is)
+    (subst (λ bytes. IsAllOnes (after + total (translated ++ missing)) ↔ IsAllOnes (before + total (bytes ++ missing))) (sym was)
+    (alike_with_missing before after message translated missing len alike))
+
+-- a part of the message is summed, and the bytes after it are the same in both messages
+alike_in_front : (before after count : ℕ) (message translated missing : List ℕ) → length translated ≡ length message
+    → drop count translated ≡ drop count message → before ≢ 0 → after ≢ 0
+    → ((sum : ℕ) → IsAcceptedAlike (before + sum) (after + sum) message translated)
+    → IsAllOnes (after + total (take count translated ++ missing)) ↔ IsAllOnes (before + total (take count message ++ missing))
+alike_in_front before after count message translated missing len same some some_too alike =
+    let front : List ℕ = take count message in
+    let front_too : List ℕ = take count translated in
+    let front_len : length front_too ≡ length front =
+    omega (arith, length-take count translated, length-take count message, len) in
+    let more : ℕ = sum_after front missing in
+    let rest : ℕ = sum_after front (drop count message) in
+    let was : ℕ = before + total (front ++ missing) in
+    let is : ℕ = after + total (front_too ++ missing) in
+    let message_is : total message ≡ total front + rest =
+    ap total (sym (take-append-drop count message)) ∙ joined_total front (drop count message) in
+    let translated_is : total translated ≡ total front_too + rest =
+    ap total (sym (take-append-drop count translated)) ∙ joined_total front_too (drop count translated)
+    ∙ ap (λ bytes. total front_too + sum_after front_too bytes) same
+    ∙ ap (λ n. total front_too + n) (sum_after_alike front_too front (drop count message) front_len) in
+    let whole : before + (more + rest * 65534) + total message ≡ was + rest * 65535 =
+    omega (arith, message_is, joined_total front missing) in
+    let whole_too : after + (more + rest * 65534) + total translated ≡ is + rest * 65535 =
+    omega (arith, translated_is, joined_total front_too missing, sum_after_alike front_too front missing front_len) in
+    let all : IsAcceptedAlike (before + (more + rest * 65534)) (after + (more + rest * 65534)) message translated = alike (more + rest * 65534) in
+    let then_was = ones_and_more was rest (λ none. some (omega (arith, none))) in
+    let then_is = ones_and_more is rest (λ none. some_too (omega (arith, none))) in (
+      λ ones. then_was.0 (ap folded (sym whole) ∙ all.0 (ap folded whole_too ∙ then_is.1 ones)),
+      λ ones. then_is.0 (ap folded (sym whole_too) ∙ all.1 (ap folded whole ∙ then_was.1 ones)),
+    )
+
+drop_number : (there : Bool) (place value n : ℕ) (bytes : List ℕ) → there ≡ nat_le (place + 2) (length bytes) → place + 2 ≤ n
+    → drop n (if there then with_checksum place bytes value else bytes) ≡ drop n bytes
+drop_number false place value n bytes test after = refl
+drop_number true place value n bytes test after = drop_after place (to_be_bytes w16 value) bytes (grind (arith, nat_tests)) n after
+
+drop_with_number : (place value n : ℕ) (bytes : List ℕ) → place + 2 ≤ n → drop n (with_number place value bytes) ≡ drop n bytes
+drop_with_number place value n bytes after = drop_number (nat_le (place + 2) (length bytes)) place value n bytes refl after
+
+-- the bytes after the header of a UDP packet stay
+after_udp : (n old new : ℕ) (source destination : Option ℕ) (packet : List ℕ) → 8 ≤ n
+    → drop n (translated_udp old new source destination packet) ≡ drop n packet
+after_udp n old new source destination packet after =
+    drop_with_number 6 _ n _ after ∙ drop_with_number 2 _ n _ (omega (arith, after)) ∙ drop_with_number 0 _ n packet (omega (arith, after))
+
+-- what a receiver sums, by the protocol
+alike_by_proto : (proto : Proto) (removed added before after count : ℕ) (source destination : Option ℕ) (message translated missing : List ℕ)
+    → HaveSums proto removed added before after → IsUpdated proto message → length translated ≡ length message
+    → translated ≡ translated_message proto removed added source destination message
+    → ((before after : ℕ) → HaveSums proto removed added before after → IsUpdated proto message → IsAcceptedAlike before after message translated)
+    → least_summed proto (length message) ≤ count
+    → IsAllOnes (after + total (take count translated ++ missing)) ↔ IsAllOnes (before + total (take count message ++ missing))
+alike_by_proto protos.Udp removed added before after count source destination message translated missing have updated len is alike least =
+    alike_in_front before after count message translated missing len (ap (drop count) is ∙ after_udp count removed added source destination message least)
+    have.1 have.2 (λ sum. alike (before + sum) (after + sum) (have_sums_and protos.Udp removed added before after sum have) updated)
+alike_by_proto protos.Tcp removed added before after count source destination message translated missing have updated len is alike least =
+    alike_within before after count message translated missing len least
+    (λ sum. alike (before + sum) (after + sum) (have_sums_and protos.Tcp removed added before after sum have) updated)
+alike_by_proto protos.Icmpv4 removed added before after count source destination message translated missing have updated len is alike least =
+    alike_within before after count message translated missing len least
+    (λ sum. alike (before + sum) (after + sum) (have_sums_and protos.Icmpv4 removed added before after sum have) updated)
+alike_by_proto protos.Icmpv6 removed added before after count source destination message translated missing have updated len is alike least =
+    alike_within before after count message translated missing len least
+    (λ sum. alike (before + sum) (after + sum) (have_sums_and protos.Icmpv6 removed added before after sum have) updated)
+
 -- ---- a receiver's check of a translated IPv4 packet
+
+-- the message of a known protocol, not in a later fragment
+translated_known : (is_later_fragment : Bool) (known : Option Proto) (proto : Proto) (removed added : ℕ) (source destination : Option ℕ) (message : List ℕ)
+    → known ≡ Some proto → is_later_fragment ≡ false
+    → translated_in is_later_fragment known removed added source destination message ≡ translated_message proto removed added source destination message
+translated_known is_later_fragment known proto removed added source destination message is later =
+    ap (λ known. translated_in is_later_fragment known removed added source destination message) is
+    ∙ ap (λ later. if later then message else translated_message proto removed added source destination message) later
 
 -- a range within the packet has its length
 pub range_len : (from n : ℕ) (packet : List ℕ) → from + n ≤ length packet → length (take n (drop from packet)) ≡ n
@@ -279,22 +416,31 @@ pub ipv4_verifies : (new : Ipv4Translation) (packet bytes translated : List ℕ)
     → IsUpdated proto bytes → IsAcceptedAlike before after bytes translated)
     → IsIpv4Accepted new packet (ipv4_flow_message new packet)
 ipv4_verifies new packet bytes translated place removed added at bytes_is translated_is removed_is added_is four alike = λ proto known later updated.
-    let len : ℕ = length (message_in_ipv4 packet) in
     let old : Ipv4Header = ipv4_header_of packet in
+    let message : List ℕ = message_in_ipv4 packet in
+    let to : List ℕ = ipv4_flow_message new packet in
     let old_four : AreIpv4Addresses old = record {
       source = range_len 12 4 packet (omega (arith, at.header, at.ordered, at.there));
       destination = range_len 16 4 packet (omega (arith, at.header, at.ordered, at.there));
     } in
-    let before : ℕ = total (ipv4_pseudo_header_of proto old len) in
-    let after : ℕ = total (ipv4_pseudo_header_of proto (ipv4_addresses new packet) len) in
-    let sums : HaveSums proto (sum_of_ipv4 old) (sum_of_ipv4 (ipv4_addresses new packet)) before after =
-    ipv4_have_sums proto old (ipv4_addresses new packet) len old_four four in
-    let sums_too : HaveSums proto removed added before after =
-    subst (λ removed. HaveSums proto removed added before after) (sym removed_is)
-    (subst (λ added. HaveSums proto (sum_of_ipv4 old) added before after) (sym added_is) sums) in
-    let updated_too : IsUpdated proto bytes = subst (IsUpdated proto) (sym bytes_is) updated in
-    subst (IsAcceptedAlike before after (message_in_ipv4 packet)) translated_is
-    (subst (λ bytes. IsAcceptedAlike before after bytes translated) bytes_is (alike (at.later ∙ later) proto (at.proto ∙ known) before after sums_too updated_too))
+    let before : ℕ → ℕ = λ len. total (ipv4_pseudo_header_of proto old len) in
+    let after : ℕ → ℕ = λ len. total (ipv4_pseudo_header_of proto (ipv4_addresses new packet) len) in
+    let sums : (len : ℕ) → HaveSums proto (sum_of_ipv4 old) (sum_of_ipv4 (ipv4_addresses new packet)) (before len) (after len) =
+    λ len. ipv4_have_sums proto old (ipv4_addresses new packet) len old_four four in
+    let alike_too : (before after : ℕ) → HaveSums proto (sum_of_ipv4 old) (sum_of_ipv4 (ipv4_addresses new packet)) before after → IsUpdated proto message
+    → IsAcceptedAlike before after message to = λ before after have updated.
+    subst (IsAcceptedAlike before after message) translated_is
+    (subst (λ bytes. IsAcceptedAlike before after bytes translated) bytes_is (alike (at.later ∙ later) proto (at.proto ∙ known) before after
+    (subst (λ removed. HaveSums proto removed added before after) (sym removed_is)
+    (subst (λ added. HaveSums proto (sum_of_ipv4 old) added before after) (sym added_is) have)) (subst (IsUpdated proto) (sym bytes_is) updated))) in
+    let flow : to ≡ translated_message proto (sum_of_ipv4 old) (sum_of_ipv4 (ipv4_addresses new packet)) new.source_port new.destination_port message =
+    translated_known (ipv4_is_later_fragment packet) (ipv4_proto packet) proto _ _ new.source_port new.destination_port message known later in
+    record {
+      whole = alike_too (before (length message)) (after (length message)) (sums (length message)) updated;
+      received = λ len count missing least.
+          alike_by_proto proto _ _ (before len) (after len) count new.source_port new.destination_port message to missing (sums len) updated
+          (ipv4_flow_message_len new packet) flow alike_too least;
+    }
 
 -- ---- a receiver's check of a translated IPv6 packet
 
@@ -306,21 +452,31 @@ pub ipv6_verifies : (new : Ipv6Translation) (packet bytes translated : List ℕ)
     → IsUpdated proto bytes → IsAcceptedAlike before after bytes translated)
     → IsIpv6Accepted new packet (ipv6_flow_message new packet)
 ipv6_verifies new packet bytes translated place removed added at bytes_is translated_is is_alike four alike = λ proto known later updated.
-    let len : ℕ = length (message_in_ipv6 packet) in
     let old : Ipv6Header = ipv6_header_of packet in
+    let message : List ℕ = message_in_ipv6 packet in
+    let to : List ℕ = ipv6_flow_message new packet in
     let old_four : AreIpv6Addresses old = record {
       source = range_len 8 16 packet (omega (arith, at.header, at.ordered, at.there));
       destination = range_len 24 16 packet (omega (arith, at.header, at.ordered, at.there));
     } in
-    let before : ℕ = total (ipv6_pseudo_header_of proto old len) in
-    let after : ℕ = total (ipv6_pseudo_header_of proto (ipv6_addresses new packet) len) in
-    let sums : HaveSums proto (sum_of_ipv6 old) (sum_of_ipv6 (ipv6_addresses new packet)) before after =
-    ipv6_have_sums proto old (ipv6_addresses new packet) len old_four four in
-    let sums_too : HaveSums proto removed added before after =
-    sums_alike proto removed added (sum_of_ipv6 old) (sum_of_ipv6 (ipv6_addresses new packet)) before after is_alike sums in
-    let updated_too : IsUpdated proto bytes = subst (IsUpdated proto) (sym bytes_is) updated in
-    subst (IsAcceptedAlike before after (message_in_ipv6 packet)) translated_is
-    (subst (λ bytes. IsAcceptedAlike before after bytes translated) bytes_is (alike (at.later ∙ later) proto (at.proto ∙ known) before after sums_too updated_too))
+    let before : ℕ → ℕ = λ len. total (ipv6_pseudo_header_of proto old len) in
+    let after : ℕ → ℕ = λ len. total (ipv6_pseudo_header_of proto (ipv6_addresses new packet) len) in
+    let sums : (len : ℕ) → HaveSums proto (sum_of_ipv6 old) (sum_of_ipv6 (ipv6_addresses new packet)) (before len) (after len) =
+    λ len. ipv6_have_sums proto old (ipv6_addresses new packet) len old_four four in
+    let alike_too : (before after : ℕ) → HaveSums proto (sum_of_ipv6 old) (sum_of_ipv6 (ipv6_addresses new packet)) before after → IsUpdated proto message
+    → IsAcceptedAlike before after message to = λ before after have updated.
+    subst (IsAcceptedAlike before after message) translated_is
+    (subst (λ bytes. IsAcceptedAlike before after bytes translated) bytes_is (alike (at.later ∙ later) proto (at.proto ∙ known) before after
+    (sums_alike proto removed added (sum_of_ipv6 old) (sum_of_ipv6 (ipv6_addresses new packet)) before after is_alike have)
+    (subst (IsUpdated proto) (sym bytes_is) updated))) in
+    let flow : to ≡ translated_message proto (sum_of_ipv6 old) (sum_of_ipv6 (ipv6_addresses new packet)) new.source_port new.destination_port message =
+    translated_known (ipv6_is_later_fragment packet) (ipv6_proto packet) proto _ _ new.source_port new.destination_port message known later in
+    record {
+      whole = alike_too (before (length message)) (after (length message)) (sums (length message)) updated;
+      received = λ len count missing least.
+          alike_by_proto proto _ _ (before len) (after len) count new.source_port new.destination_port message to missing (sums len) updated
+          (ipv6_flow_message_len new packet) flow alike_too least;
+    }
 
 -- ---- a query quotes no packet
 
@@ -417,26 +573,42 @@ quotes_some false (Some protos.Tcp) message quoted other quotes = absurd (cc quo
 quotes_some false (Some protos.Icmpv4) message quoted other quotes = λ zero. absurd (cc (icmpv4_zero message zero, quotes))
 quotes_some false (Some protos.Icmpv6) message quoted other quotes = absurd (other refl)
 
-pub ipv4_error_accepted : (packet quoted translated : List ℕ) → ipv4_quoted packet ≡ Some quoted
-    → (slice_index (message_in_ipv4 packet) 0 ≢ 0 → IsAcceptedAlike 0 0 (message_in_ipv4 packet) translated) → IsIpv4ErrorAccepted packet translated
-ipv4_error_accepted packet quoted translated quotes accepted = λ other is.
-    accepted (quotes_some (ipv4_is_later_fragment packet) (ipv4_proto packet) (message_in_ipv4 packet) quoted (no_icmpv6 _ _ _) quotes)
+pub ipv4_error_accepted : (packet quoted translated : List ℕ) → ipv4_quoted packet ≡ Some quoted → length translated ≡ length (message_in_ipv4 packet)
+    → (slice_index (message_in_ipv4 packet) 0 ≢ 0 → (sum : ℕ) → IsAcceptedAlike sum sum (message_in_ipv4 packet) translated)
+    → IsIpv4ErrorAccepted packet translated
+ipv4_error_accepted packet quoted translated quotes len accepted = λ other is.
+    let message : List ℕ = message_in_ipv4 packet in
+    let alike : (sum : ℕ) → IsAcceptedAlike sum sum message translated =
+    accepted (quotes_some (ipv4_is_later_fragment packet) (ipv4_proto packet) message quoted (no_icmpv6 _ _ _) quotes) in
+    record {
+      whole = alike 0;
+      received = λ n count missing least. alike_within 0 0 count message translated missing len least
+          (λ sum. subst (λ n. IsAcceptedAlike n n message translated) (omega arith) (alike sum));
+    }
 
 pub ipv6_error_accepted : (new : Ipv6Translation) (packet quoted translated : List ℕ) → 40 ≤ length packet → ipv6_quoted packet ≡ Some quoted
-    → AreIpv6Addresses (ipv6_addresses new packet)
+    → AreIpv6Addresses (ipv6_addresses new packet) → length translated ≡ length (message_in_ipv6 packet)
     → ((before after : ℕ) → TurnsIntoBy (sum_of_ipv6 (ipv6_header_of packet)) (sum_of_ipv6 (ipv6_addresses new packet)) before after
     → before ≢ 0 → after ≢ 0 → IsAcceptedAlike before after (message_in_ipv6 packet) translated)
     → IsIpv6ErrorAccepted new packet translated
-ipv6_error_accepted new packet quoted translated there quotes four accepted = λ other is.
-    let len : ℕ = length (message_in_ipv6 packet) in
+ipv6_error_accepted new packet quoted translated there quotes four len accepted = λ other is.
+    let message : List ℕ = message_in_ipv6 packet in
     let old : Ipv6Header = ipv6_header_of packet in
     let old_four : AreIpv6Addresses old = record {
       source = range_len 8 16 packet (omega (arith, there));
       destination = range_len 24 16 packet (omega (arith, there));
     } in
-    let sums = ipv6_have_sums protos.Icmpv6 old (ipv6_addresses new packet) len old_four four in
-    accepted (total (ipv6_pseudo_header_of protos.Icmpv6 old len)) (total (ipv6_pseudo_header_of protos.Icmpv6 (ipv6_addresses new packet) len))
-    sums.0 sums.1 sums.2
+    let before : ℕ → ℕ = λ len. total (ipv6_pseudo_header_of protos.Icmpv6 old len) in
+    let after : ℕ → ℕ = λ len. total (ipv6_pseudo_header_of protos.Icmpv6 (ipv6_addresses new packet) len) in
+    let alike : (len sum : ℕ) → IsAcceptedAlike (before len + sum) (after len + sum) message translated = λ len sum.
+    let sums = have_sums_and protos.Icmpv6 _ _ (before len) (after len) sum
+    (ipv6_have_sums protos.Icmpv6 old (ipv6_addresses new packet) len old_four four) in
+    accepted (before len + sum) (after len + sum) sums.0 sums.1 sums.2 in
+    let sums = ipv6_have_sums protos.Icmpv6 old (ipv6_addresses new packet) (length message) old_four four in
+    record {
+      whole = accepted (before (length message)) (after (length message)) sums.0 sums.1 sums.2;
+      received = λ n count missing least. alike_within (before n) (after n) count message translated missing len least (alike n);
+    }
 
 -- facts of a success that follow from others
 pub if_ok_then : {T E : Type 0} {P Q : Type 0} (result : Result T E) → IfOk result (λ value. P) → (P → Q) → IfOk result (λ value. Q)

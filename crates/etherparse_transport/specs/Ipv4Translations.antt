@@ -17,7 +17,7 @@ use Rattle.net_base.specs.declared.ipv4_header.Ipv4Header.{Ipv4Header}
 use Rattle.word_sum.specs.Checksum.{Verifies, sum_of_pieces, total}
 use Rattle.word_sum.specs.UpdatedChecksum.{updated_checksum_of}
 use Rattle.etherparse_transport.specs.SourceRoutes.{contain_source_route}
-use Rattle.etherparse_transport.specs.Translations.{IsUpdated, counted_after, has_port, message_refusal, number, quoted_in, translated_in, with_bytes, with_quote}
+use Rattle.etherparse_transport.specs.Translations.{IsUpdated, IsVerifiedAlike, counted_after, has_port, least_summed, message_refusal, number, quoted_in, translated_in, with_bytes, with_quote}
 use Rattle.etherparse_transport.specs.declared.ip.ipv4_translation.Ipv4Translation.{Ipv4Translation}
 use Rattle.etherparse_transport.specs.declared.ip.message_place.Place.{Place}
 use Rattle.etherparse_transport.specs.declared.err.packet.translate_error.TranslateError.{TranslateError}
@@ -163,7 +163,7 @@ abbrev pub ipv4_refusal_by : Bool → Bool → List ℕ → Option TranslateErro
 ipv4_refusal_by has_port has_quoted_port packet = first_of (
     ipv4_place_refusal has_port packet ∷ ipv4_message_refusal packet ∷ ipv4_quoted_refusal has_quoted_port (ipv4_quoted packet) ∷ [])
 
--- the same for the translations of the packet and of the packet that it quotes, each of which replaces a port or only addresses
+-- the same for two translations: of the packet, and of the packet that it quotes. Each replaces a port or only addresses.
 abbrev pub ipv4_refusal_with : Ipv4Translation → Ipv4Translation → List ℕ → Option TranslateError
 ipv4_refusal_with new of_quoted packet =
     ipv4_refusal_by (has_port new.source_port new.destination_port) (has_port of_quoted.source_port of_quoted.destination_port) packet
@@ -217,17 +217,19 @@ ipv4_pseudo_header_of protos.Icmpv4 addresses len = []
 ipv4_pseudo_header_of protos.Icmpv6 addresses len = ipv4_pseudo_header addresses.source addresses.destination icmpv6_number len
 
 -- A receiver accepts this message between the new addresses exactly if it accepts the old message between the old addresses. This holds for
--- a message whose checksum is updated, and not for a later fragment.
+-- a message whose checksum is updated, also if it is a part of a message, and not for a later fragment.
 abbrev pub IsIpv4Accepted : Ipv4Translation → List ℕ → List ℕ → Type 0
 IsIpv4Accepted new packet translated = (proto : Proto) → ipv4_proto packet ≡ Some proto
     → (ipv4_is_later_fragment packet ≡ false) → IsUpdated proto (message_in_ipv4 packet)
-    → (Verifies (ipv4_pseudo_header_of proto (ipv4_addresses new packet) (length (message_in_ipv4 packet))) translated)
-    ↔ (Verifies (ipv4_pseudo_header_of proto (ipv4_header_of packet) (length (message_in_ipv4 packet))) (message_in_ipv4 packet))
+    → IsVerifiedAlike (least_summed proto (length (message_in_ipv4 packet)))
+    (ipv4_pseudo_header_of proto (ipv4_header_of packet)) (ipv4_pseudo_header_of proto (ipv4_addresses new packet))
+    (message_in_ipv4 packet) translated
 
--- A receiver accepts a translated ICMP error exactly if it accepts the error, whose checksum covers the packet that it quotes.
+-- A receiver accepts a translated ICMP error exactly if it accepts the error, whose checksum covers the packet that it quotes. This holds also
+-- if some bytes of the error are in other fragments or are cut off.
 abbrev pub IsIpv4ErrorAccepted : List ℕ → List ℕ → Type 0
 IsIpv4ErrorAccepted packet translated = (quoted : List ℕ) → ipv4_quoted packet ≡ Some quoted
-    → (Verifies [] translated) ↔ (Verifies [] (message_in_ipv4 packet))
+    → IsVerifiedAlike (length (message_in_ipv4 packet)) (λ len. []) (λ len. []) (message_in_ipv4 packet) translated
 
 -- a router accepts the header exactly if it accepted the old header (RFC 791, section 3.1)
 abbrev pub IsHeaderAccepted : List ℕ → List ℕ → Type 0

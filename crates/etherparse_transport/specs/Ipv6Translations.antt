@@ -1,6 +1,6 @@
 -- The translation of an IPv6 packet, as an address translator makes it (RFC 3022; RFC 5508 for ICMP): new addresses and the
 -- translated message. An IPv6 header has no checksum.
-use Rattle.std.specs.Prelude.{◌≡◌, ◌≤◌, ◌↔◌, ℕ, ◌+◌, ◌==◌, ◌&&◌, ◌||◌, Bool, false, if◌then◌else◌, is_none, not, List, [], ◌∷◌, length, slice_index, slice_range, Option, Some, None, unwrap_or}
+use Rattle.std.specs.Prelude.{◌≡◌, ◌≤◌, ℕ, ◌+◌, ◌==◌, ◌&&◌, ◌||◌, Bool, false, if◌then◌else◌, is_none, not, List, [], ◌∷◌, length, slice_index, slice_range, Option, Some, None, unwrap_or}
 use Rattle.std.specs.Option.{option_map}
 use Rattle.ip_part.specs.Addresses.{Addresses, Ipv6}
 use Rattle.ip_part.specs.ExtensionHeaders.{fragment, is_extension, is_later_fragment}
@@ -13,8 +13,8 @@ use Rattle.net_base.specs.IpNumbers.{icmpv4_number, icmpv6_number, tcp_number, u
 use Rattle.net_base.specs.PseudoHeader.{ipv6_pseudo_header}
 use Rattle.net_base.specs.Refusals.{first_of, refused_if}
 use Rattle.net_base.specs.declared.ipv6_header.Ipv6Header.{Ipv6Header}
-use Rattle.word_sum.specs.Checksum.{Verifies, sum_of_pieces, total}
-use Rattle.etherparse_transport.specs.Translations.{IsUpdated, counted_after, has_port, message_refusal, quoted_in, translated_in, with_bytes, with_quote}
+use Rattle.word_sum.specs.Checksum.{sum_of_pieces, total}
+use Rattle.etherparse_transport.specs.Translations.{IsUpdated, IsVerifiedAlike, counted_after, has_port, least_summed, message_refusal, quoted_in, translated_in, with_bytes, with_quote}
 use Rattle.etherparse_transport.specs.declared.ip.ipv6_translation.Ipv6Translation.{Ipv6Translation}
 use Rattle.etherparse_transport.specs.declared.ip.message_place.Place.{Place}
 use Rattle.etherparse_transport.specs.declared.err.packet.translate_error.TranslateError.{TranslateError}
@@ -155,7 +155,7 @@ abbrev pub ipv6_refusal_by : Bool → Bool → List ℕ → Option TranslateErro
 ipv6_refusal_by has_port has_quoted_port packet = first_of (
     ipv6_place_refusal has_port packet ∷ ipv6_message_refusal packet ∷ ipv6_quoted_refusal has_quoted_port (ipv6_quoted packet) ∷ [])
 
--- the same for the translations of the packet and of the packet that it quotes, each of which replaces a port or only addresses
+-- the same for two translations: of the packet, and of the packet that it quotes. Each replaces a port or only addresses.
 abbrev pub ipv6_refusal_with : Ipv6Translation → Ipv6Translation → List ℕ → Option TranslateError
 ipv6_refusal_with new of_quoted packet =
     ipv6_refusal_by (has_port new.source_port new.destination_port) (has_port of_quoted.source_port of_quoted.destination_port) packet
@@ -211,15 +211,18 @@ ipv6_pseudo_header_of protos.Icmpv4 addresses len = []
 ipv6_pseudo_header_of protos.Icmpv6 addresses len = ipv6_pseudo_header addresses.source addresses.destination icmpv6_number len
 
 -- A receiver accepts this message between the new addresses exactly if it accepts the old message between the old addresses. This holds for
--- a message whose checksum is updated, and not for a later fragment.
+-- a message whose checksum is updated, also if it is a part of a message, and not for a later fragment.
 abbrev pub IsIpv6Accepted : Ipv6Translation → List ℕ → List ℕ → Type 0
 IsIpv6Accepted new packet translated = (proto : Proto) → ipv6_proto packet ≡ Some proto
     → (ipv6_is_later_fragment packet ≡ false) → IsUpdated proto (message_in_ipv6 packet)
-    → (Verifies (ipv6_pseudo_header_of proto (ipv6_addresses new packet) (length (message_in_ipv6 packet))) translated)
-    ↔ (Verifies (ipv6_pseudo_header_of proto (ipv6_header_of packet) (length (message_in_ipv6 packet))) (message_in_ipv6 packet))
+    → IsVerifiedAlike (least_summed proto (length (message_in_ipv6 packet)))
+    (ipv6_pseudo_header_of proto (ipv6_header_of packet)) (ipv6_pseudo_header_of proto (ipv6_addresses new packet))
+    (message_in_ipv6 packet) translated
 
--- A receiver accepts a translated ICMP error exactly if it accepts the error, whose checksum covers the packet that it quotes.
+-- A receiver accepts a translated ICMP error exactly if it accepts the error, whose checksum covers the packet that it quotes. This holds also
+-- if some bytes of the error are in other fragments or are cut off.
 abbrev pub IsIpv6ErrorAccepted : Ipv6Translation → List ℕ → List ℕ → Type 0
 IsIpv6ErrorAccepted new packet translated = (quoted : List ℕ) → ipv6_quoted packet ≡ Some quoted
-    → (Verifies (ipv6_pseudo_header_of protos.Icmpv6 (ipv6_addresses new packet) (length (message_in_ipv6 packet))) translated)
-    ↔ (Verifies (ipv6_pseudo_header_of protos.Icmpv6 (ipv6_header_of packet) (length (message_in_ipv6 packet))) (message_in_ipv6 packet))
+    → IsVerifiedAlike (length (message_in_ipv6 packet))
+    (ipv6_pseudo_header_of protos.Icmpv6 (ipv6_header_of packet)) (ipv6_pseudo_header_of protos.Icmpv6 (ipv6_addresses new packet))
+    (message_in_ipv6 packet) translated

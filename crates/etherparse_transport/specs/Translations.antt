@@ -13,7 +13,7 @@ use Rattle.ip_part.specs.declared.transport.TransportInIp.{TransportInIp}
 use Rattle.net_base.specs.Bytes.{be_number}
 use Rattle.net_base.specs.Refusals.{first_of, refused_if}
 use Rattle.net_base.specs.StoredChecksum.{icmp_checksum_place, tcp_checksum_place, udp_checksum_place, with_checksum}
-use Rattle.word_sum.specs.Checksum.{IsAllOnes, all_ones, folded, total, zero_as_all_ones}
+use Rattle.word_sum.specs.Checksum.{IsAllOnes, Verifies, all_ones, folded, total, zero_as_all_ones}
 use Rattle.word_sum.specs.UpdatedChecksum.{TurnsIntoBy, updated_checksum_of, updated_udp_checksum_of}
 use Rattle.etherparse_transport.specs.declared.err.packet.translate_error.TranslateError.{TranslateError}
 use Rattle.etherparse_transport.specs.declared.err.packet.translate_error.TranslateError.TheVariants.{HeaderCutOff, IcmpMessage}
@@ -248,12 +248,12 @@ pub record IsReadWith (packet translated : List ℕ) (between : Addresses) (mess
 
 -- ---- a receiver's check
 
--- the sums of the pseudo headers of the old and the new addresses, which the replaced addresses turn into each other; ICMPv4 has no pseudo
--- header
+-- The sums of what a receiver adds to the old and to the new message: the pseudo headers of the old and the new addresses, which the replaced
+-- addresses turn into each other, and bytes that stay. ICMPv4 has no pseudo header.
 abbrev pub HaveSums : Proto → ℕ → ℕ → ℕ → ℕ → Type 0
 HaveSums protos.Udp removed added before after = TurnsIntoBy removed added before after × (before ≢ 0) × (after ≢ 0)
 HaveSums protos.Tcp removed added before after = TurnsIntoBy removed added before after × (before ≢ 0) × (after ≢ 0)
-HaveSums protos.Icmpv4 removed added before after = (before ≡ 0) × (after ≡ 0)
+HaveSums protos.Icmpv4 removed added before after = before ≡ after
 HaveSums protos.Icmpv6 removed added before after = TurnsIntoBy removed added before after × (before ≢ 0) × (after ≢ 0)
 
 -- A message whose checksum is updated: it contains its checksum and its ports or identifier, up to byte 7 in UDP, 17 in TCP, and 5 in ICMP.
@@ -268,3 +268,19 @@ IsUpdated protos.Icmpv6 message = (6 ≤ length message) × (is_query protos.Icm
 -- with pseudo headers of these sums, a receiver accepts the translated message exactly if it accepts the message
 abbrev pub IsAcceptedAlike : ℕ → ℕ → List ℕ → List ℕ → Type 0
 IsAcceptedAlike before after message translated = (IsAllOnes (after + total translated)) ↔ (IsAllOnes (before + total message))
+
+-- The least number of bytes of a message that a receiver sums, if the IP header counts this number of bytes. Only a UDP packet may end before:
+-- its own length field ends it (RFC 768).
+abbrev pub least_summed : Proto → ℕ → ℕ
+least_summed protos.Udp len = 8
+least_summed protos.Tcp len = len
+least_summed protos.Icmpv4 len = len
+least_summed protos.Icmpv6 len = len
+
+-- A receiver accepts the translated message exactly if it accepts the message, with the new and the old pseudo header. Both are functions of
+-- the length that they contain. This holds for a whole message. It holds also if the receiver sums only the first bytes, since the length
+-- field of UDP ends the packet there, and if missing bytes come after them, which are in other fragments or cut off.
+pub record IsVerifiedAlike (least : ℕ) (old new : ℕ → List ℕ) (message translated : List ℕ) : Type 0 where
+  pub whole : (Verifies (new (length message)) translated) ↔ (Verifies (old (length message)) message)
+  pub received : (len count : ℕ) (missing : List ℕ) → least ≤ count
+      → (Verifies (new len) (take count translated ++ missing)) ↔ (Verifies (old len) (take count message ++ missing))

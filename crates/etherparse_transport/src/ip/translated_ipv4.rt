@@ -1,4 +1,4 @@
-ghost use Rattle.std.specs.Prelude.{◌≡◌, ◌≢◌, ◌↔◌, slice_index, ◌≤◌, ◌+◌, ◌%◌, ◌&&◌, ◌||◌, is_none, IfErr, IfOk, IfSome, None, Some, length, slice_range};
+ghost use Rattle.std.specs.Prelude.{◌≡◌, ◌≢◌, ◌↔◌, ℕ, slice_index, ◌≤◌, ◌+◌, ◌%◌, ◌&&◌, ◌||◌, is_none, IfErr, IfOk, IfSome, None, Some, length, slice_range};
 ghost use Rattle.std.specs.Option.{option_map};
 ghost use Rattle.net_base.specs.Bytes.{IsBytes};
 ghost use Rattle.net_base.specs.IpHeaders.{ipv4_header_len, ipv4_header_of};
@@ -57,8 +57,8 @@ pub fn translate_ipv4(packet: &mut [u8], new: &Ipv4Translation) -> Result<(), Tr
     // The packet is read as before, with the new addresses and the translated message.
     ensures read { IfOk result (λ _. IsReadWith packet.old packet.new (specs.ipv4_between new.now packet.old)
         (specs.ipv4_translated_message new.now packet.old)) }
-    // A receiver accepts the translated message exactly if it accepted the message, unless it has no checksum of its own, or is an ICMPv4 echo
-    // reply of zeros.
+    // A receiver accepts the translated message exactly if it accepted the message, also with bytes that are in other fragments or cut off,
+    // unless it has no checksum of its own, or is an ICMPv4 echo reply of zeros.
     ensures verifies { IfOk result (λ _. specs.IsIpv4Accepted new.now packet.old (specs.ipv4_translated_message new.now packet.old)) }
     ensures error { IfOk result (λ _. specs.IsIpv4ErrorAccepted packet.old (specs.ipv4_translated_message new.now packet.old)) }
     ensures header { IfOk result (λ _. specs.IsHeaderAccepted packet.old packet.new) }
@@ -97,7 +97,8 @@ pub fn translate_ipv4_with_quoted(
     // The packet is read as before, with the new addresses and the translated message.
     ensures read { IfOk result (λ _. IsReadWith packet.old packet.new (specs.ipv4_between new.now packet.old)
         (specs.ipv4_message_of_both new.now quoted.now packet.old)) }
-    // A receiver accepts the translated message exactly if it accepted the message, unless it has no checksum of its own.
+    // A receiver accepts the translated message exactly if it accepted the message, also with bytes that are in other fragments or cut off,
+    // unless it has no checksum of its own.
     ensures verifies { IfOk result (λ _. specs.IsIpv4Accepted new.now packet.old (specs.ipv4_message_of_both new.now quoted.now packet.old)) }
     ensures error { IfOk result (λ _. specs.IsIpv4ErrorAccepted packet.old (specs.ipv4_message_of_both new.now quoted.now packet.old)) }
     ensures header { IfOk result (λ _. specs.IsHeaderAccepted packet.old packet.new) }
@@ -123,7 +124,8 @@ fn translate_ipv4_by(
     // The packet is read as before, with the new addresses and the translated message.
     ensures read { IfOk result (λ _. IsReadWith packet.old packet.new (specs.ipv4_between new.now packet.old)
         (specs.ipv4_message_of_both new.now (specs.ipv4_of_quoted new.now (option_map (λ passed. passed.now) passed.entry)) packet.old)) }
-    // A receiver accepts the translated message exactly if it accepted the message, unless it has no checksum of its own.
+    // A receiver accepts the translated message exactly if it accepted the message, also with bytes that are in other fragments or cut off,
+    // unless it has no checksum of its own.
     ensures verifies { IfOk result (λ _. specs.IsIpv4Accepted new.now packet.old (specs.ipv4_message_of_both new.now (specs.ipv4_of_quoted new.now (option_map (λ passed. passed.now) passed.entry)) packet.old)) }
     ensures error { IfOk result (λ _. specs.IsIpv4ErrorAccepted packet.old (specs.ipv4_message_of_both new.now (specs.ipv4_of_quoted new.now (option_map (λ passed. passed.now) passed.entry)) packet.old)) }
     ensures header { IfOk result (λ _. specs.IsHeaderAccepted packet.old packet.new) }
@@ -223,7 +225,7 @@ fn translate_ipv4_error(
         (specs.ipv4_message_by (Some (slice_range (specs.message_in_ipv4 packet.old) 8 (8 + quoted_len))) new.now
         (specs.ipv4_of_quoted new.now (option_map (λ passed. passed.now) passed.entry)) packet.old)
         ≡ length (specs.message_in_ipv4 packet.old)) }
-    ensures verifies { IfOk result (λ _. slice_index (specs.message_in_ipv4 packet.old) 0 ≢ 0 → IsAcceptedAlike 0 0 (specs.message_in_ipv4 packet.old)
+    ensures verifies { IfOk result (λ _. slice_index (specs.message_in_ipv4 packet.old) 0 ≢ 0 → (sum : ℕ) → IsAcceptedAlike sum sum (specs.message_in_ipv4 packet.old)
         (specs.ipv4_message_by (Some (slice_range (specs.message_in_ipv4 packet.old) 8 (8 + quoted_len))) new.now
         (specs.ipv4_of_quoted new.now (option_map (λ passed. passed.now) passed.entry)) packet.old)) }
     ensures addresses { IfOk result (λ _. specs.AreIpv4Addresses (specs.ipv4_addresses new.now packet.old)) }
@@ -259,7 +261,7 @@ fn translate_ipv4_quoted(
     requires place { specs.IsIpv4Place (slice_range message.old 8 (8 + quoted_len)) place.now }
     ensures translated { message.new ≡ with_quote 0 0 (slice_range message.old 8 (8 + quoted_len))
         (specs.ipv4_translated_flow new.now (slice_range message.old 8 (8 + quoted_len))) message.old }
-    ensures verifies { slice_index message.old 0 ≢ 0 → IsAcceptedAlike 0 0 message.old message.new }
+    ensures verifies { slice_index message.old 0 ≢ 0 → (sum : ℕ) → IsAcceptedAlike sum sum message.old message.new }
     ensures types { IsIpv4Translation new.now }
 {
     let quoted = &mut message[ICMP_LEN..ICMP_LEN + quoted_len];

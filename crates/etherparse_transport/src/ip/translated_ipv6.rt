@@ -20,8 +20,8 @@ use crate::ip::translated_message::update_checksum;
 use crate::ip::{Ipv6Translation, proto_over, transport_in_ip_lax};
 use crate::{IpNumber, Ipv6Header, Ipv6HeaderSlice, Proto, ip_number};
 
-/// Translates an IPv6 packet in place, as an address translator does: new addresses, and new ports or a new identifier of an echo message.
-/// The other bytes of the packet stay, and the bytes after it.
+/// Translates an IPv6 packet in place, as an address translator does: new addresses, and new ports or a new identifier of an ICMP query,
+/// which is an echo message (RFC 3022; RFC 5508). The other bytes of the packet stay, and the bytes after it.
 ///
 /// ```
 /// let inbound = Ipv6Translation { destination: Some(inside), destination_port: Some(5000), ..Default::default() };
@@ -53,7 +53,8 @@ pub fn translate_ipv6(packet: &mut [u8], new: &Ipv6Translation) -> Result<(), Tr
     // The packet is read as before, with the new addresses and the translated message.
     ensures read { IfOk result (λ _. IsReadWith packet.old packet.new (specs.ipv6_between new.now packet.old)
         (specs.ipv6_translated_message new.now packet.old)) }
-    // A receiver accepts the translated message exactly if it accepted the message, unless it has no checksum of its own.
+    // A receiver accepts the translated message exactly if it accepted the message, also with bytes that are in other fragments or cut off,
+    // unless it has no checksum of its own.
     ensures verifies { IfOk result (λ _. specs.IsIpv6Accepted new.now packet.old (specs.ipv6_translated_message new.now packet.old)) }
     ensures error { IfOk result (λ _. specs.IsIpv6ErrorAccepted new.now packet.old (specs.ipv6_translated_message new.now packet.old)) }
     // The translated packet is accepted again. The way back restores the packet, exactly unless a checksum is lost (RFC 1624), or an error
@@ -91,7 +92,8 @@ pub fn translate_ipv6_with_quoted(
     // The packet is read as before, with the new addresses and the translated message.
     ensures read { IfOk result (λ _. IsReadWith packet.old packet.new (specs.ipv6_between new.now packet.old)
         (specs.ipv6_message_of_both new.now quoted.now packet.old)) }
-    // A receiver accepts the translated message exactly if it accepted the message, unless it has no checksum of its own.
+    // A receiver accepts the translated message exactly if it accepted the message, also with bytes that are in other fragments or cut off,
+    // unless it has no checksum of its own.
     ensures verifies { IfOk result (λ _. specs.IsIpv6Accepted new.now packet.old (specs.ipv6_message_of_both new.now quoted.now packet.old)) }
     ensures error { IfOk result (λ _. specs.IsIpv6ErrorAccepted new.now packet.old (specs.ipv6_message_of_both new.now quoted.now packet.old)) }
     // The translated packet is accepted again.
@@ -116,7 +118,8 @@ fn translate_ipv6_by(
     // The packet is read as before, with the new addresses and the translated message.
     ensures read { IfOk result (λ _. IsReadWith packet.old packet.new (specs.ipv6_between new.now packet.old)
         (specs.ipv6_message_of_both new.now (specs.ipv6_of_quoted new.now (option_map (λ passed. passed.now) passed.entry)) packet.old)) }
-    // A receiver accepts the translated message exactly if it accepted the message, unless it has no checksum of its own.
+    // A receiver accepts the translated message exactly if it accepted the message, also with bytes that are in other fragments or cut off,
+    // unless it has no checksum of its own.
     ensures verifies { IfOk result (λ _. specs.IsIpv6Accepted new.now packet.old (specs.ipv6_message_of_both new.now (specs.ipv6_of_quoted new.now (option_map (λ passed. passed.now) passed.entry)) packet.old)) }
     ensures error { IfOk result (λ _. specs.IsIpv6ErrorAccepted new.now packet.old (specs.ipv6_message_of_both new.now (specs.ipv6_of_quoted new.now (option_map (λ passed. passed.now) passed.entry)) packet.old)) }
     // The translated packet is accepted again.

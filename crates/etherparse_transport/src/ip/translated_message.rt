@@ -61,7 +61,7 @@ fn translate_icmpv4(
 ) -> ChecksumChange
     ensures translated { message.new ≡ specs.translated_message protos.Icmpv4 0 0 source_port destination_port message.old }
     ensures turns { (before after : ℕ) → TurnsInto addresses before (after + total message.old) → TurnsInto result before (after + total message.new) }
-    ensures verifies { IsUpdated protos.Icmpv4 message.old → IsAcceptedAlike 0 0 message.old message.new }
+    ensures verifies { (sum : ℕ) → IsUpdated protos.Icmpv4 message.old → IsAcceptedAlike sum sum message.old message.new }
 {
     if is_icmpv4_query(message) {
         let identifier = if is_icmpv4_request(message[0]) {

@@ -1,5 +1,5 @@
 use Rattle.std.proofs.Common.{◌≡◌, ◌+◌, List, ℕ, None, Some, slice_range, ap, ◌∙◌, subst, sym}
-use Rattle.std.specs.Prelude.{◌↔◌, IfOk, IfSome}
+use Rattle.std.specs.Prelude.{IfOk, IfSome}
 use Rattle.std.specs.Option.{option_map}
 use Rattle.net_base.specs.Refusals.{RefusesExactly}
 use Rattle.etherparse_transport.specs.Ipv4Translations.{IsIpv4Accepted, IsIpv4ErrorAccepted, ipv4_between, ipv4_flow_message, ipv4_message_by, ipv4_of_quoted, ipv4_refusal_with, ipv4_with_message, message_in_ipv4}
@@ -9,7 +9,7 @@ use Rattle.etherparse_transport.specs.declared.ip.ipv4_translation.Ipv4Translati
 use Rattle.etherparse_transport.proofs.Ipv4ThereAndBack.{ipv4_again}
 use Rattle.etherparse_transport.proofs.TranslationReading.{if_ok, ipv4_flow_message_len, ipv4_read}
 use Rattle.etherparse_transport.proofs.TranslationLemmas.{IsIpv4Left, ipv4_left}
-use Rattle.etherparse_transport.proofs.TranslationSums.{if_ok_accepted, if_ok_then, if_ok_too, ipv4_accepted, ipv4_error_accepted}
+use Rattle.etherparse_transport.proofs.TranslationSums.{if_ok_accepted, if_ok_both, if_ok_then, if_ok_too, ipv4_accepted, ipv4_error_accepted}
 use Rattle.etherparse_transport.proofs.ip.translated_ipv4.translate_ipv4_by.Goals as goal
 
 pub returns-in-Some-clause-refused : goal.returns-in-Some-clause-refused
@@ -99,7 +99,8 @@ returns-in-Some-clause-error c =
     (c.in_ok-len.ensures.quoted ∙ ap (option_map (λ len. slice_range (slice_range packet c.in_ok-place.place.start c.in_ok-place.place.end) 8 (8 + len))) c.in-Some.is
     ∙ ap (λ message. Some (slice_range message 8 end)) c.in_ok-place.ensures.place.message) in
     subst (λ quoted. IfOk c.translate_ipv4_error.result (λ done. IsIpv4ErrorAccepted packet (ipv4_message_by quoted c.args.new.now (ipv4_of_quoted c.args.new.now (option_map (λ passed. passed.now) c.args.passed)) packet))) (sym left.quoted_is)
-    (if_ok_then c.translate_ipv4_error.result c.translate_ipv4_error.ensures.verifies (ipv4_error_accepted packet quoted _ left.quoted_is))
+    (if_ok_both c.translate_ipv4_error.result c.translate_ipv4_error.ensures.len c.translate_ipv4_error.ensures.verifies
+    (ipv4_error_accepted packet quoted _ left.quoted_is))
 
 pub returns-in-None-clause-again : goal.returns-in-None-clause-again
 returns-in-None-clause-again c =

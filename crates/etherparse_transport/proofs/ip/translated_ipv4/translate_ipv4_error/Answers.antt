@@ -58,16 +58,16 @@ replace_ipv4_addresses-requires-clause-removed c =
     ∙ ap sum_of_ipv4 (sym (ipv4_header_put c.args.place.now.start (c.args.place.now.end - c.args.place.now.start) c.args.packet.now c.translate_ipv4_quoted.new.message c.requires.place.header (search rules)))
 
 pub returns-clause-verifies : goal.returns-clause-verifies
-returns-clause-verifies c = λ some.
+returns-clause-verifies c = λ some sum.
     let packet : List ℕ = c.args.packet.now in
     let end : ℕ = 8 + c.args.quoted_len in
     let range : List ℕ = slice_range packet c.args.place.now.start c.args.place.now.end in
     let with_translated : List ℕ → List ℕ = λ message.
     with_quote 0 0 (slice_range message 8 end) (ipv4_translated_flow (ipv4_of_quoted c.args.new.now (option_map (λ passed. passed.now) c.args.passed)) (slice_range message 8 end)) message in
-    subst (λ message. IsAcceptedAlike 0 0 message (with_translated message)) c.requires.place.message
-    (subst (IsAcceptedAlike 0 0 range) (c.translate_ipv4_quoted.ensures.translated
+    subst (λ message. IsAcceptedAlike sum sum message (with_translated message)) c.requires.place.message
+    (subst (IsAcceptedAlike sum sum range) (c.translate_ipv4_quoted.ensures.translated
     ∙ ap (λ new. with_quote 0 0 (slice_range (slice_range c.args.packet.now c.args.place.now.start c.args.place.now.end) 8 end) (ipv4_translated_flow new (slice_range (slice_range c.args.packet.now c.args.place.now.start c.args.place.now.end) 8 end)) (slice_range c.args.packet.now c.args.place.now.start c.args.place.now.end)) c.of_quoted-for_quoted.ensures.passed)
-    (c.translate_ipv4_quoted.ensures.verifies (λ none. some (sym (ap (λ message. slice_index message 0) c.requires.place.message) ∙ none))))
+    (c.translate_ipv4_quoted.ensures.verifies (λ none. some (sym (ap (λ message. slice_index message 0) c.requires.place.message) ∙ none)) sum))
 
 pub returns-clause-types : goal.returns-clause-types
 returns-clause-types c = (c.of_quoted-for_quoted.ensures.types, subst IsIpv4Translation c.of_quoted-for_quoted.ensures.passed c.translate_ipv4_quoted.ensures.types)

@@ -40,7 +40,7 @@ returns-clause-translated c =
     ∙ ap (λ changed. with_updated_checksum (folded (0 + total quoted)) (folded (0 + total changed)) (with_bytes 8 changed message)) changed_is
 
 pub returns-clause-verifies : goal.returns-clause-verifies
-returns-clause-verifies c = λ some.
+returns-clause-verifies c = λ some sum.
     let message : List ℕ = c.args.message.now in
     let end : ℕ = 8 + c.args.quoted_len in
     let quoted : List ℕ = slice_range message 8 end in
@@ -58,7 +58,7 @@ returns-clause-verifies c = λ some.
       ap (λ n. n % 65535) c.replace_2bytes.ensures.removed ∙ folded-remainder (removed_value flow + total first),
       ap (λ n. n % 65535) c.replace_2bytes.ensures.added ∙ folded-remainder (added_value flow + total first),
     )) in
-    error_alike 0 0 message between c.update_checksum.new.message (total quoted) (total changed)
+    error_alike sum sum message between c.update_checksum.new.message (total quoted) (total changed)
     (message_total 8 end message changed refl (search rules) (omega arith) c.requires.room)
     (omega (arith, c.update_checksum.ensures.remainder (total quoted) (total changed) turned (search rules)))
     (λ none. first_counts message some (omega (arith, none)))

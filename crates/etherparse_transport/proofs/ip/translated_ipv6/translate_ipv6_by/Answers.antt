@@ -1,15 +1,15 @@
 use Rattle.std.proofs.Common.{◌≡◌, ◌+◌, List, ℕ, None, Some, slice_range, ap, ◌∙◌, subst, sym, rules}
-use Rattle.std.specs.Prelude.{◌↔◌, IfOk, IfSome}
+use Rattle.std.specs.Prelude.{IfOk, IfSome}
 use Rattle.std.specs.Option.{option_map}
 use Rattle.net_base.specs.Refusals.{RefusesExactly}
-use Rattle.etherparse_transport.specs.Ipv6Translations.{IsIpv6Accepted, IsIpv6ErrorAccepted, ipv6_between, ipv6_flow_message, ipv6_message_by, ipv6_of_quoted, ipv6_refusal_with, ipv6_with_message, message_in_ipv6}
+use Rattle.etherparse_transport.specs.Ipv6Translations.{IsIpv6Accepted, IsIpv6ErrorAccepted, ipv6_between, ipv6_quoted, ipv6_flow_message, ipv6_message_by, ipv6_of_quoted, ipv6_refusal_with, ipv6_with_message, message_in_ipv6}
 use Rattle.etherparse_transport.specs.Translations.{IsReadWith, has_port}
 use Rattle.etherparse_transport.specs.WaysBack.{IsIpv6Translation}
 use Rattle.etherparse_transport.specs.declared.ip.ipv6_translation.Ipv6Translation.{Ipv6Translation}
 use Rattle.etherparse_transport.proofs.Ipv6ThereAndBack.{ipv6_again}
 use Rattle.etherparse_transport.proofs.TranslationReading.{if_ok, ipv6_flow_message_len, ipv6_read}
 use Rattle.etherparse_transport.proofs.TranslationLemmas.{IsIpv6Left, ipv6_left}
-use Rattle.etherparse_transport.proofs.TranslationSums.{if_ok_accepted, if_ok_both, if_ok_then, if_ok_too, ipv6_accepted, ipv6_error_accepted}
+use Rattle.etherparse_transport.proofs.TranslationSums.{if_ok_accepted, if_ok_then, if_ok_too, ipv6_accepted, ipv6_error_accepted}
 use Rattle.etherparse_transport.proofs.ip.translated_ipv6.translate_ipv6_by.Goals as goal
 
 pub returns-in-Some-clause-refused : goal.returns-in-Some-clause-refused
@@ -99,8 +99,18 @@ returns-in-Some-clause-error c =
     (c.in_ok-len.ensures.quoted ∙ ap (option_map (λ len. slice_range (slice_range packet c.in_ok-place.place.start c.in_ok-place.place.end) 8 (8 + len))) c.in-Some.is
     ∙ ap (λ message. Some (slice_range message 8 end)) c.in_ok-place.ensures.place.message) in
     subst (λ quoted. IfOk c.translate_ipv6_error.result (λ done. IsIpv6ErrorAccepted c.args.new.now packet (ipv6_message_by quoted c.args.new.now (ipv6_of_quoted c.args.new.now (option_map (λ passed. passed.now) c.args.passed)) packet))) (sym left.quoted_is)
-    (if_ok_both c.translate_ipv6_error.result c.translate_ipv6_error.ensures.addresses c.translate_ipv6_error.ensures.verifies
+    (if_ok c.translate_ipv6_error.result c.translate_ipv6_error.ensures.addresses c.translate_ipv6_error.ensures.len c.translate_ipv6_error.ensures.verifies
     (ipv6_error_accepted c.args.new.now packet quoted _ (search rules) left.quoted_is))
+
+pub returns-in-None-clause-error : goal.returns-in-None-clause-error
+returns-in-None-clause-error c = λ quoted is.
+    let packet : List ℕ = c.args.packet.now in
+    let left : IsIpv6Left (has_port c.args.new.now.source_port c.args.new.now.destination_port)
+    (has_port (ipv6_of_quoted c.args.new.now (option_map (λ passed. passed.now) c.args.passed)).source_port (ipv6_of_quoted c.args.new.now (option_map (λ passed. passed.now) c.args.passed)).destination_port) packet None =
+    ipv6_left _ _ packet c.in_ok-place.place None c.in_ok-place.ensures.place c.in_ok-place.ensures.refused c.in_ok-len.ensures.refused
+    (c.in_ok-len.ensures.quoted ∙ ap (option_map (λ len. slice_range (slice_range packet c.in_ok-place.place.start c.in_ok-place.place.end) 8 (8 + len))) c.in-None.is) in
+    let none : ipv6_quoted packet ≡ None = left.quoted_is in
+    absurd (cc (none, is))
 
 pub returns-in-None-clause-again : goal.returns-in-None-clause-again
 returns-in-None-clause-again c =
