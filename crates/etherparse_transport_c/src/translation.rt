@@ -17,9 +17,9 @@ pub struct EtherparseIpv4Translation {
     pub source: [u8; 4],
     /// The new destination address.
     pub destination: [u8; 4],
-    /// The new source port of UDP and TCP, and the new identifier of an echo request (RFC 5508, section 3.1).
+    /// The new source port of UDP and TCP, and the new identifier of an ICMP request (RFC 5508, section 3.1).
     pub source_port: u16,
-    /// The new destination port of UDP and TCP, and the new identifier of an echo reply.
+    /// The new destination port of UDP and TCP, and the new identifier of an ICMP reply.
     pub destination_port: u16,
     /// Whether the source address is replaced.
     pub has_source: u8,
@@ -39,9 +39,9 @@ pub struct EtherparseIpv6Translation {
     pub source: [u8; 16],
     /// The new destination address.
     pub destination: [u8; 16],
-    /// The new source port of UDP and TCP, and the new identifier of an echo request (RFC 5508, section 3.1).
+    /// The new source port of UDP and TCP, and the new identifier of an ICMP request (RFC 5508, section 3.1).
     pub source_port: u16,
-    /// The new destination port of UDP and TCP, and the new identifier of an echo reply.
+    /// The new destination port of UDP and TCP, and the new identifier of an ICMP reply.
     pub destination_port: u16,
     /// Whether the source address is replaced.
     pub has_source: u8,
@@ -90,7 +90,7 @@ fn of_ipv6(translation: &EtherparseIpv6Translation) -> Ipv6Translation
     }
 }
 
-/// Translates an IPv4 packet in place. The call replaces its addresses, and its ports or the identifier of an echo message. It updates its
+/// Translates an IPv4 packet in place. The call replaces its addresses, and its ports or the identifier of an ICMP query. It updates its
 /// checksums (RFC 3022; RFC 1624; RFC 5508). In the packet that an ICMP error quotes, source and destination are exchanged. In a later
 /// fragment only the addresses are replaced.
 ///
