@@ -5,7 +5,8 @@ use etherparse_transport::err::packet::WriteChecksumError;
 use etherparse_transport::err::tcp::{HeaderError, HeaderSliceError};
 use etherparse_transport::err::{Layer, LenError};
 use etherparse_transport::ip::{
-    IpError, checksum_verdict, transport_in_ip, transport_slice, write_checksum,
+    IpError, Ipv4Translation, checksum_verdict, translate_ipv4, transport_in_ip, transport_slice,
+    write_checksum,
 };
 use etherparse_transport::{ChecksumVerdict, LenSource, Untested};
 use std::process::Abort;
@@ -260,7 +261,49 @@ fn a_partial_checksum_is_the_sum_of_the_pseudo_header(rt: HostRuntime) {
         let transport = expect_some(&rt, expect_ok(&rt, transport_slice(&found)));
         let is_partial = transport.is_checksum_partial(found.addresses);
         expect_equal(&rt, &is_partial, &PARTIAL.contains(&row));
+        let stored = Some(transport.stored_checksum());
+        let is_stored = transport.partial_checksum(found.addresses) == stored;
+        expect_equal(&rt, &is_stored, &is_partial);
     }
+}
+
+/// Source and source port of a packet of the tables are replaced.
+#[rattlefmt::skip]
+const OUTBOUND: Ipv4Translation = Ipv4Translation {
+    source: Some([203, 0, 113, 7]),
+    destination: None,
+    source_port: Some(40000),
+    destination_port: None,
+};
+
+/// The packets of the table over IPv4, each with its partial checksum after this translation. ICMPv4 has none.
+static TRANSLATED: [(usize, Option<u16>); 3] = [(3, Some(0xFDCF)), (6, Some(0xFDD5)), (9, None)];
+
+#[test]
+fn a_partial_checksum_is_stored_after_a_translation(rt: HostRuntime) {
+    for (row, partial) in TRANSLATED {
+        let (packet, _, _) = expect_some(&rt, WRITTEN.get(row));
+        expect_partial(&rt, packet, partial);
+    }
+}
+
+/// The translated packet has this partial checksum, and is partial if it contains it.
+fn expect_partial(rt: &impl Abort, packet: &[u8], partial: Option<u16>) {
+    let mut buffer = buffer_with(packet);
+    let packet = expect_some(rt, buffer.get_mut(..packet.len()));
+    expect_ok(rt, translate_ipv4(packet, &OUTBOUND));
+    let found = expect_ok(rt, transport_in_ip(packet));
+    let transport = expect_some(rt, expect_ok(rt, transport_slice(&found)));
+    expect_equal(rt, &transport.partial_checksum(found.addresses), &partial);
+    expect_equal(rt, &transport.is_checksum_partial(found.addresses), &false);
+    let place = found.payload_offset + transport.checksum_place();
+    let Some(checksum) = partial else {
+        return;
+    };
+    packet[place..place + 2].copy_from_slice(&checksum.to_be_bytes());
+    let found = expect_ok(rt, transport_in_ip(packet));
+    let transport = expect_some(rt, expect_ok(rt, transport_slice(&found)));
+    expect_equal(rt, &transport.is_checksum_partial(found.addresses), &true);
 }
 
 #[rattlefmt::skip]

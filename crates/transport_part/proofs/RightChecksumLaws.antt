@@ -7,7 +7,7 @@ use Rattle.icmp_part.specs.Icmpv6Validity.{IsValidIcmpv6}
 use Rattle.ip_part.specs.Addresses.{Addresses, Ipv4, Ipv6}
 use Rattle.net_base.specs.Bytes.{IsBytes, be_number}
 use Rattle.net_base.specs.IpNumbers.{icmpv6_number, tcp_number, udp_number}
-use Rattle.net_base.specs.PseudoHeader.{max_len_over_ipv4, max_len_over_ipv6}
+use Rattle.net_base.specs.PseudoHeader.{ipv4_pseudo_header, ipv6_pseudo_header, max_len_over_ipv4, max_len_over_ipv6}
 use Rattle.net_base.specs.StoredChecksum.{icmp_checksum_place, tcp_checksum_place, udp_checksum_place, with_checksum}
 use Rattle.net_base.proofs.StoredChecksumLemmas.{byte-with_checksum, length-with_checksum, stored_checksum as read_back, with_checksum-stored}
 use Rattle.tcp_part.specs.TcpValidity.{IsValidTcpIpv4, IsValidTcpIpv6}
@@ -346,3 +346,65 @@ partial_tested (Some bytes) transport sum number stored is tested is_stored =
     let back : 65535 - number ≡ folded (total bytes) = omega (arith, tested, sum_is, folded-lt (total bytes)) in
     let same : IsTrue (stored == 65535 - number) ↔ (stored ≡ 65535 - number) = grind (arith, nat_tests) in
     (λ is_true. sym is_stored ∙ same.0 is_true ∙ back, λ holds. same.1 (is_stored ∙ holds ∙ sym back))
+
+-- the partial checksum by the complement of the sum of a pseudo header
+pub partial_is : (header : Option (List ℕ)) (sum number : ℕ) → Some sum ≡ option_map (λ bytes. folded (total bytes)) header → number ≡ complement sum
+    → Some (65535 - number) ≡ option_map (λ bytes. folded (total bytes)) header
+partial_is None sum number is tested = absurd (cc is)
+partial_is (Some bytes) sum number is tested =
+    let sum_is : sum ≡ folded (total bytes) = cc is in
+    ap (λ n. Some n) (omega (arith, tested, sum_is, folded-lt (total bytes)))
+
+-- ---- a stored partial checksum
+
+header_kept_over_ipv4 : (source destination : List ℕ) (transport : TransportSlice) (checksum : ℕ) → min_len transport ≤ length (bytes_of transport)
+    → pseudo_header_over_ipv4 source destination (with_stored transport checksum) ≡ pseudo_header_over_ipv4 source destination transport
+header_kept_over_ipv4 source destination (Udp packet) checksum there =
+    ap (λ len. Some (ipv4_pseudo_header source destination udp_number len)) (stored_len (Udp packet) checksum there)
+header_kept_over_ipv4 source destination (Tcp segment) checksum there =
+    ap (λ len. Some (ipv4_pseudo_header source destination tcp_number len)) (stored_len (Tcp segment) checksum there)
+header_kept_over_ipv4 source destination (Icmpv4 message) checksum there = refl
+header_kept_over_ipv4 source destination (Icmpv6 message) checksum there = refl
+
+header_kept_over_ipv6 : (source destination : List ℕ) (transport : TransportSlice) (checksum : ℕ) → min_len transport ≤ length (bytes_of transport)
+    → pseudo_header_over_ipv6 source destination (with_stored transport checksum) ≡ pseudo_header_over_ipv6 source destination transport
+header_kept_over_ipv6 source destination (Udp packet) checksum there =
+    ap (λ len. Some (ipv6_pseudo_header source destination udp_number len)) (stored_len (Udp packet) checksum there)
+header_kept_over_ipv6 source destination (Tcp segment) checksum there =
+    ap (λ len. Some (ipv6_pseudo_header source destination tcp_number len)) (stored_len (Tcp segment) checksum there)
+header_kept_over_ipv6 source destination (Icmpv4 message) checksum there = refl
+header_kept_over_ipv6 source destination (Icmpv6 message) checksum there =
+    ap (λ len. Some (ipv6_pseudo_header source destination icmpv6_number len)) (stored_len (Icmpv6 message) checksum there)
+
+header_kept : (addresses : Addresses) (transport : TransportSlice) (checksum : ℕ) → min_len transport ≤ length (bytes_of transport)
+    → pseudo_header_over addresses (with_stored transport checksum) ≡ pseudo_header_over addresses transport
+header_kept (Ipv4 source destination) transport checksum there =
+    ap (λ b. if b then None else pseudo_header_over_ipv4 source destination (with_stored transport checksum)) (too_long_kept transport checksum there)
+    ∙ ap (λ header. if is_too_long_over_ipv4 transport then None else header) (header_kept_over_ipv4 source destination transport checksum there)
+header_kept (Ipv6 source (Some destination)) transport checksum there =
+    ap (λ len. if nat_lt max_len_over_ipv6 len then None else pseudo_header_over_ipv6 source destination (with_stored transport checksum))
+    (stored_len transport checksum there)
+    ∙ ap (λ header. if nat_lt max_len_over_ipv6 (length (bytes_of transport)) then None else header)
+    (header_kept_over_ipv6 source destination transport checksum there)
+header_kept (Ipv6 source None) transport checksum there = refl
+
+stored_back : (transport : TransportSlice) (checksum : ℕ) → min_len transport ≤ length (bytes_of transport) → checksum < 65536
+    → stored_checksum (with_stored transport checksum) ≡ checksum
+stored_back (Udp packet) checksum there small = read_back udp_checksum_place packet checksum (omega (arith, there)) small
+stored_back (Tcp segment) checksum there small = read_back tcp_checksum_place segment checksum (omega (arith, there)) small
+stored_back (Icmpv4 message) checksum there small = read_back icmp_checksum_place message checksum (omega (arith, there)) small
+stored_back (Icmpv6 message) checksum there small = read_back icmp_checksum_place message checksum (omega (arith, there)) small
+
+stored_partial : (header : Option (List ℕ)) (stored checksum : ℕ) → Some checksum ≡ option_map (λ bytes. folded (total bytes)) header
+    → stored ≡ checksum → MatchOption header ⊥ (λ bytes. stored ≡ folded (total bytes))
+stored_partial None stored checksum is same = absurd (cc is)
+stored_partial (Some bytes) stored checksum is same = let checksum_is : checksum ≡ folded (total bytes) = cc is in same ∙ checksum_is
+
+-- with the partial checksum a packet is partial
+pub partial_with : (addresses : Addresses) (transport : TransportSlice) (checksum : ℕ) → min_len transport ≤ length (bytes_of transport) → checksum < 65536
+    → Some checksum ≡ option_map (λ bytes. folded (total bytes)) (pseudo_header_over addresses transport)
+    → IsPartial addresses (with_stored transport checksum)
+partial_with addresses transport checksum there small is =
+    subst (λ header. MatchOption header ⊥ (λ bytes. stored_checksum (with_stored transport checksum) ≡ folded (total bytes)))
+    (sym (header_kept addresses transport checksum there))
+    (stored_partial (pseudo_header_over addresses transport) _ checksum is (stored_back transport checksum there small))

@@ -8,7 +8,7 @@ ghost use Rattle.udp_part.specs.UdpValidity.{SumsUpOverIpv4, checksum_field};
 ghost use Rattle.word_sum.specs.Checksum.{folded, total};
 ghost use Rattle.word_sum.specs.SumValue.{sum_value};
 ghost use Rattle.transport_part.specs.StoredChecksums as specs;
-ghost use Rattle.transport_part.specs.Transports.{bytes_of};
+ghost use Rattle.transport_part.specs.Transports.{bytes_of, min_len};
 ghost use Rattle.transport_part.specs.Verdicts.{Judges, is_too_long_over_ipv4};
 ghost use Rattle.transport_part.specs.declared.checksum_verdict.ChecksumVerdict.TheVariants as verdicts;
 
@@ -34,18 +34,20 @@ pub(crate) fn pseudo_header_over(
     addresses: IpAddresses<'_>,
     transport: &TransportSlice<'_>,
 ) -> Option<Sum16BitWords>
-    ensures { option_map sum_value result
+    ensures sum { option_map sum_value result
         ≡ option_map (λ bytes. folded (total bytes)) (specs.pseudo_header_over (by_value addresses.entry) transport.now) }
+    ensures long { min_len transport.now ≤ length (bytes_of transport.now) }
 {
+    let len = transport.slice().len();
     match addresses {
         IpAddresses::Ipv4 {
             source,
             destination,
-        } => pseudo_header_over_ipv4(*source, *destination, transport),
+        } => pseudo_header_over_ipv4(*source, *destination, transport, len),
         IpAddresses::Ipv6 {
             source,
             destination: Some(destination),
-        } => pseudo_header_over_ipv6(*source, *destination, transport),
+        } => pseudo_header_over_ipv6(*source, *destination, transport, len),
         IpAddresses::Ipv6 {
             destination: None,
             ..
@@ -53,50 +55,41 @@ pub(crate) fn pseudo_header_over(
     }
 }
 
-/// The sum of the pseudo header over IPv4.
+/// The sum of the pseudo header over IPv4 of a packet of this length.
 fn pseudo_header_over_ipv4(
     source: [u8; 4],
     destination: [u8; 4],
     transport: &TransportSlice<'_>,
+    len: usize,
 ) -> Option<Sum16BitWords>
+    requires { len ≡ length (bytes_of transport.now) }
     ensures { option_map sum_value result ≡ option_map (λ bytes. folded (total bytes))
         (if is_too_long_over_ipv4 transport.now then None else specs.pseudo_header_over_ipv4 source destination transport.now) }
 {
     match transport {
-        TransportSlice::Udp(packet) => {
-            counted_over_ipv4(source, destination, ip_number::UDP, packet.slice().len())
-        }
-        TransportSlice::Tcp(segment) => {
-            counted_over_ipv4(source, destination, ip_number::TCP, segment.slice().len())
-        }
+        TransportSlice::Udp(_) => counted_over_ipv4(source, destination, ip_number::UDP, len),
+        TransportSlice::Tcp(_) => counted_over_ipv4(source, destination, ip_number::TCP, len),
         TransportSlice::Icmpv4(_) | TransportSlice::Icmpv6(_) => None,
     }
 }
 
-/// The sum of the pseudo header over IPv6.
+/// The sum of the pseudo header over IPv6 of a packet of this length.
 fn pseudo_header_over_ipv6(
     source: [u8; 16],
     destination: [u8; 16],
     transport: &TransportSlice<'_>,
+    len: usize,
 ) -> Option<Sum16BitWords>
+    requires { len ≡ length (bytes_of transport.now) }
     ensures { option_map sum_value result ≡ option_map (λ bytes. folded (total bytes))
         (if nat_lt max_len_over_ipv6 (length (bytes_of transport.now)) then None else specs.pseudo_header_over_ipv6 source destination transport.now) }
 {
     match transport {
-        TransportSlice::Udp(packet) => {
-            counted_over_ipv6(source, destination, ip_number::UDP, packet.slice().len())
-        }
-        TransportSlice::Tcp(segment) => {
-            counted_over_ipv6(source, destination, ip_number::TCP, segment.slice().len())
-        }
+        TransportSlice::Udp(_) => counted_over_ipv6(source, destination, ip_number::UDP, len),
+        TransportSlice::Tcp(_) => counted_over_ipv6(source, destination, ip_number::TCP, len),
         TransportSlice::Icmpv4(_) => None,
-        TransportSlice::Icmpv6(message) => {
-            counted_over_ipv6(
-                source,
-                destination,
-                ip_number::IPV6_ICMP,
-                message.slice().len(),
-            )
+        TransportSlice::Icmpv6(_) => {
+            counted_over_ipv6(source, destination, ip_number::IPV6_ICMP, len)
         }
     }
 }

@@ -34,10 +34,11 @@ pub enum TransportSlice<'a> {
 }
 
 impl<'a> TransportSlice<'a> {
-    ghost use Rattle.std.specs.Prelude.{◌≡◌, ◌≤◌, ◌↔◌, IfOk, IsTrue, MatchResult, length};
+    ghost use Rattle.std.specs.Prelude.{◌≡◌, ◌≤◌, ◌↔◌, IfOk, IfSome, IsTrue, MatchResult, length};
     ghost use Rattle.std.specs.Option.{option_map};
     ghost use Rattle.ip_part.specs.Addresses.{by_value};
     ghost use Rattle.net_base.specs.Bytes.{IsBytes};
+    ghost use Rattle.word_sum.specs.Checksum.{folded, total};
     ghost use Rattle.transport_part.specs.Layouts.{layout_of};
     ghost use Rattle.transport_part.specs.StoredChecksums as specs;
     ghost use Rattle.transport_part.specs.StoredChecksums.{IsPartial, IsRightBy, SaysWhetherPartial, with_stored};
@@ -145,6 +146,23 @@ impl<'a> TransportSlice<'a> {
         ensures bytes { IsBytes (bytes_of self.now) }
     {
         stored_at(self.slice(), self.checksum_place())
+    }
+
+    /// The partial checksum over these addresses: the sum of only the pseudo header, which counts the bytes of the slice. A host stores it, and
+    /// leaves the rest to its network card (checksum offload). A translation changes a stored checksum as if it were complete. If it was
+    /// partial, write the partial checksum over the new addresses to `checksum_place` afterwards.
+    ///
+    /// `None` if the packet has no pseudo header: an ICMPv4 message, ICMP over the other IP version, a packet without a final destination, and
+    /// a packet with more bytes than a pseudo header can count.
+    pub fn partial_checksum(&self, addresses: IpAddresses<'_>) -> Option<u16>
+        ensures sum { result ≡ option_map (λ header. folded (total header)) (specs.pseudo_header_over (by_value addresses.entry) self.now) }
+        // With this checksum `is_checksum_partial` is true.
+        ensures partial { IfSome result (λ checksum. IsPartial (by_value addresses.entry) (with_stored self.now checksum)) }
+    {
+        match pseudo_header_over(addresses, self) {
+            Some(sum) => Some(u16::MAX - sum.ones_complement()),
+            None => None,
+        }
     }
 
     /// Whether the stored checksum is partial over these addresses: the sum of only the pseudo header, which counts the bytes of the slice.

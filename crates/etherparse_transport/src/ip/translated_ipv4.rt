@@ -37,6 +37,8 @@ use crate::{IpNumber, Ipv4Header, Ipv4HeaderSlice, Proto, ip_number};
 /// - **Fragments**: a first fragment has ports. In a later fragment only the addresses are replaced. If the TCP header is divided, its checksum
 ///   is in the second fragment and stays, so that the translated fragments together are refused.
 /// - **Packets that are cut off, or state no length**, are translated as `transport_in_ip_lax` reads them.
+/// - **Partial checksums**, which a host leaves to its network card, become wrong, since they contain no ports. If `is_checksum_partial` of the
+///   transport was true, store its `partial_checksum` afterwards.
 ///
 /// # Errors
 ///
