@@ -79,6 +79,22 @@ echo_request_answered : reply 64 echo_request
 unfolding echo_request folded
 echo_request_answered = refl
 
+-- a request with the reserved flag, and with the time to live 0
+echo_request_with_flag : List ℕ
+echo_request_with_flag =
+    0x45 ∷ 0x10 ∷ 0 ∷ 0x20 ∷ 0x12 ∷ 0x34 ∷ 0x80 ∷ 0 ∷ 0 ∷ 1 ∷ 0xA4 ∷ 0x95 ∷ 0xC0 ∷ 0 ∷ 2 ∷ 1 ∷ 0xC0 ∷ 0 ∷ 2 ∷ 2 ∷ 8 ∷ 0 ∷
+    0x6D ∷ 0x5A ∷ 0xAB ∷ 0xCD ∷ 0 ∷ 7 ∷ 0x70 ∷ 0x69 ∷ 0x6E ∷ 0x67 ∷ []
+
+echo_request_with_flag_accepted : answer_refusal echo_request_with_flag ≡ None
+unfolding echo_request_with_flag folded headers_to_transport options_within
+echo_request_with_flag_accepted = refl
+
+echo_request_with_flag_answered : reply 64 echo_request_with_flag
+    ≡ 0x45 ∷ 0x10 ∷ 0 ∷ 0x20 ∷ 0x12 ∷ 0x34 ∷ 0x40 ∷ 0 ∷ 0x40 ∷ 1 ∷ 0xA4 ∷ 0x95 ∷ 0xC0 ∷ 0 ∷ 2 ∷ 2 ∷ 0xC0 ∷ 0 ∷ 2 ∷ 1 ∷ 0 ∷ 0 ∷
+    0x75 ∷ 0x5A ∷ 0xAB ∷ 0xCD ∷ 0 ∷ 7 ∷ 0x70 ∷ 0x69 ∷ 0x6E ∷ 0x67 ∷ []
+unfolding echo_request_with_flag folded
+echo_request_with_flag_answered = refl
+
 echo_request_over_ipv6 : List ℕ
 echo_request_over_ipv6 =
     0x60 ∷ 0x12 ∷ 0x34 ∷ 0x56 ∷ 0 ∷ 0x0C ∷ 0x3A ∷ 0x37 ∷ 0x20 ∷ 1 ∷ 0x0D ∷ 0xB8 ∷ 0 ∷ 0 ∷ 0 ∷ 0 ∷ 0 ∷ 0 ∷ 0 ∷ 0 ∷ 0 ∷ 0 ∷ 0 ∷ 1 ∷

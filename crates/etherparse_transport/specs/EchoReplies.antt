@@ -205,9 +205,9 @@ icmpv4_reply_to message = icmpv4_reply (echo_of message 4) (drop echo_header_len
 abbrev pub icmpv6_reply_to : List ℕ → List ℕ → List ℕ → Icmpv6Header
 icmpv6_reply_to source destination message = icmpv6_reply source destination (echo_of message 4) (drop echo_header_len message)
 
--- The first eight bytes of the reply: six bytes of the request, up to its identification, and then only the flag "don't fragment". The reply
--- is an atomic datagram, which may have any identification (RFC 6864, section 4.1). The flags of the request are about the request: its
--- reserved flag is 0 in what a host sends (RFC 791, section 3.1).
+-- The first eight bytes of the reply: six bytes of the request, up to its identification, and then the flag "don't fragment". So the reply is
+-- an atomic datagram, which may have any identification (RFC 6864, section 4.1). No flag is copied: a host sends the reserved flag as 0 (RFC
+-- 791, section 3.1).
 abbrev pub ipv4_reply_start : List ℕ → List ℕ
 ipv4_reply_start packet = take 6 packet ++ (0x40 ∷ 0 ∷ [])
 

@@ -62,10 +62,12 @@ pub fn answer_echo(packet: &mut [u8], hop_limit: u8) -> Result<usize, AnswerEcho
 /// the length of the reply in bytes, which is the length of the request. The bytes after the packet are not changed.
 ///
 /// The reply goes to the source of the request. Its source is the passed address, or the destination of the request if
-/// `None` is passed. It has the passed time to live, the type of a reply, and right checksums of header and message. Of the
-/// flags only "don't fragment" is set, whatever the flags of the request are. So the reply is an atomic datagram, in which the
-/// identification of the request has no meaning (RFC 6864, section 4.1). To send a reply in fragments, clear that flag, and
-/// choose an identification. All other fields and the payload are kept, among them type of service and identification.
+/// `None` is passed. It has the passed time to live, the type of a reply, and right checksums of header and message. All
+/// other fields and the payload are kept, among them type of service and identification, but not the flags.
+///
+/// The only flag of the reply is "don't fragment", whatever flags the request has. So the reply is an atomic datagram, in
+/// which the identification of the request has no meaning (RFC 6864, section 4.1). To send a reply in fragments, clear that
+/// flag, and choose an identification.
 ///
 /// A request with any time to live is answered, since a host accepts 0 and 1 too (RFC 1122, section 3.2.1.7).
 ///
