@@ -2,6 +2,7 @@
 -- header updated by them (RFC 1624), and the translated message.
 use Rattle.std.specs.Prelude.{◌≡◌, ◌≤◌, ◌↔◌, ℕ, ◌+◌, ◌==◌, ◌&&◌, ◌||◌, Bool, false, is_none, not, List, [], ◌∷◌, drop, length, slice_index, slice_range, take, Option, Some, None, unwrap_or}
 use Rattle.std.specs.Int.{to_be_bytes, w16}
+use Rattle.std.specs.Borrow.{Bor}
 use Rattle.std.specs.Option.{option_map}
 use Rattle.ip_part.specs.Addresses.{Addresses, Ipv4}
 use Rattle.ip_part.specs.ExtensionHeaders.{authentication, host_identity}
@@ -105,9 +106,9 @@ ipv4_opposite new = record {
 }
 
 -- the translation of the quoted packet: a passed translation, or otherwise the opposite of the translation of the packet
-abbrev pub ipv4_of_quoted : Ipv4Translation → Option Ipv4Translation → Ipv4Translation
+abbrev pub ipv4_of_quoted : Ipv4Translation → Option (Bor Ipv4Translation) → Ipv4Translation
 ipv4_of_quoted new None = ipv4_opposite new
-ipv4_of_quoted new (Some of_quoted) = of_quoted
+ipv4_of_quoted new (Some passed) = passed.now
 
 -- ---- errors
 

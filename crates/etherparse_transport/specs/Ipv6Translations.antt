@@ -1,6 +1,7 @@
 -- The translation of an IPv6 packet, as an address translator makes it (RFC 3022; RFC 5508 for ICMP): new addresses and the
 -- translated message. An IPv6 header has no checksum.
 use Rattle.std.specs.Prelude.{◌≡◌, ◌≤◌, ℕ, ◌+◌, ◌==◌, ◌&&◌, ◌||◌, Bool, false, if◌then◌else◌, is_none, not, List, [], ◌∷◌, length, slice_index, slice_range, Option, Some, None, unwrap_or}
+use Rattle.std.specs.Borrow.{Bor}
 use Rattle.std.specs.Option.{option_map}
 use Rattle.ip_part.specs.Addresses.{Addresses, Ipv6}
 use Rattle.ip_part.specs.ExtensionHeaders.{fragment, is_extension, is_later_fragment}
@@ -103,9 +104,9 @@ ipv6_opposite new = record {
 }
 
 -- the translation of the quoted packet: a passed translation, or otherwise the opposite of the translation of the packet
-abbrev pub ipv6_of_quoted : Ipv6Translation → Option Ipv6Translation → Ipv6Translation
+abbrev pub ipv6_of_quoted : Ipv6Translation → Option (Bor Ipv6Translation) → Ipv6Translation
 ipv6_of_quoted new None = ipv6_opposite new
-ipv6_of_quoted new (Some of_quoted) = of_quoted
+ipv6_of_quoted new (Some passed) = passed.now
 
 -- ---- errors
 

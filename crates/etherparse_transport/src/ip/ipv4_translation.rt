@@ -33,7 +33,6 @@ pub struct Ipv4Translation {
 
 impl Ipv4Translation {
     ghost use Rattle.std.specs.Prelude.{◌≡◌};
-    ghost use Rattle.std.specs.Option.{option_map};
     ghost use Rattle.etherparse_transport.specs.Ipv4Translations.{ipv4_of_quoted, ipv4_opposite};
     ghost use Rattle.etherparse_transport.specs.Translations.{has_port};
     ghost use Rattle.etherparse_transport.specs.WaysBack.{IsIpv4Translation};
@@ -47,7 +46,7 @@ impl Ipv4Translation {
 
     /// The translation of the packet that an ICMP error is about: a passed translation, or otherwise the opposite of this one.
     pub(crate) fn of_quoted(self, passed: Option<&Ipv4Translation>) -> Ipv4Translation
-        ensures passed { result ≡ ipv4_of_quoted self (option_map (λ passed. passed.now) passed.entry) }
+        ensures passed { result ≡ ipv4_of_quoted self passed.entry }
         ensures types { IsIpv4Translation self }
     {
         match passed {

@@ -37,7 +37,6 @@ pub struct Ipv6Translation {
 
 impl Ipv6Translation {
     ghost use Rattle.std.specs.Prelude.{◌≡◌};
-    ghost use Rattle.std.specs.Option.{option_map};
     ghost use Rattle.etherparse_transport.specs.Ipv6Translations.{ipv6_of_quoted, ipv6_opposite};
     ghost use Rattle.etherparse_transport.specs.Translations.{has_port};
     ghost use Rattle.etherparse_transport.specs.WaysBack.{IsIpv6Translation};
@@ -51,7 +50,7 @@ impl Ipv6Translation {
 
     /// The translation of the packet that an ICMP error is about: a passed translation, or otherwise the opposite of this one.
     pub(crate) fn of_quoted(self, passed: Option<&Ipv6Translation>) -> Ipv6Translation
-        ensures passed { result ≡ ipv6_of_quoted self (option_map (λ passed. passed.now) passed.entry) }
+        ensures passed { result ≡ ipv6_of_quoted self passed.entry }
         ensures types { IsIpv6Translation self }
     {
         match passed {

@@ -1,5 +1,4 @@
 ghost use Rattle.std.specs.Prelude.{◌≡◌, ◌≢◌, ◌↔◌, ℕ, slice_index, ◌≤◌, ◌+◌, ◌%◌, ◌&&◌, ◌||◌, is_none, IfErr, IfOk, IfSome, None, Some, length, slice_range};
-ghost use Rattle.std.specs.Option.{option_map};
 ghost use Rattle.net_base.specs.Bytes.{IsBytes};
 ghost use Rattle.net_base.specs.IpHeaders.{ipv4_header_len, ipv4_header_of};
 ghost use Rattle.net_base.specs.Refusals.{RefusesExactly};
@@ -120,22 +119,22 @@ fn translate_ipv4_by(
     new: &Ipv4Translation,
     passed: Option<&Ipv4Translation>,
 ) -> Result<(), TranslateError>
-    ensures refused { RefusesExactly result (specs.ipv4_refusal_with new.now (specs.ipv4_of_quoted new.now (option_map (λ passed. passed.now) passed.entry)) packet.old) }
+    ensures refused { RefusesExactly result (specs.ipv4_refusal_with new.now (specs.ipv4_of_quoted new.now passed.entry) packet.old) }
     ensures unchanged { IfErr result (λ _. packet.new ≡ packet.old) }
-    ensures translated { IfOk result (λ _. packet.new ≡ specs.ipv4_translated_with new.now (specs.ipv4_of_quoted new.now (option_map (λ passed. passed.now) passed.entry)) packet.old) }
+    ensures translated { IfOk result (λ _. packet.new ≡ specs.ipv4_translated_with new.now (specs.ipv4_of_quoted new.now passed.entry) packet.old) }
     // The packet is read as before, with the new addresses and the translated message.
     ensures read { IfOk result (λ _. IsReadWith packet.old packet.new (specs.ipv4_between new.now packet.old)
-        (specs.ipv4_message_of_both new.now (specs.ipv4_of_quoted new.now (option_map (λ passed. passed.now) passed.entry)) packet.old)) }
+        (specs.ipv4_message_of_both new.now (specs.ipv4_of_quoted new.now passed.entry) packet.old)) }
     // A receiver accepts the translated message exactly if it accepted the message, also with bytes that are in other fragments or cut off,
     // unless it has no checksum of its own.
-    ensures verifies { IfOk result (λ _. specs.IsIpv4Accepted new.now packet.old (specs.ipv4_message_of_both new.now (specs.ipv4_of_quoted new.now (option_map (λ passed. passed.now) passed.entry)) packet.old)) }
-    ensures error { IfOk result (λ _. specs.IsIpv4ErrorAccepted packet.old (specs.ipv4_message_of_both new.now (specs.ipv4_of_quoted new.now (option_map (λ passed. passed.now) passed.entry)) packet.old)) }
+    ensures verifies { IfOk result (λ _. specs.IsIpv4Accepted new.now packet.old (specs.ipv4_message_of_both new.now (specs.ipv4_of_quoted new.now passed.entry) packet.old)) }
+    ensures error { IfOk result (λ _. specs.IsIpv4ErrorAccepted packet.old (specs.ipv4_message_of_both new.now (specs.ipv4_of_quoted new.now passed.entry) packet.old)) }
     ensures header { IfOk result (λ _. specs.IsHeaderAccepted packet.old packet.new) }
     // The translated packet is accepted again.
-    ensures again { IfOk result (λ _. specs.ipv4_refusal_with new.now (specs.ipv4_of_quoted new.now (option_map (λ passed. passed.now) passed.entry)) packet.new ≡ None) }
+    ensures again { IfOk result (λ _. specs.ipv4_refusal_with new.now (specs.ipv4_of_quoted new.now passed.entry) packet.new ≡ None) }
     ensures bytes { IfOk result (λ _. IsBytes packet.old) }
     ensures types { IfOk result (λ _. IsIpv4Translation new.now × IfSome (specs.ipv4_quoted packet.old)
-        (λ _. IsIpv4Translation (specs.ipv4_of_quoted new.now (option_map (λ passed. passed.now) passed.entry)))) }
+        (λ _. IsIpv4Translation (specs.ipv4_of_quoted new.now passed.entry))) }
 {
     let place = ipv4_place(packet, new)?;
     match quoted_len(&place, &packet[place.start..place.end])? {
@@ -218,21 +217,21 @@ fn translate_ipv4_error(
     requires place { specs.IsIpv4Place packet.old place.now }
     requires room { 8 + quoted_len ≤ length (specs.message_in_ipv4 packet.old) }
     ensures refused { RefusesExactly result
-        (specs.ipv4_quoted_refusal (has_port (specs.ipv4_of_quoted new.now (option_map (λ passed. passed.now) passed.entry)).source_port (specs.ipv4_of_quoted new.now (option_map (λ passed. passed.now) passed.entry)).destination_port) (Some (slice_range (specs.message_in_ipv4 packet.old) 8 (8 + quoted_len)))) }
+        (specs.ipv4_quoted_refusal (has_port (specs.ipv4_of_quoted new.now passed.entry).source_port (specs.ipv4_of_quoted new.now passed.entry).destination_port) (Some (slice_range (specs.message_in_ipv4 packet.old) 8 (8 + quoted_len)))) }
     ensures unchanged { IfErr result (λ _. packet.new ≡ packet.old) }
     ensures translated { IfOk result (λ _. packet.new ≡ specs.ipv4_with_message new.now
         (specs.ipv4_message_by (Some (slice_range (specs.message_in_ipv4 packet.old) 8 (8 + quoted_len))) new.now
-        (specs.ipv4_of_quoted new.now (option_map (λ passed. passed.now) passed.entry)) packet.old) packet.old) }
+        (specs.ipv4_of_quoted new.now passed.entry) packet.old) packet.old) }
     ensures len { IfOk result (λ _. length
         (specs.ipv4_message_by (Some (slice_range (specs.message_in_ipv4 packet.old) 8 (8 + quoted_len))) new.now
-        (specs.ipv4_of_quoted new.now (option_map (λ passed. passed.now) passed.entry)) packet.old)
+        (specs.ipv4_of_quoted new.now passed.entry) packet.old)
         ≡ length (specs.message_in_ipv4 packet.old)) }
     ensures verifies { IfOk result (λ _. slice_index (specs.message_in_ipv4 packet.old) 0 ≢ 0 → (sum : ℕ) → IsAcceptedAlike sum sum (specs.message_in_ipv4 packet.old)
         (specs.ipv4_message_by (Some (slice_range (specs.message_in_ipv4 packet.old) 8 (8 + quoted_len))) new.now
-        (specs.ipv4_of_quoted new.now (option_map (λ passed. passed.now) passed.entry)) packet.old)) }
+        (specs.ipv4_of_quoted new.now passed.entry) packet.old)) }
     ensures addresses { IfOk result (λ _. specs.AreIpv4Addresses (specs.ipv4_addresses new.now packet.old)) }
     ensures header { IfOk result (λ _. specs.IsHeaderAccepted packet.old packet.new) }
-    ensures types { IfOk result (λ _. IsIpv4Translation new.now × IsIpv4Translation (specs.ipv4_of_quoted new.now (option_map (λ passed. passed.now) passed.entry))) }
+    ensures types { IfOk result (λ _. IsIpv4Translation new.now × IsIpv4Translation (specs.ipv4_of_quoted new.now passed.entry)) }
 {
     let for_quoted = new.of_quoted(passed);
     let message = &packet[place.start..place.end];

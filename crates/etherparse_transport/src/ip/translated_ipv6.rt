@@ -1,6 +1,5 @@
 ghost use Rattle.std.specs.Prelude.{◌≡◌, ◌≢◌, ◌↔◌, ◌≤◌, ◌+◌, ◌%◌, ◌&&◌, ◌||◌, is_none, ℕ, Bool, IfErr, IfOk, IfSome, None, Some, drop, length, slice_index, slice_range, take, unwrap_or, IsTrue};
 ghost use Rattle.ip_part.specs.ExtensionHeaders.{is_extension};
-ghost use Rattle.std.specs.Option.{option_map};
 ghost use Rattle.net_base.specs.Bytes.{IsBytes};
 ghost use Rattle.net_base.specs.IpHeaders.{BeginsWithIpv6Header, ipv6_header_of};
 ghost use Rattle.net_base.specs.Refusals.{RefusesExactly};
@@ -112,21 +111,21 @@ fn translate_ipv6_by(
     new: &Ipv6Translation,
     passed: Option<&Ipv6Translation>,
 ) -> Result<(), TranslateError>
-    ensures refused { RefusesExactly result (specs.ipv6_refusal_with new.now (specs.ipv6_of_quoted new.now (option_map (λ passed. passed.now) passed.entry)) packet.old) }
+    ensures refused { RefusesExactly result (specs.ipv6_refusal_with new.now (specs.ipv6_of_quoted new.now passed.entry) packet.old) }
     ensures unchanged { IfErr result (λ _. packet.new ≡ packet.old) }
-    ensures translated { IfOk result (λ _. packet.new ≡ specs.ipv6_translated_with new.now (specs.ipv6_of_quoted new.now (option_map (λ passed. passed.now) passed.entry)) packet.old) }
+    ensures translated { IfOk result (λ _. packet.new ≡ specs.ipv6_translated_with new.now (specs.ipv6_of_quoted new.now passed.entry) packet.old) }
     // The packet is read as before, with the new addresses and the translated message.
     ensures read { IfOk result (λ _. IsReadWith packet.old packet.new (specs.ipv6_between new.now packet.old)
-        (specs.ipv6_message_of_both new.now (specs.ipv6_of_quoted new.now (option_map (λ passed. passed.now) passed.entry)) packet.old)) }
+        (specs.ipv6_message_of_both new.now (specs.ipv6_of_quoted new.now passed.entry) packet.old)) }
     // A receiver accepts the translated message exactly if it accepted the message, also with bytes that are in other fragments or cut off,
     // unless it has no checksum of its own.
-    ensures verifies { IfOk result (λ _. specs.IsIpv6Accepted new.now packet.old (specs.ipv6_message_of_both new.now (specs.ipv6_of_quoted new.now (option_map (λ passed. passed.now) passed.entry)) packet.old)) }
-    ensures error { IfOk result (λ _. specs.IsIpv6ErrorAccepted new.now packet.old (specs.ipv6_message_of_both new.now (specs.ipv6_of_quoted new.now (option_map (λ passed. passed.now) passed.entry)) packet.old)) }
+    ensures verifies { IfOk result (λ _. specs.IsIpv6Accepted new.now packet.old (specs.ipv6_message_of_both new.now (specs.ipv6_of_quoted new.now passed.entry) packet.old)) }
+    ensures error { IfOk result (λ _. specs.IsIpv6ErrorAccepted new.now packet.old (specs.ipv6_message_of_both new.now (specs.ipv6_of_quoted new.now passed.entry) packet.old)) }
     // The translated packet is accepted again.
-    ensures again { IfOk result (λ _. specs.ipv6_refusal_with new.now (specs.ipv6_of_quoted new.now (option_map (λ passed. passed.now) passed.entry)) packet.new ≡ None) }
+    ensures again { IfOk result (λ _. specs.ipv6_refusal_with new.now (specs.ipv6_of_quoted new.now passed.entry) packet.new ≡ None) }
     ensures bytes { IfOk result (λ _. IsBytes packet.old) }
     ensures types { IfOk result (λ _. IsIpv6Translation new.now × IfSome (specs.ipv6_quoted packet.old)
-        (λ _. IsIpv6Translation (specs.ipv6_of_quoted new.now (option_map (λ passed. passed.now) passed.entry)))) }
+        (λ _. IsIpv6Translation (specs.ipv6_of_quoted new.now passed.entry))) }
 {
     let place = ipv6_place(packet, new)?;
     match quoted_len(&place, &packet[place.start..place.end])? {
@@ -277,22 +276,22 @@ fn translate_ipv6_error(
     requires place { specs.IsIpv6Place packet.old place.now }
     requires room { 8 + quoted_len ≤ length (specs.message_in_ipv6 packet.old) }
     ensures refused { RefusesExactly result
-        (specs.ipv6_quoted_refusal (has_port (specs.ipv6_of_quoted new.now (option_map (λ passed. passed.now) passed.entry)).source_port (specs.ipv6_of_quoted new.now (option_map (λ passed. passed.now) passed.entry)).destination_port) (Some (slice_range (specs.message_in_ipv6 packet.old) 8 (8 + quoted_len)))) }
+        (specs.ipv6_quoted_refusal (has_port (specs.ipv6_of_quoted new.now passed.entry).source_port (specs.ipv6_of_quoted new.now passed.entry).destination_port) (Some (slice_range (specs.message_in_ipv6 packet.old) 8 (8 + quoted_len)))) }
     ensures unchanged { IfErr result (λ _. packet.new ≡ packet.old) }
     ensures translated { IfOk result (λ _. packet.new ≡ specs.ipv6_with_message new.now
         (specs.ipv6_message_by (Some (slice_range (specs.message_in_ipv6 packet.old) 8 (8 + quoted_len))) new.now
-        (specs.ipv6_of_quoted new.now (option_map (λ passed. passed.now) passed.entry)) packet.old) packet.old) }
+        (specs.ipv6_of_quoted new.now passed.entry) packet.old) packet.old) }
     ensures len { IfOk result (λ _. length
         (specs.ipv6_message_by (Some (slice_range (specs.message_in_ipv6 packet.old) 8 (8 + quoted_len))) new.now
-        (specs.ipv6_of_quoted new.now (option_map (λ passed. passed.now) passed.entry)) packet.old)
+        (specs.ipv6_of_quoted new.now passed.entry) packet.old)
         ≡ length (specs.message_in_ipv6 packet.old)) }
     ensures verifies { IfOk result (λ _. (before after : ℕ) →
         TurnsIntoBy (specs.sum_of_ipv6 (ipv6_header_of packet.old)) (specs.sum_of_ipv6 (specs.ipv6_addresses new.now packet.old)) before after →
         before ≢ 0 → after ≢ 0 → IsAcceptedAlike before after (specs.message_in_ipv6 packet.old)
         (specs.ipv6_message_by (Some (slice_range (specs.message_in_ipv6 packet.old) 8 (8 + quoted_len))) new.now
-        (specs.ipv6_of_quoted new.now (option_map (λ passed. passed.now) passed.entry)) packet.old)) }
+        (specs.ipv6_of_quoted new.now passed.entry) packet.old)) }
     ensures addresses { IfOk result (λ _. specs.AreIpv6Addresses (specs.ipv6_addresses new.now packet.old)) }
-    ensures types { IfOk result (λ _. IsIpv6Translation new.now × IsIpv6Translation (specs.ipv6_of_quoted new.now (option_map (λ passed. passed.now) passed.entry))) }
+    ensures types { IfOk result (λ _. IsIpv6Translation new.now × IsIpv6Translation (specs.ipv6_of_quoted new.now passed.entry)) }
 {
     let for_quoted = new.of_quoted(passed);
     let message = &packet[place.start..place.end];

@@ -13,13 +13,13 @@ use borrow.Rule.Slice.PartMut.{put_mid}
 pub returns-clause-refused : goal.returns-clause-refused
 returns-clause-refused c =
     let end : ℕ = 8 + c.args.quoted_len in
-    ap (λ message. option_map (λ error. QuotedPacket) (ipv4_place_refusal (has_port (ipv4_of_quoted c.args.new.now (option_map (λ passed. passed.now) c.args.passed)).source_port (ipv4_of_quoted c.args.new.now (option_map (λ passed. passed.now) c.args.passed)).destination_port) (slice_range message 8 end))) (sym c.requires.place.message)
+    ap (λ message. option_map (λ error. QuotedPacket) (ipv4_place_refusal (has_port (ipv4_of_quoted c.args.new.now c.args.passed).source_port (ipv4_of_quoted c.args.new.now c.args.passed).destination_port) (slice_range message 8 end))) (sym c.requires.place.message)
     ∙ ap (option_map (λ error. QuotedPacket)) (sym (ap (λ new. ipv4_place_refusal (has_port new.source_port new.destination_port) (slice_range (slice_range c.args.packet.now c.args.place.now.start c.args.place.now.end) 8 end)) c.of_quoted-for_quoted.ensures.passed) ∙ c.in-Ok.ensures.refused)
 
 pub returns-in_default-clause-refused : goal.returns-in_default-clause-refused
 returns-in_default-clause-refused c =
     let end : ℕ = 8 + c.args.quoted_len in
-    ap (λ message. option_map (λ error. QuotedPacket) (ipv4_place_refusal (has_port (ipv4_of_quoted c.args.new.now (option_map (λ passed. passed.now) c.args.passed)).source_port (ipv4_of_quoted c.args.new.now (option_map (λ passed. passed.now) c.args.passed)).destination_port) (slice_range message 8 end))) (sym c.requires.place.message)
+    ap (λ message. option_map (λ error. QuotedPacket) (ipv4_place_refusal (has_port (ipv4_of_quoted c.args.new.now c.args.passed).source_port (ipv4_of_quoted c.args.new.now c.args.passed).destination_port) (slice_range message 8 end))) (sym c.requires.place.message)
     ∙ ap (option_map (λ error. QuotedPacket)) (sym (ap (λ new. ipv4_place_refusal (has_port new.source_port new.destination_port) (slice_range (slice_range c.args.packet.now c.args.place.now.start c.args.place.now.end) 8 end)) c.of_quoted-for_quoted.ensures.passed) ∙ c.in_default.ensures.refused)
 
 pub returns-clause-translated : goal.returns-clause-translated
@@ -28,7 +28,7 @@ returns-clause-translated c =
     let end : ℕ = 8 + c.args.quoted_len in
     let changed : List ℕ = c.translate_ipv4_quoted.new.message in
     let with_translated : List ℕ → List ℕ = λ message.
-    with_quote 0 0 (slice_range message 8 end) (ipv4_translated_flow (ipv4_of_quoted c.args.new.now (option_map (λ passed. passed.now) c.args.passed)) (slice_range message 8 end)) message in
+    with_quote 0 0 (slice_range message 8 end) (ipv4_translated_flow (ipv4_of_quoted c.args.new.now c.args.passed) (slice_range message 8 end)) message in
     let changed_is : changed ≡ with_translated (message_in_ipv4 packet) = (c.translate_ipv4_quoted.ensures.translated
     ∙ ap (λ new. with_quote 0 0 (slice_range (slice_range c.args.packet.now c.args.place.now.start c.args.place.now.end) 8 end) (ipv4_translated_flow new (slice_range (slice_range c.args.packet.now c.args.place.now.start c.args.place.now.end) 8 end)) (slice_range c.args.packet.now c.args.place.now.start c.args.place.now.end)) c.of_quoted-for_quoted.ensures.passed) ∙ ap with_translated c.requires.place.message in
     c.replace_ipv4_addresses.ensures.replaced
@@ -43,7 +43,7 @@ returns-clause-len c =
     let packet : List ℕ = c.args.packet.now in
     let end : ℕ = 8 + c.args.quoted_len in
     let with_translated : List ℕ → List ℕ = λ message.
-    with_quote 0 0 (slice_range message 8 end) (ipv4_translated_flow (ipv4_of_quoted c.args.new.now (option_map (λ passed. passed.now) c.args.passed)) (slice_range message 8 end)) message in
+    with_quote 0 0 (slice_range message 8 end) (ipv4_translated_flow (ipv4_of_quoted c.args.new.now c.args.passed) (slice_range message 8 end)) message in
     sym (ap length ((c.translate_ipv4_quoted.ensures.translated
     ∙ ap (λ new. with_quote 0 0 (slice_range (slice_range c.args.packet.now c.args.place.now.start c.args.place.now.end) 8 end) (ipv4_translated_flow new (slice_range (slice_range c.args.packet.now c.args.place.now.start c.args.place.now.end) 8 end)) (slice_range c.args.packet.now c.args.place.now.start c.args.place.now.end)) c.of_quoted-for_quoted.ensures.passed) ∙ ap with_translated c.requires.place.message))
     ∙ c.translate_ipv4_quoted.auto.message ∙ ap length c.requires.place.message
@@ -63,7 +63,7 @@ returns-clause-verifies c = λ some sum.
     let end : ℕ = 8 + c.args.quoted_len in
     let range : List ℕ = slice_range packet c.args.place.now.start c.args.place.now.end in
     let with_translated : List ℕ → List ℕ = λ message.
-    with_quote 0 0 (slice_range message 8 end) (ipv4_translated_flow (ipv4_of_quoted c.args.new.now (option_map (λ passed. passed.now) c.args.passed)) (slice_range message 8 end)) message in
+    with_quote 0 0 (slice_range message 8 end) (ipv4_translated_flow (ipv4_of_quoted c.args.new.now c.args.passed) (slice_range message 8 end)) message in
     subst (λ message. IsAcceptedAlike sum sum message (with_translated message)) c.requires.place.message
     (subst (IsAcceptedAlike sum sum range) (c.translate_ipv4_quoted.ensures.translated
     ∙ ap (λ new. with_quote 0 0 (slice_range (slice_range c.args.packet.now c.args.place.now.start c.args.place.now.end) 8 end) (ipv4_translated_flow new (slice_range (slice_range c.args.packet.now c.args.place.now.start c.args.place.now.end) 8 end)) (slice_range c.args.packet.now c.args.place.now.start c.args.place.now.end)) c.of_quoted-for_quoted.ensures.passed)

@@ -17,7 +17,7 @@ returns-in-Some-clause-refused c =
     let packet : List ℕ = c.args.packet.now in
     let end : ℕ = 8 + c.in-Some.len in
     let left : IsIpv6Left (has_port c.args.new.now.source_port c.args.new.now.destination_port)
-    (has_port (ipv6_of_quoted c.args.new.now (option_map (λ passed. passed.now) c.args.passed)).source_port (ipv6_of_quoted c.args.new.now (option_map (λ passed. passed.now) c.args.passed)).destination_port) packet (Some (slice_range (message_in_ipv6 packet) 8 end)) =
+    (has_port (ipv6_of_quoted c.args.new.now c.args.passed).source_port (ipv6_of_quoted c.args.new.now c.args.passed).destination_port) packet (Some (slice_range (message_in_ipv6 packet) 8 end)) =
     ipv6_left _ _ packet c.in_ok-place.place _ c.in_ok-place.ensures.place c.in_ok-place.ensures.refused c.in_ok-len.ensures.refused
     (c.in_ok-len.ensures.quoted ∙ ap (option_map (λ len. slice_range (slice_range packet c.in_ok-place.place.start c.in_ok-place.place.end) 8 (8 + len))) c.in-Some.is
     ∙ ap (λ message. Some (slice_range message 8 end)) c.in_ok-place.ensures.place.message) in
@@ -28,12 +28,12 @@ returns-in-Some-clause-translated c =
     let packet : List ℕ = c.args.packet.now in
     let end : ℕ = 8 + c.in-Some.len in
     let left : IsIpv6Left (has_port c.args.new.now.source_port c.args.new.now.destination_port)
-    (has_port (ipv6_of_quoted c.args.new.now (option_map (λ passed. passed.now) c.args.passed)).source_port (ipv6_of_quoted c.args.new.now (option_map (λ passed. passed.now) c.args.passed)).destination_port) packet (Some (slice_range (message_in_ipv6 packet) 8 end)) =
+    (has_port (ipv6_of_quoted c.args.new.now c.args.passed).source_port (ipv6_of_quoted c.args.new.now c.args.passed).destination_port) packet (Some (slice_range (message_in_ipv6 packet) 8 end)) =
     ipv6_left _ _ packet c.in_ok-place.place _ c.in_ok-place.ensures.place c.in_ok-place.ensures.refused c.in_ok-len.ensures.refused
     (c.in_ok-len.ensures.quoted ∙ ap (option_map (λ len. slice_range (slice_range packet c.in_ok-place.place.start c.in_ok-place.place.end) 8 (8 + len))) c.in-Some.is
     ∙ ap (λ message. Some (slice_range message 8 end)) c.in_ok-place.ensures.place.message) in
     subst (λ quoted. IfOk c.translate_ipv6_error.result (λ done. c.translate_ipv6_error.new.packet
-    ≡ ipv6_with_message c.args.new.now (ipv6_message_by quoted c.args.new.now (ipv6_of_quoted c.args.new.now (option_map (λ passed. passed.now) c.args.passed)) packet) packet))
+    ≡ ipv6_with_message c.args.new.now (ipv6_message_by quoted c.args.new.now (ipv6_of_quoted c.args.new.now c.args.passed) packet) packet))
     (sym left.quoted_is) c.translate_ipv6_error.ensures.translated
 
 pub returns-in-Some-clause-read : goal.returns-in-Some-clause-read
@@ -41,16 +41,16 @@ returns-in-Some-clause-read c =
     let packet : List ℕ = c.args.packet.now in
     let end : ℕ = 8 + c.in-Some.len in
     let quoted : List ℕ = slice_range (message_in_ipv6 packet) 8 end in
-    let message : List ℕ = ipv6_message_by (Some quoted) c.args.new.now (ipv6_of_quoted c.args.new.now (option_map (λ passed. passed.now) c.args.passed)) packet in
+    let message : List ℕ = ipv6_message_by (Some quoted) c.args.new.now (ipv6_of_quoted c.args.new.now c.args.passed) packet in
     let left : IsIpv6Left (has_port c.args.new.now.source_port c.args.new.now.destination_port)
-    (has_port (ipv6_of_quoted c.args.new.now (option_map (λ passed. passed.now) c.args.passed)).source_port (ipv6_of_quoted c.args.new.now (option_map (λ passed. passed.now) c.args.passed)).destination_port) packet (Some quoted) =
+    (has_port (ipv6_of_quoted c.args.new.now c.args.passed).source_port (ipv6_of_quoted c.args.new.now c.args.passed).destination_port) packet (Some quoted) =
     ipv6_left _ _ packet c.in_ok-place.place _ c.in_ok-place.ensures.place c.in_ok-place.ensures.refused c.in_ok-len.ensures.refused
     (c.in_ok-len.ensures.quoted ∙ ap (option_map (λ len. slice_range (slice_range packet c.in_ok-place.place.start c.in_ok-place.place.end) 8 (8 + len))) c.in-Some.is
     ∙ ap (λ message. Some (slice_range message 8 end)) c.in_ok-place.ensures.place.message) in
     if_ok c.translate_ipv6_error.result c.translate_ipv6_error.ensures.translated c.translate_ipv6_error.ensures.len
     c.translate_ipv6_error.ensures.addresses
     (λ is same four. subst (λ quoted. IsReadWith packet c.translate_ipv6_error.new.packet (ipv6_between c.args.new.now packet)
-    (ipv6_message_by quoted c.args.new.now (ipv6_of_quoted c.args.new.now (option_map (λ passed. passed.now) c.args.passed)) packet)) (sym left.quoted_is)
+    (ipv6_message_by quoted c.args.new.now (ipv6_of_quoted c.args.new.now c.args.passed) packet)) (sym left.quoted_is)
     (ipv6_read _ c.args.new.now packet c.translate_ipv6_error.new.packet message c.in_ok-place.place c.in_ok-place.ensures.refused c.in_ok-place.ensures.place
     four same is))
 
@@ -58,11 +58,11 @@ pub returns-in-None-clause-read : goal.returns-in-None-clause-read
 returns-in-None-clause-read c =
     let packet : List ℕ = c.args.packet.now in
     let left : IsIpv6Left (has_port c.args.new.now.source_port c.args.new.now.destination_port)
-    (has_port (ipv6_of_quoted c.args.new.now (option_map (λ passed. passed.now) c.args.passed)).source_port (ipv6_of_quoted c.args.new.now (option_map (λ passed. passed.now) c.args.passed)).destination_port) packet None =
+    (has_port (ipv6_of_quoted c.args.new.now c.args.passed).source_port (ipv6_of_quoted c.args.new.now c.args.passed).destination_port) packet None =
     ipv6_left _ _ packet c.in_ok-place.place None c.in_ok-place.ensures.place c.in_ok-place.ensures.refused c.in_ok-len.ensures.refused
     (c.in_ok-len.ensures.quoted ∙ ap (option_map (λ len. slice_range (slice_range packet c.in_ok-place.place.start c.in_ok-place.place.end) 8 (8 + len))) c.in-None.is) in
     subst (λ quoted. IsReadWith packet c.translate_ipv6_flow.new.packet (ipv6_between c.args.new.now packet)
-    (ipv6_message_by quoted c.args.new.now (ipv6_of_quoted c.args.new.now (option_map (λ passed. passed.now) c.args.passed)) packet)) (sym left.quoted_is)
+    (ipv6_message_by quoted c.args.new.now (ipv6_of_quoted c.args.new.now c.args.passed) packet)) (sym left.quoted_is)
     (ipv6_read _ c.args.new.now packet c.translate_ipv6_flow.new.packet (ipv6_flow_message c.args.new.now packet) c.in_ok-place.place
     c.in_ok-place.ensures.refused c.in_ok-place.ensures.place c.translate_ipv6_flow.ensures.addresses (ipv6_flow_message_len c.args.new.now packet) c.translate_ipv6_flow.ensures.translated)
 
@@ -72,7 +72,7 @@ returns-in-Some-clause-verifies c =
     let end : ℕ = 8 + c.in-Some.len in
     let quoted : List ℕ = slice_range (message_in_ipv6 packet) 8 end in
     let left : IsIpv6Left (has_port c.args.new.now.source_port c.args.new.now.destination_port)
-    (has_port (ipv6_of_quoted c.args.new.now (option_map (λ passed. passed.now) c.args.passed)).source_port (ipv6_of_quoted c.args.new.now (option_map (λ passed. passed.now) c.args.passed)).destination_port) packet (Some quoted) =
+    (has_port (ipv6_of_quoted c.args.new.now c.args.passed).source_port (ipv6_of_quoted c.args.new.now c.args.passed).destination_port) packet (Some quoted) =
     ipv6_left _ _ packet c.in_ok-place.place _ c.in_ok-place.ensures.place c.in_ok-place.ensures.refused c.in_ok-len.ensures.refused
     (c.in_ok-len.ensures.quoted ∙ ap (option_map (λ len. slice_range (slice_range packet c.in_ok-place.place.start c.in_ok-place.place.end) 8 (8 + len))) c.in-Some.is
     ∙ ap (λ message. Some (slice_range message 8 end)) c.in_ok-place.ensures.place.message) in
@@ -82,10 +82,10 @@ pub returns-in-None-clause-verifies : goal.returns-in-None-clause-verifies
 returns-in-None-clause-verifies c =
     let packet : List ℕ = c.args.packet.now in
     let left : IsIpv6Left (has_port c.args.new.now.source_port c.args.new.now.destination_port)
-    (has_port (ipv6_of_quoted c.args.new.now (option_map (λ passed. passed.now) c.args.passed)).source_port (ipv6_of_quoted c.args.new.now (option_map (λ passed. passed.now) c.args.passed)).destination_port) packet None =
+    (has_port (ipv6_of_quoted c.args.new.now c.args.passed).source_port (ipv6_of_quoted c.args.new.now c.args.passed).destination_port) packet None =
     ipv6_left _ _ packet c.in_ok-place.place None c.in_ok-place.ensures.place c.in_ok-place.ensures.refused c.in_ok-len.ensures.refused
     (c.in_ok-len.ensures.quoted ∙ ap (option_map (λ len. slice_range (slice_range packet c.in_ok-place.place.start c.in_ok-place.place.end) 8 (8 + len))) c.in-None.is) in
-    subst (λ quoted. IsIpv6Accepted c.args.new.now packet (ipv6_message_by quoted c.args.new.now (ipv6_of_quoted c.args.new.now (option_map (λ passed. passed.now) c.args.passed)) packet)) (sym left.quoted_is)
+    subst (λ quoted. IsIpv6Accepted c.args.new.now packet (ipv6_message_by quoted c.args.new.now (ipv6_of_quoted c.args.new.now c.args.passed) packet)) (sym left.quoted_is)
     c.translate_ipv6_flow.ensures.verifies
 
 pub returns-in-Some-clause-error : goal.returns-in-Some-clause-error
@@ -94,11 +94,11 @@ returns-in-Some-clause-error c =
     let end : ℕ = 8 + c.in-Some.len in
     let quoted : List ℕ = slice_range (message_in_ipv6 packet) 8 end in
     let left : IsIpv6Left (has_port c.args.new.now.source_port c.args.new.now.destination_port)
-    (has_port (ipv6_of_quoted c.args.new.now (option_map (λ passed. passed.now) c.args.passed)).source_port (ipv6_of_quoted c.args.new.now (option_map (λ passed. passed.now) c.args.passed)).destination_port) packet (Some quoted) =
+    (has_port (ipv6_of_quoted c.args.new.now c.args.passed).source_port (ipv6_of_quoted c.args.new.now c.args.passed).destination_port) packet (Some quoted) =
     ipv6_left _ _ packet c.in_ok-place.place _ c.in_ok-place.ensures.place c.in_ok-place.ensures.refused c.in_ok-len.ensures.refused
     (c.in_ok-len.ensures.quoted ∙ ap (option_map (λ len. slice_range (slice_range packet c.in_ok-place.place.start c.in_ok-place.place.end) 8 (8 + len))) c.in-Some.is
     ∙ ap (λ message. Some (slice_range message 8 end)) c.in_ok-place.ensures.place.message) in
-    subst (λ quoted. IfOk c.translate_ipv6_error.result (λ done. IsIpv6ErrorAccepted c.args.new.now packet (ipv6_message_by quoted c.args.new.now (ipv6_of_quoted c.args.new.now (option_map (λ passed. passed.now) c.args.passed)) packet))) (sym left.quoted_is)
+    subst (λ quoted. IfOk c.translate_ipv6_error.result (λ done. IsIpv6ErrorAccepted c.args.new.now packet (ipv6_message_by quoted c.args.new.now (ipv6_of_quoted c.args.new.now c.args.passed) packet))) (sym left.quoted_is)
     (if_ok c.translate_ipv6_error.result c.translate_ipv6_error.ensures.addresses c.translate_ipv6_error.ensures.len c.translate_ipv6_error.ensures.verifies
     (ipv6_error_accepted c.args.new.now packet quoted _ (search rules) left.quoted_is))
 
@@ -106,7 +106,7 @@ pub returns-in-None-clause-error : goal.returns-in-None-clause-error
 returns-in-None-clause-error c = λ quoted is.
     let packet : List ℕ = c.args.packet.now in
     let left : IsIpv6Left (has_port c.args.new.now.source_port c.args.new.now.destination_port)
-    (has_port (ipv6_of_quoted c.args.new.now (option_map (λ passed. passed.now) c.args.passed)).source_port (ipv6_of_quoted c.args.new.now (option_map (λ passed. passed.now) c.args.passed)).destination_port) packet None =
+    (has_port (ipv6_of_quoted c.args.new.now c.args.passed).source_port (ipv6_of_quoted c.args.new.now c.args.passed).destination_port) packet None =
     ipv6_left _ _ packet c.in_ok-place.place None c.in_ok-place.ensures.place c.in_ok-place.ensures.refused c.in_ok-len.ensures.refused
     (c.in_ok-len.ensures.quoted ∙ ap (option_map (λ len. slice_range (slice_range packet c.in_ok-place.place.start c.in_ok-place.place.end) 8 (8 + len))) c.in-None.is) in
     let none : ipv6_quoted packet ≡ None = left.quoted_is in
@@ -116,7 +116,7 @@ pub returns-in-None-clause-again : goal.returns-in-None-clause-again
 returns-in-None-clause-again c =
     let packet : List ℕ = c.args.packet.now in
     let new : Ipv6Translation = c.args.new.now in
-    let rule : Ipv6Translation = (ipv6_of_quoted c.args.new.now (option_map (λ passed. passed.now) c.args.passed)) in
+    let rule : Ipv6Translation = (ipv6_of_quoted c.args.new.now c.args.passed) in
     let left : IsIpv6Left (has_port new.source_port new.destination_port) (has_port rule.source_port rule.destination_port) packet None =
     ipv6_left _ _ packet c.in_ok-place.place None c.in_ok-place.ensures.place c.in_ok-place.ensures.refused c.in_ok-len.ensures.refused
     (c.in_ok-len.ensures.quoted ∙ ap (option_map (λ len. slice_range (slice_range packet c.in_ok-place.place.start c.in_ok-place.place.end) 8 (8 + len))) c.in-None.is) in
@@ -129,7 +129,7 @@ pub returns-in-Some-clause-again : goal.returns-in-Some-clause-again
 returns-in-Some-clause-again c =
     let packet : List ℕ = c.args.packet.now in
     let new : Ipv6Translation = c.args.new.now in
-    let rule : Ipv6Translation = (ipv6_of_quoted c.args.new.now (option_map (λ passed. passed.now) c.args.passed)) in
+    let rule : Ipv6Translation = (ipv6_of_quoted c.args.new.now c.args.passed) in
     let end : ℕ = 8 + c.in-Some.len in
     let left : IsIpv6Left (has_port new.source_port new.destination_port) (has_port rule.source_port rule.destination_port) packet
     (Some (slice_range (message_in_ipv6 packet) 8 end)) =
@@ -147,7 +147,7 @@ pub returns-in-None-clause-types : goal.returns-in-None-clause-types
 returns-in-None-clause-types c =
     let packet : List ℕ = c.args.packet.now in
     let new : Ipv6Translation = c.args.new.now in
-    let rule : Ipv6Translation = (ipv6_of_quoted c.args.new.now (option_map (λ passed. passed.now) c.args.passed)) in
+    let rule : Ipv6Translation = (ipv6_of_quoted c.args.new.now c.args.passed) in
     let left : IsIpv6Left (has_port new.source_port new.destination_port) (has_port rule.source_port rule.destination_port) packet None =
     ipv6_left _ _ packet c.in_ok-place.place None c.in_ok-place.ensures.place c.in_ok-place.ensures.refused c.in_ok-len.ensures.refused
     (c.in_ok-len.ensures.quoted ∙ ap (option_map (λ len. slice_range (slice_range packet c.in_ok-place.place.start c.in_ok-place.place.end) 8 (8 + len))) c.in-None.is) in
@@ -157,7 +157,7 @@ pub returns-in-Some-clause-types : goal.returns-in-Some-clause-types
 returns-in-Some-clause-types c =
     let packet : List ℕ = c.args.packet.now in
     let new : Ipv6Translation = c.args.new.now in
-    let rule : Ipv6Translation = (ipv6_of_quoted c.args.new.now (option_map (λ passed. passed.now) c.args.passed)) in
+    let rule : Ipv6Translation = (ipv6_of_quoted c.args.new.now c.args.passed) in
     let end : ℕ = 8 + c.in-Some.len in
     let left : IsIpv6Left (has_port new.source_port new.destination_port) (has_port rule.source_port rule.destination_port) packet
     (Some (slice_range (message_in_ipv6 packet) 8 end)) =

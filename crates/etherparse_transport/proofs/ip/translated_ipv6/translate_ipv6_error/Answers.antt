@@ -17,7 +17,7 @@ use borrow.Rule.Slice.PartMut.{put_mid}
 pub returns-clause-refused : goal.returns-clause-refused
 returns-clause-refused c =
     let end : ℕ = 8 + c.args.quoted_len in
-    ap (λ message. option_map (λ error. QuotedPacket) (ipv6_place_refusal (has_port (ipv6_of_quoted c.args.new.now (option_map (λ passed. passed.now) c.args.passed)).source_port (ipv6_of_quoted c.args.new.now (option_map (λ passed. passed.now) c.args.passed)).destination_port) (slice_range message 8 end))) (sym c.requires.place.message)
+    ap (λ message. option_map (λ error. QuotedPacket) (ipv6_place_refusal (has_port (ipv6_of_quoted c.args.new.now c.args.passed).source_port (ipv6_of_quoted c.args.new.now c.args.passed).destination_port) (slice_range message 8 end))) (sym c.requires.place.message)
     ∙ ap (option_map (λ error. QuotedPacket)) (sym (ap (λ new. ipv6_place_refusal (has_port new.source_port new.destination_port) (slice_range (slice_range c.args.packet.now c.args.place.now.start c.args.place.now.end) 8 end)) c.of_quoted-for_quoted.ensures.passed) ∙ c.in-Ok.ensures.refused)
 
 -- the new addresses, by the old addresses
@@ -30,7 +30,7 @@ returns-clause-translated c =
     let end : ℕ = 8 + c.args.quoted_len in
     let changed : List ℕ = c.translate_ipv6_quoted.new.message in
     let with_translated : ℕ → ℕ → List ℕ → List ℕ = λ old new message.
-    with_quote old new (slice_range message 8 end) (ipv6_translated_flow (ipv6_of_quoted c.args.new.now (option_map (λ passed. passed.now) c.args.passed)) (slice_range message 8 end)) message in
+    with_quote old new (slice_range message 8 end) (ipv6_translated_flow (ipv6_of_quoted c.args.new.now c.args.passed) (slice_range message 8 end)) message in
     let old : ℕ = sum_of_ipv6 (ipv6_header_of packet) in
     let new : ℕ = sum_of_ipv6 (ipv6_addresses c.args.new.now packet) in
     let range : List ℕ = slice_range packet c.args.place.now.start c.args.place.now.end in
@@ -56,7 +56,7 @@ returns-clause-len c =
     let end : ℕ = 8 + c.args.quoted_len in
     let changed : List ℕ = c.translate_ipv6_quoted.new.message in
     let with_translated : ℕ → ℕ → List ℕ → List ℕ = λ old new message.
-    with_quote old new (slice_range message 8 end) (ipv6_translated_flow (ipv6_of_quoted c.args.new.now (option_map (λ passed. passed.now) c.args.passed)) (slice_range message 8 end)) message in
+    with_quote old new (slice_range message 8 end) (ipv6_translated_flow (ipv6_of_quoted c.args.new.now c.args.passed) (slice_range message 8 end)) message in
     let old : ℕ = sum_of_ipv6 (ipv6_header_of packet) in
     let new : ℕ = sum_of_ipv6 (ipv6_addresses c.args.new.now packet) in
     let range : List ℕ = slice_range packet c.args.place.now.start c.args.place.now.end in
@@ -73,7 +73,7 @@ returns-clause-len c =
 pub returns-in_default-clause-refused : goal.returns-in_default-clause-refused
 returns-in_default-clause-refused c =
     let end : ℕ = 8 + c.args.quoted_len in
-    ap (λ message. option_map (λ error. QuotedPacket) (ipv6_place_refusal (has_port (ipv6_of_quoted c.args.new.now (option_map (λ passed. passed.now) c.args.passed)).source_port (ipv6_of_quoted c.args.new.now (option_map (λ passed. passed.now) c.args.passed)).destination_port) (slice_range message 8 end))) (sym c.requires.place.message)
+    ap (λ message. option_map (λ error. QuotedPacket) (ipv6_place_refusal (has_port (ipv6_of_quoted c.args.new.now c.args.passed).source_port (ipv6_of_quoted c.args.new.now c.args.passed).destination_port) (slice_range message 8 end))) (sym c.requires.place.message)
     ∙ ap (option_map (λ error. QuotedPacket)) (sym (ap (λ new. ipv6_place_refusal (has_port new.source_port new.destination_port) (slice_range (slice_range c.args.packet.now c.args.place.now.start c.args.place.now.end) 8 end)) c.of_quoted-for_quoted.ensures.passed) ∙ c.in_default.ensures.refused)
 
 pub returns-clause-verifies : goal.returns-clause-verifies
@@ -82,7 +82,7 @@ returns-clause-verifies c = λ before after turns some some_too.
     let end : ℕ = 8 + c.args.quoted_len in
     let range : List ℕ = slice_range packet c.args.place.now.start c.args.place.now.end in
     let with_translated : ℕ → ℕ → List ℕ → List ℕ = λ old new message.
-    with_quote old new (slice_range message 8 end) (ipv6_translated_flow (ipv6_of_quoted c.args.new.now (option_map (λ passed. passed.now) c.args.passed)) (slice_range message 8 end)) message in
+    with_quote old new (slice_range message 8 end) (ipv6_translated_flow (ipv6_of_quoted c.args.new.now c.args.passed) (slice_range message 8 end)) message in
     let old : ℕ = sum_of_ipv6 (ipv6_header_of packet) in
     let new : ℕ = sum_of_ipv6 (ipv6_addresses c.args.new.now packet) in
     let added : added_value c.ipv6_change-change.result ≡ new =
