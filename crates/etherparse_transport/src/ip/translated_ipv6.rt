@@ -28,7 +28,7 @@ use crate::{IpNumber, Ipv6Header, Ipv6HeaderSlice, Proto, ip_number};
 /// ```
 ///
 /// The checksums are updated by the replaced bytes (RFC 1624), so that a receiver accepts the packet exactly if it accepted it before. ICMP
-/// errors, packets that are cut off, and packets that state no length are translated as by `translate_ipv4`.
+/// errors, packets that are cut off, packets that state no length, and partial checksums are treated as by `translate_ipv4`.
 ///
 /// A fragment header may follow the IPv6 header (RFC 8200, section 4.5). A first fragment has ports, and so has an atomic fragment (RFC
 /// 6946). In a later fragment only the addresses are replaced. Of other protocols only the addresses are replaced, if no port is passed.
