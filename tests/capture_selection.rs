@@ -291,3 +291,34 @@ fn cut_pcapng_files_are_selected(rt: HostRuntime) {
         expect_cut(&rt, &whole, cut, of_cut_file(cut));
     }
 }
+
+/// A section header block, and its copy, in which the section length is not specified.
+type SectionRow = (&'static [u8], &'static [u8]);
+
+#[rattlefmt::skip]
+static SECTION_LENGTHS: [SectionRow; 3] = [
+    (b"\x0A\x0D\x0D\x0A\x1C\0\0\0\x4D\x3C\x2B\x1A\x01\0\0\0\x14\0\0\0\0\0\0\0\x1C\0\0\0",
+     b"\x0A\x0D\x0D\x0A\x1C\0\0\0\x4D\x3C\x2B\x1A\x01\0\0\0\xFF\xFF\xFF\xFF\xFF\xFF\xFF\xFF\x1C\0\0\0"),
+    (b"\x0A\x0D\x0D\x0A\0\0\0\x1C\x1A\x2B\x3C\x4D\0\x01\0\0\0\0\0\0\0\0\0\x14\0\0\0\x1C",
+     b"\x0A\x0D\x0D\x0A\0\0\0\x1C\x1A\x2B\x3C\x4D\0\x01\0\0\xFF\xFF\xFF\xFF\xFF\xFF\xFF\xFF\0\0\0\x1C"),
+    (SECTION, SECTION),
+];
+
+/// Stops the test unless the section header block of a row is written as its copy, twice in a file.
+fn expect_section_len(rt: &(impl Abort + AllocGlobal), row: &SectionRow) {
+    let (section, copy) = *row;
+    let whole = joined(rt, &[section, section]);
+    let mut input = whole.as_slice();
+    let mut output = Vec::new(rt.alloc());
+    let selected = select(&mut input, &mut output, &of_port(None, Lines::All, None));
+    let wanted = joined(rt, &[copy, copy]);
+    expect_equal(rt, &output.as_slice(), &wanted.as_slice());
+    expect_equal(rt, &selected.status, &Some(ExitStatus::Success));
+}
+
+#[test]
+fn the_length_of_a_section_is_not_specified(rt: HostRuntime) {
+    for row in &SECTION_LENGTHS {
+        expect_section_len(&rt, row);
+    }
+}

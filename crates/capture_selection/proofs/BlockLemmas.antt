@@ -1,5 +1,5 @@
 -- The blocks of a pcapng file as parts.
-use Rattle.std.proofs.Common.{◌≡◌, ◌≢◌, ◌<◌, ◌++◌, ◌∙◌, ◌⊎◌, ℕ, Bool, true, false, if◌then◌else◌, List, Option, OnErr, Result, Some, None, Ok, Err, [], append_assoc, arith, inl, inr, length, refl, subst, sym}
+use Rattle.std.proofs.Common.{◌≡◌, ◌≢◌, ◌<◌, ◌++◌, ◌∙◌, ◌⊎◌, ℕ, Bool, true, false, if◌then◌else◌, List, Option, OnErr, Result, Some, None, Ok, Err, [], append_assoc, arith, inl, inr, length, refl, slice_index, subst, sym}
 use Rattle.std.proofs.KnownBytes.{Appends-nil, Consumes-trans}
 use Rattle.std.specs.Io.KnownBytes.{Appends, Consumes}
 use Rattle.capture_file.proofs.PcapngLemmas.{block_header_front}
@@ -20,8 +20,9 @@ use Rattle.capture_file.specs.declared.reader.pcapng_reader.PcapngReader.{Pcapng
 use Rattle.capture_packet.specs.Frames.{max_packet_len}
 use Rattle.capture_request.specs.declared.parts.Parts.{Parts}
 use Rattle.capture_selection.proofs.PassingLemmas.{ended}
+use Rattle.capture_selection.proofs.SectionLengthLemmas.{other_copy}
 use Rattle.capture_copy.specs.Passing.{StopsBy}
-use Rattle.capture_selection.specs.Blocks.{HasBlockOutcome, IsBlockPart, IsLongBlock, IsRefusedBlock, StepsTo, block_place, block_selection, blocks_of, refused_by}
+use Rattle.capture_selection.specs.Blocks.{HasBlockOutcome, IsBlockPart, IsLongBlock, IsRefusedBlock, StepsTo, block_copy, block_place, block_selection, blocks_of, refused_by}
 use Rattle.capture_selection.specs.Passing.{IsEndBy, IsFront, IsWriteError, LeavesAt, written_by}
 use Rattle.capture_selection.specs.declared.place.Place.{Place}
 use Rattle.capture_selection.specs.declared.counts.Counts.{Counts}
@@ -142,6 +143,15 @@ outcome_by options buffer true packet offset header (Some (packets.TooLong found
 outcome_by options buffer true packet offset header (Some (packets.CutOff required len)) outcome is has = absurd (cc is)
 outcome_by options buffer true packet offset header (Some packets.End) outcome is has = absurd (cc is)
 outcome_by options buffer true packet offset header None outcome is has = absurd (cc is)
+
+-- a block for which the buffer has no room is its own copy, unless it is refused
+pub long_copy : (options : Parts) (state after : PcapngReader) (first more buffer : List ℕ) (header : BlockHeader) (outcome : Option Outcome)
+    → ((place : ℕ) → slice_index first place < 256) → length first ≡ 12 → header ≡ block_header state.section.byte_order first
+    → StepsTo options state buffer (blocks.TooLong header) after (Ok outcome) → block_copy (first ++ more) ≡ first ++ more
+long_copy options state after first more buffer header outcome fits has_len is steps =
+    other_copy state.section.byte_order first more fits (omega (arith, has_len))
+    (subst (λ given. is_description given.block_type ≡ false) is
+    (outcome_by options buffer (is_description header.block_type) (is_packet header.block_type) state.offset header steps.0 outcome steps.1.2 steps.2))
 
 -- nothing is written for a block for which the buffer has no room, or the block is not refused
 pub long_front : (options : Parts) (state after : PcapngReader) (first more buffer written : List ℕ) (header : BlockHeader)

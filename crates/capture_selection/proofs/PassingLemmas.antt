@@ -23,9 +23,13 @@ use Rattle.capture_request.specs.declared.capture_error.CaptureError.TheVariants
 
 -- ---- ends
 
--- a part of these bytes, which are written unless its packet is left out
+-- a part of these bytes, whose copy is written unless its packet is left out
+abbrev pub part_with : List ℕ → List ℕ → Option Outcome → Part
+part_with bytes copy outcome = record { read = bytes; written = written_by copy outcome; outcome = outcome }
+
+-- a part of these bytes, which is its own copy
 abbrev pub part_of : List ℕ → Option Outcome → Part
-part_of bytes outcome = record { read = bytes; written = written_by bytes outcome; outcome = outcome }
+part_of bytes outcome = part_with bytes bytes outcome
 
 -- bytes that are read up to an error, and what is written for them
 abbrev pub ended : List ℕ → List ℕ → Part

@@ -1,6 +1,6 @@
 -- A worked example of a selection, from the bytes of a capture to the bytes that are written, so that a wrong definition fails before any
 -- code does.
-use Rattle.std.proofs.Common.{◌++◌, ℕ, true, false, List, [], ◌∷◌, None, Some, Ok, inl, refl}
+use Rattle.std.proofs.Common.{◌≡◌, ◌++◌, ℕ, true, false, List, [], ◌∷◌, None, Some, Ok, inl, refl}
 use Rattle.capture_texts.specs.declared.byte_order.ByteOrder.TheVariants.{LittleEndian}
 use Rattle.capture_texts.specs.declared.link_type.LinkType.TheVariants.{RawIp}
 use Rattle.capture_file.specs.declared.classic.capture_header.CaptureHeader.{CaptureHeader}
@@ -9,6 +9,7 @@ use Rattle.capture_packet.proofs.PacketExamples.{frame, is_read, is_rejected, pa
 use Rattle.capture_request.specs.declared.parts.Lines.TheVariants.{All}
 use Rattle.capture_request.specs.declared.parts.Parts.{Parts}
 use Rattle.capture_selection.proofs.PassingLemmas.{part_of}
+use Rattle.capture_selection.specs.Blocks.{block_copy}
 use Rattle.capture_selection.specs.Captures.{SelectsCapture}
 use Rattle.capture_selection.specs.Records.{IsRecordPart, first_records, records_after}
 use Rattle.capture_selection.specs.declared.counts.Counts.{Counts}
@@ -89,3 +90,29 @@ selection others = inl (record {
     counted = refl;
   };
 })
+
+-- ---- the section length
+
+-- a section header block of 28 bytes in each byte order, with this section length
+abbrev big_endian : List ℕ → List ℕ
+big_endian len = 0x0A ∷ 0x0D ∷ 0x0D ∷ 0x0A ∷ 0 ∷ 0 ∷ 0 ∷ 28 ∷ 0x1A ∷ 0x2B ∷ 0x3C ∷ 0x4D ∷ 0 ∷ 1 ∷ 0 ∷ 0 ∷ (len ++ 0 ∷ 0 ∷ 0 ∷ 28 ∷ [])
+
+abbrev little_endian : List ℕ → List ℕ
+little_endian len = 0x0A ∷ 0x0D ∷ 0x0D ∷ 0x0A ∷ 28 ∷ 0 ∷ 0 ∷ 0 ∷ 0x4D ∷ 0x3C ∷ 0x2B ∷ 0x1A ∷ 1 ∷ 0 ∷ 0 ∷ 0 ∷ (len ++ 28 ∷ 0 ∷ 0 ∷ 0 ∷ [])
+
+-- the section length -1, which is not specified
+abbrev not_specified : List ℕ
+not_specified = 255 ∷ 255 ∷ 255 ∷ 255 ∷ 255 ∷ 255 ∷ 255 ∷ 255 ∷ []
+
+pub big_endian_section : block_copy (big_endian (0 ∷ 0 ∷ 0 ∷ 0 ∷ 0 ∷ 0 ∷ 0 ∷ 20 ∷ [])) ≡ big_endian not_specified
+big_endian_section = refl
+
+pub little_endian_section : block_copy (little_endian (20 ∷ 0 ∷ 0 ∷ 0 ∷ 0 ∷ 0 ∷ 0 ∷ 0 ∷ [])) ≡ little_endian not_specified
+little_endian_section = refl
+
+-- an interface description block of 20 bytes keeps bytes 16 to 19
+abbrev interface : List ℕ
+interface = 1 ∷ 0 ∷ 0 ∷ 0 ∷ 20 ∷ 0 ∷ 0 ∷ 0 ∷ 101 ∷ 0 ∷ 0 ∷ 0 ∷ 0 ∷ 0 ∷ 0 ∷ 0 ∷ 20 ∷ 0 ∷ 0 ∷ 0 ∷ []
+
+pub interface_copy : block_copy interface ≡ interface
+interface_copy = refl

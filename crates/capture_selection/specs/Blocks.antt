@@ -1,8 +1,8 @@
 -- The blocks of a pcapng file as parts (draft-ietf-opsawg-pcapng, section 3.1). The state is the report's reader, which has a section and
 -- an offset, and the number of the next packet.
-use Rattle.std.specs.Prelude.{◌≡◌, ◌≢◌, ◌<◌, ◌≤◌, ℕ, false, List, [], length, Option, Some, None, Result, Ok, Err}
+use Rattle.std.specs.Prelude.{◌≡◌, ◌≢◌, ◌<◌, ◌≤◌, ℕ, false, if◌then◌else◌, List, [], ◌++◌, drop, length, replicate, take, Option, Some, None, Result, Ok, Err}
 use Rattle.capture_file.specs.CapturePackets.{FilePacket, packet_in}
-use Rattle.capture_file.specs.Pcapng.{block_header, block_refusal}
+use Rattle.capture_file.specs.Pcapng.{block_header, block_refusal, is_section_header}
 use Rattle.capture_file.specs.PcapngReading.{IsNextBlock}
 use Rattle.capture_file.specs.PcapngSteps.{IsStep, is_description}
 use Rattle.capture_texts.specs.declared.byte_order.ByteOrder.TheVariants.{BigEndian}
@@ -76,6 +76,11 @@ number_after number (Some outcome) = one_more number
 abbrev pub block_place : Blocks → Place
 block_place blocks = record { number = blocks.number; offset = blocks.reader.offset }
 
+-- What is written for a block. Bytes 16 to 23 of a section header block are the length of its section, which changes if a block is left out.
+-- So the copy has the length -1 there, which means that the length is not specified (section 4.1). Every other block is its own copy.
+abbrev pub block_copy : List ℕ → List ℕ
+block_copy block = if is_section_header block then take 16 block ++ (replicate 8 255 ++ drop 24 block) else block
+
 -- pcapng files, with these options
 abbrev pub block_selection : Parts → Selection
 block_selection options = record {
@@ -86,6 +91,7 @@ block_selection options = record {
   IsLong = λ blocks. IsLongBlock blocks.reader;
   IsCut = λ blocks. IsCutBlock blocks.reader;
   IsRefused = λ blocks. IsRefusedBlock blocks.reader;
+  copy_of = block_copy;
   limit = options.limit;
 }
 

@@ -44,6 +44,8 @@ pub record Selection : Type 1 where
   pub IsCut : State → List ℕ → ℕ → ℕ → Type 0
   -- the part that begins with these bytes is refused
   pub IsRefused : State → List ℕ → PlacedPacketError → Type 0
+  -- what is written for the bytes of a part, unless its packet is left out
+  pub copy_of : List ℕ → List ℕ
   -- the requested number of packets
   pub limit : Option ℕ
 
@@ -101,7 +103,7 @@ LeavesAt (Capture (Refused error)) then_left still_left = then_left ≡ still_le
 LeavesAt (Capture Enough) then_left still_left = then_left ≡ still_left
 LeavesAt error then_left still_left = ⊤
 
--- the format whose parts and ends these are; a part is written unless its packet is left out
+-- the format whose parts and ends these are; the copy of a part is written unless its packet is left out
 abbrev pub format_of : Selection → Format
 format_of selection = record {
   State = selection.State;
@@ -109,7 +111,7 @@ format_of selection = record {
   Counts = Counts;
   Error = SelectionError;
   counted = counted;
-  IsPart = λ before part after. selection.IsPart before part.read part.outcome after × (part.written ≡ written_by part.read part.outcome);
+  IsPart = λ before part after. selection.IsPart before part.read part.outcome after × (part.written ≡ written_by (selection.copy_of part.read) part.outcome);
   IsEnd = IsEnd selection;
   LeavesAt = LeavesAt;
   IsWriteError = IsWriteError;

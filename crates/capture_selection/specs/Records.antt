@@ -36,7 +36,7 @@ records_after records len = record { header = records.header; place = place_afte
 abbrev pub first_records : CaptureHeader → Records
 first_records header = record { header = header; place = record { number = 1; offset = 24 } }
 
--- classic captures, with these options; no record is refused
+-- classic captures, with these options; no record is refused, and each one is written as it was read
 abbrev pub record_selection : Parts → Selection
 record_selection options = record {
   State = Records;
@@ -45,6 +45,7 @@ record_selection options = record {
   IsLong = λ records. IsLongRecord records.header;
   IsCut = λ records. IsCutRecord records.header.byte_order;
   IsRefused = λ records bytes error. ⊥;
+  copy_of = λ bytes. bytes;
   limit = options.limit;
 }
 

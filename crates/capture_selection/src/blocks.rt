@@ -1,12 +1,13 @@
 //! The blocks of a pcapng file (draft-ietf-opsawg-pcapng, section 3.1).
 
-ghost use Rattle.std.specs.Prelude.{◌≡◌, ◌<◌, ◌≤◌, ◌+◌, ℕ, List, Ok, OnErr, OnOk, Option, Some, false, length};
+ghost use Rattle.std.specs.Prelude.{◌≡◌, ◌<◌, ◌≤◌, ◌+◌, ℕ, List, Ok, OnErr, OnOk, Option, Some, false, length, true};
 ghost use Rattle.std.specs.Io.KnownBytes.{Consumes, IsAtEnd};
 ghost use Rattle.capture_copy.specs.Passing.{PassesAny, PassesNext, PassesTo};
+ghost use Rattle.capture_file.specs.Pcapng.{is_section_header};
 ghost use Rattle.capture_file.specs.PcapngReading.{AreFirst, BeginsBlock};
 ghost use Rattle.capture_file.specs.declared.pcapng.read.NextBlock.TheVariants.{TooLong, Whole};
 ghost use Rattle.capture_packet.specs.Frames.{max_packet_len};
-ghost use Rattle.capture_selection.specs.Blocks.{IsFileStart, IsPastFirst, PassesFile, StepsTo, block_place, blocks_of, number_after};
+ghost use Rattle.capture_selection.specs.Blocks.{IsFileStart, IsPastFirst, PassesFile, StepsTo, block_copy, block_place, blocks_of, number_after};
 ghost use Rattle.capture_request.specs.Limits.{IsWithin, is_full};
 ghost use Rattle.capture_selection.specs.Passing.{EndsAtLimit};
 ghost use Rattle.capture_selection.specs.declared.outcome.Outcome.{Outcome};
@@ -15,6 +16,7 @@ ghost use Rattle.capture_selection.specs.declared.outcome.Outcome.TheVariants.{E
 use crate::place::Place;
 use crate::transfer::{Buffer, pass_long, read_after, read_into, write_part};
 use crate::{Counts, Outcome, SelectionError, outcome_of};
+use capture_copy::is_pcapng;
 use capture_file::ByteOrder;
 use capture_file::pcapng::{Block, BlockError, BlockHeader, MIN_BLOCK_LEN, SECTION_HEADER};
 use capture_file::reader::{PacketError, PcapngReader, PlacedPacketError, Section};
@@ -25,6 +27,14 @@ use std::io::{Read, Write};
 
 /// The length of the last total length of a block, in bytes (section 3.1).
 const LAST_LEN: usize = 4;
+
+/// The place of the section length in a section header block, and of the options after it (section 4.1).
+const SECTION_LEN_AT: usize = 16;
+
+const SECTION_OPTIONS_AT: usize = 24;
+
+/// The section length -1 of a section header block, which means that the length is not specified (section 4.1).
+const NOT_SPECIFIED: [u8; 8] = [0xFF; 8];
 
 /// The type of an interface description block (section 4.2).
 const INTERFACE_DESCRIPTION: u32 = 1;
@@ -213,10 +223,22 @@ fn select_kept_block<R: Read, W: Write>(
         Ok(outcome) => outcome,
         Err(error) => return Err(SelectionError::Capture(CaptureError::Refused(error))),
     };
-    write_part(output, &[], &buffer[..total_len], outcome)?;
+    let block = &mut buffer[..total_len];
+    forget_section_len(block);
+    write_part(output, &[], block, outcome)?;
     counts.add_if(outcome);
     file.number = number_after(file.number, outcome);
     Ok(())
+}
+
+/// Sets the section length of a section header block to -1, since blocks of its section may be left out. Every other block stays.
+fn forget_section_len(block: &mut [u8])
+    requires len { is_section_header block.old ≡ true → 24 ≤ length block.old }
+    ensures copy { block.new ≡ block_copy block.old }
+{
+    if is_pcapng(block) {
+        block[SECTION_LEN_AT..SECTION_OPTIONS_AT].copy_from_slice(&NOT_SPECIFIED);
+    }
 }
 
 /// The outcome of the block with this header at the front of the buffer, or why the block is refused. The file is then after the block.

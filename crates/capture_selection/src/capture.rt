@@ -24,7 +24,8 @@ use streams::{fill, fill_after};
 /// `counts`.
 ///
 /// The header of a classic capture and each written record are written as they were read. So is each block of a pcapng file, unless its
-/// packet has no line. The buffer has room for the captured bytes of a packet, or for a block.
+/// packet has no line, but each section has the length -1, which is not specified (draft-ietf-opsawg-pcapng, section 4.1). The buffer has
+/// room for the captured bytes of a packet, or for a block.
 ///
 /// If a number of packets is requested, the capture is read up to the last of them.
 ///

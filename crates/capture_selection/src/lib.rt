@@ -2,7 +2,7 @@
 //!
 //! `write_selected` reads a capture, and writes the packets that have a line in the report with the same options. The record or block of
 //! each such packet is written as it was read, and so is the rest of the capture: the header of a classic capture, and the other blocks of
-//! a pcapng file.
+//! a pcapng file. Only the length of a section becomes -1, which is not specified.
 //!
 //! ```
 //! let parts = Parts { lines: Lines::Wrong, ..Parts::from_flags(false, true, true, false) };

@@ -5,9 +5,10 @@ use Rattle.capture_file.proofs.PcapngReadingLemmas.{refused_fill, whole_after}
 use Rattle.capture_packet.specs.Frames.{max_packet_len}
 use Rattle.capture_selection.proofs.BlockLemmas.{block_part, ends_unread, refused_block}
 use Rattle.capture_selection.proofs.FirstBlockLemmas.{begun_past}
+use Rattle.capture_selection.proofs.SectionLengthLemmas.{section_len}
 use Rattle.capture_copy.proofs.PassingLemmas.{passes_part}
-use Rattle.capture_selection.proofs.PassingLemmas.{next_to_read_error, part_of, read_error_at, stops_unwritten}
-use Rattle.capture_selection.specs.Blocks.{block_selection, refused_by}
+use Rattle.capture_selection.proofs.PassingLemmas.{next_to_read_error, part_with, read_error_at, stops_unwritten}
+use Rattle.capture_selection.specs.Blocks.{block_copy, block_selection, refused_by}
 use Rattle.capture_selection.specs.Passing.{written_by}
 use Rattle.capture_file.specs.declared.pcapng.read.NextBlock.TheVariants.{Whole}
 use Rattle.capture_selection.proofs.blocks.select_kept_block.Goals as goal
@@ -46,6 +47,17 @@ returns-in-Err-taken_outcome-clause-passes g c =
     c.in-Err-taken_outcome.error whole_room reads.is_next c.in-Err-taken_outcome.ensures.steps)
     refl)
 
+pub forget_section_len-requires : goal.forget_section_len-requires
+forget_section_len-requires g c =
+    let first = c.args.first.now in
+    let after = drop c.args.header.now.total_len c.args.buffer.now in
+    let has_room : length c.args.buffer.now ≡ max_packet_len = search rules in
+    let room : length c.read_after.new.buffer ≡ c.args.header.now.total_len =
+    omega (arith, c.read_after.auto.buffer, length-take c.args.header.now.total_len c.args.buffer.now, has_room, c.requires.room) in
+    let reads = whole_after c.args.file.now.reader.section.byte_order first _ _ c.read_after.new.buffer after c.args.header.now c.in_ok-len.len
+    (omega (arith, c.requires.header.has_len)) c.requires.header.is_header room c.in_ok-len.ensures.fills c.in_default.ensures.refused in
+    record { len = section_len c.args.file.now.reader.section.byte_order (first ++ reads.bytes) _ reads.is_next.0 reads.is_next.3 }
+
 pub returns-clause-passes : goal.returns-clause-passes
 returns-clause-passes g c =
     λ left consumed.
@@ -58,7 +70,7 @@ returns-clause-passes g c =
     omega (arith, room, has_room, c.requires.room, length-append c.read_after.new.buffer after, length-drop c.args.header.now.total_len c.args.buffer.now) in
     let reads = whole_after c.args.file.now.reader.section.byte_order first _ _ c.read_after.new.buffer after c.args.header.now c.in_ok-len.len
     (omega (arith, c.requires.header.has_len)) c.requires.header.is_header room c.in_ok-len.ensures.fills c.in_default.ensures.refused in
-    passes_part _ _ _ left _ _ _ _ _ (part_of (first ++ reads.bytes) c.in-Ok.outcome) (
+    passes_part _ _ _ left _ _ _ _ _ (part_with (first ++ reads.bytes) (block_copy (first ++ reads.bytes)) c.in-Ok.outcome) (
       (
         block_part c.args.parts.now c.args.file.now.reader c.taken_outcome.new.file (first ++ reads.bytes) (c.read_after.new.buffer ++ after) (Whole c.args.header.now)
             c.in-Ok.outcome whole_room reads.is_next c.in-Ok.ensures.steps,
@@ -68,7 +80,7 @@ returns-clause-passes g c =
     )
     (Consumes-trans _ _ _ first reads.bytes consumed reads.consumed)
     (subst (λ bytes. Appends (g.W.Write.contents c.args.output.now) (g.W.Write.contents c.write_part.new.output) (written_by bytes c.in-Ok.outcome))
-    reads.is_next.3 c.in_ok-write_part.ensures.appends)
+    (c.forget_section_len.ensures.copy ∙ ap block_copy reads.is_next.3) c.in_ok-write_part.ensures.appends)
     c.add_if.ensures.counted
 
 pub returns-clause-begun : goal.returns-clause-begun

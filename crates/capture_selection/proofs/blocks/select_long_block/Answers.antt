@@ -6,7 +6,7 @@ use Rattle.capture_file.proofs.ReaderLemmas.{full}
 use Rattle.capture_file.specs.declared.pcapng.errors.BlockError.TheVariants.{CutOff, LastLength}
 use Rattle.capture_file.specs.declared.pcapng.read.NextBlock.TheVariants.{Refused, TooLong}
 use Rattle.capture_packet.specs.Frames.{max_packet_len}
-use Rattle.capture_selection.proofs.BlockLemmas.{block_part, ends_refused, front_before, long_front, refused_block, written_append}
+use Rattle.capture_selection.proofs.BlockLemmas.{block_part, ends_refused, front_before, long_copy, long_front, refused_block, written_append}
 use Rattle.capture_selection.proofs.FirstBlockLemmas.{begun_past}
 use Rattle.capture_copy.proofs.BlockLemmas.{alone, next_of}
 use Rattle.capture_copy.proofs.PassingLemmas.{passes_part}
@@ -182,7 +182,9 @@ returns-clause-passes g c =
             outcome has_room is_next steps,
         c.number_after-file.ensures,
       ),
-      refl,
+      ap (λ copy. written_by copy outcome)
+          (sym (long_copy c.args.parts.now c.args.file.now.reader c.long_outcome-stepped.new.file first (middle.bytes ++ last) c.args.buffer.now header
+          outcome (λ place. (c.type_inv.first place).fits) c.requires.header.has_len c.requires.header.is_header steps)),
     )
     (Consumes-trans _ _ _ first (middle.bytes ++ last) consumed (Consumes-trans _ _ _ middle.bytes last middle.consumed read_last))
     (subst (Appends (g.W.Write.contents c.args.output.now) (g.W.Write.contents c.write_part.new.output)) (sym (written_append outcome first middle.bytes last))
