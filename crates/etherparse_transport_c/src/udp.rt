@@ -44,7 +44,7 @@ pub struct EtherparseUdpHeader {
 pub struct EtherparseUdpPacket {
     /// The header.
     pub header: EtherparseUdpHeader,
-    /// The start of the payload, in bytes from the first byte that was read: 8.
+    /// The place at which the payload begins, in bytes from the first byte that was read. It is 8.
     pub payload_offset: usize,
     /// The length of the payload, in bytes.
     pub payload_len: usize,
@@ -52,7 +52,8 @@ pub struct EtherparseUdpPacket {
     pub payload_len_source: u32,
 }
 
-/// The greatest length of a payload that a pseudo header can count, in bytes. It counts 16 bits over IPv4, and 32 bits over IPv6.
+/// The length of the longest payload that a pseudo header can count, in bytes. Its length field has 16 bits over IPv4, and 32 bits over
+/// IPv6.
 const MAX_PAYLOAD_LEN_IPV4: usize = u16::MAX as usize - UdpHeader::LEN;
 
 const MAX_PAYLOAD_LEN_IPV6: usize = u32::MAX as usize - UdpHeader::LEN;
@@ -159,6 +160,9 @@ pub extern "C" fn etherparse_udp_header_write(
 }
 
 /// Returns the packet at the front of some bytes, unless its payload is longer than this limit.
+// perf: as a call, its result is stored in parts and loaded as a whole, which the processor waits for. The test of a checksum over 11 bytes
+// takes 93 instead of 140 instructions (29 Nov 2026).
+#[inline(always)]
 fn counted_packet(
     bytes: &[u8],
     limit: usize,
@@ -248,9 +252,9 @@ fn checksum_ipv4(
     }
 }
 
-/// Computes the checksum to store in the packet at the front of some bytes, over IPv4 (RFC 768). The packet ends as
-/// `etherparse_udp_packet_read` reads it. Its checksum field is ignored. The pseudo header contains the real length of the packet, whatever
-/// its length field is.
+/// Computes the checksum to store in the packet at the front of some bytes, over IPv4 (RFC 768). The packet is the packet that
+/// `etherparse_udp_packet_read` reads. Its checksum field is ignored. The pseudo header contains the length of these bytes, even if the
+/// length field of the packet is 0.
 ///
 /// # Errors
 ///
@@ -339,9 +343,9 @@ fn checksum_ipv6(
     }
 }
 
-/// Computes the checksum to store in the packet at the front of some bytes, over IPv6 (RFC 768; RFC 8200, section 8.1). The packet ends as
-/// `etherparse_udp_packet_read` reads it. Its checksum field is ignored. The pseudo header contains the real length of the packet, whatever
-/// its length field is.
+/// Computes the checksum to store in the packet at the front of some bytes, over IPv6 (RFC 768; RFC 8200, section 8.1). The packet is the
+/// packet that `etherparse_udp_packet_read` reads. Its checksum field is ignored. The pseudo header contains the length of these bytes,
+/// even if the length field of the packet is 0.
 ///
 /// # Errors
 ///
