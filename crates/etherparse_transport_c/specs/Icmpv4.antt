@@ -67,7 +67,7 @@ message_fields (TimestampReply message) = timestamp_fields numbers.icmpv4_kind_t
 abbrev pub refusal : List ℕ → Option EtherparseError
 refusal bytes = option_map of_len (icmpv4.refusal bytes)
 
--- a header with the fields that every kind has, from `common`, and the fields of its kind, from `fields`
+-- a header: the fields that every kind has are from `common`, and the fields of its kind are from `fields`
 abbrev pub with_common : EtherparseIcmpv4Header → EtherparseIcmpv4Header → EtherparseIcmpv4Header
 with_common common fields = record fields {
   checksum = common.checksum;
@@ -117,7 +117,7 @@ timestamp_in fields = record {
   transmit_timestamp = fields.transmit_timestamp;
 }
 
--- the message with these fields, or `None` if its kind, or the code of this kind, is unknown
+-- the message with these fields, or `None` if the kind is unknown, or if the code is unknown for this kind
 abbrev pub message_in : EtherparseIcmpv4Header → Option Icmpv4Type
 message_in fields =
     if fields.kind == numbers.icmpv4_kind_unknown then Some (Unknown fields.type_u8 fields.code_u8 fields.bytes4to7)
@@ -153,7 +153,7 @@ header_read message found = record (message_fields found.icmp_type) {
   bytes4to7 = take 4 (icmpv4.written message).fields;
 }
 
--- The packet begins with a header of this message. It is refused with this error, or this header is read, with this payload after it.
+-- The packet begins with a header of this message. The call refuses the packet with this error, or reads this header and this payload.
 abbrev pub IsReadAs : Icmpv4Type → List ℕ → Result (Icmpv4Header × List ℕ) LenError → Type 0
 IsReadAs message packet (Err error) = refusal packet ≡ Some (of_len error)
 IsReadAs message packet (Ok found) = (refusal packet ≡ None) × (packet_of packet ≡ record {

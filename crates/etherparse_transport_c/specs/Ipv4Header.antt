@@ -10,7 +10,7 @@ use Rattle.etherparse_transport_c.specs.Checksums.{with_checksum}
 use Rattle.etherparse_transport_c.specs.Errors.{Tells, of_ip}
 use Rattle.etherparse_transport_c.specs.declared.error.EtherparseError.{EtherparseError}
 
--- The reason why bytes do not begin with an IPv4 header: there are none, the version is another one, or the header is too short or cut off.
+-- The reason why bytes do not begin with an IPv4 header. There are no bytes, the version is not 4, or the header is too short or cut off.
 abbrev pub header_refusal : List ℕ → Option IpError
 header_refusal bytes =
     if length bytes == 0 then Some (HeaderCutOff 1 0)

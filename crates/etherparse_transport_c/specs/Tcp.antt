@@ -24,7 +24,7 @@ use Rattle.etherparse_transport_c.specs.declared.tcp_option.EtherparseTcpRawOpti
 
 -- ---- headers
 
--- the nine flags as one number: the flags of byte 13 have their bits in that byte, and NS has the bit above them
+-- the nine flags as one number: eight flags have their bits in byte 13, and NS has the next higher bit
 abbrev pub flags_of : TcpHeader → ℕ
 flags_of header = from_bool header.ns * 256 + tcp.flags_byte header
 
@@ -81,7 +81,7 @@ packet_of bytes = record {
   payload_len = length bytes - (tcp.layout_of bytes).header_len;
 }
 
--- the first of these refusals that applies: options of more than 40 bytes, a flag that is none of the nine
+-- the first of these refusals that applies: options of more than 40 bytes, a bit other than the nine flags
 abbrev pub fields_refusal : EtherparseTcpHeader → List ℕ → Option EtherparseError
 fields_refusal fields options =
     first_refusal (option_map of_options (too_long (length options))) (refused_if (nat_lt numbers.tcp_flags fields.flags) (of_flags fields.flags))
@@ -169,8 +169,8 @@ item_error (Some (Err error)) before = of_option error
 item_error (Some (Ok element)) before = before
 item_error None before = of_status numbers.status_options_end
 
--- The option at the place `from` was read, and the place became `to`. The item is the result of one call of `next` on the bytes from this
--- place on. Status, option and error are those of the item.
+-- A call read the option at the place `from`, and moved the place to `to`. The item is what one call of `next` returns for the bytes from
+-- the place `from` on. It determines status, option and error.
 pub record ReadsFrom (options : List ℕ) (from to status : ℕ) (option option_before : EtherparseTcpOption) (error error_before : EtherparseError) : Type 0 where
   pub item : Option Item
   pub within : to ≤ length options
@@ -204,8 +204,8 @@ raw_item_error (Some (Err error)) before = of_raw_option error
 raw_item_error (Some (Ok option)) before = before
 raw_item_error None before = of_status numbers.status_options_end
 
--- The option of any kind at the place `from` was read, and the place became `to`. The item is the result of one call of `next` on the bytes
--- from this place on. Status, option and error are those of the item.
+-- A call read the option of any kind at the place `from`, and moved the place to `to`. The item is what one call of `next` returns for the
+-- bytes from the place `from` on. It determines status, option and error.
 pub record ReadsRawFrom (options : List ℕ) (from to status : ℕ) (option option_before : EtherparseTcpRawOption) (error error_before : EtherparseError) : Type 0 where
   pub item : Option RawItem
   pub within : to ≤ length options

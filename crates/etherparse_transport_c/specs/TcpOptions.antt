@@ -1,4 +1,4 @@
--- TCP options to be written, in the interface to C.
+-- TCP options to be written, in the interface to C. An element is an option in the form of the Rattle library.
 use Rattle.std.specs.Prelude.{ℕ, Bool, ◌+◌, ◌==◌, ◌&&◌, ◌||◌, not, nat_lt, if◌then◌else◌, List, [], ◌∷◌, ◌++◌, length, slice_index, Option, Some, None, Result, Ok, Err}
 use Rattle.std.specs.Option.{option_map}
 use Rattle.tcp_part.specs.TcpOptions.{join, pad, saturated, too_long}
@@ -72,19 +72,19 @@ no_element option = if is_known option.kind then of_option_values option.kind el
 
 -- ---- several options
 
--- The elements of some options after the elements `found`, or the error of the first option that is no element. `further` continues with
--- the options after this option.
+-- Adds the element of an option to the elements `found`, and lets `further` continue with the next options. If the option is no element,
+-- the result is its error.
 abbrev pub gathered_next : (List TcpOptionElement → Result (List TcpOptionElement) EtherparseError) → List TcpOptionElement
     → EtherparseTcpOption → Option TcpOptionElement → Result (List TcpOptionElement) EtherparseError
 gathered_next further found option None = Err (no_element option)
 gathered_next further found option (Some element) = further (found ++ (element ∷ []))
 
--- the elements of some options after the elements `found`, or the error of the first option that is no element
+-- the elements `found` with the elements of some options after them, or the error of the first option that is no element
 abbrev pub gathered : List TcpOptionElement → List EtherparseTcpOption → Result (List TcpOptionElement) EtherparseError
 gathered found [] = Ok found
 gathered found (option ∷ options) = gathered_next (λ longer. gathered longer options) found option (element_in option)
 
--- the refusal of elements, if there are no elements or they have more than 40 bytes
+-- the refusal of options: an option is no element, or the elements have more than 40 bytes
 abbrev pub refusal_of : Result (List TcpOptionElement) EtherparseError → Option EtherparseError
 refusal_of (Ok elements) = option_map of_options (too_long (saturated (length (join elements))))
 refusal_of (Err error) = Some error

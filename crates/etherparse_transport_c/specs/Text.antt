@@ -10,7 +10,7 @@ max_text_len = 256
 abbrev pub IsCut : List ℕ → List ℕ → Type 0
 IsCut text whole = text ≡ take max_text_len whole
 
--- A text in a buffer of C: the beginning of the text that leaves room for a zero byte, this zero byte, and the unchanged rest of the
--- buffer. An empty buffer stays empty.
+-- A buffer of C with a text in it. It contains as much of the text as leaves room for a zero byte, then the zero byte, and then its
+-- unchanged rest. An empty buffer stays empty.
 abbrev pub with_string : List ℕ → List ℕ → List ℕ
 with_string text buffer = if length buffer == 0 then buffer else at_front (take (length buffer - 1) text ++ (0 ∷ [])) buffer

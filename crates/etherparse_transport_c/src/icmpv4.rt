@@ -22,8 +22,8 @@ use etherparse_transport::icmpv4::{
 };
 use etherparse_transport::{IcmpEchoHeader, Icmpv4Header, Icmpv4Slice, Icmpv4Type};
 
-/// An ICMPv4 header (RFC 792). A field that this kind of message does not have is 0. A time is a number of milliseconds since midnight UT.
-/// If its highest bit is set, it is any other number.
+/// An ICMPv4 header (RFC 792). A field that this kind of message does not have is 0. A time is in milliseconds since midnight UT. If its
+/// highest bit is set, it is not a standard value.
 #[repr(C)]
 #[derive(Clone, Copy)]
 pub struct EtherparseIcmpv4Header {
@@ -59,8 +59,8 @@ pub struct EtherparseIcmpv4Header {
 pub struct EtherparseIcmpv4Packet {
     /// The header.
     pub header: EtherparseIcmpv4Header,
-    /// The start of the payload, in bytes from the first byte that was read: 20 in a timestamp message or reply, of
-    /// code 0, otherwise 8.
+    /// The place at which the payload begins, in bytes from the first byte that was read. It is 20 in a timestamp message or reply of code
+    /// 0, and otherwise 8.
     pub payload_offset: usize,
     /// The length of the payload, in bytes.
     pub payload_len: usize,
@@ -166,8 +166,7 @@ fn set_packet(slice: &Icmpv4Slice<'_>, read: &mut EtherparseIcmpv4Packet)
 ///
 /// # Errors
 ///
-/// The status is `OK`, or `LENGTH` if there are fewer than 8 bytes, or if a timestamp message or reply, of code 0, is
-/// not 20 bytes long.
+/// The status is `OK`, or `LENGTH` if there are fewer than 8 bytes, or if a timestamp message or reply of code 0 is not 20 bytes long.
 #[unsafe(no_mangle)]
 pub extern "C" fn etherparse_icmpv4_packet_read(
     bytes: &[u8],
@@ -224,7 +223,7 @@ fn timestamp_of(fields: &EtherparseIcmpv4Header) -> TimestampMessage
     }
 }
 
-/// Returns the message with these fields, or `None` if its kind, or the code of this kind, is unknown.
+/// Returns the message with these fields. It is `None` if the kind is unknown, or if the code is unknown for this kind.
 fn message_of(fields: &EtherparseIcmpv4Header) -> Option<Icmpv4Type>
     ensures { result ≡ message_in fields.now }
 {
@@ -336,7 +335,7 @@ fn checksum_of_packet(bytes: &[u8]) -> Result<u16, EtherparseError>
 ///
 /// # Errors
 ///
-/// The status is `OK`, or `LENGTH` if there are fewer than 8 bytes, or if a timestamp message or reply, of code 0, is not 20 bytes long.
+/// The status is `OK`, or `LENGTH` if there are fewer than 8 bytes, or if a timestamp message or reply of code 0 is not 20 bytes long.
 #[unsafe(no_mangle)]
 pub extern "C" fn etherparse_icmpv4_checksum(
     bytes: &[u8],
@@ -364,8 +363,7 @@ pub extern "C" fn etherparse_icmpv4_checksum(
 ///
 /// # Errors
 ///
-/// The status is `OK`, or `LENGTH` if there are fewer than 8 bytes, or if a timestamp message or reply, of code 0, is
-/// not 20 bytes long.
+/// The status is `OK`, or `LENGTH` if there are fewer than 8 bytes, or if a timestamp message or reply of code 0 is not 20 bytes long.
 #[unsafe(no_mangle)]
 pub extern "C" fn etherparse_icmpv4_checksum_store(bytes: &mut [u8], error: ErrorPlace) -> Answer
     ensures status { result.status ≡ status_of (refusal bytes.old) }
@@ -389,7 +387,7 @@ pub extern "C" fn etherparse_icmpv4_checksum_store(bytes: &mut [u8], error: Erro
 /// # Errors
 ///
 /// The status is `OK` if the checksum is right, otherwise the first of these that applies:
-/// - `LENGTH` if there are fewer than 8 bytes, or if a timestamp message or reply, of code 0, is not 20 bytes long.
+/// - `LENGTH` if there are fewer than 8 bytes, or if a timestamp message or reply of code 0 is not 20 bytes long.
 /// - `CHECKSUM_WRONG` if the checksum is wrong.
 #[unsafe(no_mangle)]
 pub extern "C" fn etherparse_icmpv4_checksum_test(bytes: &[u8], error: ErrorPlace) -> Answer

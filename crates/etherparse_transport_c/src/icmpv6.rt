@@ -59,7 +59,7 @@ pub struct EtherparseIcmpv6Header {
 pub struct EtherparseIcmpv6Packet {
     /// The header.
     pub header: EtherparseIcmpv6Header,
-    /// The start of the payload, in bytes from the first byte that was read: 8.
+    /// The place at which the payload begins, in bytes from the first byte that was read. It is 8.
     pub payload_offset: usize,
     /// The length of the payload, in bytes.
     pub payload_len: usize,
@@ -164,7 +164,7 @@ fn set_packet(slice: &Icmpv6Slice<'_>, read: &mut EtherparseIcmpv6Packet)
 ///
 /// # Errors
 ///
-/// The status is `OK`, or `LENGTH` if there are fewer than 8 bytes, or more than 4,294,967,295.
+/// The status is `OK`, or `LENGTH` if there are fewer than 8 bytes or more than 4,294,967,295 bytes.
 #[unsafe(no_mangle)]
 pub extern "C" fn etherparse_icmpv6_packet_read(
     bytes: &[u8],
@@ -201,7 +201,7 @@ fn has(flags: u8, bit: u8) -> bool
     flags & bit != 0
 }
 
-/// Returns the message with these fields, or `None` if its kind, or the code of this kind, is unknown.
+/// Returns the message with these fields. It is `None` if the kind is unknown, or if the code is unknown for this kind.
 fn message_of(fields: &EtherparseIcmpv6Header) -> Option<Icmpv6Type>
     ensures { result ≡ message_in fields.now }
 {
@@ -339,7 +339,7 @@ fn checksum_of_packet(
 ///
 /// # Errors
 ///
-/// The status is `OK`, or `LENGTH` if there are fewer than 8 bytes, or more than 4,294,967,295.
+/// The status is `OK`, or `LENGTH` if there are fewer than 8 bytes or more than 4,294,967,295 bytes.
 #[unsafe(no_mangle)]
 pub extern "C" fn etherparse_icmpv6_checksum(
     bytes: &[u8],
@@ -370,7 +370,7 @@ pub extern "C" fn etherparse_icmpv6_checksum(
 ///
 /// # Errors
 ///
-/// The status is `OK`, or `LENGTH` if there are fewer than 8 bytes, or more than 4,294,967,295.
+/// The status is `OK`, or `LENGTH` if there are fewer than 8 bytes or more than 4,294,967,295 bytes.
 #[unsafe(no_mangle)]
 pub extern "C" fn etherparse_icmpv6_checksum_store(
     bytes: &mut [u8],
@@ -399,7 +399,7 @@ pub extern "C" fn etherparse_icmpv6_checksum_store(
 /// # Errors
 ///
 /// The status is `OK` if the checksum is right, otherwise the first of these that applies:
-/// - `LENGTH` if there are fewer than 8 bytes, or more than 4,294,967,295.
+/// - `LENGTH` if there are fewer than 8 bytes or more than 4,294,967,295 bytes.
 /// - `CHECKSUM_WRONG` if the checksum is wrong.
 #[unsafe(no_mangle)]
 pub extern "C" fn etherparse_icmpv6_checksum_test(

@@ -49,11 +49,11 @@ pub struct EtherparseTcpHeader {
 pub struct EtherparseTcpPacket {
     /// The header.
     pub header: EtherparseTcpHeader,
-    /// The start of the options, in bytes from the first byte that was read: 20.
+    /// The place at which the options begin, in bytes from the first byte that was read. It is 20.
     pub options_offset: usize,
-    /// The length of the options, in bytes: at most 40, and a multiple of 4.
+    /// The length of the options, in bytes. It is at most 40, and a multiple of 4.
     pub options_len: usize,
-    /// The start of the payload, in bytes from the first byte that was read: 20 to 60.
+    /// The place at which the payload begins, in bytes from the first byte that was read. It is 20 to 60.
     pub payload_offset: usize,
     /// The length of the payload, in bytes.
     pub payload_len: usize,
@@ -164,8 +164,7 @@ fn made_header(fields: &EtherparseTcpHeader, options: &[u8]) -> Result<TcpHeader
     Ok(header)
 }
 
-/// Writes a header with these option bytes (RFC 9293, section 3.1), which are padded with zeros to whole words of four
-/// bytes.
+/// Writes a header with these option bytes (RFC 9293, section 3.1). The call pads the options with zeros to whole words of four bytes.
 ///
 /// # Errors
 ///

@@ -1,5 +1,5 @@
-//! The flags of a TCP header. The flags of byte 13 have their bits in that byte, and NS has the bit above them. They are part of the
-//! interface to C. No number ever gets another meaning.
+//! The flags of a TCP header. Eight flags have their bits in byte 13, and NS has the next higher bit. They are part of the interface to C.
+//! No number ever gets another meaning.
 
 /// No more data from the sender (RFC 9293, section 3.1).
 pub const FIN: u16 = 0x001;

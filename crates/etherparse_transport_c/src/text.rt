@@ -15,7 +15,7 @@ pub(crate) type Text = ArrayVec<u8, MAX_TEXT_LEN>;
 /// A byte of a text. In C its type is `char`.
 pub(crate) type Char = u8;
 
-/// Returns the first of these bytes, as many as there is room for.
+/// Returns the first of these bytes, up to the number of bytes that the text has room for.
 #[tactic(auto, using(std::proofs::lemmas::List::take_all))]
 fn fitting(bytes: &[u8], room: usize) -> &[u8]
     ensures { result.now ≡ take room bytes.now }
@@ -27,7 +27,7 @@ fn fitting(bytes: &[u8], room: usize) -> &[u8]
     }
 }
 
-/// Appends some bytes, as many as there is room for.
+/// Appends the first of these bytes, up to the number of bytes that the text has room for.
 fn put_bytes(text: &mut Text, bytes: &[u8])
     ensures { (before : List ℕ) → IsCut text.old.items before → IsCut text.new.items (before ++ bytes.now) }
 {
@@ -36,7 +36,7 @@ fn put_bytes(text: &mut Text, bytes: &[u8])
     let _ = text.try_extend_from_slice(fitting(bytes, room));
 }
 
-/// Appends some words, as many of their bytes as there is room for.
+/// Appends the first bytes of some words, up to the number of bytes that the text has room for.
 fn put(text: &mut Text, words: &str)
     ensures { (before : List ℕ) → IsCut text.old.items before → IsCut text.new.items (before ++ words.now) }
 {
@@ -51,7 +51,7 @@ fn put_digit(text: &mut Text, digit: usize)
     put_bytes(text, &[b'0' + digit as u8]);
 }
 
-/// Appends a number in decimal, as many of its digits as there is room for.
+/// Appends a number in decimal. If the text has no room for all digits, the last digits are left out.
 fn put_number(text: &mut Text, number: usize)
     ensures { (before : List ℕ) → IsCut text.old.items before → IsCut text.new.items (before ++ decimal number) }
 {
