@@ -465,6 +465,8 @@ function callOverAddresses({ ipv4, ipv6 }, message, source, destination, ...more
  * @property {boolean} isFragment  whether the payload is only a part of the packet's payload
  * @property {boolean} isCutOff  whether the IP header counts more bytes than there are
  * @property {boolean} isLengthMissing  whether the IP header states no length and all bytes are counted
+ * @property {boolean} isLaterFragment  whether the fragment offset is above 0, so that no transport header begins the payload
+ * @property {number} hopLimit  the hops that are left: the time to live of IPv4, or the hop limit of IPv6
  * @property {string} source
  * @property {string | null} destination  `null` if it is not known, as with some IPv6 routing headers
  */
@@ -501,6 +503,8 @@ function transportOf(found) {
         isFragment: found.isFragment !== 0,
         isCutOff: found.isCutOff !== 0,
         isLengthMissing: found.isLengthMissing !== 0,
+        isLaterFragment: found.isLaterFragment !== 0,
+        hopLimit: found.hopLimit,
         source: addressOf(version, found.source),
         destination: found.hasDestination === 0 ? null : addressOf(version, found.destination),
     };
@@ -555,6 +559,35 @@ export function headerAddresses(packet) {
 /** The checksum that a call wrote. */
 function takeChecksum() {
     return view.getUint16(base + RESULT_PLACE, true);
+}
+
+/**
+ * Returns whether the checksum of UDP, TCP or ICMPv6 in an IP packet is partial: the sum of only the pseudo header. A host leaves the rest
+ * to its network card. The payload is not read. A fragment and any other protocol have no partial checksum.
+ *
+ * @param {Uint8Array} packet
+ * @returns {boolean}
+ * @throws {EtherparseError} if the packet or the header of its transport is refused
+ */
+export function isChecksumPartial(packet) {
+    read("etherparse_packet_checksum_is_partial", packet, "packet");
+    return view.getUint32(base + RESULT_PLACE, true) !== 0;
+}
+
+/**
+ * Stores the right checksum of UDP, TCP or ICMP in an IP packet, and returns it. No other byte changes. A UDP packet over IPv4 without a
+ * checksum gets a checksum.
+ *
+ * @param {Uint8Array} packet  changes, unless it is refused
+ * @returns {number}
+ * @throws {EtherparseError} if the packet or the header of its transport is refused. `CHECKSUM_UNTESTED` means that the checksum is not
+ *     tested: the field `actual` of the error is the verdict.
+ */
+export function storeChecksum(packet) {
+    const length = setInput(packet, "packet");
+    check(calls.etherparse_packet_checksum_store(input, length, result, error));
+    putBack(packet);
+    return takeChecksum();
 }
 
 /** What the test of a checksum found. Every other status is a refusal. */
@@ -1186,9 +1219,26 @@ export function answerEcho(packet, { hopLimit = DEFAULT_HOP_LIMIT, source } = {}
  * @returns {boolean}
  */
 export function isReplyTo(request, reply) {
+    return isReply("etherparse_echo_is_reply", request, reply);
+}
+
+/**
+ * Returns whether the second packet is the reply to the echo request in the first packet, from the address of any host, otherwise as
+ * `isReplyTo`. A host that answers a request to an anycast address replies from its own address.
+ *
+ * @param {Uint8Array} request
+ * @param {Uint8Array} reply
+ * @returns {boolean}
+ */
+export function isReplyFromAny(request, reply) {
+    return isReply("etherparse_echo_is_reply_from_any", request, reply);
+}
+
+/** Whether the test of a reply, a call of this name, returns that it is one. */
+function isReply(name, request, reply) {
     const requestLen = setInput(request, "request");
     const replyLen = setInput(reply, "reply", request.length);
-    const status = calls.etherparse_echo_is_reply(input, requestLen, input + requestLen, replyLen, error);
+    const status = calls[name](input, requestLen, input + requestLen, replyLen, error);
     if (status !== Status.ECHO_NO_REPLY) check(status);
     return status === 0;
 }
@@ -1201,6 +1251,8 @@ export function isReplyTo(request, reply) {
  * @property {string | Uint8Array} [destination]  the new destination address
  * @property {number} [sourcePort]  the new source port of UDP and TCP, and identifier of an ICMP request
  * @property {number} [destinationPort]  the new destination port of UDP and TCP, and identifier of an ICMP reply
+ * @property {Translation} [quoted]  what is replaced in the packet that an ICMP error is about, which went in the other direction (RFC 5508,
+ *     section 4). By default the other parts are replaced there, with source and destination exchanged.
  */
 
 /** The length of the addresses, or, without an address, of the addresses of the packet. */
@@ -1227,19 +1279,27 @@ function flag(part) {
  * @returns {void}
  * @throws {EtherparseError} if the packet is refused. `IP_VERSION` also means that it has another version of IP than the addresses.
  */
-export function translate(packet, { source, destination, sourcePort, destinationPort }) {
+export function translate(packet, { quoted, ...parts }) {
+    const replaced = [parts, ...(quoted === undefined ? [] : [quoted])].map(translationOf);
+    const addresses = replaced.flatMap(({ source, destination }) => [source, destination]);
+    const isIpv4 = addressLen(addresses, requireBytes(packet, "packet")) === IPV4_LEN;
+    makeRoom(0);
+    const setTranslation = isIpv4 ? setIpv4Translation : setIpv6Translation;
+    replaced.forEach((translation, place) => setTranslation(base + [STRUCT_PLACE, SECOND_PLACE][place], translation));
+    const length = setInput(packet, "packet");
+    const name = isIpv4 ? "etherparse_translate_ipv4" : "etherparse_translate_ipv6";
+    if (quoted === undefined) check(calls[name](input, length, struct, error));
+    else check(calls[`${name}_with_quoted`](input, length, struct, second, error));
+    putBack(packet);
+}
+
+/** The parts of a translation as the struct has them. */
+function translationOf({ source, destination, sourcePort, destinationPort }) {
     const [from, to] = [source, destination].map((address) => (address === undefined ? undefined : addressBytes(address)));
-    const isIpv4 = addressLen([from, to], requireBytes(packet, "packet")) === IPV4_LEN;
-    const parts = {
+    return {
         source: from, destination: to, sourcePort, destinationPort,
         hasSource: flag(from), hasDestination: flag(to), hasSourcePort: flag(sourcePort), hasDestinationPort: flag(destinationPort),
     };
-    makeRoom(0);
-    (isIpv4 ? setIpv4Translation : setIpv6Translation)(base + STRUCT_PLACE, parts);
-    const length = setInput(packet, "packet");
-    const call = isIpv4 ? calls.etherparse_translate_ipv4 : calls.etherparse_translate_ipv6;
-    check(call(input, length, struct, error));
-    putBack(packet);
 }
 
 // ---- canonical headers

@@ -53,7 +53,7 @@ static int has_jumbo_payload(const uint8_t *header, size_t len)
 static etherparse_status ipv6(const uint8_t *bytes, size_t len, etherparse_ip_transport *transport, etherparse_error *error)
 {
     size_t place = 40, counted;
-    uint32_t protocol, is_fragment = 0, has_destination = 1;
+    uint32_t protocol, is_fragment = 0, is_later_fragment = 0, has_destination = 1;
     if (len < 40)
         return refuse(error, 40, len);
     counted = 40 + (size_t)big_endian_16(bytes + 4);
@@ -79,6 +79,7 @@ static etherparse_status ipv6(const uint8_t *bytes, size_t len, etherparse_ip_tr
             uint16_t fragment = big_endian_16(header + 2);
             is_fragment |= (fragment & 0xfff9) != 0;
             if (fragment >> 3 != 0) {
+                is_later_fragment = 1;
                 protocol = header[0];
                 place += header_len;
                 break;
@@ -95,6 +96,8 @@ static etherparse_status ipv6(const uint8_t *bytes, size_t len, etherparse_ip_tr
     transport->is_cut_off = 0;
     transport->has_destination = has_destination;
     transport->is_length_missing = 0;
+    transport->is_later_fragment = is_later_fragment;
+    transport->hop_limit = bytes[7];
     memcpy(transport->source, bytes + 8, 16);
     memcpy(transport->destination, bytes + 24, 16);
     return ETHERPARSE_OK;
@@ -121,6 +124,8 @@ etherparse_status plain_transport_in_ip(const uint8_t *bytes, size_t len, etherp
     transport->is_cut_off = 0;
     transport->has_destination = 1;
     transport->is_length_missing = 0;
+    transport->is_later_fragment = (big_endian_16(bytes + 6) & 0x1fff) != 0;
+    transport->hop_limit = bytes[8];
     memset(transport->source, 0, 16);
     memset(transport->destination, 0, 16);
     memcpy(transport->source, bytes + 12, 4);

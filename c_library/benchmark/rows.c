@@ -30,7 +30,7 @@ static const uint8_t syn[40] = {0xc3, 0x50, 0, 0x50, 0, 0, 0, 1, 0, 0, 0, 0, 0xa
                                 2, 4, 0x05, 0xb4, 4, 2, 8, 10, 0, 0, 0, 7, 0, 0, 0, 0, 1, 3, 3, 7};
 static const uint8_t ping[12] = {8, 0, 0x19, 0x2c, 0, 1, 0, 2, 'p', 'i', 'n', 'g'};
 static const uint8_t ping6[12] = {128, 0, 0x19, 0x2c, 0, 1, 0, 2, 'p', 'i', 'n', 'g'};
-static uint8_t long_packet[1508];
+static uint8_t middle_packet[64], long_packet[1508];
 static const uint8_t udp_over_ipv4[31] = {0x45, 0, 0, 31, 0, 7, 0, 0, 64, 17, 0xf7, 0x73, 192, 168, 1, 1,
                                           192, 168, 1, 2, 0, 21, 4, 210, 0, 11, 0xb3, 0x3a, 'a', 'b', 'c'};
 static const uint8_t ping_over_ipv4[32] = {0x45, 0, 0, 32, 0, 7, 0, 0, 64, 1, 0xf7, 0x82, 192, 168, 1, 1,
@@ -112,6 +112,8 @@ ROW(udp_write, etherparse_udp_header_write(&udp_packet.header, buffer, sizeof bu
     plain_udp_header_write(&udp_packet.header, buffer, sizeof buffer, &written, &error))
 ROW(udp_test_short, etherparse_udp_checksum_test_ipv4(over_ipv4 + 20, 11, source4, destination4, &error),
     plain_udp_checksum_test_ipv4(over_ipv4 + 20, 11, source4, destination4, &error))
+ROW(udp_test_middle, etherparse_udp_checksum_test_ipv4(middle_packet, sizeof middle_packet, source4, destination4, &error),
+    plain_udp_checksum_test_ipv4(middle_packet, sizeof middle_packet, source4, destination4, &error))
 ROW(udp_test_long, etherparse_udp_checksum_test_ipv4(long_packet, sizeof long_packet, source4, destination4, &error),
     plain_udp_checksum_test_ipv4(long_packet, sizeof long_packet, source4, destination4, &error))
 ROW(tcp_read, etherparse_tcp_packet_read(syn, sizeof syn, &tcp_packet, &error), plain_tcp_packet_read(syn, sizeof syn, &tcp_packet, &error))
@@ -138,6 +140,7 @@ static const struct {
     {"udp_packet_read, refused", udp_refused},
     {"udp_header_write", udp_write},
     {"udp_checksum_test_ipv4, 11 bytes", udp_test_short},
+    {"udp_checksum_test_ipv4, 64 bytes", udp_test_middle},
     {"udp_checksum_test_ipv4, 1508 bytes", udp_test_long},
     {"tcp_packet_read, 20 bytes of options", tcp_read},
     {"tcp_option_next, six options of a SYN and the end", options},
@@ -201,7 +204,7 @@ static size_t answer(int row, int is_plain)
     all = mixed(mixed(total, transport.version), transport.protocol);
     all = mixed(mixed(all, transport.payload_offset), transport.payload_len);
     all = mixed(mixed(mixed(all, transport.is_fragment), transport.is_cut_off), transport.has_destination);
-    all = mixed(all, transport.is_length_missing);
+    all = mixed(mixed(mixed(all, transport.is_length_missing), transport.is_later_fragment), transport.hop_limit);
     all = mixed_bytes(mixed_bytes(all, transport.source, 16), transport.destination, 16);
     all = mixed(mixed(all, udp_packet.header.source_port), udp_packet.header.checksum);
     all = mixed(mixed(all, udp_packet.payload_len), udp_packet.payload_len_source);
@@ -223,9 +226,10 @@ static int agree(int row)
 
 int main(int argc, char **argv)
 {
-    static const uint8_t front[8] = {0, 21, 4, 210, 1508 / 256, 1508 % 256, 0x11, 0x22};
+    static const uint8_t front[8] = {0, 21, 4, 210, 1508 / 256, 1508 % 256, 0x11, 0x22}, middle_front[8] = {0, 21, 4, 210, 0, 64, 0x77, 0x33};
     int row;
     memcpy(long_packet, front, sizeof front);
+    memcpy(middle_packet, middle_front, sizeof middle_front);
     for (row = 0; row < ROWS; row++) {
         if (argc == 3) {
             int is_plain = strncmp(argv[1], "plain ", 6) == 0;

@@ -8,7 +8,7 @@
  * about. The hop limit, which IPv4 calls time to live, is lowered by 1.
  *
  * Fragments, and packets that the library refuses to translate, are dropped. So is a packet whose hop limit would become 0, without an ICMP
- * error. No flow ends by time: if all ports are in use, the oldest flow loses its port. The program ends at SIGTERM, or when a device is
+ * error. A partial checksum is completed. No flow ends by time: if all ports are in use, the oldest flow loses its port. The program ends at SIGTERM, or when a device is
  * deleted, and then prints how many packets it translated and dropped. As root, with a network namespace as the network outside:
  *
  *     cc -std=c99 -I include examples/address_translator.c libetherparse_transport.a -o address_translator
@@ -217,6 +217,16 @@ static void turn_bit(uint8_t *packet)
 }
 #endif
 
+/* Completes a partial checksum, which etherparse_translate_ipv4 would update as if it were whole. The system completes the checksum of each
+   packet that it sends to a TUN device without offload. A packet socket (AF_PACKET) does not. */
+static void complete_checksum(uint8_t *packet, size_t len)
+{
+    uint32_t is_partial;
+    uint16_t checksum;
+    if (etherparse_packet_checksum_is_partial(packet, len, &is_partial, NULL) == ETHERPARSE_OK && is_partial)
+        (void)(etherparse_packet_checksum_store(packet, len, &checksum, NULL) == ETHERPARSE_OK);
+}
+
 /* Reads packets from one device, and writes them to the other. Returns 0 if a device is gone. */
 static int forward(int from, int to, int (*translate)(uint8_t *packet, size_t len))
 {
@@ -226,6 +236,7 @@ static int forward(int from, int to, int (*translate)(uint8_t *packet, size_t le
         ssize_t len = read(from, packet, sizeof packet);
         if (len <= 0)
             return errno == EAGAIN;
+        complete_checksum(packet, (size_t)len);
         if (!translate(packet, (size_t)len) || !lower_hop_limit(packet)) {
             dropped++;
             continue;

@@ -115,6 +115,7 @@ static void ip(void)
     EXPECT(transport.payload_offset == 24 && transport.payload_len == 8 && transport.is_cut_off == 0);
     EXPECT(memcmp(transport.source, source, 16) == 0 && memcmp(transport.destination, destination, 16) == 0);
     EXPECT(transport.has_destination == 1 && transport.is_length_missing == 0 && error_is_untouched());
+    EXPECT(transport.is_later_fragment == 0 && transport.hop_limit == 64);
     OK(etherparse_transport_in_ip(over_ipv6, 56, &transport, &error));
     EXPECT(transport.version == 6 && transport.protocol == ETHERPARSE_PROTOCOL_UDP && transport.has_destination == 1);
     EXPECT(transport.payload_offset == 48 && transport.payload_len == 8);
@@ -132,7 +133,11 @@ static void ip(void)
     memcpy(changed, over_ipv4, 34);
     changed[6] = 0x20;
     OK(etherparse_transport_in_ip(changed, 34, &transport, &error));
-    EXPECT(transport.is_fragment == 1);
+    EXPECT(transport.is_fragment == 1 && transport.is_later_fragment == 0);
+    changed[7] = 1;
+    changed[8] = 3;
+    OK(etherparse_transport_in_ip(changed, 34, &transport, &error));
+    EXPECT(transport.is_fragment == 1 && transport.is_later_fragment == 1 && transport.hop_limit == 3);
     changed[3] = 23;
     REFUSED(etherparse_transport_in_ip(changed, 34, &transport, &error), ETHERPARSE_STATUS_IP_TOTAL_LENGTH);
     EXPECT(error.required_len == 24 && error.len == 23);
@@ -859,6 +864,31 @@ static void echo_replies(void)
     EXPECT(etherparse_error_text(&error, text, sizeof text) == sizeof expected - 1 && strcmp(text, expected) == 0);
 }
 
+/* The reply from another host, which only the second test accepts; and a reply with another sequence number. */
+static void echo_replies_from_any(void)
+{
+    uint8_t reply[54];
+    clear();
+    OK(etherparse_echo_is_reply_from_any(request_ipv4, 34, reply_ipv4, 34, &error));
+    OK(etherparse_echo_is_reply_from_any(request_ipv6, 54, reply_ipv6, 52, &error));
+    memcpy(reply, reply_ipv4, 34);
+    reply[15]++;
+    OK(etherparse_ipv4_header_checksum_store(reply, 34, &error));
+    OK(etherparse_echo_is_reply_from_any(request_ipv4, 34, reply, 34, &error));
+    EXPECT(error_is_untouched());
+    FILLED(etherparse_echo_is_reply(request_ipv4, 34, reply, 34, &error), ETHERPARSE_STATUS_ECHO_NO_REPLY);
+    reply[27]++;
+    OK(etherparse_icmpv4_checksum_store(reply + 20, 12, &error));
+    FILLED(etherparse_echo_is_reply_from_any(request_ipv4, 34, reply, 34, &error), ETHERPARSE_STATUS_ECHO_NO_REPLY);
+    memcpy(reply, reply_ipv6, 54);
+    reply[23]++;
+    OK(etherparse_icmpv6_checksum_store(reply + 40, 12, reply + 8, reply + 24, &error));
+    OK(etherparse_echo_is_reply_from_any(request_ipv6, 54, reply, 54, &error));
+    FILLED(etherparse_echo_is_reply(request_ipv6, 54, reply, 54, &error), ETHERPARSE_STATUS_ECHO_NO_REPLY);
+    FILLED(etherparse_echo_is_reply_from_any(reply_ipv4, 34, request_ipv4, 34, &error), ETHERPARSE_STATUS_ECHO_NO_REPLY);
+    FILLED(etherparse_echo_is_reply_from_any(request_ipv4, 34, reply_ipv6, 54, &error), ETHERPARSE_STATUS_ECHO_NO_REPLY);
+}
+
 /*
  * Packets as an address translator receives and sends them, made by a program that computes every checksum anew. The host inside has
  * 192.168.1.1 or 2001:db8::1 and port or identifier 21. Outside it has 203.0.113.7 or 2001:db8:ffff::7 and 40001. The ICMP errors are about
@@ -1007,6 +1037,115 @@ static void translations_refused(void)
     EXPECT(error.required_len == 8 && error.len == 7 && memcmp(packet, tcp_inside_ipv6, 61) == 0);
 }
 
+/* An ICMP error whose quoted packet is translated as if it had come back, by a translation of its own. */
+static void translations_of_quoted(void)
+{
+    static const etherparse_ipv4_translation host = {{0, 0, 0, 0}, {192, 168, 1, 1}, 0, 0, 0, 1, 0, 0};
+    static const etherparse_ipv4_translation quoted = {{192, 168, 1, 1}, {9, 9, 9, 9}, 21, 9, 1, 0, 1, 0};
+    static const etherparse_ipv4_translation nothing = {{9, 9, 9, 9}, {9, 9, 9, 9}, 9, 9, 0, 0, 0, 0};
+    etherparse_ipv6_translation host_ipv6 = translation_ipv6(0, 0), quoted_ipv6 = translation_ipv6(1, 0);
+    uint8_t packet[100], other[100];
+    clear();
+    memcpy(packet, icmp_error_outside, 59);
+    OK(etherparse_translate_ipv4_with_quoted(packet, 59, &host, &quoted, &error));
+    EXPECT(memcmp(packet, icmp_error_inside, 59) == 0);
+    memcpy(packet, icmp_error_outside, 59);
+    OK(etherparse_translate_ipv4_with_quoted(packet, 59, &host, &nothing, &error));
+    EXPECT(memcmp(packet, icmp_error_inside, 20) == 0 && memcmp(packet + 20, icmp_error_outside + 20, 39) == 0);
+    memcpy(packet, udp_inside, 31);
+    OK(etherparse_translate_ipv4_with_quoted(packet, 31, &to_outside, &nothing, &error));
+    EXPECT(memcmp(packet, udp_outside, 31) == 0);
+    memcpy(packet, icmp_error_outside_ipv6, 100);
+    OK(etherparse_translate_ipv6_with_quoted(packet, 100, &host_ipv6, &quoted_ipv6, &error));
+    EXPECT(memcmp(packet, icmp_error_inside_ipv6, 100) == 0 && error_is_untouched());
+    /* Protocol 47 in the quoted packet is refused only with a port. */
+    memcpy(packet, icmp_error_outside, 59);
+    packet[37] = 47;
+    memcpy(other, packet, 59);
+    FILLED(etherparse_translate_ipv4_with_quoted(packet, 59, &host, &quoted, &error), ETHERPARSE_STATUS_TRANSLATE_QUOTED_PACKET);
+    EXPECT(memcmp(packet, other, 59) == 0);
+    OK(etherparse_translate_ipv4_with_quoted(packet, 59, &host, &host, &error));
+    memcpy(packet, icmp_error_outside_ipv6, 100);
+    packet[54] = 47;
+    memcpy(other, packet, 100);
+    FILLED(etherparse_translate_ipv6_with_quoted(packet, 100, &host_ipv6, &quoted_ipv6, &error), ETHERPARSE_STATUS_TRANSLATE_QUOTED_PACKET);
+    EXPECT(memcmp(packet, other, 100) == 0);
+    REFUSED(etherparse_translate_ipv4_with_quoted(packet, 100, &host, &quoted, &error), ETHERPARSE_STATUS_IP_VERSION);
+}
+
+/* Whether this checksum in the packet is partial, and the call stores the other one, after which the packet is the first again. */
+static int is_completed(const uint8_t *packet, size_t len, size_t place, uint16_t partial)
+{
+    uint8_t changed[101];
+    uint32_t is_partial = 7, is_still_partial = 7;
+    clear();
+    memcpy(changed, packet, len);
+    changed[len] = 0xaa;
+    changed[place] = (uint8_t)(partial >> 8);
+    changed[place + 1] = (uint8_t)partial;
+    return etherparse_packet_checksum_is_partial(changed, len + 1, &is_partial, &error) == ETHERPARSE_OK && is_partial == 1 &&
+           etherparse_packet_checksum_store(changed, len + 1, &checksum, &error) == ETHERPARSE_OK &&
+           etherparse_packet_checksum_is_partial(changed, len + 1, &is_still_partial, &error) == ETHERPARSE_OK && is_still_partial == 0 &&
+           checksum == packet[place] * 256 + packet[place + 1] && memcmp(changed, packet, len) == 0 && changed[len] == 0xaa &&
+           error_is_untouched();
+}
+
+/* Whether the packet, with another byte at a place, is refused for this verdict and otherwise stays as it is. It is not partial. */
+static int is_not_completed(const uint8_t *packet, size_t len, size_t place, uint8_t byte, uint32_t verdict)
+{
+    uint8_t changed[100], untouched[100];
+    uint32_t is_partial = 7;
+    clear();
+    memcpy(changed, packet, len);
+    changed[place] = byte;
+    memcpy(untouched, changed, len);
+    return etherparse_packet_checksum_is_partial(changed, len, &is_partial, &error) == ETHERPARSE_OK && is_partial == 0 &&
+           error_is_untouched() &&
+           etherparse_packet_checksum_store(changed, len, &checksum, &error) == ETHERPARSE_STATUS_CHECKSUM_UNTESTED &&
+           error.status == ETHERPARSE_STATUS_CHECKSUM_UNTESTED && error.actual == verdict && error.len == 0 && checksum == 0x7777 &&
+           memcmp(changed, untouched, len) == 0;
+}
+
+static void packet_checksums(void)
+{
+    uint8_t packet[100];
+    uint32_t is_partial = 7;
+    /* The sums of the pseudo headers, worked out by hand. */
+    EXPECT(is_completed(udp_inside, 31, 26, 0x8370));
+    EXPECT(is_completed(tcp_inside_ipv6, 61, 56, 0x5b90));
+    EXPECT(is_completed(icmp_error_inside_ipv6, 100, 42, 0x5bec));
+    memcpy(packet, echo_inside, 32);
+    packet[22] = packet[23] = 0;
+    OK(etherparse_packet_checksum_is_partial(packet, 32, &is_partial, &error));
+    OK(etherparse_packet_checksum_store(packet, 32, &checksum, &error));
+    EXPECT(is_partial == 0 && checksum == 0x1918 && memcmp(packet, echo_inside, 32) == 0);
+    EXPECT(is_not_completed(udp_inside, 31, 6, 0x20, ETHERPARSE_VERDICT_UNTESTED_FRAGMENT));
+    EXPECT(error_has_text("Checksum Error: the packet is a fragment."));
+    EXPECT(is_not_completed(udp_inside, 31, 9, 47, ETHERPARSE_VERDICT_UNTESTED_OTHER_PROTOCOL));
+    EXPECT(error_has_text("Checksum Error: the protocol has no known checksum."));
+    EXPECT(is_not_completed(udp_inside, 31, 25, 0, ETHERPARSE_VERDICT_UNTESTED_ZERO_LENGTH));
+    EXPECT(error_has_text("Checksum Error: the length field of the UDP packet is 0."));
+    error.actual = ETHERPARSE_VERDICT_UNTESTED_CUT_OFF;
+    EXPECT(error_has_text("Checksum Error: the packet is cut off."));
+    error.actual = ETHERPARSE_VERDICT_UNTESTED_UNKNOWN_DESTINATION;
+    EXPECT(error_has_text("Checksum Error: the final destination is unknown."));
+    error.actual = ETHERPARSE_VERDICT_UNTESTED_TOO_LONG;
+    EXPECT(error_has_text("Checksum Error: the packet is too long for its pseudo header."));
+    error.actual = ETHERPARSE_VERDICT_RIGHT;
+    EXPECT(error_has_text("Unknown error."));
+    clear();
+    memcpy(packet, udp_inside, 31);
+    packet[25] = 12;
+    is_partial = 7;
+    REFUSED(etherparse_packet_checksum_store(packet, 31, &checksum, &error), ETHERPARSE_STATUS_LENGTH);
+    EXPECT(error.layer_start_offset == 0 && error.required_len == 12 && error.len == 11 && checksum == 0x7777);
+    REFUSED(etherparse_packet_checksum_is_partial(packet, 31, &is_partial, &error), ETHERPARSE_STATUS_LENGTH);
+    EXPECT(error.layer_start_offset == 20 && error.required_len == 12 && error.len == 11 && is_partial == 7);
+    REFUSED(etherparse_packet_checksum_store(packet, 30, &checksum, &error), ETHERPARSE_STATUS_IP_PACKET_CUT_OFF);
+    REFUSED(etherparse_packet_checksum_is_partial(packet, 30, &is_partial, &error), ETHERPARSE_STATUS_IP_PACKET_CUT_OFF);
+    EXPECT(checksum == 0x7777 && is_partial == 7);
+}
+
 static void canonical(void)
 {
     static const uint8_t captured[8] = {3, 4, 0, 0, 1, 2, 5, 0xdc}, expected[8] = {3, 4, 0, 0, 0, 0, 5, 0xdc};
@@ -1126,6 +1265,7 @@ static void names(void)
     NAMED(ETHERPARSE_STATUS_TRANSLATE_QUOTED_PACKET);
     NAMED(ETHERPARSE_STATUS_ECHO_NO_REPLY);
     NAMED(ETHERPARSE_STATUS_TRANSLATE_SOURCE_ROUTE);
+    NAMED(ETHERPARSE_STATUS_CHECKSUM_UNTESTED);
     named(25, "unknown status", __LINE__);
 }
 
@@ -1239,6 +1379,7 @@ static void meanings(void)
     MEANS(ETHERPARSE_STATUS_TRANSLATE_QUOTED_PACKET, "the packet that the ICMP error is about cannot be translated");
     MEANS(ETHERPARSE_STATUS_ECHO_NO_REPLY, "the packet is not the reply to the echo request");
     MEANS(ETHERPARSE_STATUS_TRANSLATE_SOURCE_ROUTE, "the packet has a source route, and is not translated");
+    MEANS(ETHERPARSE_STATUS_CHECKSUM_UNTESTED, "the checksum of the packet is not tested");
     MEANS(25, "unknown status");
     MEANS(0xffffffff, "unknown status");
 }
@@ -1298,6 +1439,7 @@ static void nulls(etherparse_error *told)
     etherparse_checksum_change change = {1, 2};
     etherparse_sum sum = {3};
     size_t place = 0;
+    uint32_t is_partial = 7;
     clear();
     REFUSED_TO(etherparse_transport_in_ip(NULL, 0, &transport, told), ETHERPARSE_STATUS_IP_HEADER_CUT_OFF);
     REFUSED_TO(etherparse_transport_in_ip_lax(NULL, 0, &transport, told), ETHERPARSE_STATUS_IP_HEADER_CUT_OFF);
@@ -1333,11 +1475,16 @@ static void nulls(etherparse_error *told)
     REFUSED_TO(etherparse_echo_answer_ipv4(NULL, 0, source4, 64, &written, told), ETHERPARSE_STATUS_IP_HEADER_CUT_OFF);
     REFUSED_TO(etherparse_echo_answer_ipv6(NULL, 0, source6, 64, &written, told), ETHERPARSE_STATUS_IP_HEADER_CUT_OFF);
     FILLED_TO(etherparse_echo_is_reply(NULL, 0, NULL, 0, told), ETHERPARSE_STATUS_ECHO_NO_REPLY);
+    FILLED_TO(etherparse_echo_is_reply_from_any(NULL, 0, NULL, 0, told), ETHERPARSE_STATUS_ECHO_NO_REPLY);
+    REFUSED_TO(etherparse_packet_checksum_is_partial(NULL, 0, &is_partial, told), ETHERPARSE_STATUS_IP_HEADER_CUT_OFF);
+    REFUSED_TO(etherparse_packet_checksum_store(NULL, 0, &checksum, told), ETHERPARSE_STATUS_IP_HEADER_CUT_OFF);
     REFUSED_TO(etherparse_translate_ipv4(NULL, 0, &to_outside, told), ETHERPARSE_STATUS_IP_HEADER_CUT_OFF);
     REFUSED_TO(etherparse_translate_ipv6(NULL, 0, &new_parts, told), ETHERPARSE_STATUS_IP_HEADER_CUT_OFF);
+    REFUSED_TO(etherparse_translate_ipv4_with_quoted(NULL, 0, &to_outside, &to_inside, told), ETHERPARSE_STATUS_IP_HEADER_CUT_OFF);
+    REFUSED_TO(etherparse_translate_ipv6_with_quoted(NULL, 0, &new_parts, &new_parts, told), ETHERPARSE_STATUS_IP_HEADER_CUT_OFF);
     REFUSED_TO(etherparse_canonical_header(17, NULL, 0, NULL, 0, &written, told), ETHERPARSE_STATUS_LENGTH);
     REFUSED_TO(etherparse_canonical_header(17, over_ipv4, 8, NULL, 0, &written, told), ETHERPARSE_STATUS_BUFFER_TOO_SMALL);
-    EXPECT(written == 77 && checksum == 0x7777);
+    EXPECT(written == 77 && checksum == 0x7777 && is_partial == 7);
     OK(etherparse_tcp_options_write(NULL, 0, NULL, 0, &written, told));
     EXPECT(written == 0 && etherparse_sum_add(sum, NULL, 0).value == 3 && etherparse_sum_add_at(sum, 1, NULL, 0).value == 3);
     change = etherparse_checksum_change_replace(change, NULL, 0, NULL, 0);
@@ -1371,8 +1518,11 @@ int main(void)
     echo();
     echo_refused();
     echo_replies();
+    echo_replies_from_any();
     translations();
     translations_refused();
+    translations_of_quoted();
+    packet_checksums();
     canonical();
     sums();
     changes();

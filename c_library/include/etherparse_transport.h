@@ -58,7 +58,7 @@
  * same too: no number gets another meaning, no struct gets another size or another offset of a field, and no call gets another type.
  * Later versions may add numbers, so a `switch` needs a `default`. A change that needs another struct gets a call and a struct with
  * other names. Version 0.5 has everything that version 0.4 has, except that the names of kinds of ICMP messages have KIND in them, as in
- * ETHERPARSE_ICMPV4_KIND_ECHO_REQUEST.
+ * ETHERPARSE_ICMPV4_KIND_ECHO_REQUEST, and that etherparse_ip_transport and etherparse_ip_packet are longer.
  */
 #ifndef ETHERPARSE_TRANSPORT_H
 #define ETHERPARSE_TRANSPORT_H
@@ -194,7 +194,8 @@ enum etherparse_status_number {
     ETHERPARSE_STATUS_TRANSLATE_ICMP_MESSAGE = 42,
     ETHERPARSE_STATUS_TRANSLATE_QUOTED_PACKET = 43,
     ETHERPARSE_STATUS_ECHO_NO_REPLY = 44,
-    ETHERPARSE_STATUS_TRANSLATE_SOURCE_ROUTE = 45
+    ETHERPARSE_STATUS_TRANSLATE_SOURCE_ROUTE = 45,
+    ETHERPARSE_STATUS_CHECKSUM_UNTESTED = 46
 };
 
 /*
@@ -299,6 +300,8 @@ enum etherparse_status_number {
 #define ETHERPARSE_STATUS_ECHO_NO_REPLY 44
 /* The IPv4 options contain a loose or strict source route, so the packet is not translated: no other field. */
 #define ETHERPARSE_STATUS_TRANSLATE_SOURCE_ROUTE 45
+/* The checksum of the packet is not tested, so no checksum is stored in it: actual, which is the verdict, an ETHERPARSE_VERDICT_UNTESTED_.. */
+#define ETHERPARSE_STATUS_CHECKSUM_UNTESTED 46
 
 /* The layer whose length was wrong. 0 means no layer. The numbers from 8 on are reserved for IP headers. */
 enum {
@@ -402,6 +405,8 @@ typedef struct etherparse_ip_transport {
     uint8_t source[16];         /* the source that the checksum covers; an IPv4 address is in the first four bytes, followed by zeros */
     uint8_t destination[16];    /* the destination that the checksum covers, in the same form, or 0 */
     uint32_t is_length_missing; /* 1 if the IP header states no length and all bytes are counted, otherwise 0 */
+    uint32_t is_later_fragment; /* 1 if the fragment offset is above 0, so that no transport header begins the payload, otherwise 0 */
+    uint32_t hop_limit;         /* the hops that are left: the time to live of IPv4, or the hop limit of IPv6 */
 } etherparse_ip_transport;
 
 /*
@@ -540,6 +545,37 @@ etherparse_status etherparse_packet_verdict(const uint8_t *bytes, size_t len, et
 ETHERPARSE_CHECK_RESULT ETHERPARSE_NOT_NULL(3)
 etherparse_status etherparse_packet_verdict_lax(const uint8_t *bytes, size_t len, etherparse_ip_packet *packet,
                                                 etherparse_error *error);
+
+/*
+ * Tests whether the checksum of UDP, TCP or ICMPv6 in the IP packet at the front of the bytes is partial, and writes 1 or 0 to *is_partial.
+ * A partial checksum is the sum of only the pseudo header. A host stores it if its network card computes the rest (checksum offload). So
+ * a packet socket (AF_PACKET) of Linux often receives a partial checksum in a packet that the same host, a container or a virtual machine
+ * sends. The payload is not read, and the call takes the same time for any length. For a fragment and for any other protocol the result
+ * is 0. It is 1 also in the rare case that a partial checksum is right, in which the verdict is ETHERPARSE_VERDICT_RIGHT.
+ *
+ * A program that changes or forwards such a packet completes the checksum first:
+ *
+ *     if (etherparse_packet_checksum_is_partial(packet, len, &is_partial, &error) == ETHERPARSE_OK && is_partial != 0)
+ *         status = etherparse_packet_checksum_store(packet, len, &checksum, &error);
+ *
+ * Without this, etherparse_translate_ipv4 updates the partial checksum as if it were whole, and no receiver accepts the packet.
+ *
+ * Refused as by etherparse_packet_verdict; *is_partial is unchanged.
+ */
+ETHERPARSE_CHECK_RESULT ETHERPARSE_NOT_NULL(3)
+etherparse_status etherparse_packet_checksum_is_partial(const uint8_t *bytes, size_t len, uint32_t *is_partial, etherparse_error *error);
+
+/*
+ * Stores the right checksum of UDP, TCP or ICMP in the IP packet at the front of the bytes, whatever checksum the packet contains, and
+ * writes the checksum to *checksum. The verdict is then ETHERPARSE_VERDICT_RIGHT. A right checksum stays. A UDP packet over IPv4 without a
+ * checksum gets a checksum, which is never 0. No other byte changes. The checksum of the IPv4 header is not tested, and stays.
+ *
+ * In this order: refused as by etherparse_transport_in_ip; as by the call that reads the protocol's packet, etherparse_udp_packet_read and
+ * so on, but layer_start_offset counts from the first byte of that packet; ETHERPARSE_STATUS_CHECKSUM_UNTESTED: the verdict is
+ * ETHERPARSE_VERDICT_UNTESTED_.. The bytes and *checksum are unchanged.
+ */
+ETHERPARSE_CHECK_RESULT ETHERPARSE_NOT_NULL(3)
+etherparse_status etherparse_packet_checksum_store(uint8_t *packet, size_t packet_len, uint16_t *checksum, etherparse_error *error);
 
 /*
  * Writes the name of a verdict in this file, such as ETHERPARSE_VERDICT_RIGHT, and returns its length, both as etherparse_error_text
@@ -1172,6 +1208,14 @@ ETHERPARSE_CHECK_RESULT
 etherparse_status etherparse_echo_is_reply(const uint8_t *request, size_t request_len, const uint8_t *reply, size_t reply_len,
                                            etherparse_error *error);
 
+/*
+ * The same, except that the reply comes from any address of one host. A host that answers a request to an anycast address replies from its
+ * own address, which the request does not name (RFC 4443, section 4.2).
+ */
+ETHERPARSE_CHECK_RESULT
+etherparse_status etherparse_echo_is_reply_from_any(const uint8_t *request, size_t request_len, const uint8_t *reply, size_t reply_len,
+                                                    etherparse_error *error);
+
 /* ---- the packet that an ICMP error is about (RFC 792; RFC 4443, section 3) -------------------------------------------------- */
 
 /*
@@ -1249,6 +1293,22 @@ etherparse_status etherparse_translate_ipv4(uint8_t *packet, size_t packet_len, 
 ETHERPARSE_CHECK_RESULT ETHERPARSE_NOT_NULL(3)
 etherparse_status etherparse_translate_ipv6(uint8_t *packet, size_t packet_len, const etherparse_ipv6_translation *translation,
                                             etherparse_error *error);
+
+/*
+ * Translates the IP packet at the front of the bytes, in place, and the packet that an ICMP error is about by a translation of its own
+ * (RFC 5508, section 4). `quoted` replaces source and destination of that packet, which went in the other direction. If a router behind the
+ * translator sent the error, the address of the router has another mapping than the destination of that packet. In a packet that is no
+ * ICMP error, `translation` replaces what it replaces in etherparse_translate_ipv4, and `quoted` has no effect.
+ *
+ * Refused as by etherparse_translate_ipv4 and etherparse_translate_ipv6. The ports of `quoted` decide whether the protocol of the packet
+ * that an ICMP error is about is refused. The bytes are unchanged.
+ */
+ETHERPARSE_CHECK_RESULT ETHERPARSE_NOT_NULL(3, 4)
+etherparse_status etherparse_translate_ipv4_with_quoted(uint8_t *packet, size_t packet_len, const etherparse_ipv4_translation *translation,
+                                                        const etherparse_ipv4_translation *quoted, etherparse_error *error);
+ETHERPARSE_CHECK_RESULT ETHERPARSE_NOT_NULL(3, 4)
+etherparse_status etherparse_translate_ipv6_with_quoted(uint8_t *packet, size_t packet_len, const etherparse_ipv6_translation *translation,
+                                                        const etherparse_ipv6_translation *quoted, etherparse_error *error);
 
 /* ---- canonical headers ---------------------------------------------------------------------------------------------------- */
 
@@ -1396,6 +1456,7 @@ static inline const char *etherparse_name_of_status(etherparse_status status)
     ETHERPARSE_CASE(ETHERPARSE_STATUS_TRANSLATE_QUOTED_PACKET)
     ETHERPARSE_CASE(ETHERPARSE_STATUS_ECHO_NO_REPLY)
     ETHERPARSE_CASE(ETHERPARSE_STATUS_TRANSLATE_SOURCE_ROUTE)
+    ETHERPARSE_CASE(ETHERPARSE_STATUS_CHECKSUM_UNTESTED)
     default: return "unknown status";
     }
 }

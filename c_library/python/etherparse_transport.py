@@ -32,7 +32,7 @@ import ipaddress
 import operator
 import os
 from dataclasses import dataclass, field
-from typing import Any, Collection, Iterable, Iterator, Union
+from typing import Any, Collection, Iterable, Iterator, Mapping, Union
 
 __all__ = [
     "ChecksumChange", "Error", "HeaderAddresses", "Icmpv4Kind", "Icmpv4Packet", "Icmpv4ParameterProblemCode", "Icmpv4RedirectCode",
@@ -40,11 +40,12 @@ __all__ = [
     "Icmpv6TimeExceededCode", "Icmpv6Type", "Icmpv6UnreachableCode", "Layer", "LenSource", "NeighborFlags", "Protocol", "RouterFlags",
     "Status", "Sum", "TcpFlags", "TcpOption", "TcpOptionKind", "TcpOptionValues", "TcpPacket", "Transport", "UdpPacket", "ValueType",
     "Verdict", "VerdictKind", "answer_echo", "canonical_header", "check_icmpv4", "check_icmpv6", "check_ipv4_header", "check_tcp",
-    "check_udp", "header_addresses", "icmpv4_checksum", "icmpv6_checksum", "ipv4_header_checksum", "is_reply_to", "library_version",
-    "quoted_by_icmpv4", "quoted_by_icmpv6", "read_icmpv4", "read_icmpv6", "read_tcp", "read_udp", "status_name", "store_icmpv4_checksum",
-    "store_icmpv6_checksum", "store_ipv4_header_checksum", "store_tcp_checksum", "store_tcp_header", "store_udp_checksum", "tcp_checksum",
-    "tcp_option_values", "tcp_options", "translate", "transport", "udp_checksum", "verdict", "verdict_name", "write_icmpv4_header",
-    "write_icmpv6_header", "write_tcp_header", "write_tcp_options", "write_udp_header",
+    "check_udp", "header_addresses", "icmpv4_checksum", "icmpv6_checksum", "ipv4_header_checksum", "is_checksum_partial",
+    "is_reply_from_any", "is_reply_to", "library_version", "quoted_by_icmpv4", "quoted_by_icmpv6", "read_icmpv4", "read_icmpv6", "read_tcp",
+    "read_udp", "status_name", "store_checksum", "store_icmpv4_checksum", "store_icmpv6_checksum", "store_ipv4_header_checksum",
+    "store_tcp_checksum", "store_tcp_header", "store_udp_checksum", "tcp_checksum", "tcp_option_values", "tcp_options", "translate",
+    "transport", "udp_checksum", "verdict", "verdict_name", "write_icmpv4_header", "write_icmpv6_header", "write_tcp_header",
+    "write_tcp_options", "write_udp_header",
 ]
 
 Bytes = Union[bytes, bytearray, memoryview]
@@ -117,6 +118,7 @@ class Status(_Number):
     TRANSLATE_QUOTED_PACKET = 43
     ECHO_NO_REPLY = 44
     TRANSLATE_SOURCE_ROUTE = 45
+    CHECKSUM_UNTESTED = 46
 
     @property
     def text(self) -> str:
@@ -405,6 +407,8 @@ class _IpTransport(ctypes.Structure):
         ("source", ctypes.c_uint8 * 16),
         ("destination", ctypes.c_uint8 * 16),
         ("is_length_missing", ctypes.c_uint32),
+        ("is_later_fragment", ctypes.c_uint32),
+        ("hop_limit", ctypes.c_uint32),
     ]
 
 
@@ -630,8 +634,13 @@ _CALLS = {
     "echo_answer_ipv4": (ctypes.c_uint32, *_PACKET, ctypes.c_char_p, ctypes.c_uint8, *_REPLY),
     "echo_answer_ipv6": (ctypes.c_uint32, *_PACKET, ctypes.c_char_p, ctypes.c_uint8, *_REPLY),
     "echo_is_reply": (ctypes.c_uint32, *_PACKET, *_PACKET, *_ERROR),
+    "echo_is_reply_from_any": (ctypes.c_uint32, *_PACKET, *_PACKET, *_ERROR),
+    "packet_checksum_is_partial": (ctypes.c_uint32, *_reader(ctypes.c_uint32)),
+    "packet_checksum_store": (ctypes.c_uint32, *_PACKET, *_CHECKSUM),
     "translate_ipv4": (ctypes.c_uint32, *_reader(_Ipv4Translation)),
     "translate_ipv6": (ctypes.c_uint32, *_reader(_Ipv6Translation)),
+    "translate_ipv4_with_quoted": (ctypes.c_uint32, *_PACKET, *[ctypes.POINTER(_Ipv4Translation)] * 2, *_ERROR),
+    "translate_ipv6_with_quoted": (ctypes.c_uint32, *_PACKET, *[ctypes.POINTER(_Ipv6Translation)] * 2, *_ERROR),
     "canonical_header": (ctypes.c_uint32, ctypes.c_uint32, *_PACKET, *_PACKET, *_REPLY),
     "sum_new": (_Sum,),
     "sum_add": (_Sum, _Sum, *_PACKET),
@@ -806,7 +815,8 @@ class Transport:
 
     The addresses are the addresses that the checksum covers. A source route or a routing header changes the destination, and a home address
     changes the source, so they can differ from the addresses in the IP header. `destination` is None if it is not known. If the IP header
-    states no length, all bytes are counted, and `is_length_missing` is true.
+    states no length, all bytes are counted, and `is_length_missing` is true. In a later fragment no transport header begins the payload.
+    `hop_limit` is the time to live of IPv4.
     """
 
     version: int
@@ -818,6 +828,8 @@ class Transport:
     source: Address
     destination: Address | None
     is_length_missing: bool
+    is_later_fragment: bool
+    hop_limit: int
 
 
 @dataclass(frozen=True)
@@ -861,6 +873,8 @@ def _transport(data: bytes, found: _IpTransport) -> Transport:
         source=_address(found.version, found.source),
         destination=_address(found.version, found.destination) if found.has_destination else None,
         is_length_missing=bool(found.is_length_missing),
+        is_later_fragment=bool(found.is_later_fragment),
+        hop_limit=found.hop_limit,
     )
 
 
@@ -925,6 +939,30 @@ def verdict(packet: Bytes, *, lax: bool = False) -> Verdict:
         kind=kind,
         expected_checksum=found.expected_checksum if kind in (VerdictKind.WRONG, VerdictKind.PARTIAL) else None,
     )
+
+
+def is_checksum_partial(packet: Bytes) -> bool:
+    """Whether the checksum of UDP, TCP or ICMPv6 in an IP packet is partial: the sum of only the pseudo header.
+
+    A host leaves the rest to its network card, so a packet socket (AF_PACKET) often receives a partial checksum. The payload is not read.
+    A fragment and any other protocol have no partial checksum.
+
+    Raises `Error` if the packet or the header of its transport is refused.
+    """
+    return bool(_read("packet_checksum_is_partial", _bytes_of(packet), ctypes.c_uint32()).value)
+
+
+def store_checksum(packet: bytearray | memoryview) -> int:
+    """Stores the right checksum of UDP, TCP or ICMP in an IP packet, in place, and returns it. No other byte changes.
+
+    A UDP packet over IPv4 without a checksum gets a checksum. `CHECKSUM_UNTESTED` means that the checksum is not tested: the field `actual`
+    of the error is the verdict.
+
+    Raises `Error` if the packet or the header of its transport is refused, or if its checksum is not tested. It is then unchanged.
+    """
+    found = ctypes.c_uint16()
+    _changed("packet_checksum_store", packet, ctypes.byref(found))
+    return found.value
 
 
 def _packed(address: AnyAddress) -> bytes:
@@ -1423,14 +1461,26 @@ def answer_echo(packet: Bytes, hop_limit: int = 64, *, source: AnyAddress | None
     return changed.raw[: reply_len.value]
 
 
+def _is_reply(name: str, request: Bytes, reply: Bytes) -> bool:
+    """Whether the test of a reply returns that it is one."""
+    sent, received = _bytes_of(request), _bytes_of(reply)
+    return _call(name, sent, len(sent), received, len(received), results=(_OK, Status.ECHO_NO_REPLY)) == _OK
+
+
 def is_reply_to(request: Bytes, reply: Bytes) -> bool:
     """Whether the second packet is the reply to the echo request in the first packet.
 
     It is not if one of the packets is refused. Bytes after a packet are ignored. The checksums of the request are not tested.
     """
-    sent, received = _bytes_of(request), _bytes_of(reply)
-    results = (_OK, Status.ECHO_NO_REPLY)
-    return _call("echo_is_reply", sent, len(sent), received, len(received), results=results) == _OK
+    return _is_reply("echo_is_reply", request, reply)
+
+
+def is_reply_from_any(request: Bytes, reply: Bytes) -> bool:
+    """Whether the second packet is the reply to the echo request in the first packet, from the address of any host.
+
+    A host that answers a request to an anycast address replies from its own address. Otherwise the same as `is_reply_to`.
+    """
+    return _is_reply("echo_is_reply_from_any", request, reply)
 
 
 # ---- the translation of addresses
@@ -1446,9 +1496,18 @@ def _translation(version: int, values: dict[str, bytes | int | None]) -> _Ipv4Tr
     return found
 
 
+def _parts(source: AnyAddress | None = None, destination: AnyAddress | None = None, source_port: int | None = None,
+           destination_port: int | None = None) -> dict[str, bytes | int | None]:
+    """The parts of a translation, with the addresses in network order."""
+    if any(port is not None and not 0 <= port <= 65535 for port in (source_port, destination_port)):
+        raise ValueError("a port is a number of 16 bits")
+    addresses = {name: _packed(it) for name, it in (("source", source), ("destination", destination)) if it is not None}
+    return {**addresses, "source_port": source_port, "destination_port": destination_port}
+
+
 def translate(
     packet: bytearray | memoryview, source: AnyAddress | None = None, destination: AnyAddress | None = None,
-    source_port: int | None = None, destination_port: int | None = None,
+    source_port: int | None = None, destination_port: int | None = None, *, quoted: Mapping[str, Any] | None = None,
 ) -> None:
     """Translates an IP packet in place, as an address translator does: replaces addresses, and ports or the identifier of an ICMP query.
 
@@ -1456,19 +1515,21 @@ def translate(
     port is also the identifier of an ICMP request, and the destination port the identifier of an ICMP reply. The packet that an ICMP error
     is about is translated with source and destination exchanged. In a later fragment only the addresses are replaced.
 
+    With `quoted`, such as `{"destination": host, "destination_port": 40001}`, these parts are replaced in the packet that an ICMP error is
+    about, instead of the exchanged parts. That packet went in the other direction (RFC 5508, section 4).
+
     Raises `Error` if the packet is refused, which is then unchanged. `IP_VERSION` also means that the packet and the addresses have
     different versions of IP.
     """
-    if any(port is not None and not 0 <= port <= 65535 for port in (source_port, destination_port)):
-        raise ValueError("a port is a number of 16 bits")
+    parts = [_parts(source, destination, source_port, destination_port)] + ([] if quoted is None else [_parts(**quoted)])
     data = _bytes_of(packet)
-    addresses = {name: _packed(it) for name, it in (("source", source), ("destination", destination)) if it is not None}
-    versions = {6 if len(it) == 16 else 4 for it in addresses.values()} or {data[0] >> 4 if data else 4}
+    versions = {6 if len(it) == 16 else 4 for its in parts for it in its.values() if isinstance(it, bytes)}
+    versions = versions or {data[0] >> 4 if data else 4}
     if len(versions) > 1:
         raise ValueError("the addresses are not of one version of IP")
     [version] = versions
-    new = _translation(version, {**addresses, "source_port": source_port, "destination_port": destination_port})
-    _changed("translate_ipv6" if version == 6 else "translate_ipv4", packet, ctypes.byref(new))
+    name = ("translate_ipv6" if version == 6 else "translate_ipv4") + ("" if quoted is None else "_with_quoted")
+    _changed(name, packet, *(ctypes.byref(_translation(version, its)) for its in parts))
 
 
 # ---- canonical headers

@@ -517,6 +517,40 @@ class Calls(unittest.TestCase):
         with self.assertRaises(TypeError):
             ept.is_reply_to(REQUEST, None)
 
+    def test_the_reply_of_another_host_is_a_reply_from_any(self):
+        for request, place, check in ((REQUEST, 15, ept.store_ipv4_header_checksum), (REQUEST6, 23, ept.store_checksum)):
+            reply = bytearray(ept.answer_echo(request))
+            self.assertIs(ept.is_reply_from_any(request, reply), True)
+            reply[place] += 1
+            check(reply)
+            self.assertIs(ept.is_reply_from_any(request, reply), True)
+            self.assertIs(ept.is_reply_to(request, reply), False)
+            self.assertIs(ept.is_reply_from_any(reply, request), False)
+
+    def test_a_partial_checksum_is_completed(self):
+        packet = bytearray(PACKET)
+        self.assertIs(ept.is_checksum_partial(packet), False)
+        packet[26:28] = b"\x83\x70"
+        self.assertIs(ept.is_checksum_partial(packet), True)
+        self.assertEqual(ept.verdict(packet).kind, ept.VerdictKind.PARTIAL)
+        self.assertEqual((ept.store_checksum(packet), packet), (0xB33A, PACKET))
+        fragment = bytearray(PACKET[:6] + b"\x20" + PACKET[7:])
+        before = bytes(fragment)
+        self.assertIs(ept.is_checksum_partial(fragment), False)
+        with self.assertRaises(ept.Error) as caught:
+            ept.store_checksum(fragment)
+        self.assertEqual((caught.exception.status, caught.exception.actual, fragment), (Status.CHECKSUM_UNTESTED, 16, before))
+        self.assertEqual(str(caught.exception), "Checksum Error: the packet is a fragment.")
+        with self.assertRaises(ept.Error):
+            ept.is_checksum_partial(PACKET[:30])
+
+    def test_hop_limit_and_later_fragment(self):
+        found = ept.transport(PACKET)
+        self.assertEqual((found.hop_limit, found.is_later_fragment, found.is_fragment), (64, False, False))
+        found = ept.transport(PACKET[:7] + b"\x01\x05" + PACKET[9:])
+        self.assertEqual((found.hop_limit, found.is_later_fragment, found.is_fragment), (5, True, True))
+        self.assertEqual(ept.transport(REQUEST6).hop_limit, REQUEST6[7])
+
     def test_a_translated_packet_is_the_packet_of_the_other_host(self):
         for inside, outside, server, icmp in (
             ("192.168.1.1", "203.0.113.7", "192.0.2.1", Protocol.ICMPV4),
@@ -532,6 +566,9 @@ class Calls(unittest.TestCase):
                 for end in (len(after), len(after) - 3):
                     packet = bytearray(about(after[:end], outside))
                     ept.translate(packet, destination=inside, destination_port=21)
+                    self.assertEqual(packet, about(before[:end], inside))
+                    packet = bytearray(about(after[:end], outside))
+                    ept.translate(packet, destination=inside, quoted={"source": inside, "source_port": 21})
                     self.assertEqual(packet, about(before[:end], inside))
                 packet = bytearray(before)
                 ept.translate(packet)
@@ -550,7 +587,10 @@ class Calls(unittest.TestCase):
             with self.assertRaises(ept.Error) as caught:
                 ept.translate(changed, source=source, source_port=1)
             self.assertEqual((caught.exception.status, changed), (status, packet))
-        for arguments in ({"source_port": -1}, {"destination_port": 65536}, {"source": "::1", "destination": "10.0.0.1"}):
+        for arguments in (
+            {"source_port": -1}, {"destination_port": 65536}, {"source": "::1", "destination": "10.0.0.1"}, {"quoted": {"source_port": -1}},
+            {"source": "::1", "quoted": {"source": "10.0.0.1"}},
+        ):
             with self.assertRaises(ValueError):
                 ept.translate(bytearray(PACKET), **arguments)
         with self.assertRaises(TypeError):

@@ -103,6 +103,20 @@ export const TESTS = {
         expect(short, whole.subarray(0, 21));
     },
 
+    checksumOfAPacket() {
+        const packet = Uint8Array.from(PACKET);
+        packet.set([0x83, 0x70], 26);
+        expect([library.isChecksumPartial(packet), library.isChecksumPartial(PACKET)], [true, false]);
+        expect([library.storeChecksum(packet), packet], [0xb33a, PACKET]);
+        const fragment = Uint8Array.from(PACKET);
+        fragment[6] = 0x20;
+        const { status, actual, message } = thrown(() => library.storeChecksum(fragment), library.EtherparseError);
+        expect([status, actual], [Status.CHECKSUM_UNTESTED, VerdictKind.UNTESTED_FRAGMENT]);
+        expect([message, fragment[6], library.isChecksumPartial(fragment)], ["Checksum Error: the packet is a fragment.", 0x20, false]);
+        const { hopLimit, isLaterFragment } = library.transport(fragment);
+        expect([hopLimit, isLaterFragment], [64, false]);
+    },
+
     /** The memory grows with its input, from call to call. */
     growth() {
         for (const length of [0, 60000, 65536, 65528, 1000000, 3, 5000001]) {
@@ -244,6 +258,7 @@ export const TESTS = {
         const refused = (packet, parts) => thrown(() => library.translate(packet, parts), library.EtherparseError).status;
         expect(refused(new Uint8Array(), { sourcePort: 7 }), Status.IP_HEADER_CUT_OFF);
         expect(refused(ipv6, { source: SOURCE }), Status.IP_VERSION);
+        thrown(() => library.translate(ipv6, { source: "::1", quoted: { source: SOURCE } }), TypeError);
     },
 
     async loadsOnce() {

@@ -315,8 +315,10 @@ static void call_echo(int is_ipv6, const uint8_t *source)
     memcpy(copy, packet, len);
     if (etherparse_echo_answer(copy, len, (uint8_t)below(256), &reply_len, &error) == ETHERPARSE_OK) {
         (void)(etherparse_echo_is_reply(packet, len, copy, reply_len, &error) == 0);
+        (void)(etherparse_echo_is_reply_from_any(packet, len, copy, reply_len, &error) == 0);
         copy[below(reply_len)] ^= (uint8_t)(1 << below(8));
         (void)(etherparse_echo_is_reply(packet, len, copy, reply_len, &error) == 0);
+        (void)(etherparse_echo_is_reply_from_any(packet, len, copy, reply_len, &error) == 0);
         memcpy(copy, packet, len);
         if (is_ipv6)
             (void)(etherparse_echo_answer_ipv6(copy, len, source, 64, &reply_len, &error) == 0);
@@ -330,6 +332,8 @@ static void call_translate(int is_ipv6)
 {
     etherparse_ipv4_translation to4 = {{203, 0, 113, 7}, {198, 51, 100, 9}, 40001, 53, 0, 0, 0, 0};
     etherparse_ipv6_translation to6 = {{0x20, 1, 0x0d, 0xb8, 0, 0, 9}, {0x20, 1, 0x0d, 0xb8, 8}, 40001, 53, 0, 0, 0, 0};
+    etherparse_ipv4_translation quoted4;
+    etherparse_ipv6_translation quoted6;
     memcpy(copy, packet, len);
     to4.has_source = to6.has_source = (uint8_t)below(2);
     to4.has_destination = to6.has_destination = (uint8_t)(to4.has_source ? below(2) : 1);
@@ -339,6 +343,25 @@ static void call_translate(int is_ipv6)
         (void)(etherparse_translate_ipv6(copy, len, &to6, &error) == 0);
     else
         (void)(etherparse_translate_ipv4(copy, len, &to4, &error) == 0);
+    /* The packet of an ICMP error is translated by another translation, which has no source port. */
+    quoted4 = to4;
+    quoted6 = to6;
+    quoted4.has_source_port = quoted6.has_source_port = 0;
+    memcpy(copy, packet, len);
+    if (is_ipv6)
+        (void)(etherparse_translate_ipv6_with_quoted(copy, len, &to6, &quoted6, &error) == 0);
+    else
+        (void)(etherparse_translate_ipv4_with_quoted(copy, len, &to4, &quoted4, &error) == 0);
+}
+
+/* Tests whether the checksum is partial, and stores the right checksum. */
+static void call_packet_checksum(void)
+{
+    uint32_t is_partial;
+    uint16_t checksum;
+    (void)(etherparse_packet_checksum_is_partial(packet, len, &is_partial, &error) == 0);
+    memcpy(copy, packet, len);
+    (void)(etherparse_packet_checksum_store(copy, len, &checksum, &error) == 0);
 }
 
 /* The sum of the packet in two parts, and the change of its checksum if the parts change places. */
@@ -367,6 +390,7 @@ static void call_all(void)
     (void)(etherparse_ip_header_addresses(packet, len, &addresses, &error) == 0);
     (void)(etherparse_ipv4_header_checksum(packet, len, &checksum, &error) == 0);
     (void)(etherparse_ipv4_header_checksum_test(packet, len, &error) == 0);
+    call_packet_checksum();
     call_sums();
     if (etherparse_transport_in_ip_lax(packet, len, &found, &error) != ETHERPARSE_OK)
         return;

@@ -127,6 +127,8 @@ function ipTransport(found, bytes) {
         source: octets(version, source),
         destination: destination === null ? new Array(16).fill(0) : octets(version, destination),
         is_length_missing: Number(found.isLengthMissing),
+        is_later_fragment: Number(found.isLaterFragment),
+        hop_limit: found.hopLimit,
     };
 }
 
@@ -233,7 +235,12 @@ function translation({ source, destination, ...parts }) {
     return Object.fromEntries(Object.entries(named).filter(([name]) => parts[`has_${snake(name)}`] !== 0));
 }
 
-const translated = ({ packet, translation: parts }) => ({ packet: changed(packet, (copy) => library.translate(copy, translation(parts))) });
+function translated({ packet, translation: parts, quoted: own }) {
+    const all = { ...translation(parts), ...(own === undefined ? {} : { quoted: translation(own) }) };
+    return { packet: changed(packet, (copy) => library.translate(copy, all)) };
+}
+
+const isReply = (is) => (is ? {} : { result: Status.ECHO_NO_REPLY, error: onlyStatus(Status.ECHO_NO_REPLY) });
 
 /** A reply, behind which the bytes of the request stay. */
 function answered(packet, options) {
@@ -305,13 +312,19 @@ const CALLS = {
     echo_answer: ({ packet, hop_limit: hopLimit }) => answered(packet, { hopLimit }),
     echo_answer_ipv4: ({ packet, source, time_to_live: hopLimit }) => answered(packet, { hopLimit, source }),
     echo_answer_ipv6: ({ packet, source, hop_limit: hopLimit }) => answered(packet, { hopLimit, source: library.addressText(source) }),
-    echo_is_reply: ({ request, reply }) => {
-        return library.isReplyTo(request, reply) ? {} : { result: Status.ECHO_NO_REPLY, error: onlyStatus(Status.ECHO_NO_REPLY) };
+    echo_is_reply: ({ request, reply }) => isReply(library.isReplyTo(request, reply)),
+    echo_is_reply_from_any: ({ request, reply }) => isReply(library.isReplyFromAny(request, reply)),
+    packet_checksum_is_partial: ({ bytes }) => ({ is_partial: Number(library.isChecksumPartial(bytes)) }),
+    packet_checksum_store: ({ packet }) => {
+        let checksum;
+        return { packet: changed(packet, (copy) => void (checksum = library.storeChecksum(copy))), checksum };
     },
     icmpv4_quoted_packet: ({ bytes }, expected) => quoted(library.quotedByIcmpv4(bytes), bytes, expected),
     icmpv6_quoted_packet: ({ bytes }, expected) => quoted(library.quotedByIcmpv6(bytes), bytes, expected),
     translate_ipv4: translated,
     translate_ipv6: translated,
+    translate_ipv4_with_quoted: translated,
+    translate_ipv6_with_quoted: translated,
     canonical_header: ({ protocol, bytes }) => ({ buffer: library.canonicalHeader(protocol, bytes) }),
     sum_new: () => ({ result: { ...new Sum() } }),
     sum_add: ({ sum, bytes }) => ({ result: { ...new Sum(sum.value).add(bytes) } }),

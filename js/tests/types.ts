@@ -31,7 +31,7 @@ export function options(segment: Uint8Array): Uint8Array {
 }
 
 export function changed(packet: Uint8Array): number {
-    translate(packet, { source: "192.0.2.1", destinationPort: 53 });
+    translate(packet, { source: "192.0.2.1", destinationPort: 53, quoted: { destination: "192.0.2.2" } });
     const change = new ChecksumChange().replace(packet.subarray(0, 2), answerEcho(packet, { hopLimit: 1 }).subarray(0, 2));
     return change.reversed().apply(new Sum().add(packet).addAt(1, packet).checksum());
 }

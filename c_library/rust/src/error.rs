@@ -1,6 +1,7 @@
 // SPDX-FileCopyrightText: 2026 The etherparse_transport developers
 // SPDX-License-Identifier: MIT OR Apache-2.0
 //! Why a call refused.
+use crate::ip::Untested;
 use crate::{Text, sys};
 use core::fmt;
 
@@ -196,6 +197,11 @@ pub enum ErrorKind {
     TranslateIcmpMessage,
     /// The packet that the ICMP error is about cannot be translated.
     TranslateQuotedPacket,
+    /// The checksum of the packet is not tested, so no checksum is stored in it.
+    ChecksumUntested {
+        /// Why it is not tested.
+        reason: Untested,
+    },
     /// A status that this crate does not know.
     Other {
         /// The status.
@@ -350,6 +356,7 @@ impl Error {
             sys::STATUS_TRANSLATE_HEADER_CUT_OFF => ErrorKind::TranslateHeaderCutOff { required_len, len },
             sys::STATUS_TRANSLATE_ICMP_MESSAGE => ErrorKind::TranslateIcmpMessage,
             sys::STATUS_TRANSLATE_QUOTED_PACKET => ErrorKind::TranslateQuotedPacket,
+            sys::STATUS_CHECKSUM_UNTESTED => ErrorKind::ChecksumUntested { reason: Untested::from_number(error.actual as u32) },
             status => ErrorKind::Other { status },
         }
     }

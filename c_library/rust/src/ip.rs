@@ -38,6 +38,10 @@ pub struct Transport<'a> {
     pub is_cut_off: bool,
     /// The IP header states no length, and all bytes are counted.
     pub is_length_missing: bool,
+    /// The offset of the fragment is above 0, so no transport header begins the payload.
+    pub is_later_fragment: bool,
+    /// The hops that are left: the time to live of IPv4, or the hop limit of IPv6.
+    pub hop_limit: u8,
 }
 
 /// The first four bytes of an address.
@@ -60,6 +64,8 @@ fn transport<'a>(bytes: &'a [u8], found: &sys::IpTransport) -> Transport<'a> {
         is_fragment: found.is_fragment != 0,
         is_cut_off: found.is_cut_off != 0,
         is_length_missing: found.is_length_missing != 0,
+        is_later_fragment: found.is_later_fragment != 0,
+        hop_limit: found.hop_limit as u8,
     }
 }
 
@@ -74,6 +80,7 @@ impl<'a> Transport<'a> {
     /// let packet = [0x45, 0, 0, 21, 0, 0, 0, 0, 64, 17, 0, 0, 10, 0, 0, 1, 10, 0, 0, 2, 0xAA, 0, 0];
     /// let transport = Transport::read(&packet)?;
     /// assert_eq!((transport.protocol, transport.payload), (17, [0xAA].as_slice()));
+    /// assert_eq!((transport.hop_limit, transport.is_later_fragment), (64, false));
     /// assert_eq!(transport.addresses, Addresses::Ipv4 { source: [10, 0, 0, 1], destination: [10, 0, 0, 2] });
     /// # Ok::<(), etherparse_transport_c::Error>(())
     /// ```
@@ -128,6 +135,21 @@ pub enum Untested {
     Other(u32),
 }
 
+impl Untested {
+    /// The reason with this number.
+    pub(crate) fn from_number(number: u32) -> Untested {
+        match number {
+            sys::VERDICT_UNTESTED_FRAGMENT => Untested::Fragment,
+            sys::VERDICT_UNTESTED_CUT_OFF => Untested::CutOff,
+            sys::VERDICT_UNTESTED_UNKNOWN_DESTINATION => Untested::UnknownDestination,
+            sys::VERDICT_UNTESTED_OTHER_PROTOCOL => Untested::OtherProtocol,
+            sys::VERDICT_UNTESTED_ZERO_LENGTH => Untested::ZeroLength,
+            sys::VERDICT_UNTESTED_TOO_LONG => Untested::TooLong,
+            number => Untested::Other(number),
+        }
+    }
+}
+
 /// What is said of the checksum of an IP packet.
 #[derive(Clone, Copy, Debug, PartialEq, Eq, Hash)]
 pub enum ChecksumVerdict {
@@ -152,19 +174,13 @@ pub enum ChecksumVerdict {
 impl ChecksumVerdict {
     fn of(packet: &sys::IpPacket) -> ChecksumVerdict {
         let expected = packet.expected_checksum;
-        ChecksumVerdict::Untested(match packet.verdict {
-            sys::VERDICT_RIGHT => return ChecksumVerdict::Right,
-            sys::VERDICT_ABSENT => return ChecksumVerdict::Absent,
-            sys::VERDICT_WRONG => return ChecksumVerdict::Wrong { expected },
-            sys::VERDICT_PARTIAL => return ChecksumVerdict::Partial { expected },
-            sys::VERDICT_UNTESTED_FRAGMENT => Untested::Fragment,
-            sys::VERDICT_UNTESTED_CUT_OFF => Untested::CutOff,
-            sys::VERDICT_UNTESTED_UNKNOWN_DESTINATION => Untested::UnknownDestination,
-            sys::VERDICT_UNTESTED_OTHER_PROTOCOL => Untested::OtherProtocol,
-            sys::VERDICT_UNTESTED_ZERO_LENGTH => Untested::ZeroLength,
-            sys::VERDICT_UNTESTED_TOO_LONG => Untested::TooLong,
-            number => Untested::Other(number),
-        })
+        match packet.verdict {
+            sys::VERDICT_RIGHT => ChecksumVerdict::Right,
+            sys::VERDICT_ABSENT => ChecksumVerdict::Absent,
+            sys::VERDICT_WRONG => ChecksumVerdict::Wrong { expected },
+            sys::VERDICT_PARTIAL => ChecksumVerdict::Partial { expected },
+            number => ChecksumVerdict::Untested(Untested::from_number(number)),
+        }
     }
 
     /// The number of the verdict in [`sys`].
@@ -415,6 +431,79 @@ pub fn is_reply_to(request: &[u8], reply: &[u8]) -> bool {
     status == sys::OK
 }
 
+/// Whether the second packet is the reply to the echo request in the first packet, from the address of any host, otherwise as
+/// [`is_reply_to`]. A host that answers a request to an anycast address replies from its own address.
+///
+/// ```
+/// use etherparse_transport_c::ip;
+/// let request = [
+///     0x45, 0, 0, 28, 0, 0, 0, 0, 64, 1, 0xF6, 0xDD, 192, 0, 2, 1, 192, 0, 2, 2,
+///     8, 0, 0xF7, 0xFD, 0, 1, 0, 1,
+/// ];
+/// // The reply comes from 192.0.2.3.
+/// let mut reply = request;
+/// reply[12..20].copy_from_slice(&[192, 0, 2, 3, 192, 0, 2, 1]);
+/// reply[20..24].copy_from_slice(&[0, 0, 0xFF, 0xFD]);
+/// ip::store_ipv4_header_checksum(&mut reply)?;
+/// assert!(ip::is_reply_from_any(&request, &reply) && !ip::is_reply_to(&request, &reply));
+/// # Ok::<(), etherparse_transport_c::Error>(())
+/// ```
+pub fn is_reply_from_any(request: &[u8], reply: &[u8]) -> bool {
+    let mut error = sys::Error::default();
+    // SAFETY: each pointer is that of a live reference, and the error overlaps no packet.
+    let status =
+        unsafe { sys::etherparse_echo_is_reply_from_any(request.as_ptr(), request.len(), reply.as_ptr(), reply.len(), &mut error) };
+    status == sys::OK
+}
+
+/// Whether the checksum of UDP, TCP or ICMPv6 in the IP packet at the front of the bytes is partial: the sum of only the pseudo header. A
+/// host leaves the rest to its network card. The payload is not read. A fragment and any other protocol have no partial checksum.
+///
+/// Errors: as [`Packet::read`].
+///
+/// ```
+/// use etherparse_transport_c::ip;
+/// let mut packet = [
+///     0x45, 0, 0, 31, 0, 7, 0, 0, 64, 17, 0xF7, 0x73, 192, 168, 1, 1, 192, 168, 1, 2,
+///     0, 21, 4, 210, 0, 11, 0x83, 0x70, b'a', b'b', b'c',
+/// ];
+/// assert!(ip::is_checksum_partial(&packet)?);
+/// assert_eq!(ip::store_checksum(&mut packet)?, 0xB33A);
+/// assert!(!ip::is_checksum_partial(&packet)?);
+/// assert_eq!(ip::Packet::read(&packet)?.verdict, ip::ChecksumVerdict::Right);
+/// # Ok::<(), etherparse_transport_c::Error>(())
+/// ```
+pub fn is_checksum_partial(bytes: &[u8]) -> Result<bool, Error> {
+    let (mut is_partial, mut error) = (0, sys::Error::default());
+    // SAFETY: each pointer is that of a live reference, and no two overlap.
+    let status = unsafe { sys::etherparse_packet_checksum_is_partial(bytes.as_ptr(), bytes.len(), &mut is_partial, &mut error) };
+    answer(status, (), error).map(|()| is_partial != 0)
+}
+
+/// Stores the right checksum of UDP, TCP or ICMP in the IP packet at the front of the bytes, and returns it. No other byte changes. A UDP
+/// packet over IPv4 without a checksum gets a checksum.
+///
+/// Errors: as [`Packet::read`], where places count from the first byte of the transport; `ChecksumUntested` if the verdict of
+/// [`Packet::read`] is [`ChecksumVerdict::Untested`]. The bytes are as they were.
+///
+/// ```
+/// use etherparse_transport_c::{ErrorKind, ip};
+/// // A first fragment.
+/// let mut packet = [0x45, 0, 0, 28, 0, 0, 0x20, 0, 64, 17, 0, 0, 10, 0, 0, 1, 10, 0, 0, 2, 0, 21, 4, 210, 0, 8, 0, 0];
+/// let error = ip::store_checksum(&mut packet).unwrap_err();
+/// assert_eq!(error.kind(), ErrorKind::ChecksumUntested { reason: ip::Untested::Fragment });
+/// assert_eq!(error.to_string(), "Checksum Error: the packet is a fragment.");
+/// packet[6] = 0;
+/// assert_eq!(ip::store_checksum(&mut packet)?, 0xE6F4);
+/// # Ok::<(), etherparse_transport_c::Error>(())
+/// ```
+pub fn store_checksum(packet: &mut [u8]) -> Result<u16, Error> {
+    let (mut checksum, mut error) = (0, sys::Error::default());
+    // SAFETY: as above.
+    let status = unsafe { sys::etherparse_packet_checksum_store(packet.as_mut_ptr(), packet.len(), &mut checksum, &mut error) };
+    answer(status, (), error).map(|()| checksum)
+}
+
 /// What [`translate_ipv4`] replaces. `None` keeps what the packet contains.
 #[derive(Clone, Copy, Debug, Default, PartialEq, Eq, Hash)]
 pub struct Ipv4Translation {
@@ -476,6 +565,33 @@ pub fn translate_ipv4(packet: &mut [u8], new: &Ipv4Translation) -> Result<(), Er
     answer(status, (), error)
 }
 
+/// Translates the IPv4 packet at the front of the bytes, in place, and the packet that an ICMP error is about by a translation of its own.
+/// `quoted` replaces source and destination of that packet, which went in the other direction (RFC 5508, section 4).
+///
+/// Errors: as [`translate_ipv4`]. The ports of `quoted` count for the packet that an ICMP error is about. The bytes are as they were.
+///
+/// ```
+/// use etherparse_transport_c::ip::{self, Ipv4Translation};
+/// // A router, 10.0.0.9, reports that a packet to 10.0.0.1 took too long.
+/// let mut packet = [
+///     0x45, 0, 0, 56, 0, 0, 0, 0, 64, 1, 0, 0, 10, 0, 0, 9, 198, 51, 100, 7, 11, 0, 0, 0, 0, 0, 0, 0,
+///     0x45, 0, 0, 28, 0, 0, 0, 0, 1, 17, 0, 0, 198, 51, 100, 7, 10, 0, 0, 1, 0, 53, 0x13, 0x88, 0, 8, 0, 0,
+/// ];
+/// let new = Ipv4Translation { source: Some([203, 0, 113, 9]), ..Default::default() };
+/// let quoted = Ipv4Translation { destination: Some([203, 0, 113, 7]), destination_port: Some(40001), ..Default::default() };
+/// ip::translate_ipv4_with_quoted(&mut packet, &new, &quoted)?;
+/// assert_eq!((packet[15], &packet[44..52]), (9, [203, 0, 113, 7, 0, 53, 0x9C, 0x41].as_slice()));
+/// # Ok::<(), etherparse_transport_c::Error>(())
+/// ```
+pub fn translate_ipv4_with_quoted(packet: &mut [u8], new: &Ipv4Translation, quoted: &Ipv4Translation) -> Result<(), Error> {
+    let mut error = sys::Error::default();
+    let (new, quoted) = (new.to_sys(), quoted.to_sys());
+    // SAFETY: each pointer is that of a live reference, and no two overlap.
+    let status =
+        unsafe { sys::etherparse_translate_ipv4_with_quoted(packet.as_mut_ptr(), packet.len(), &new, &quoted, &mut error) };
+    answer(status, (), error)
+}
+
 /// What [`translate_ipv6`] replaces. `None` keeps what the packet contains.
 #[derive(Clone, Copy, Debug, Default, PartialEq, Eq, Hash)]
 pub struct Ipv6Translation {
@@ -533,5 +649,18 @@ pub fn translate_ipv6(packet: &mut [u8], new: &Ipv6Translation) -> Result<(), Er
     let mut error = sys::Error::default();
     // SAFETY: each pointer is that of a live reference, and no two overlap.
     let status = unsafe { sys::etherparse_translate_ipv6(packet.as_mut_ptr(), packet.len(), &new.to_sys(), &mut error) };
+    answer(status, (), error)
+}
+
+/// Translates the IPv6 packet at the front of the bytes, in place, and the packet that an ICMP error is about by a translation of its own,
+/// otherwise as [`translate_ipv4_with_quoted`].
+///
+/// Errors: as [`translate_ipv6`]. The ports of `quoted` count for the packet that an ICMP error is about. The bytes are as they were.
+pub fn translate_ipv6_with_quoted(packet: &mut [u8], new: &Ipv6Translation, quoted: &Ipv6Translation) -> Result<(), Error> {
+    let mut error = sys::Error::default();
+    let (new, quoted) = (new.to_sys(), quoted.to_sys());
+    // SAFETY: each pointer is that of a live reference, and no two overlap.
+    let status =
+        unsafe { sys::etherparse_translate_ipv6_with_quoted(packet.as_mut_ptr(), packet.len(), &new, &quoted, &mut error) };
     answer(status, (), error)
 }

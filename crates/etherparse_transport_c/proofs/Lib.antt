@@ -6,6 +6,7 @@ pub mod Icmpv4ReadsBackLemmas
 pub mod Icmpv6ReadsBackLemmas
 pub mod IpLemmas
 pub mod Ipv4HeaderLemmas
+pub mod PacketChecksumLemmas
 pub mod PacketVerdictLemmas
 pub mod QuotedPacketLemmas
 pub mod SumLemmas

@@ -2,7 +2,7 @@
 use Rattle.std.specs.Prelude.{◌≡◌, ◌⊎◌, ℕ, List, Option, Some}
 use Rattle.std.specs.Option.{option_map}
 use Rattle.etherparse_transport.specs.EchoReplies.{answer_refusal, ipv4_answer_refusal, ipv6_answer_refusal}
-use Rattle.etherparse_transport.specs.ReplyTo.{IsReplyTo}
+use Rattle.etherparse_transport.specs.ReplyTo.{IsReplyFromAny, IsReplyTo}
 use Rattle.etherparse_transport_c.specs.Errors.{of_answer_echo}
 use Rattle.etherparse_transport_c.specs.Numbers as numbers
 use Rattle.etherparse_transport_c.specs.declared.error.EtherparseError.{EtherparseError}
@@ -19,7 +19,14 @@ ipv4_refusal source packet = option_map of_answer_echo (ipv4_answer_refusal (Som
 abbrev pub ipv6_refusal : List ℕ → List ℕ → Option EtherparseError
 ipv6_refusal source packet = option_map of_answer_echo (ipv6_answer_refusal (Some source) packet)
 
--- the status of the test of a reply, which states whether the second packet is the reply to the first
+-- the status of the test of a reply: `OK` if it is the reply, and otherwise `ECHO_NO_REPLY`
+abbrev pub TellsWhether : Type 0 → ℕ → Type 0
+TellsWhether IsReply status = ((status ≡ numbers.status_ok) × IsReply) ⊎ ((status ≡ numbers.status_echo_no_reply) × (IsReply → ⊥))
+
+-- the status of the test whether the second packet is the reply to the first
 abbrev pub ReplyTells : List ℕ → List ℕ → ℕ → Type 0
-ReplyTells request reply status =
-    ((status ≡ numbers.status_ok) × IsReplyTo request reply) ⊎ ((status ≡ numbers.status_echo_no_reply) × (IsReplyTo request reply → ⊥))
+ReplyTells request reply status = TellsWhether (IsReplyTo request reply) status
+
+-- the status of the test whether the second packet is the reply to the first, from the address of any host
+abbrev pub AnyReplyTells : List ℕ → List ℕ → ℕ → Type 0
+AnyReplyTells request reply status = TellsWhether (IsReplyFromAny request reply) status

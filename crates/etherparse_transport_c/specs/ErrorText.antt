@@ -3,7 +3,7 @@ use Rattle.std.specs.Prelude.{ℕ, ◌==◌, ◌&&◌, nat_lt, nat_le, if◌then
 use Rattle.std.specs.Fmt.{decimal}
 use Rattle.std.specs.List.{concat}
 use Rattle.std.specs.Option.{option_map}
-use Rattle.etherparse_transport.specs.ErrorTexts.{answer_echo_text, translate_text}
+use Rattle.etherparse_transport.specs.ErrorTexts.{answer_echo_text, translate_text, untested_text}
 use Rattle.etherparse_transport.specs.declared.err.packet.answer_echo_error.AnswerEchoError.{AnswerEchoError}
 use Rattle.etherparse_transport.specs.declared.err.packet.answer_echo_error.AnswerEchoError.TheVariants as echo
 use Rattle.etherparse_transport.specs.declared.err.packet.translate_error.TranslateError.{TranslateError}
@@ -25,6 +25,8 @@ use Rattle.net_base.specs.declared.err.value_type.ValueType.TheVariants as value
 use Rattle.net_base.specs.declared.tcp_option_read_error.TcpOptionReadError.{TcpOptionReadError}
 use Rattle.net_base.specs.declared.tcp_option_read_error.TcpOptionReadError.TheVariants.{UnexpectedEndOfSlice, UnexpectedSize, UnknownId}
 use Rattle.net_base.specs.declared.tcp_option_write_error.TcpOptionWriteError.TheVariants.{NotEnoughSpace}
+use Rattle.transport_part.specs.declared.checksum_verdict.Untested as reasons
+use Rattle.transport_part.specs.declared.checksum_verdict.Untested.TheVariants.{CutOff, Fragment, OtherProtocol, TooLong, UnknownDestination, ZeroLength}
 use Rattle.etherparse_transport_c.specs.Numbers as numbers
 use Rattle.etherparse_transport_c.specs.declared.error.EtherparseError.{EtherparseError}
 
@@ -76,6 +78,17 @@ value_type_at number =
     else if number == numbers.value_icmpv6_payload_length then Some values.Icmpv6PayloadLength
     else None
 
+-- the reason why a checksum is not tested, with the verdict of this number
+abbrev pub untested_at : ℕ → Option reasons.Untested
+untested_at number =
+    if number == numbers.verdict_untested_fragment then Some Fragment
+    else if number == numbers.verdict_untested_cut_off then Some CutOff
+    else if number == numbers.verdict_untested_unknown_destination then Some UnknownDestination
+    else if number == numbers.verdict_untested_other_protocol then Some OtherProtocol
+    else if number == numbers.verdict_untested_zero_length then Some ZeroLength
+    else if number == numbers.verdict_untested_too_long then Some TooLong
+    else None
+
 -- a number, if it fits into a byte
 abbrev pub byte_in : ℕ → Option ℕ
 byte_in number = if nat_lt number 256 then Some number else None
@@ -100,11 +113,11 @@ value_error_in error = option_map
     (λ value_type. record { actual = error.actual; max_allowed = error.max_allowed; value_type = value_type })
     (value_type_at error.value_type)
 
--- the fault of a TCP header
+-- the reason why a TCP header is refused
 abbrev pub header_error_in : EtherparseError → Option HeaderError
 header_error_in error = option_map DataOffsetTooSmall (byte_in error.data_offset)
 
--- the fault of an option of the known kinds
+-- the reason why an option of a known kind is refused
 abbrev pub option_error_in : EtherparseError → Option TcpOptionReadError
 option_error_in error = option_and_then
     (λ kind.
@@ -131,7 +144,7 @@ ip_error_in error =
     else if error.status == numbers.status_ip_jumbo_payload_fragment then Some (ip.JumboPayloadFragment error.layer_start_offset)
     else None
 
--- the reason why an echo request is refused; only the status is used
+-- the reason why an echo request is refused, by its status
 abbrev pub answer_echo_error_in : EtherparseError → Option AnswerEchoError
 answer_echo_error_in error =
     if error.status == numbers.status_echo_fragment then Some echo.Fragment
@@ -142,7 +155,7 @@ answer_echo_error_in error =
     else if error.status == numbers.status_echo_reply_source then Some echo.ReplySource
     else None
 
--- the reason why a packet is not translated; only statuses of protocol, header, message and quoted packet are listed here
+-- the reason why a packet is not translated, for the statuses of its protocol, header, message and quoted packet
 abbrev pub translate_error_in : EtherparseError → Option TranslateError
 translate_error_in error =
     if error.status == numbers.status_translate_protocol then option_map (λ number. translate.Protocol (record { 0 = number })) (byte_in error.actual)
@@ -153,8 +166,17 @@ translate_error_in error =
 
 -- ---- the text of an error
 
--- The text of an error that the library does not have: an error of only the library for C, a source route, or numbers that no call returns.
--- The status of a source route comes after the other statuses of a translation.
+-- the text of the library's error, or this other text if there is no such error
+abbrev pub text_or : {E : Type 0} → List ℕ → (E → List ℕ) → Option E → List ℕ
+text_or other text None = other
+text_or other text (Some error) = text error
+
+-- the text of a checksum that is not tested, with the verdict of this number
+abbrev pub untested_text_at : ℕ → List ℕ
+untested_text_at number = text_or (codes "Unknown error.") untested_text (untested_at number)
+
+-- The text of an error that exists only in the library for C, of numbers that no call returns, and of statuses from 44 on. These are not
+-- next to the other statuses of their calls.
 abbrev pub own_text : EtherparseError → List ℕ
 own_text error =
     if error.status == numbers.status_ok then codes "No error."
@@ -175,12 +197,8 @@ own_text error =
     else if error.status == numbers.status_no_icmp_error then codes "ICMP Error: the message is no error."
     else if error.status == numbers.status_echo_no_reply then codes "Echo Error: the packet is not the reply to the request."
     else if error.status == numbers.status_translate_source_route then translate_text translate.SourceRoute
+    else if error.status == numbers.status_checksum_untested then untested_text_at error.actual
     else codes "Unknown error."
-
--- the text of the library's error if there is one, and another text otherwise
-abbrev pub text_or : {E : Type 0} → List ℕ → (E → List ℕ) → Option E → List ℕ
-text_or other text None = other
-text_or other text (Some error) = text error
 
 -- the text of any error
 abbrev pub text_of : EtherparseError → List ℕ

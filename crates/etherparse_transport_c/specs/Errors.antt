@@ -4,6 +4,8 @@ use Rattle.etherparse_transport.specs.declared.err.packet.answer_echo_error.Answ
 use Rattle.etherparse_transport.specs.declared.err.packet.answer_echo_error.AnswerEchoError.TheVariants as echo
 use Rattle.etherparse_transport.specs.declared.err.packet.translate_error.TranslateError.{TranslateError}
 use Rattle.etherparse_transport.specs.declared.err.packet.translate_error.TranslateError.TheVariants as translate
+use Rattle.etherparse_transport.specs.declared.err.packet.write_checksum_error.WriteChecksumError.{WriteChecksumError}
+use Rattle.etherparse_transport.specs.declared.err.packet.write_checksum_error.WriteChecksumError.TheVariants as write
 use Rattle.ip_part.specs.declared.ip_error.IpError.{IpError}
 use Rattle.ip_part.specs.declared.ip_error.IpError.TheVariants as ip
 use Rattle.net_base.specs.Refusals.{refused_if}
@@ -25,6 +27,8 @@ use Rattle.net_base.specs.declared.tcp_option_write_error.TcpOptionWriteError.Th
 use Rattle.tcp_part.specs.TcpOptions.{max_options_len}
 use Rattle.tcp_part.specs.declared.tcp_raw_option_error.TcpRawOptionError.{TcpRawOptionError}
 use Rattle.tcp_part.specs.declared.tcp_raw_option_error.TcpRawOptionError.TheVariants.{NoLengthByte, LengthBelowTwo, LengthBeyondEnd}
+use Rattle.transport_part.specs.declared.checksum_verdict.Untested as reasons
+use Rattle.transport_part.specs.declared.checksum_verdict.Untested.TheVariants.{CutOff, Fragment, OtherProtocol, TooLong, UnknownDestination, ZeroLength}
 use Rattle.etherparse_transport_c.specs.Numbers as numbers
 use Rattle.etherparse_transport_c.specs.declared.answer.Answer.{Answer}
 use Rattle.etherparse_transport_c.specs.declared.answer.ErrorPlace.{ErrorPlace}
@@ -54,6 +58,15 @@ value_type_number values.UdpPayloadLengthIpv6 = numbers.value_udp_payload_length
 value_type_number values.TcpPayloadLengthIpv4 = numbers.value_tcp_payload_length_ipv4
 value_type_number values.TcpPayloadLengthIpv6 = numbers.value_tcp_payload_length_ipv6
 value_type_number values.Icmpv6PayloadLength = numbers.value_icmpv6_payload_length
+
+-- the number in C of the verdict on a checksum that is not tested for this reason
+abbrev pub untested_number : reasons.Untested → ℕ
+untested_number Fragment = numbers.verdict_untested_fragment
+untested_number CutOff = numbers.verdict_untested_cut_off
+untested_number UnknownDestination = numbers.verdict_untested_unknown_destination
+untested_number OtherProtocol = numbers.verdict_untested_other_protocol
+untested_number ZeroLength = numbers.verdict_untested_zero_length
+untested_number TooLong = numbers.verdict_untested_too_long
 
 -- ---- errors
 
@@ -103,7 +116,7 @@ of_value error = record nothing {
 abbrev pub of_buffer : ℕ → ℕ → EtherparseError
 of_buffer required_len len = record nothing { status = numbers.status_buffer_too_small; required_len = required_len; len = len }
 
--- flags of a TCP header that contain a bit that is none of the nine flags
+-- flags of a TCP header with a bit other than the nine flags
 abbrev pub of_flags : ℕ → EtherparseError
 of_flags flags = record nothing { status = numbers.status_flags_unknown; actual = flags; max_allowed = numbers.tcp_flags }
 
@@ -119,13 +132,13 @@ of_status status = record nothing { status = status }
 abbrev pub of_options : TcpOptionWriteError → EtherparseError
 of_options (NotEnoughSpace len) = record nothing { status = numbers.status_options_too_long; required_len = max_options_len; len = len }
 
--- the fault of an option of the known kinds
+-- an option of a known kind that can't be read
 abbrev pub of_option : TcpOptionReadError → EtherparseError
 of_option (UnexpectedEndOfSlice kind expected left) = record nothing { status = numbers.status_option_cut_off; option_kind = kind; required_len = expected; len = left }
 of_option (UnexpectedSize kind size) = record nothing { status = numbers.status_option_size; option_kind = kind; option_size = size }
 of_option (UnknownId kind) = record nothing { status = numbers.status_option_unknown; option_kind = kind }
 
--- the fault of an option of any kind; if the length byte is missing, two bytes are required and one is present
+-- an option of any kind that can't be read; if the length byte is missing, two bytes are required and one is present
 abbrev pub of_raw_option : TcpRawOptionError → EtherparseError
 of_raw_option (NoLengthByte kind) = record nothing { status = numbers.status_option_cut_off; option_kind = kind; required_len = 2; len = 1 }
 of_raw_option (LengthBelowTwo kind size) = record nothing { status = numbers.status_option_size; option_kind = kind; option_size = size }
@@ -140,7 +153,7 @@ of_option_kind kind = record nothing { status = numbers.status_option_unknown; o
 abbrev pub of_option_values : ℕ → EtherparseError
 of_option_values kind = record nothing { status = numbers.status_option_values; option_kind = kind }
 
--- a wrong length of an IP packet, and the length that would have been accepted
+-- a wrong length of an IP packet, and the length that the call would have accepted
 abbrev pub of_ip_length : ℕ → ℕ → ℕ → EtherparseError
 of_ip_length status required_len len = record nothing { status = status; required_len = required_len; len = len }
 
@@ -185,6 +198,12 @@ of_translate other_version (translate.HeaderCutOff required_len len) =
 of_translate other_version translate.IcmpMessage = of_status numbers.status_translate_icmp_message
 of_translate other_version translate.QuotedPacket = of_status numbers.status_translate_quoted_packet
 
+-- a packet in which no checksum is stored; if its checksum is not tested, the field `actual` contains the verdict
+abbrev pub of_write_checksum : WriteChecksumError → EtherparseError
+of_write_checksum (write.Ip error) = of_ip error
+of_write_checksum (write.Transport error) = of_header_slice error
+of_write_checksum (write.Untested why) = record nothing { status = numbers.status_checksum_untested; actual = untested_number why }
+
 -- ---- results of calls
 
 -- the status of a call: 0, or the status of the refusal
@@ -192,11 +211,11 @@ abbrev pub status_of : Option EtherparseError → ℕ
 status_of None = numbers.status_ok
 status_of (Some error) = error.status
 
--- after the call the memory that the pointer points to contains this error, unless the pointer is NULL
+-- unless the pointer is NULL, it points to this error after the call
 abbrev pub Leaves : ErrorPlace → Answer → EtherparseError → Type 0
 Leaves place answer error = (answer.pointer ≡ place.pointer) × (answer.error ≡ error)
 
--- the value that a pointer points to after the call: the new value, or the value before if the call refused
+-- what a pointer points to after the call: the new value, or the old value if the call refused its input
 abbrev pub unless_refused : {A : Type 0} → Option EtherparseError → A → A → A
 unless_refused None made before = made
 unless_refused (Some error) made before = before
@@ -216,8 +235,8 @@ Tells (Some error) absent Valid status = status ≡ error.status
 Tells None true Valid status = status ≡ numbers.status_checksum_absent
 Tells None false Valid status = ((status ≡ numbers.status_ok) × Valid) ⊎ ((status ≡ numbers.status_checksum_wrong) × (Valid → ⊥))
 
--- The error after a test that returned this status. It is the refusal if the packet was refused. Otherwise it consists only of the status,
--- and after `OK` it is unchanged.
+-- The error after a test that returned this status. If the packet is refused, it is the refusal. After `OK` the error is unchanged. After
+-- any other status the error consists only of the status.
 abbrev pub test_error : Option EtherparseError → ℕ → EtherparseError → EtherparseError
 test_error (Some error) status before = error
 test_error None status before = if status == numbers.status_ok then before else of_status status

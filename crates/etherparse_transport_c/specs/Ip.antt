@@ -4,6 +4,8 @@ use Rattle.std.specs.Int.{from_bool}
 use Rattle.std.specs.Option.{option_map}
 use Rattle.ip_part.specs.Ip as ip
 use Rattle.ip_part.specs.Ip.{Carries, counted, is_cut_off}
+use Rattle.ip_part.specs.FixedHeaders as fixed
+use Rattle.ip_part.specs.FixedHeaders.{Fixed, fixed_header}
 use Rattle.ip_part.specs.Headers.{Headers}
 use Rattle.ip_part.specs.Addresses.{Addresses, Ipv4, Ipv6}
 use Rattle.ip_part.specs.declared.ip_error.IpError.{IpError}
@@ -50,6 +52,12 @@ has_destination (Ipv6 source None) = false
 
 -- ---- the transport
 
+-- the number of hops that are left, in the fixed part of an IP header; each accepted packet has a fixed part
+abbrev pub hop_limit_in : Option Fixed → ℕ
+hop_limit_in (Some (fixed.Ipv4 source destination time_to_live protocol)) = time_to_live
+hop_limit_in (Some (fixed.Ipv6 source destination hop_limit next_header)) = hop_limit
+hop_limit_in None = 0
+
 -- The result of reading a packet with these headers. The payload begins after the headers, and ends with the last byte that the IP header
 -- counts.
 abbrev pub transport_in : Bool → List ℕ → Headers → EtherparseIpTransport
@@ -64,6 +72,8 @@ transport_in is_length_missing packet headers = record {
   source = source_of headers.addresses;
   destination = destination_of headers.addresses;
   is_length_missing = from_bool is_length_missing;
+  is_later_fragment = from_bool headers.is_later_fragment;
+  hop_limit = hop_limit_in (fixed_header packet);
 }
 
 -- the result of reading a packet, if its headers can be read; a refused packet leaves the value before

@@ -10,6 +10,7 @@ pub mod Ip
 pub mod IpAddresses
 pub mod Ipv4Header
 pub mod Numbers
+pub mod PacketChecksum
 pub mod PacketVerdict
 pub mod QuotedPackets
 pub mod StatusName

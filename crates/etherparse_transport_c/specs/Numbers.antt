@@ -110,23 +110,23 @@ status_echo_reply_source = 37
 abbrev pub status_no_icmp_error : ℕ
 status_no_icmp_error = 38
 
--- reserved for a packet to be translated with IPv4 options; no call returns it
+-- reserved for the translation of a packet with IPv4 options; no call returns it
 abbrev pub status_translate_has_options : ℕ
 status_translate_has_options = 39
 
--- a packet to be translated whose protocol is not UDP, TCP or ICMP of its IP version
+-- not translated: the protocol of the packet is not UDP, TCP or ICMP of its IP version
 abbrev pub status_translate_protocol : ℕ
 status_translate_protocol = 40
 
--- a packet to be translated whose transport header is cut off
+-- not translated: the packet ends within its transport header
 abbrev pub status_translate_header_cut_off : ℕ
 status_translate_header_cut_off = 41
 
--- an ICMP message to be translated that is no query and no error, or a redirect
+-- not translated: the ICMP message is a redirect, or neither a query nor an error
 abbrev pub status_translate_icmp_message : ℕ
 status_translate_icmp_message = 42
 
--- an ICMP error about a packet that can't be translated
+-- not translated: the packet that an ICMP error is about can't be translated
 abbrev pub status_translate_quoted_packet : ℕ
 status_translate_quoted_packet = 43
 
@@ -134,9 +134,13 @@ status_translate_quoted_packet = 43
 abbrev pub status_echo_no_reply : ℕ
 status_echo_no_reply = 44
 
--- a packet to be translated with a source route
+-- not translated: the IPv4 options contain a source route
 abbrev pub status_translate_source_route : ℕ
 status_translate_source_route = 45
+
+-- a packet whose checksum is not tested, so that no checksum is stored in it
+abbrev pub status_checksum_untested : ℕ
+status_checksum_untested = 46
 
 -- ---- layers whose length can be wrong; 8 and above are reserved for headers of IP
 
@@ -186,8 +190,8 @@ value_tcp_payload_length_ipv6 = 4
 abbrev pub value_icmpv6_payload_length : ℕ
 value_icmpv6_payload_length = 5
 
--- ---- flags of a TCP header: the flags of byte 13 have their bits in that byte, and NS, bit 0 of byte 12, has the bit above them (RFC
--- 9293, section 3.1; RFC 3168, section 6.1; RFC 3540, section 9)
+-- ---- flags of a TCP header (RFC 9293, section 3.1; RFC 3168, section 6.1; RFC 3540, section 9): eight flags have their bits in byte 13.
+-- NS, which is bit 0 of byte 12, has the next higher bit.
 
 abbrev pub tcp_fin : ℕ
 tcp_fin = 0x001

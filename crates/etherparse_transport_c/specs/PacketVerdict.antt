@@ -5,8 +5,6 @@ use Rattle.transport_part.specs.Transports.{kept, proto_of, refusal_by}
 use Rattle.transport_part.specs.Verdicts.{JudgesFound}
 use Rattle.transport_part.specs.declared.checksum_verdict.ChecksumVerdict.{ChecksumVerdict}
 use Rattle.transport_part.specs.declared.checksum_verdict.ChecksumVerdict.TheVariants.{Absent, Partial, Right, Untested, Wrong}
-use Rattle.transport_part.specs.declared.checksum_verdict.Untested as reasons
-use Rattle.transport_part.specs.declared.checksum_verdict.Untested.TheVariants.{CutOff, Fragment, OtherProtocol, TooLong, UnknownDestination, ZeroLength}
 use Rattle.transport_part.specs.declared.transport_slice.TransportSlice.{TransportSlice}
 use Rattle.ip_part.specs.Ip.{Carries, counted, headers_of, is_cut_off, lacks_len}
 use Rattle.ip_part.specs.Headers.{Headers}
@@ -17,7 +15,7 @@ use Rattle.ip_part.specs.declared.proto.Proto.TheVariants.{Icmpv4, Icmpv6, Tcp, 
 use Rattle.ip_part.specs.declared.transport.TransportInIp.{TransportInIp}
 use Rattle.net_base.specs.declared.err.tcp.header_slice_error.HeaderSliceError.{HeaderSliceError}
 use Rattle.net_base.specs.declared.err.tcp.header_slice_error.HeaderSliceError.TheVariants.{Len, Content}
-use Rattle.etherparse_transport_c.specs.Errors.{first_refusal, of_header_slice, of_len}
+use Rattle.etherparse_transport_c.specs.Errors.{first_refusal, of_header_slice, of_len, untested_number}
 use Rattle.etherparse_transport_c.specs.Ip as ip
 use Rattle.etherparse_transport_c.specs.Ip.{HasPayload, transport_in}
 use Rattle.etherparse_transport_c.specs.Numbers as numbers
@@ -70,15 +68,6 @@ abbrev pub header_protocol : Option TransportSlice → ℕ
 header_protocol None = 0
 header_protocol (Some transport) = proto_number (proto_of transport)
 
--- the number of a reason why a checksum is not tested
-abbrev pub untested_number : reasons.Untested → ℕ
-untested_number Fragment = numbers.verdict_untested_fragment
-untested_number CutOff = numbers.verdict_untested_cut_off
-untested_number UnknownDestination = numbers.verdict_untested_unknown_destination
-untested_number OtherProtocol = numbers.verdict_untested_other_protocol
-untested_number ZeroLength = numbers.verdict_untested_zero_length
-untested_number TooLong = numbers.verdict_untested_too_long
-
 -- the number of a verdict
 abbrev pub verdict_number : ChecksumVerdict → ℕ
 verdict_number Right = numbers.verdict_right
@@ -106,7 +95,7 @@ packet_in is_length_missing packet headers transport verdict = record {
   expected_checksum = expected_checksum verdict;
 }
 
--- the result `told` contains the transport that the packet carries, and the verdict on it
+-- the result `told` contains the transport that the packet carries, and the verdict on its checksum
 pub record IsJudged (is_length_missing : Bool) (packet : List ℕ) (told : EtherparseIpPacket) : Type 0 where
   pub carried : TransportInIp
   pub carries : Carries packet carried

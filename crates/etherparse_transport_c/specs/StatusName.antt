@@ -49,4 +49,5 @@ status_name status =
     else if status == numbers.status_translate_quoted_packet then codes "ETHERPARSE_STATUS_TRANSLATE_QUOTED_PACKET"
     else if status == numbers.status_echo_no_reply then codes "ETHERPARSE_STATUS_ECHO_NO_REPLY"
     else if status == numbers.status_translate_source_route then codes "ETHERPARSE_STATUS_TRANSLATE_SOURCE_ROUTE"
+    else if status == numbers.status_checksum_untested then codes "ETHERPARSE_STATUS_CHECKSUM_UNTESTED"
     else codes "unknown status"

@@ -49,4 +49,5 @@ status_text status =
     else if status == numbers.status_translate_quoted_packet then codes "the packet that the ICMP error is about cannot be translated"
     else if status == numbers.status_echo_no_reply then codes "the packet is not the reply to the echo request"
     else if status == numbers.status_translate_source_route then codes "the packet has a source route, and is not translated"
+    else if status == numbers.status_checksum_untested then codes "the checksum of the packet is not tested"
     else codes "unknown status"

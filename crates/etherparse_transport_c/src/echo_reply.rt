@@ -5,23 +5,28 @@ ghost use Rattle.etherparse_transport.specs.EchoReplies as replies;
 ghost use Rattle.etherparse_transport.specs.EchoReplies.{icmpv4_reply_to, icmpv6_reply_to, ipv4_reply, ipv6_reply, message_after};
 ghost use Rattle.etherparse_transport.specs.Packets.{IsReadAs};
 ghost use Rattle.etherparse_transport.specs.declared.transport_header.TransportHeader.TheVariants as headers;
-ghost use Rattle.etherparse_transport_c.specs.EchoReplies.{ReplyTells, ipv4_refusal, ipv6_refusal, refusal};
+ghost use Rattle.etherparse_transport_c.specs.EchoReplies.{AnyReplyTells, ReplyTells, ipv4_refusal, ipv6_refusal, refusal};
 ghost use Rattle.etherparse_transport_c.specs.Errors.{Leaves, status_of, test_error, unless_refused};
 
 use crate::answer::{Answer, ErrorPlace, accept, refuse};
 use crate::error::{of_answer_echo, of_status};
 use crate::status;
-use etherparse_transport::ip::{answer_echo, answer_echo_ipv4, answer_echo_ipv6, is_reply_to};
+use etherparse_transport::ip::{
+    answer_echo, answer_echo_ipv4, answer_echo_ipv6, is_reply_from_any, is_reply_to,
+};
 
 /// Turns the echo request in an IP packet of either version into its reply, in place. The reply goes from the destination of the request to
 /// its source. It is as long as the request, and the bytes after it are unchanged.
 ///
 /// # Errors
 ///
-/// The status is a status of `etherparse_transport_in_ip`, or the first of these that applies, in this order:
-/// - `ECHO_FRAGMENT`, `ECHO_NO_REQUEST` for another protocol, and `ECHO_HAS_OPTIONS`.
-/// - `LENGTH` as the call that reads the message returns it, `ECHO_NO_REQUEST` for another message, and `CHECKSUM_WRONG`.
-/// - `ECHO_HEADER_CHECKSUM_WRONG` over IPv4, `ECHO_REQUEST_SOURCE`, `ECHO_REPLY_SOURCE`.
+/// The status is `OK`, or the first of these that applies:
+/// - A status of `etherparse_transport_in_ip`.
+/// - `ECHO_FRAGMENT` for a fragment, and `ECHO_NO_REQUEST` for another protocol.
+/// - `ECHO_HAS_OPTIONS` for IPv4 options, an authentication header, or IPv6 extension headers.
+/// - `LENGTH` as the call that reads the message returns it, and `ECHO_NO_REQUEST` for another message.
+/// - `CHECKSUM_WRONG`, and over IPv4 `ECHO_HEADER_CHECKSUM_WRONG`.
+/// - `ECHO_REQUEST_SOURCE` or `ECHO_REPLY_SOURCE` if this source is not the address of one host.
 ///
 /// After an error `error` contains the reason, and `packet` and `reply_len` are unchanged.
 #[unsafe(no_mangle)]
@@ -130,6 +135,29 @@ pub extern "C" fn etherparse_echo_is_reply(
     ensures error { Leaves error result (test_error None result.status error.before) }
 {
     if is_reply_to(request, reply) {
+        accept(error)
+    } else {
+        refuse(error, of_status(status::ECHO_NO_REPLY))
+    }
+}
+
+/// Tests whether the second packet is the reply to the echo request in the first packet, from the address of any host. A host replies to a
+/// request to an anycast address from its unicast address (RFC 4443, section 4.2). Otherwise the call does what
+/// `etherparse_echo_is_reply` does.
+///
+/// # Errors
+///
+/// The status is `OK` if the packet is the reply. Otherwise it is `ECHO_NO_REPLY`, also if one of the packets is refused.
+#[unsafe(no_mangle)]
+pub extern "C" fn etherparse_echo_is_reply_from_any(
+    request: &[u8],
+    reply: &[u8],
+    error: ErrorPlace,
+) -> Answer
+    ensures status { AnyReplyTells request.now reply.now result.status }
+    ensures error { Leaves error result (test_error None result.status error.before) }
+{
+    if is_reply_from_any(request, reply) {
         accept(error)
     } else {
         refuse(error, of_status(status::ECHO_NO_REPLY))

@@ -6,13 +6,15 @@ ghost use Rattle.net_base.specs.TextParts.{reads_as};
 
 use crate::error::EtherparseError;
 use crate::text::{Char, cut, put_string};
-use crate::{layer, len_source, status, value_type};
+use crate::{layer, len_source, status, value_type, verdict_kind};
 use etherparse_transport::err::TextPart::{Number, Words};
-use etherparse_transport::err::packet::{AnswerEchoError, TranslateError};
+use etherparse_transport::err::packet::{AnswerEchoError, TranslateError, WriteChecksumError};
 use etherparse_transport::err::tcp::HeaderError;
 use etherparse_transport::err::{ErrorText, Layer, LenError, ValueTooBigError, ValueType};
 use etherparse_transport::ip::IpError;
-use etherparse_transport::{IpNumber, LenSource, TcpOptionReadError, TcpOptionWriteError};
+use etherparse_transport::{
+    IpNumber, LenSource, TcpOptionReadError, TcpOptionWriteError, Untested,
+};
 
 /// Returns the layer with this number.
 fn layer(number: u32) -> Option<Layer>
@@ -96,7 +98,7 @@ fn value_error(error: &EtherparseError) -> Option<ValueTooBigError<usize>>
     }
 }
 
-/// Returns the fault of a TCP header that the error contains, or `None` for numbers that no call returns.
+/// Returns the reason why a TCP header was refused, or `None` for numbers that no call returns.
 fn header_error(error: &EtherparseError) -> Option<HeaderError>
     ensures { result ≡ specs.header_error_in error.now }
 {
@@ -106,7 +108,7 @@ fn header_error(error: &EtherparseError) -> Option<HeaderError>
     }
 }
 
-/// Returns the fault of an option that the error contains, or `None` for numbers that no call returns.
+/// Returns the reason why an option was refused, or `None` for numbers that no call returns.
 fn option_error(error: &EtherparseError) -> Option<TcpOptionReadError>
     ensures { result ≡ specs.option_error_in error.now }
 {
@@ -203,8 +205,35 @@ fn translate_error(error: &EtherparseError) -> Option<TranslateError>
     }
 }
 
-/// Returns the text of an error that the library does not have. This is an error of only the library for C, a source route, or numbers that
-/// no call returns. The status of a source route comes after the other statuses of a translation.
+/// Returns the reason why a checksum was not tested, with the verdict of this number.
+fn untested(number: usize) -> Option<Untested>
+    ensures { result ≡ specs.untested_at number }
+{
+    match u32::try_from(number) {
+        Ok(verdict_kind::UNTESTED_FRAGMENT) => Some(Untested::Fragment),
+        Ok(verdict_kind::UNTESTED_CUT_OFF) => Some(Untested::CutOff),
+        Ok(verdict_kind::UNTESTED_UNKNOWN_DESTINATION) => Some(Untested::UnknownDestination),
+        Ok(verdict_kind::UNTESTED_OTHER_PROTOCOL) => Some(Untested::OtherProtocol),
+        Ok(verdict_kind::UNTESTED_ZERO_LENGTH) => Some(Untested::ZeroLength),
+        Ok(verdict_kind::UNTESTED_TOO_LONG) => Some(Untested::TooLong),
+        _ => None,
+    }
+}
+
+/// Returns the text of a checksum that was not tested, with the verdict of this number.
+fn untested_text(number: usize) -> ErrorText
+    ensures { reads_as result ≡ specs.untested_text_at number }
+{
+    match untested(number) {
+        Some(why) => WriteChecksumError::Untested(why).text(),
+        None => ErrorText::from_words("Unknown error."),
+    }
+}
+
+/// Returns the text of an error in each of these cases:
+/// - The error exists only in the library for C.
+/// - The status is above 43. It is not next to the other statuses of its call.
+/// - No call returns these numbers.
 fn own_text(error: &EtherparseError) -> ErrorText
     ensures { reads_as result ≡ specs.own_text error.now }
 {
@@ -252,11 +281,12 @@ fn own_text(error: &EtherparseError) -> ErrorText
             "Echo Error: the packet is not the reply to the request.",
         ),
         status::TRANSLATE_SOURCE_ROUTE => TranslateError::SourceRoute.text(),
+        status::CHECKSUM_UNTESTED => untested_text(error.actual),
         _ => ErrorText::from_words("Unknown error."),
     }
 }
 
-/// Returns the text of the library's error if the numbers are such an error, and otherwise the text of the numbers.
+/// Returns the text of an error. If the Rattle library has the same error, both have the same text.
 fn text(error: &EtherparseError) -> ErrorText
     ensures { reads_as result ≡ text_of error.now }
 {

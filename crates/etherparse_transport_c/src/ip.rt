@@ -1,14 +1,17 @@
-ghost use Rattle.std.specs.Prelude.{◌≡◌, ℕ, List, None, false, unwrap_or};
+ghost use Rattle.std.specs.Prelude.{◌≡◌, ℕ, List, None, Some, false, unwrap_or};
 ghost use Rattle.ip_part.specs.Addresses.{by_value};
+ghost use Rattle.ip_part.specs.FixedHeaders.{fixed_by_value};
 ghost use Rattle.ip_part.specs.Ip.{Carries, headers_of, lacks_len};
 ghost use Rattle.etherparse_transport_c.specs.Errors.{Leaves, status_of, unless_refused};
 ghost use Rattle.etherparse_transport_c.specs.Ip as specs;
-ghost use Rattle.etherparse_transport_c.specs.Ip.{HasPayload, destination_of, found, lax_refusal, refusal, source_of, version_of};
+ghost use Rattle.etherparse_transport_c.specs.Ip.{HasPayload, destination_of, found, hop_limit_in, lax_refusal, refusal, source_of, version_of};
 ghost use Rattle.etherparse_transport_c.specs.declared.ip.EtherparseIpTransport.{EtherparseIpTransport};
 
 use crate::answer::{Answer, ErrorPlace, accept, refuse};
 use crate::error::of_ip;
-use etherparse_transport::ip::{IpAddresses, TransportInIp, transport_in_ip, transport_in_ip_lax};
+use etherparse_transport::ip::{
+    FixedHeader, IpAddresses, TransportInIp, transport_in_ip, transport_in_ip_lax,
+};
 
 /// The transport in an IP packet (RFC 791, section 3.1; RFC 8200, sections 3 and 4).
 #[repr(C)]
@@ -18,11 +21,11 @@ pub struct EtherparseIpTransport {
     pub version: u32,
     /// The protocol of the payload, as its number in IP headers.
     pub protocol: u32,
-    /// The start of the payload, in bytes from the start of the packet.
+    /// The place at which the payload begins, in bytes from the first byte of the packet.
     pub payload_offset: usize,
     /// The length of the payload in bytes. Padding after the packet is not counted, if the packet states its length.
     pub payload_len: usize,
-    /// 1 if the packet is a fragment, otherwise 0. In a fragment more fragments follow, or its offset is above 0.
+    /// 1 if the packet is a fragment, otherwise 0. It is a fragment if more fragments follow, or if its fragment offset is above 0.
     pub is_fragment: u32,
     /// 1 if the IP header counts more bytes than were passed, otherwise 0.
     pub is_cut_off: u32,
@@ -37,6 +40,11 @@ pub struct EtherparseIpTransport {
     /// 1 if the IP header states no length, so that all bytes are counted. Otherwise it is 0. It can be 1 only after a call whose name ends
     /// in `_lax`.
     pub is_length_missing: u32,
+    /// 1 if the packet is a later fragment, otherwise 0. The offset of a later fragment is above 0, so its payload begins within the
+    /// payload of the whole packet, and not with a transport header.
+    pub is_later_fragment: u32,
+    /// The number of hops that are left: the time to live of IPv4, or the hop limit of IPv6.
+    pub hop_limit: u32,
 }
 
 /// The first byte of an IPv4 packet without options: version 4, and a header of five words of four bytes (RFC 791, section 3.1).
@@ -92,6 +100,17 @@ fn destination(addresses: IpAddresses<'_>) -> ([u8; 16], bool)
     }
 }
 
+/// Returns the number of hops that are left.
+#[inline(always)]
+fn hop_limit(header: FixedHeader<'_>) -> u8
+    ensures { result ≡ hop_limit_in (Some (fixed_by_value header.entry)) }
+{
+    match header {
+        FixedHeader::Ipv4 { time_to_live, .. } => time_to_live,
+        FixedHeader::Ipv6 { hop_limit, .. } => hop_limit,
+    }
+}
+
 /// Returns the transport in the form of the C struct. It is the same for the strict and the lax call.
 #[inline(always)]
 pub(crate) fn fields(transport: &TransportInIp<'_>) -> EtherparseIpTransport
@@ -110,6 +129,8 @@ pub(crate) fn fields(transport: &TransportInIp<'_>) -> EtherparseIpTransport
         source: source(transport.addresses),
         destination,
         is_length_missing: u32::from(transport.is_length_missing),
+        is_later_fragment: u32::from(transport.is_later_fragment),
+        hop_limit: u32::from(hop_limit(transport.fixed_header)),
     }
 }
 
@@ -165,8 +186,8 @@ pub extern "C" fn etherparse_transport_in_ip(
         (found false bytes.now (headers_of false bytes.now) transport.old) transport.old }
     ensures payload { refusal bytes.now ≡ None → HasPayload false bytes.now transport.new }
 {
-    // perf: a copy of the code only for packets without options saves one register instead of six. It takes 6.5 ns instead of 10.7 (27 Nov
-    // 2026).
+    // perf: the code is compiled once more for packets without options. This copy saves one register instead of six, and takes 6.5 ns
+    // instead of 10.7 (27 Nov 2026).
     if !bytes.is_empty() && bytes[0] == IPV4_WITHOUT_OPTIONS {
         find(bytes, transport, error)
     } else {
@@ -224,7 +245,7 @@ pub extern "C" fn etherparse_transport_in_ip_lax(
         (found (lacks_len bytes.now) bytes.now (headers_of (lacks_len bytes.now) bytes.now) transport.old) transport.old }
     ensures payload { lax_refusal bytes.now ≡ None → HasPayload (lacks_len bytes.now) bytes.now transport.new }
 {
-    // perf: a copy of the code, for the same reason as in `etherparse_transport_in_ip`.
+    // perf: the code is compiled twice, as in `etherparse_transport_in_ip`.
     if !bytes.is_empty() && bytes[0] == IPV4_WITHOUT_OPTIONS {
         find_lax(bytes, transport, error)
     } else {

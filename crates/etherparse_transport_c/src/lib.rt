@@ -3,7 +3,7 @@
 //!
 //! Each export is a thin wrapper of a call of `etherparse_transport`. Its clauses state the status, the error, and everything that it
 //! writes, by the definitions of that call. No export has a precondition: every input that a caller can get wrong has a status. The error
-//! is passed as an `ErrorPlace`, a pointer that may be NULL. An `Answer` returns the memory that this pointer points to.
+//! is passed as an `ErrorPlace`, which contains a pointer that may be NULL. The memory behind this pointer is returned with the `Answer`.
 //! `include/etherparse_transport.h` declares the exports, and describes what a caller in C must ensure.
 #![tactic(auto)]
 
@@ -23,6 +23,7 @@ mod ip_addresses;
 mod ipv4_header;
 mod layer;
 mod len_source;
+mod packet_checksum;
 mod packet_verdict;
 mod protocol;
 mod quoted_packet;

@@ -7,14 +7,14 @@ ghost use Rattle.etherparse_transport_c.specs.PacketVerdict as specs;
 ghost use Rattle.etherparse_transport_c.specs.PacketVerdict.{Judges, lax_refusal, refusal, refusal_of_carried};
 
 use crate::answer::{Answer, ErrorPlace, accept, refuse};
-use crate::error::{EtherparseError, of_header_slice, of_ip};
+use crate::error::{EtherparseError, number_of_untested, of_header_slice, of_ip};
 use crate::ip::{EtherparseIpTransport, fields};
 use crate::{protocol, verdict_kind};
 use etherparse_transport::err::tcp::HeaderSliceError;
 use etherparse_transport::ip::{
     TransportInIp, checksum_verdict, transport_in_ip, transport_in_ip_lax, transport_slice,
 };
-use etherparse_transport::{ChecksumVerdict, Proto, Untested};
+use etherparse_transport::{ChecksumVerdict, Proto};
 
 /// An IP packet that was read, and the verdict on its checksum (RFC 791, section 3.1; RFC 8200, sections 3 and 4).
 #[repr(C)]
@@ -25,7 +25,7 @@ pub struct EtherparseIpPacket {
     /// The protocol of the header at the start of the payload, as its number in IP headers. It is 0 for a fragment, for any protocol except
     /// the four, and for ICMP of the wrong IP version.
     pub header_protocol: u32,
-    /// The verdict: a number of `verdict_kind`.
+    /// The verdict. The module `verdict_kind` lists the numbers.
     pub verdict: u32,
     /// The right checksum if the stored checksum is wrong or partial, otherwise 0.
     pub expected_checksum: u16,
@@ -43,27 +43,13 @@ fn number_of_proto(proto: Proto) -> u32
     }
 }
 
-/// Returns the protocol whose header was read, unless that header is refused.
+/// Returns the number of the protocol whose header begins the payload, or 0 if there is none or the header is refused.
 fn header_protocol(carried: &TransportInIp<'_>) -> u32
     ensures { transports.refusal carried.now ≡ None → result ≡ specs.header_protocol (kept carried.now) }
 {
     match transport_slice(carried) {
         Ok(Some(transport)) => number_of_proto(transport.proto()),
         _ => 0,
-    }
-}
-
-/// Returns the number of the reason why a checksum is not tested.
-fn number_of_untested(why: Untested) -> u32
-    ensures { result ≡ specs.untested_number why }
-{
-    match why {
-        Untested::Fragment => verdict_kind::UNTESTED_FRAGMENT,
-        Untested::CutOff => verdict_kind::UNTESTED_CUT_OFF,
-        Untested::UnknownDestination => verdict_kind::UNTESTED_UNKNOWN_DESTINATION,
-        Untested::OtherProtocol => verdict_kind::UNTESTED_OTHER_PROTOCOL,
-        Untested::ZeroLength => verdict_kind::UNTESTED_ZERO_LENGTH,
-        Untested::TooLong => verdict_kind::UNTESTED_TOO_LONG,
     }
 }
 
@@ -90,8 +76,8 @@ fn expected_checksum(verdict: ChecksumVerdict) -> u16
     }
 }
 
-/// Returns the error for a refused transport. Its header begins at this place of the packet.
-fn of_transport(place: usize, error: &HeaderSliceError) -> EtherparseError
+/// Returns the error for a refused transport header, which begins at this place of the packet.
+pub(crate) fn of_transport(place: usize, error: &HeaderSliceError) -> EtherparseError
     ensures { result ≡ specs.of_transport place error.now }
 {
     match error {

@@ -42,10 +42,11 @@ pub const OPTION_SIZE: u32 = 12;
 /// The kind of the option is unknown.
 pub const OPTION_UNKNOWN: u32 = 13;
 
-/// The kind of the message, or the code of this kind, is unknown.
+/// The kind of the message is unknown, or its code is unknown for this kind.
 pub const MESSAGE_UNKNOWN: u32 = 14;
 
-/// There are no bytes, or they end within the IP header, or within the hop-by-hop options that must contain the length.
+/// The bytes end within the IP header, or there are none. If the hop-by-hop options must contain the length, the bytes may also end within
+/// these options.
 pub const IP_HEADER_CUT_OFF: u32 = 15;
 
 /// The version of an IP packet is neither 4 nor 6.
@@ -66,7 +67,7 @@ pub const IP_EXTENSION_CUT_OFF: u32 = 20;
 /// The payload length of an IPv6 packet is 0, and its hop-by-hop options have no jumbo payload option.
 pub const IP_JUMBO_PAYLOAD_MISSING: u32 = 21;
 
-/// A jumbo payload length is not above 65,535.
+/// A jumbo payload length is at most 65,535, which a payload length can count.
 pub const IP_JUMBO_PAYLOAD_LENGTH: u32 = 22;
 
 /// An IPv6 packet has a jumbo payload option, and a payload length that is not 0.
@@ -84,7 +85,7 @@ pub const ECHO_FRAGMENT: u32 = 32;
 /// The packet is no echo request, or it has another IP version than the call accepts.
 pub const ECHO_NO_REQUEST: u32 = 33;
 
-/// The packet contains IPv4 options, an authentication header, or IPv6 extension headers, so that its reply would need them too.
+/// The packet contains IPv4 options, an authentication header, or IPv6 extension headers. The reply would need them too.
 pub const ECHO_HAS_OPTIONS: u32 = 34;
 
 /// The checksum of the IPv4 header of an echo request is wrong.
@@ -99,23 +100,26 @@ pub const ECHO_REPLY_SOURCE: u32 = 37;
 /// The ICMP message is not an error, so it quotes no packet.
 pub const NO_ICMP_ERROR: u32 = 38;
 
-/// No call returns this status. It is reserved for a packet to be translated with IPv4 options.
+/// No call returns this status. It is reserved for the translation of a packet with IPv4 options.
 pub const TRANSLATE_HAS_OPTIONS: u32 = 39;
 
-/// The protocol of a packet to be translated is not UDP, TCP or ICMP of its IP version.
+/// The packet is not translated, because its protocol is not UDP, TCP or ICMP of its IP version.
 pub const TRANSLATE_PROTOCOL: u32 = 40;
 
-/// The transport header of a packet to be translated is cut off.
+/// The packet is not translated, because it ends within its transport header.
 pub const TRANSLATE_HEADER_CUT_OFF: u32 = 41;
 
-/// An ICMP message to be translated is no query and no error, or a redirect.
+/// The ICMP message is not translated. It is a redirect, or it is neither a query nor an error.
 pub const TRANSLATE_ICMP_MESSAGE: u32 = 42;
 
-/// The packet that an ICMP error is about can't be translated.
+/// The ICMP error is not translated, because the packet that it quotes can't be translated.
 pub const TRANSLATE_QUOTED_PACKET: u32 = 43;
 
 /// The packet is not the reply to the echo request.
 pub const ECHO_NO_REPLY: u32 = 44;
 
-/// The IPv4 options of a packet to be translated contain a source route.
+/// The packet is not translated, because its IPv4 options contain a source route.
 pub const TRANSLATE_SOURCE_ROUTE: u32 = 45;
+
+/// The checksum of the packet is not tested, so no checksum is stored in it.
+pub const CHECKSUM_UNTESTED: u32 = 46;

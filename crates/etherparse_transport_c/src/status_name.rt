@@ -51,6 +51,7 @@ fn name(status: u32) -> &'static str
         status::TRANSLATE_QUOTED_PACKET => "ETHERPARSE_STATUS_TRANSLATE_QUOTED_PACKET",
         status::ECHO_NO_REPLY => "ETHERPARSE_STATUS_ECHO_NO_REPLY",
         status::TRANSLATE_SOURCE_ROUTE => "ETHERPARSE_STATUS_TRANSLATE_SOURCE_ROUTE",
+        status::CHECKSUM_UNTESTED => "ETHERPARSE_STATUS_CHECKSUM_UNTESTED",
         _ => "unknown status",
     }
 }

@@ -65,6 +65,7 @@ fn meaning(status: u32) -> &'static str
         }
         status::ECHO_NO_REPLY => "the packet is not the reply to the echo request",
         status::TRANSLATE_SOURCE_ROUTE => "the packet has a source route, and is not translated",
+        status::CHECKSUM_UNTESTED => "the checksum of the packet is not tested",
         _ => "unknown status",
     }
 }

@@ -1,13 +1,16 @@
 ghost use Rattle.std.specs.Prelude.{◌≡◌, unwrap_or};
-ghost use Rattle.etherparse_transport.specs.Ipv4Translations.{ipv4_translated};
-ghost use Rattle.etherparse_transport.specs.Ipv6Translations.{ipv6_translated};
+ghost use Rattle.etherparse_transport.specs.Ipv4Translations.{ipv4_translated, ipv4_translated_with};
+ghost use Rattle.etherparse_transport.specs.Ipv6Translations.{ipv6_translated, ipv6_translated_with};
 ghost use Rattle.etherparse_transport_c.specs.Errors.{Leaves, status_of, unless_refused};
 ghost use Rattle.etherparse_transport_c.specs.Translations as specs;
-ghost use Rattle.etherparse_transport_c.specs.Translations.{ipv4_refusal, ipv4_translation, ipv6_refusal, ipv6_translation};
+ghost use Rattle.etherparse_transport_c.specs.Translations.{ipv4_refusal, ipv4_refusal_with, ipv4_translation, ipv6_refusal, ipv6_refusal_with, ipv6_translation};
 
 use crate::answer::{Answer, ErrorPlace, accept, refuse};
 use crate::error::of_translate;
-use etherparse_transport::ip::{Ipv4Translation, Ipv6Translation, translate_ipv4, translate_ipv6};
+use etherparse_transport::ip::{
+    Ipv4Translation, Ipv6Translation, translate_ipv4, translate_ipv4_with_quoted, translate_ipv6,
+    translate_ipv6_with_quoted,
+};
 
 /// The values that an address translator replaces in an IPv4 packet (RFC 3022). If a flag is 0, the value in the packet stays.
 #[repr(C)]
@@ -96,11 +99,12 @@ fn of_ipv6(translation: &EtherparseIpv6Translation) -> Ipv6Translation
 ///
 /// # Errors
 ///
-/// The status is a status of `etherparse_transport_in_ip_lax`, or the first of these that applies, in this order:
+/// The status is `OK`, or the first of these that applies:
+/// - A status of `etherparse_transport_in_ip_lax`.
 /// - `IP_VERSION` for an IPv6 packet, and `TRANSLATE_SOURCE_ROUTE` for a loose or strict source route.
 /// - `TRANSLATE_PROTOCOL` if the protocol is not UDP, TCP or ICMPv4, and a port is set or the protocol covers the addresses.
 /// - `TRANSLATE_HEADER_CUT_OFF` if fewer than 8 bytes of UDP, TCP or ICMP are there.
-/// - `TRANSLATE_ICMP_MESSAGE` for an ICMP message that is no query and no error, and for a redirect.
+/// - `TRANSLATE_ICMP_MESSAGE` for a redirect, and for an ICMP message that is neither a query nor an error.
 /// - `TRANSLATE_QUOTED_PACKET` if the packet that an ICMP error is about can't be translated.
 ///
 /// After an error `error` contains the reason, and `packet` is unchanged.
@@ -125,9 +129,8 @@ pub extern "C" fn etherparse_translate_ipv4(
 ///
 /// # Errors
 ///
-/// The statuses of `etherparse_translate_ipv4`, except `TRANSLATE_SOURCE_ROUTE`. `IP_VERSION` is returned for an IPv4 packet, and
-/// `TRANSLATE_PROTOCOL` as there, and for an extension header. A fragment header directly after the IPv6
-/// header is skipped.
+/// The statuses of `etherparse_translate_ipv4`, except `TRANSLATE_SOURCE_ROUTE`. The call returns `IP_VERSION` for an IPv4 packet. It also
+/// returns `TRANSLATE_PROTOCOL` for an extension header, except for one fragment header directly after the IPv6 header.
 #[unsafe(no_mangle)]
 pub extern "C" fn etherparse_translate_ipv6(
     packet: &mut [u8],
@@ -140,6 +143,57 @@ pub extern "C" fn etherparse_translate_ipv6(
         unless_refused (ipv6_refusal translation.now packet.old) (ipv6_translated (ipv6_translation translation.now) packet.old) packet.old }
 {
     match translate_ipv6(packet, &of_ipv6(translation)) {
+        Ok(()) => accept(error),
+        Err(refused) => refuse(error, of_translate(&refused, 4)),
+    }
+}
+
+/// Translates an IPv4 packet in place, and the packet that an ICMP error quotes by a translation of its own. Source and destination of
+/// `quoted` are source and destination of the quoted packet, which went in the other direction (RFC 5508, section 4). Without a quoted
+/// packet only `translation` is used. Otherwise the call does what `etherparse_translate_ipv4` does.
+///
+/// # Errors
+///
+/// The statuses of `etherparse_translate_ipv4`. The ports of `quoted` decide whether the protocol of the quoted packet is refused. After an
+/// error `error` contains the reason, and `packet` is unchanged.
+#[unsafe(no_mangle)]
+pub extern "C" fn etherparse_translate_ipv4_with_quoted(
+    packet: &mut [u8],
+    translation: &EtherparseIpv4Translation,
+    quoted: &EtherparseIpv4Translation,
+    error: ErrorPlace,
+) -> Answer
+    ensures status { result.status ≡ status_of (ipv4_refusal_with translation.now quoted.now packet.old) }
+    ensures error { Leaves error result (unwrap_or (ipv4_refusal_with translation.now quoted.now packet.old) error.before) }
+    ensures packet { packet.new ≡ unless_refused (ipv4_refusal_with translation.now quoted.now packet.old)
+        (ipv4_translated_with (ipv4_translation translation.now) (ipv4_translation quoted.now) packet.old) packet.old }
+{
+    match translate_ipv4_with_quoted(packet, &of_ipv4(translation), &of_ipv4(quoted)) {
+        Ok(()) => accept(error),
+        Err(refused) => refuse(error, of_translate(&refused, 6)),
+    }
+}
+
+/// Translates an IPv6 packet in place, and the packet that an ICMP error quotes by a translation of its own, otherwise as
+/// `etherparse_translate_ipv4_with_quoted`.
+///
+/// # Errors
+///
+/// The statuses of `etherparse_translate_ipv6`. The ports of `quoted` decide whether the protocol of the quoted packet is refused. After an
+/// error `error` contains the reason, and `packet` is unchanged.
+#[unsafe(no_mangle)]
+pub extern "C" fn etherparse_translate_ipv6_with_quoted(
+    packet: &mut [u8],
+    translation: &EtherparseIpv6Translation,
+    quoted: &EtherparseIpv6Translation,
+    error: ErrorPlace,
+) -> Answer
+    ensures status { result.status ≡ status_of (ipv6_refusal_with translation.now quoted.now packet.old) }
+    ensures error { Leaves error result (unwrap_or (ipv6_refusal_with translation.now quoted.now packet.old) error.before) }
+    ensures packet { packet.new ≡ unless_refused (ipv6_refusal_with translation.now quoted.now packet.old)
+        (ipv6_translated_with (ipv6_translation translation.now) (ipv6_translation quoted.now) packet.old) packet.old }
+{
+    match translate_ipv6_with_quoted(packet, &of_ipv6(translation), &of_ipv6(quoted)) {
         Ok(()) => accept(error),
         Err(refused) => refuse(error, of_translate(&refused, 4)),
     }

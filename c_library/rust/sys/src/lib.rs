@@ -56,6 +56,7 @@ pub const STATUS_TRANSLATE_ICMP_MESSAGE: u32 = 42;
 pub const STATUS_TRANSLATE_QUOTED_PACKET: u32 = 43;
 pub const STATUS_ECHO_NO_REPLY: u32 = 44;
 pub const STATUS_TRANSLATE_SOURCE_ROUTE: u32 = 45;
+pub const STATUS_CHECKSUM_UNTESTED: u32 = 46;
 
 // ---- Layers: which length was wrong. 8 and up are kept for the headers of IP.
 
@@ -426,6 +427,10 @@ pub struct IpTransport {
     pub destination: [u8; 16],
     /// 1 if the IP header states no length, so that all bytes are counted, otherwise 0.
     pub is_length_missing: u32,
+    /// 1 if the offset of the fragment is above 0, otherwise 0.
+    pub is_later_fragment: u32,
+    /// The hops that are left: the time to live of IPv4, or the hop limit of IPv6.
+    pub hop_limit: u32,
 }
 
 /// An IP packet that was read, and the verdict on its checksum.
@@ -664,6 +669,18 @@ extern "C" {
         reply_len: usize,
         error: *mut Error,
     ) -> u32;
+    /// Tests whether the second packet is the reply to the echo request in the first packet, from the address of any host.
+    pub fn etherparse_echo_is_reply_from_any(
+        request: *const u8,
+        request_len: usize,
+        reply: *const u8,
+        reply_len: usize,
+        error: *mut Error,
+    ) -> u32;
+    /// Tests whether the checksum in an IP packet is partial, and writes 1 or 0.
+    pub fn etherparse_packet_checksum_is_partial(bytes: *const u8, bytes_len: usize, is_partial: *mut u32, error: *mut Error) -> u32;
+    /// Stores the right checksum of UDP, TCP or ICMP in an IP packet, and writes the checksum.
+    pub fn etherparse_packet_checksum_store(packet: *mut u8, packet_len: usize, checksum: *mut u16, error: *mut Error) -> u32;
     /// Writes where the packet that an ICMPv4 error is about lies in the message.
     pub fn etherparse_icmpv4_quoted_packet(
         bytes: *const u8,
@@ -692,6 +709,22 @@ extern "C" {
         packet: *mut u8,
         packet_len: usize,
         translation: *const Ipv6Translation,
+        error: *mut Error,
+    ) -> u32;
+    /// Translates an IPv4 packet in place, and the packet that an ICMP error is about by a translation of its own.
+    pub fn etherparse_translate_ipv4_with_quoted(
+        packet: *mut u8,
+        packet_len: usize,
+        translation: *const Ipv4Translation,
+        quoted: *const Ipv4Translation,
+        error: *mut Error,
+    ) -> u32;
+    /// Translates an IPv6 packet in place, and the packet that an ICMP error is about by a translation of its own.
+    pub fn etherparse_translate_ipv6_with_quoted(
+        packet: *mut u8,
+        packet_len: usize,
+        translation: *const Ipv6Translation,
+        quoted: *const Ipv6Translation,
         error: *mut Error,
     ) -> u32;
     /// Writes the text of an error with a zero byte at its end, and returns its length without that byte. Of a text that the buffer is too
