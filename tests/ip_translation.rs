@@ -1,7 +1,11 @@
-//! Tests of the crate `ip_translation`: IPv4 addresses in IPv6 addresses. The rows are from RFC 6052, section 2.4.
+//! Tests of the crate `ip_translation`: IPv4 addresses in IPv6 addresses, and headers. The rows of addresses are from RFC 6052, section 2.4.
 
-use crate::expect::{expect_at, expect_equal, expect_ok, expect_text};
-use ip_translation::{AddressError, Prefix64, Prefix64Error};
+use crate::expect::{expect_at, expect_bytes, expect_equal, expect_ok, expect_some, expect_text};
+use etherparse_transport::{Ipv4HeaderSlice, Ipv6Header, UdpHeader};
+use ip_translation::{
+    AddressError, Prefix64, Prefix64Error, Prefixes, TranslationError, header_to_ipv6,
+    pseudo_header_change,
+};
 use std::process::Abort;
 
 /// A prefix and its length, and the IPv6 address that contains 192.0.2.33.
@@ -70,7 +74,12 @@ static NO_PREFIXES: [(u8, [u8; 16], Prefix64Error); 6] = [
 #[test]
 fn no_prefixes(rt: HostRuntime) {
     for (len, address, error) in &NO_PREFIXES {
-        expect_at(&rt, len, &Prefix64::new(*address, *len).err().as_ref(), &Some(error));
+        expect_at(
+            &rt,
+            len,
+            &Prefix64::new(*address, *len).err().as_ref(),
+            &Some(error),
+        );
     }
 }
 
@@ -91,10 +100,25 @@ fn expect_global(rt: &impl Abort, ipv4: [u8; 4], is_global: bool) {
     expect_at(rt, &ipv4, &other.to_ipv6(ipv4), &Ok(other.embed(ipv4)));
     if is_global {
         expect_at(rt, &ipv4, &Prefix64::WELL_KNOWN.to_ipv6(ipv4), &Ok(address));
-        expect_at(rt, &ipv4, &Prefix64::WELL_KNOWN.to_ipv4(&address), &Ok(ipv4));
+        expect_at(
+            rt,
+            &ipv4,
+            &Prefix64::WELL_KNOWN.to_ipv4(&address),
+            &Ok(ipv4),
+        );
     } else {
-        expect_at(rt, &ipv4, &Prefix64::WELL_KNOWN.to_ipv6(ipv4), &Err(AddressError::NotGlobal));
-        expect_at(rt, &ipv4, &Prefix64::WELL_KNOWN.to_ipv4(&address), &Err(AddressError::NotGlobal));
+        expect_at(
+            rt,
+            &ipv4,
+            &Prefix64::WELL_KNOWN.to_ipv6(ipv4),
+            &Err(AddressError::NotGlobal),
+        );
+        expect_at(
+            rt,
+            &ipv4,
+            &Prefix64::WELL_KNOWN.to_ipv4(&address),
+            &Err(AddressError::NotGlobal),
+        );
     }
 }
 
@@ -124,6 +148,118 @@ fn errors(rt: HostRuntime) {
         &Prefix64Error::Len(33),
         "Prefix Error: the length is 33 bits, and only 32, 40, 48, 56, 64 and 96 are allowed.",
     );
-    expect_text(&rt, &Prefix64Error::ReservedOctet, "Prefix Error: bits 64 to 71 are not 0.");
-    expect_text(&rt, &Prefix64Error::SuffixBits, "Prefix Error: a bit after the prefix is not 0.");
+    expect_text(
+        &rt,
+        &Prefix64Error::ReservedOctet,
+        "Prefix Error: bits 64 to 71 are not 0.",
+    );
+    expect_text(
+        &rt,
+        &Prefix64Error::SuffixBits,
+        "Prefix Error: a bit after the prefix is not 0.",
+    );
+}
+
+// ---- headers
+
+/// 2001:db8::/32 for the source, and 2001:db8:122:344::/96 for the destination.
+static PREFIXES: Prefixes = Prefixes {
+    source: Prefix64::Bits32([0x20, 0x01, 0x0D, 0xB8]),
+    destination: Prefix64::Bits96([0x20, 0x01, 0x0D, 0xB8, 0x01, 0x22, 0x03, 0x44, 0, 0, 0]),
+};
+
+/// From 192.0.2.33 to 198.51.100.7: type of service B9, total length 31, "don't fragment", time to live 64 and protocol UDP.
+static HEADER: [u8; 20] = [
+    0x45, 0xB9, 0, 31, 0x12, 0x34, 0x40, 0, 64, 17, 0x3B, 0x85, 192, 0, 2, 33, 198, 51, 100, 7,
+];
+
+/// The translated header.
+#[rattlefmt::skip]
+static TRANSLATED: [u8; 40] = [
+    0x6B, 0x90, 0, 0, 0, 11, 17, 63,
+    0x20, 0x01, 0x0D, 0xB8, 192, 0, 2, 33, 0, 0, 0, 0, 0, 0, 0, 0,
+    0x20, 0x01, 0x0D, 0xB8, 0x01, 0x22, 0x03, 0x44, 0, 0, 0, 0, 198, 51, 100, 7,
+];
+
+#[test]
+fn headers_are_translated(rt: HostRuntime) {
+    let header = expect_some(&rt, Ipv4HeaderSlice::from_slice(&HEADER));
+    let translated = expect_ok(&rt, header_to_ipv6(&header, &PREFIXES));
+    expect_bytes(&rt, translated.as_slice(), &TRANSLATED);
+    // ICMP, and then three options of one byte.
+    let mut icmp = HEADER;
+    icmp[9] = 1;
+    icmp[11] = 0x95;
+    let header = expect_some(&rt, Ipv4HeaderSlice::from_slice(&icmp));
+    let translated = expect_ok(&rt, header_to_ipv6(&header, &PREFIXES));
+    expect_equal(&rt, &translated.as_slice()[6], &58);
+    let options = [
+        0x46, 0, 0, 32, 0, 0, 0, 0, 64, 6, 0x41, 0x99, 10, 1, 2, 3, 198, 51, 100, 7, 1, 1, 1, 0,
+    ];
+    let header = expect_some(&rt, Ipv4HeaderSlice::from_slice(&options));
+    let translated = expect_ok(&rt, header_to_ipv6(&header, &PREFIXES));
+    expect_equal(&rt, &translated.as_slice()[5], &8);
+}
+
+/// What is no header of a translated packet.
+#[rattlefmt::skip]
+static NO_HEADERS: [(&[u8], TranslationError, &str); 10] = [
+    (&[0x45, 0xB9, 0, 19, 0x12, 0x34, 0x40, 0, 64, 17, 0x3B, 0x91, 192, 0, 2, 33, 198, 51, 100, 7],
+        TranslationError::TotalLength { total_len: 19, header_len: 20 },
+        "Translation Error: the total length 19 is below the header length 20."),
+    (&[0x45, 0xB9, 0, 31, 0x12, 0x34, 0x40, 0, 64, 17, 0x3B, 0x86, 192, 0, 2, 33, 198, 51, 100, 7],
+        TranslationError::HeaderChecksum, "Translation Error: the checksum of the IPv4 header is wrong."),
+    (&[0x45, 0xB9, 0, 31, 0x12, 0x34, 0x20, 0, 64, 17, 0x5B, 0x85, 192, 0, 2, 33, 198, 51, 100, 7],
+        TranslationError::Fragment, "Translation Error: the packet is a fragment."),
+    (&[0x45, 0xB9, 0, 31, 0x12, 0x34, 0, 1, 64, 17, 0x7B, 0x84, 192, 0, 2, 33, 198, 51, 100, 7],
+        TranslationError::Fragment, "Translation Error: the packet is a fragment."),
+    (&[0x47, 0, 0, 32, 0, 0, 0, 0, 64, 6, 0xB1, 0x8E, 10, 1, 2, 3, 198, 51, 100, 7, 131, 7, 8, 1, 2, 3, 4, 0],
+        TranslationError::SourceRoute, "Translation Error: the IPv4 options contain a source route."),
+    (&[0x45, 0xB9, 0, 31, 0x12, 0x34, 0x40, 0, 1, 17, 0x7A, 0x85, 192, 0, 2, 33, 198, 51, 100, 7],
+        TranslationError::TimeExceeded, "Translation Error: the time to live is exceeded."),
+    (&[0x45, 0xB9, 0, 31, 0x12, 0x34, 0x40, 0, 64, 17, 0x7C, 0x85, 127, 0, 2, 33, 198, 51, 100, 7],
+        TranslationError::IllegalSource, "Translation Error: the source is no address of a host."),
+    (&[0x45, 0xB9, 0, 31, 0x12, 0x34, 0x40, 0, 64, 17, 0x21, 0x85, 192, 0, 2, 33, 224, 51, 100, 7],
+        TranslationError::IllegalDestination, "Translation Error: the destination is no address of a host."),
+    (&[0x45, 0xB9, 0, 31, 0x12, 0x34, 0x40, 0, 64, 17, 0x3B, 0x85, 192, 0, 2, 33, 198, 51, 100, 7],
+        TranslationError::Source(AddressError::NotGlobal),
+        "Address Error: the well-known prefix allows only global IPv4 addresses."),
+    (&[0x45, 0xB9, 0, 31, 0x12, 0x34, 0x40, 0, 64, 17, 0x3B, 0x85, 192, 0, 2, 33, 198, 51, 100, 7],
+        TranslationError::Destination(AddressError::NotGlobal),
+        "Address Error: the well-known prefix allows only global IPv4 addresses."),
+];
+
+/// The prefixes of a row: the last two rows have the well-known prefix.
+fn prefixes_of(error: &TranslationError) -> Prefixes {
+    let mut prefixes = PREFIXES;
+    match error {
+        TranslationError::Source(_) => prefixes.source = Prefix64::WELL_KNOWN,
+        TranslationError::Destination(_) => prefixes.destination = Prefix64::WELL_KNOWN,
+        _ => {}
+    }
+    prefixes
+}
+
+#[test]
+fn headers_are_refused(rt: HostRuntime) {
+    for (bytes, error, text) in &NO_HEADERS {
+        let header = expect_some(&rt, Ipv4HeaderSlice::from_slice(bytes));
+        let outcome = header_to_ipv6(&header, &prefixes_of(error));
+        expect_at(&rt, text, &outcome.err().as_ref(), &Some(error));
+        expect_text(&rt, error, text);
+    }
+}
+
+#[test]
+fn checksums_follow_the_pseudo_header(rt: HostRuntime) {
+    let header = expect_some(&rt, Ipv4HeaderSlice::from_slice(&HEADER));
+    let change = pseudo_header_change(&header, &PREFIXES);
+    let old = UdpHeader::with_ipv4_checksum(21, 1234, &header.to_header(), b"abc");
+    let addresses = Ipv6Header {
+        source: PREFIXES.source.embed(header.source()),
+        destination: PREFIXES.destination.embed(header.destination()),
+    };
+    let new = UdpHeader::with_ipv6_checksum(21, 1234, &addresses, b"abc");
+    let checksum = change.apply_udp(expect_ok(&rt, old).checksum);
+    expect_equal(&rt, &checksum, &expect_ok(&rt, new).checksum);
 }

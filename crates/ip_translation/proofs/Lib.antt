@@ -1,3 +1,4 @@
 pub mod EmbeddedLemmas
 pub mod ListedLemmas
+pub mod PseudoHeaderLemmas
 pub mod WorkedExamples

@@ -1,10 +1,15 @@
 -- Worked examples of the definitions, so that a wrong definition fails before any code does.
 use Rattle.std.proofs.Common.{◌≡◌, true, false, List, ℕ, [], ◌∷◌, Some, None, refl}
+use Rattle.ip_part.specs.Options.{options_within}
+use Rattle.word_sum.specs.Checksum.{folded}
 use Rattle.ip_translation.specs.Prefixes.{embedded, extracted, is_embedded, is_not_global, prefix_address, prefix_refusal, to_ipv4_refusal, to_ipv6_refusal, well_known_octets, with_zero_suffix}
 use Rattle.ip_translation.specs.declared.address_error.AddressError.TheVariants.{NotEmbedded, NotGlobal}
 use Rattle.ip_translation.specs.declared.prefix64.Prefix64.{Prefix64}
 use Rattle.ip_translation.specs.declared.prefix64.Prefix64.TheVariants.{Bits32, Bits40, Bits48, Bits56, Bits64, Bits96}
+use Rattle.ip_translation.specs.HeadersToIpv6.{addresses_refusal, header_refusal, translated_header}
 use Rattle.ip_translation.specs.declared.prefix64_error.Prefix64Error.TheVariants.{Len, ReservedOctet, SuffixBits}
+use Rattle.ip_translation.specs.declared.prefixes.Prefixes.{Prefixes}
+use Rattle.ip_translation.specs.declared.translation_error.TranslationError.TheVariants.{Destination, HeaderChecksum, IllegalDestination}
 
 -- ---- the rows of RFC 6052, section 2.4, for 192.0.2.33
 
@@ -116,3 +121,44 @@ first_private = refl
 
 after_private : is_not_global (172 ∷ 32 ∷ 0 ∷ 0 ∷ []) ≡ false
 after_private = refl
+
+-- ---- a header
+
+-- from 192.0.2.33 to 198.51.100.7, with type of service b9, total length 31, time to live 64 and protocol UDP
+header : List ℕ
+header = 0x45 ∷ 0xb9 ∷ 0 ∷ 31 ∷ 0x12 ∷ 0x34 ∷ 0x40 ∷ 0 ∷ 64 ∷ 17 ∷ 0x3b ∷ 0x85 ∷ 192 ∷ 0 ∷ 2 ∷ 33 ∷ 198 ∷ 51 ∷ 100 ∷ 7 ∷ []
+
+-- 2001:db8:122::/48 for the source, and the well-known prefix for the destination
+prefixes : Prefixes
+prefixes = record { source = prefix_48; destination = Bits96 well_known_octets }
+
+-- 2001:db8:122::/48 for both
+other_prefixes : Prefixes
+other_prefixes = record { source = prefix_48; destination = prefix_48 }
+
+-- 198.51.100.7 is an address of TEST-NET-2 (RFC 5737)
+header_to_well_known : header_refusal prefixes header ≡ Some (Destination NotGlobal)
+unfolding folded header options_within prefixes prefix_48
+header_to_well_known = refl
+
+header_accepted : header_refusal other_prefixes header ≡ None
+unfolding folded header options_within other_prefixes prefix_48
+header_accepted = refl
+
+header_translated : translated_header other_prefixes header
+    ≡ 0x6b ∷ 0x90 ∷ 0 ∷ 0 ∷ 0 ∷ 11 ∷ 17 ∷ 63
+    ∷ 0x20 ∷ 0x01 ∷ 0x0d ∷ 0xb8 ∷ 0x01 ∷ 0x22 ∷ 192 ∷ 0 ∷ 0 ∷ 2 ∷ 33 ∷ 0 ∷ 0 ∷ 0 ∷ 0 ∷ 0
+    ∷ 0x20 ∷ 0x01 ∷ 0x0d ∷ 0xb8 ∷ 0x01 ∷ 0x22 ∷ 198 ∷ 51 ∷ 0 ∷ 100 ∷ 7 ∷ 0 ∷ 0 ∷ 0 ∷ 0 ∷ 0 ∷ []
+unfolding header other_prefixes prefix_48
+header_translated = refl
+
+-- a wrong checksum, one below the right one
+wrong_checksum : header_refusal other_prefixes (0x45 ∷ 0xb9 ∷ 0 ∷ 31 ∷ 0x12 ∷ 0x34 ∷ 0x40 ∷ 0 ∷ 64 ∷ 17 ∷ 0x3b ∷ 0x84 ∷ 192 ∷ 0 ∷ 2 ∷ 33 ∷ 198 ∷ 51 ∷ 100 ∷ 7 ∷ [])
+    ≡ Some HeaderChecksum
+unfolding folded other_prefixes prefix_48
+wrong_checksum = refl
+
+-- the destination 224.51.100.7 is a multicast address
+multicast : addresses_refusal (0x45 ∷ 0xb9 ∷ 0 ∷ 31 ∷ 0x12 ∷ 0x34 ∷ 0x40 ∷ 0 ∷ 64 ∷ 17 ∷ 0x21 ∷ 0x85 ∷ 192 ∷ 0 ∷ 2 ∷ 33 ∷ 224 ∷ 51 ∷ 100 ∷ 7 ∷ [])
+    ≡ Some IllegalDestination
+multicast = refl

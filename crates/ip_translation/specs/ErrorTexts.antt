@@ -6,6 +6,8 @@ use Rattle.ip_translation.specs.declared.address_error.AddressError.{AddressErro
 use Rattle.ip_translation.specs.declared.address_error.AddressError.TheVariants.{NotEmbedded, NotGlobal}
 use Rattle.ip_translation.specs.declared.prefix64_error.Prefix64Error.{Prefix64Error}
 use Rattle.ip_translation.specs.declared.prefix64_error.Prefix64Error.TheVariants.{Len, ReservedOctet, SuffixBits}
+use Rattle.ip_translation.specs.declared.translation_error.TranslationError.{TranslationError}
+use Rattle.ip_translation.specs.declared.translation_error.TranslationError.TheVariants.{Destination, Fragment, HeaderChecksum, IllegalDestination, IllegalSource, Source, SourceRoute, TimeExceeded, TotalLength}
 
 -- an address without a translation
 abbrev pub address_text : AddressError → List ℕ
@@ -18,3 +20,16 @@ prefix_text (Len len) = concat (
     codes "Prefix Error: the length is " ∷ decimal len ∷ codes " bits, and only 32, 40, 48, 56, 64 and 96 are allowed." ∷ [])
 prefix_text ReservedOctet = codes "Prefix Error: bits 64 to 71 are not 0."
 prefix_text SuffixBits = codes "Prefix Error: a bit after the prefix is not 0."
+
+-- a header that is not translated
+abbrev pub translation_text : TranslationError → List ℕ
+translation_text (TotalLength total_len header_len) = concat (
+    codes "Translation Error: the total length " ∷ decimal total_len ∷ codes " is below the header length " ∷ decimal header_len ∷ codes "." ∷ [])
+translation_text HeaderChecksum = codes "Translation Error: the checksum of the IPv4 header is wrong."
+translation_text Fragment = codes "Translation Error: the packet is a fragment."
+translation_text SourceRoute = codes "Translation Error: the IPv4 options contain a source route."
+translation_text TimeExceeded = codes "Translation Error: the time to live is exceeded."
+translation_text IllegalSource = codes "Translation Error: the source is no address of a host."
+translation_text IllegalDestination = codes "Translation Error: the destination is no address of a host."
+translation_text (Source error) = address_text error
+translation_text (Destination error) = address_text error

@@ -1,3 +1,4 @@
 pub use Rattle.net_base.specs.Refusals
 pub mod ErrorTexts
+pub mod HeadersToIpv6
 pub mod Prefixes

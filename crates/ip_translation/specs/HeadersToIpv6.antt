@@ -1,0 +1,103 @@
+-- The IPv6 header for an IPv4 header (RFC 7915, section 4.1), and the headers that have none.
+use Rattle.std.specs.Prelude.{ℕ, ◌+◌, ◌-◌, ◌*◌, ◌/◌, ◌%◌, ◌==◌, Bool, not, ◌||◌, nat_lt, if◌then◌else◌, List, [], ◌∷◌, ◌++◌, drop, is_some, slice_index, slice_range, Option}
+use Rattle.std.specs.Int.{to_be_bytes, w16}
+use Rattle.std.specs.List.{find}
+use Rattle.std.specs.Option.{option_map}
+use Rattle.ip_part.specs.Options.{ipv4_option, is_source_route, options_of}
+use Rattle.net_base.specs.Bytes.{be_number}
+use Rattle.net_base.specs.IpHeaders.{ipv4_header_len, ipv4_is_fragment}
+use Rattle.net_base.specs.IpNumbers.{icmpv4_number, icmpv6_number}
+use Rattle.net_base.specs.PseudoHeader.{ipv4_pseudo_header, ipv6_pseudo_header}
+use Rattle.net_base.specs.Refusals.{first_of, refused_if}
+use Rattle.word_sum.specs.Checksum.{all_ones, folded, total}
+use Rattle.ip_translation.specs.Prefixes.{embedded, to_ipv6_refusal}
+use Rattle.ip_translation.specs.declared.prefixes.Prefixes.{Prefixes}
+use Rattle.ip_translation.specs.declared.translation_error.TranslationError.{TranslationError}
+use Rattle.ip_translation.specs.declared.translation_error.TranslationError.TheVariants.{Destination, Fragment, HeaderChecksum, IllegalDestination, IllegalSource, Source, SourceRoute, TimeExceeded, TotalLength}
+
+-- ---- the fields of an IPv4 header (RFC 791, section 3.1)
+
+abbrev pub type_of_service : List ℕ → ℕ
+type_of_service header = slice_index header 1
+
+abbrev pub total_len : List ℕ → ℕ
+total_len header = be_number header 2 2
+
+abbrev pub time_to_live : List ℕ → ℕ
+time_to_live header = slice_index header 8
+
+abbrev pub protocol : List ℕ → ℕ
+protocol header = slice_index header 9
+
+abbrev pub source : List ℕ → List ℕ
+source header = slice_range header 12 16
+
+abbrev pub destination : List ℕ → List ℕ
+destination header = slice_range header 16 20
+
+-- ---- errors
+
+-- no address of a host: of network 0 or 127, multicast, or reserved (RFC 1812, sections 4.2.2.11 and 5.3.7)
+abbrev pub is_illegal : List ℕ → Bool
+is_illegal address = slice_index address 0 == 0 || (slice_index address 0 == 127 || nat_lt 223 (slice_index address 0))
+
+abbrev pub addresses_refusal : List ℕ → Option TranslationError
+addresses_refusal header = first_of (
+    refused_if (is_illegal (source header)) IllegalSource
+    ∷ refused_if (is_illegal (destination header)) IllegalDestination
+    ∷ [])
+
+-- a loose or strict source route among the options (RFC 791, section 3.1)
+abbrev pub has_source_route : List ℕ → Bool
+has_source_route header = is_some (find is_source_route (options_of ipv4_option (drop 20 header)))
+
+-- the errors of the fields, in this order
+abbrev pub field_refusal : List ℕ → Option TranslationError
+field_refusal header = first_of (
+    refused_if (nat_lt (total_len header) (ipv4_header_len header)) (TotalLength (total_len header) (ipv4_header_len header))
+    ∷ refused_if (not (folded (total header) == all_ones)) HeaderChecksum
+    ∷ refused_if (ipv4_is_fragment header) Fragment
+    ∷ refused_if (has_source_route header) SourceRoute
+    ∷ refused_if (nat_lt (time_to_live header) 2) TimeExceeded
+    ∷ addresses_refusal header
+    ∷ [])
+
+-- and then an address that has no translation
+abbrev pub header_refusal : Prefixes → List ℕ → Option TranslationError
+header_refusal prefixes header = first_of (
+    field_refusal header
+    ∷ option_map Source (to_ipv6_refusal prefixes.source (source header))
+    ∷ option_map Destination (to_ipv6_refusal prefixes.destination (destination header))
+    ∷ [])
+
+-- ---- the translated header
+
+-- ICMPv6 for ICMP, and otherwise the same protocol
+abbrev pub next_header : ℕ → ℕ
+next_header protocol = if protocol == icmpv4_number then icmpv6_number else protocol
+
+-- An IPv6 header (RFC 8200, section 3). Version 6 has four bits, the traffic class has eight bits, and the flow label is 0. Next header and hop
+-- limit are two bytes.
+abbrev pub ipv6_header : ℕ → ℕ → List ℕ → List ℕ → List ℕ → List ℕ
+ipv6_header traffic_class payload_len next source destination =
+    (0x60 + traffic_class / 16) ∷ (traffic_class % 16 * 16) ∷ 0 ∷ 0 ∷ to_be_bytes w16 payload_len ++ (next ++ (source ++ destination))
+
+-- each field by its rule
+abbrev pub translated_header : Prefixes → List ℕ → List ℕ
+translated_header prefixes header = ipv6_header
+    (type_of_service header)
+    (total_len header - ipv4_header_len header)
+    (next_header (protocol header) ∷ (time_to_live header - 1) ∷ [])
+    (embedded prefixes.source (source header))
+    (embedded prefixes.destination (destination header))
+
+-- ---- the pseudo headers of UDP and TCP
+
+-- of this protocol and this length between the old addresses
+abbrev pub old_pseudo_header : List ℕ → ℕ → ℕ → List ℕ
+old_pseudo_header header protocol len = ipv4_pseudo_header (source header) (destination header) protocol len
+
+-- the same between the new addresses
+abbrev pub new_pseudo_header : Prefixes → List ℕ → ℕ → ℕ → List ℕ
+new_pseudo_header prefixes header protocol len =
+    ipv6_pseudo_header (embedded prefixes.source (source header)) (embedded prefixes.destination (destination header)) protocol len

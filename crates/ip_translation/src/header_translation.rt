@@ -1,0 +1,179 @@
+ghost use Rattle.std.specs.Prelude.{◌≡◌, ◌-◌, ◌+◌, ◌<◌, ℕ, IfOk, slice_index};
+ghost use Rattle.net_base.specs.Bytes.{be_number};
+ghost use Rattle.net_base.specs.IpHeaders.{ipv4_header_len};
+ghost use Rattle.net_base.specs.Refusals.{RefusesExactly};
+ghost use Rattle.word_sum.specs.Checksum.{total};
+ghost use Rattle.word_sum.specs.ChecksumChange.{TurnsInto};
+ghost use Rattle.ip_translation.specs.HeadersToIpv6 as specs;
+
+use crate::{Prefixes, TranslationError};
+use arrayvec::ArrayVec;
+use ip_part::has_source_route;
+use net_base::{IpNumber, Ipv4HeaderSlice, ip_number};
+use word_sum::checksum_change::ChecksumChange;
+
+/// The IPv6 header for the header of an IPv4 packet that is no fragment (RFC 7915, section 4.1).
+///
+/// | Field | Value |
+/// |---|---|
+/// | traffic class | type of service |
+/// | flow label | 0 |
+/// | payload length | total length without the header and its options |
+/// | next header | protocol, but ICMPv6 for ICMP |
+/// | hop limit | time to live, lowered by 1, since a translator is a router |
+/// | source, destination | the addresses that the prefixes embed, by `Prefix64::to_ipv6` |
+///
+/// Options are skipped. A checksum of the transport that covers a pseudo header is updated by the caller.
+///
+/// # Errors
+///
+/// The call checks these cases, in this order:
+/// - `TotalLength` if the total length is below the header length, and `HeaderChecksum` if the checksum of the header is wrong.
+/// - `Fragment` if more fragments follow, or if the fragment offset is not 0.
+/// - `SourceRoute` if the options contain a source route, even if no address is left in it.
+/// - `TimeExceeded` if the time to live is 0 or 1.
+/// - `IllegalSource` if the first byte of the source is 0, 127, or above 223, and `IllegalDestination` for the destination.
+/// - `Source` and `Destination` if `Prefix64::to_ipv6` refuses the address.
+pub fn header_to_ipv6(
+    header: &Ipv4HeaderSlice<'_>,
+    prefixes: &Prefixes,
+) -> Result<ArrayVec<u8, 40>, TranslationError>
+    ensures refused { RefusesExactly result (specs.header_refusal prefixes.now header.now) }
+    ensures written { IfOk result (λ translated. translated.items ≡ specs.translated_header prefixes.now header.now) }
+{
+    let payload_len = check_header(header)?;
+    let source = match prefixes.source.to_ipv6(header.source()) {
+        Ok(source) => source,
+        Err(error) => return Err(TranslationError::Source(error)),
+    };
+    let destination = match prefixes.destination.to_ipv6(header.destination()) {
+        Ok(destination) => destination,
+        Err(error) => return Err(TranslationError::Destination(error)),
+    };
+    let service = byte_at(header.slice(), TYPE_OF_SERVICE_AT);
+    let next_header = next_header(header.protocol());
+    let hop_limit = header.ttl().saturating_sub(1);
+    Ok(ipv6_header(
+        service,
+        payload_len,
+        [next_header.0, hop_limit],
+        source,
+        destination,
+    ))
+}
+
+/// The change of the pseudo header of UDP and TCP (RFC 7915, section 4.5): the IPv6 addresses replace the IPv4 addresses. Protocol and
+/// length stay, and so does the rest of the packet.
+///
+/// `ChecksumChange::apply_udp` and `apply` update the checksum of a UDP packet and of a TCP segment. A UDP packet with checksum 0 has no
+/// checksum to update, and IPv6 requires one. ICMPv4 has no pseudo header.
+pub fn pseudo_header_change(header: &Ipv4HeaderSlice<'_>, prefixes: &Prefixes) -> ChecksumChange
+    // So `ChecksumChange` states what a receiver accepts.
+    ensures turns { (protocol len rest : ℕ) → len < 65536 → TurnsInto result
+        (total (specs.old_pseudo_header header.now protocol len) + rest)
+        (total (specs.new_pseudo_header prefixes.now header.now protocol len) + rest) }
+{
+    let source = header.source();
+    let destination = header.destination();
+    let new_source = prefixes.source.embed(source);
+    let new_destination = prefixes.destination.embed(destination);
+    ChecksumChange::new()
+        .replace_slice(&source, &new_source)
+        .replace_slice(&destination, &new_destination)
+}
+
+/// The place of the type of service, in bytes from the start of an IPv4 header (RFC 791, section 3.1).
+const TYPE_OF_SERVICE_AT: usize = 1;
+
+/// The byte at this place, or 0 if the bytes end before it.
+fn byte_at(bytes: &[u8], place: usize) -> u8
+    ensures { result ≡ slice_index bytes.now place }
+{
+    if bytes.len() <= place {
+        return 0;
+    }
+    bytes[place]
+}
+
+/// Refuses a header with any error but those of its prefixes, and returns the length of the payload.
+fn check_header(header: &Ipv4HeaderSlice<'_>) -> Result<u16, TranslationError>
+    ensures refused { RefusesExactly result (specs.field_refusal header.now) }
+    ensures payload_len { IfOk result (λ len. len ≡ be_number header.now 2 2 - ipv4_header_len header.now) }
+{
+    let total_len = header.total_len();
+    let header_len = u16::from(header.ihl()) * 4;
+    if total_len < header_len {
+        return Err(TranslationError::TotalLength {
+            total_len,
+            header_len,
+        });
+    }
+    if !header.is_checksum_valid() {
+        return Err(TranslationError::HeaderChecksum);
+    }
+    if header.is_fragmenting_payload() {
+        return Err(TranslationError::Fragment);
+    }
+    if has_source_route(header.options()) {
+        return Err(TranslationError::SourceRoute);
+    }
+    if header.ttl() <= 1 {
+        return Err(TranslationError::TimeExceeded);
+    }
+    check_addresses(header)?;
+    Ok(total_len - header_len)
+}
+
+/// Refuses a header whose addresses are not both addresses of hosts.
+fn check_addresses(header: &Ipv4HeaderSlice<'_>) -> Result<(), TranslationError>
+    ensures refused { RefusesExactly result (specs.addresses_refusal header.now) }
+{
+    if is_illegal(header.source()) {
+        return Err(TranslationError::IllegalSource);
+    }
+    if is_illegal(header.destination()) {
+        return Err(TranslationError::IllegalDestination);
+    }
+    Ok(())
+}
+
+/// Whether this is no address of a host: an address of network 0 or 127, a multicast address, or a reserved address.
+fn is_illegal(address: [u8; 4]) -> bool
+    ensures { result ≡ specs.is_illegal address }
+{
+    address[0] == 0 || address[0] == 127 || address[0] > 223
+}
+
+/// The protocol of the translated packet.
+fn next_header(protocol: IpNumber) -> IpNumber
+    ensures { result.0 ≡ specs.next_header protocol.0 }
+{
+    if protocol.0 == ip_number::ICMP.0 {
+        ip_number::IPV6_ICMP
+    } else {
+        protocol
+    }
+}
+
+/// An IPv6 header with this traffic class, payload length, next header and hop limit, and between these addresses. The flow label is 0.
+fn ipv6_header(
+    traffic_class: u8,
+    payload_len: u16,
+    next: [u8; 2],
+    source: [u8; 16],
+    destination: [u8; 16],
+) -> ArrayVec<u8, 40>
+    ensures { result.items ≡ specs.ipv6_header traffic_class payload_len next source destination }
+{
+    let mut header = ArrayVec::new();
+    header
+        .try_extend_from_slice(&[0x60 + traffic_class / 16, traffic_class % 16 * 16, 0, 0])
+        .unwrap();
+    header
+        .try_extend_from_slice(&payload_len.to_be_bytes())
+        .unwrap();
+    header.try_extend_from_slice(&next).unwrap();
+    header.try_extend_from_slice(&source).unwrap();
+    header.try_extend_from_slice(&destination).unwrap();
+    header
+}
