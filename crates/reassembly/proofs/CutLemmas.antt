@@ -455,12 +455,12 @@ accepted key room payload fragments arrivals cut short fits most from =
 
 -- ---- each arrival is kept
 
-among_more : (x piece : Piece) (pieces : List Piece) (among : Bool) → is_among pieces x ≡ true
+pub among_more : (x piece : Piece) (pieces : List Piece) (among : Bool) → is_among pieces x ≡ true
     → is_among (if among then pieces else pieces ++ piece ∷ []) x ≡ true
 among_more x piece pieces true there = there
 among_more x piece pieces false there = any_append (is_same x) pieces (piece ∷ []) ∙ ap (λ b. b || is_among (piece ∷ []) x) there
 
-among_new : (piece : Piece) (pieces : List Piece) (among : Bool) → is_among pieces piece ≡ among
+pub among_new : (piece : Piece) (pieces : List Piece) (among : Bool) → is_among pieces piece ≡ among
     → is_among (if among then pieces else pieces ++ piece ∷ []) piece ≡ true
 among_new piece pieces true is = is
 among_new piece pieces false is = among_push piece pieces
@@ -486,14 +486,14 @@ one_from xs (first ∷ others) fragment from (inr is) = one_from xs others fragm
 
 -- ---- the payload is given back
 
-is_number : (a b : ℕ) → (a == b) ≡ true → a ≡ b
+pub is_number : (a b : ℕ) → (a == b) ≡ true → a ≡ b
 is_number a b is = grind (arith, nat_tests)
 
-parts_of_and : (a b : Bool) → (a && b) ≡ true → (a ≡ true) × (b ≡ true)
+pub parts_of_and : (a b : Bool) → (a && b) ≡ true → (a ≡ true) × (b ≡ true)
 parts_of_and true b is = (refl, is)
 parts_of_and false b is = absurd (cc is)
 
-bytes_are : (a b : List ℕ) → pointwise nat_eq a b ≡ true → a ≡ b
+pub bytes_are : (a b : List ℕ) → pointwise nat_eq a b ≡ true → a ≡ b
 bytes_are [] [] is = refl
 bytes_are [] (y ∷ ys) is = absurd (cc is)
 bytes_are (x ∷ xs) [] is = absurd (cc is)
@@ -501,14 +501,14 @@ bytes_are (x ∷ xs) (y ∷ ys) is =
     let parts = parts_of_and (nat_eq x y) (pointwise nat_eq xs ys) is in
     ap (λ x. x ∷ xs) (is_number x y parts.0) ∙ ap (λ xs. y ∷ xs) (bytes_are xs ys parts.1)
 
-piece_is : (a b : Piece) → is_same a b ≡ true → a ≡ b
+pub piece_is : (a b : Piece) → is_same a b ≡ true → a ≡ b
 piece_is a b is =
     let parts = parts_of_and (a.offset == b.offset) (pointwise nat_eq a.bytes b.bytes) is in
     ap (λ offset. record { offset = offset; bytes = a.bytes }) (is_number a.offset b.offset parts.0)
     ∙ ap (λ bytes. record { offset = b.offset; bytes = bytes }) (bytes_are a.bytes b.bytes parts.1)
 
 -- what is true of a piece is true of one of the pieces that it is among
-any_among : (test : Piece → Bool) (piece : Piece) (pieces : List Piece) → is_among pieces piece ≡ true → test piece ≡ true → list_any test pieces ≡ true
+pub any_among : (test : Piece → Bool) (piece : Piece) (pieces : List Piece) → is_among pieces piece ≡ true → test piece ≡ true → list_any test pieces ≡ true
 any_among test piece [] among true_of = absurd (cc among)
 any_among test piece (first ∷ pieces) among true_of =
     step (is_same piece first) refl among (λ among. any_among test piece pieces among true_of)

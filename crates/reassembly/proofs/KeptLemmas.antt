@@ -33,7 +33,7 @@ five_none false false false true e v w x y z none = absurd (some_is_none y none)
 five_none false false false false true v w x y z none = absurd (some_is_none z none)
 five_none false false false false false v w x y z none = (refl, refl)
 
-two_none : (a b : Bool) (x y : ReassemblyError) → first_of (refused_if a x ∷ refused_if b y ∷ []) ≡ None → (a ≡ false) × (b ≡ false)
+pub two_none : (a b : Bool) (x y : ReassemblyError) → first_of (refused_if a x ∷ refused_if b y ∷ []) ≡ None → (a ≡ false) × (b ≡ false)
 two_none true b x y none = absurd (some_is_none x none)
 two_none false true x y none = absurd (some_is_none y none)
 two_none false false x y none = (refl, refl)

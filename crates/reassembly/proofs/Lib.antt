@@ -3,4 +3,5 @@ pub mod CutLemmas
 pub mod FragmentHeaderLemmas
 pub mod FragmentLemmas
 pub mod KeptLemmas
+pub mod OnlySoLemmas
 pub mod PartLemmas

@@ -1,5 +1,5 @@
 -- Ways to cut the payload of a packet into fragments (RFC 791, section 3.2; RFC 8200, section 4.5), and adds one after another.
-use Rattle.std.specs.Prelude.{◌≡◌, ◌⊎◌, ◌<◌, ℕ, ◌+◌, ◌%◌, Bool, true, false, List, [], ◌∷◌, ◌++◌, length, None, ⊤}
+use Rattle.std.specs.Prelude.{◌≡◌, ◌⊎◌, ◌<◌, ℕ, ◌+◌, ◌%◌, Bool, true, false, List, [], ◌∷◌, ◌++◌, length, None, ⊤, slice_range}
 use Rattle.reassembly.specs.Fragments.{FragmentValue}
 use Rattle.reassembly.specs.Reassembly.{State, refusal, with_fragment}
 use Rattle.reassembly.specs.declared.fragment_key.FragmentKey.{FragmentKey}
@@ -45,3 +45,14 @@ AreAccepted state (first ∷ others) = (refusal state first ≡ None) × AreAcce
 abbrev pub after : State → List FragmentValue → State
 after state [] = state
 after state (first ∷ others) = after (with_fragment state first) others
+
+-- ---- fragments of a payload
+
+-- This is a fragment of the packet with this key and this payload: its bytes are the bytes of the payload at its place, and it ends with the
+-- payload exactly if it states that no more fragments come. Otherwise its length is a multiple of 8.
+pub record IsFragmentOf (key : FragmentKey) (payload : List ℕ) (fragment : FragmentValue) : Type 0 where
+  pub key_is : fragment.key ≡ key
+  pub some : 0 < length fragment.bytes
+  pub bytes : slice_range payload fragment.offset (fragment.offset + length fragment.bytes) ≡ fragment.bytes
+  pub last : fragment.more_fragments ≡ false → fragment.offset + length fragment.bytes ≡ length payload
+  pub more : fragment.more_fragments ≡ true → (fragment.offset + length fragment.bytes < length payload) × (length fragment.bytes % 8 ≡ 0)

@@ -1,7 +1,7 @@
 //! Laws of the definitions. Each law is the contract of a function, so that it is checked with the calls.
 
 ghost use Rattle.std.specs.Prelude.{◌≤◌, List, ℕ, length};
-ghost use Rattle.reassembly.specs.Cuts.{AreAccepted, AreFrom, IsCut, after};
+ghost use Rattle.reassembly.specs.Cuts.{AreAccepted, AreFrom, IsCut, IsFragmentOf, IsOneOf, after};
 ghost use Rattle.reassembly.specs.Fragments.{FragmentValue};
 ghost use Rattle.reassembly.specs.Reassembly.{IsPayload, empty};
 ghost use Rattle.reassembly.specs.declared.fragment_key.FragmentKey.{FragmentKey};
@@ -14,4 +14,11 @@ pub fn fragments_give_the_payload_back()
     ensures given_back { (key : FragmentKey) (room : ℕ) (payload : List ℕ) (fragments arrivals : List FragmentValue)
         → IsCut key payload fragments → length payload ≤ room → AreFrom fragments arrivals → AreFrom arrivals fragments
         → IsPayload (after (empty key room) arrivals) payload }
+{}
+
+/// If the payload is complete, each fragment that was accepted is a fragment of it.
+pub fn fragments_agree_with_the_payload()
+    ensures { (key : FragmentKey) (room : ℕ) (payload : List ℕ) (arrivals : List FragmentValue) (fragment : FragmentValue)
+        → AreAccepted (empty key room) arrivals → IsPayload (after (empty key room) arrivals) payload → IsOneOf arrivals fragment
+        → IsFragmentOf key payload fragment }
 {}
