@@ -1,10 +1,13 @@
 //! Tests of the crate `reassembly`.
 
-use crate::expect::{expect_at, expect_equal, expect_ok, expect_text};
+use crate::expect::{
+    expect_at, expect_bytes, expect_equal, expect_ok, expect_some, expect_text,
+};
 use ip_part::IpError;
 use net_base::ip_number;
 use reassembly::{
     Fragment, FragmentError, FragmentKey, MAX_FRAGMENTS, Progress, Reassembly, ReassemblyError,
+    whole_ipv4_header,
 };
 use std::process::Abort;
 
@@ -255,3 +258,15 @@ static TEXTS: [(ReassemblyError, &str); 9] = [
     (ReassemblyError::Overlap, "Reassembly Error: the fragment overlaps another."),
     (ReassemblyError::TooManyFragments, "Reassembly Error: no more fragments fit."),
 ];
+
+#[test]
+fn a_whole_header_has_no_mark_of_a_fragment(rt: HostRuntime) {
+    let header = expect_some(&rt, whole_ipv4_header(&over_ipv4(0x60, 1), 16));
+    let expected = [
+        0x45, 0, 0, 36, 0x1A, 0x2B, 0x40, 0, 64, 17, 0x0C, 0x9C, 10, 0, 0, 1, 10, 0, 0, 2,
+    ];
+    expect_bytes(&rt, header.as_slice(), &expected);
+    let too_long = whole_ipv4_header(&over_ipv4(0x20, 0), 65_516);
+    expect_equal(&rt, &too_long.is_none(), &true);
+    expect_equal(&rt, &whole_ipv4_header(&[0x60; 20], 16).is_none(), &true);
+}

@@ -5,3 +5,4 @@ pub mod FragmentLemmas
 pub mod KeptLemmas
 pub mod OnlySoLemmas
 pub mod PartLemmas
+pub mod WholeHeaderLemmas

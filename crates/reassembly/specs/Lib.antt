@@ -8,3 +8,4 @@ pub mod Fragments
 pub mod Parts
 pub mod Pieces
 pub mod Reassembly
+pub mod WholeHeaders

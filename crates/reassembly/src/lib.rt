@@ -21,9 +21,11 @@ pub mod laws;
 mod part;
 mod reassembly;
 mod reassembly_error;
+mod whole_header;
 
 pub use fragment::Fragment;
 pub use fragment_error::FragmentError;
 pub use fragment_key::FragmentKey;
 pub use reassembly::{MAX_FRAGMENTS, Progress, Reassembly};
 pub use reassembly_error::ReassemblyError;
+pub use whole_header::{MAX_IPV4_HEADER_LEN, whole_ipv4_header};
