@@ -1,6 +1,6 @@
 -- The beginning of a capture.
-use Rattle.std.proofs.Common.{◌≡◌, ◌≤◌, ◌<◌, ◌++◌, ◌∙◌, Bool, IfOk, IfSome, ℕ, List, Option, Result, Some, None, Ok, Err, [], ap, append-nil, arith, length, length-append, length-take-le, subst, sym, take, ⊎_elim}
-use Rattle.std.proofs.lemmas.List.{nil_from_length, take_all, take_at}
+use Rattle.std.proofs.Common.{◌≡◌, ◌≤◌, ◌<◌, ◌++◌, ◌∙◌, Bool, IfOk, IfSome, ℕ, List, Option, Result, Some, None, Ok, Err, ap, append-nil, arith, length, length-take, length-take-le, subst, sym, take, ⊎_elim}
+use Rattle.std.proofs.lemmas.List.{take_all, take_at}
 use Rattle.std.proofs.lemmas.Bool.{cases_lt}
 use Rattle.std.proofs.KnownBytes.{Consumes-trans}
 use Rattle.std.specs.Io.KnownBytes.{Consumes, IsAtEnd}
@@ -12,22 +12,26 @@ use Rattle.capture_file.specs.Reading.{ReadsHeader, RefusesHeader}
 use Rattle.capture_file.specs.declared.classic.capture_header.CaptureHeader.{CaptureHeader}
 use Rattle.capture_file.specs.declared.classic.capture_header_error.CaptureHeaderError.{CaptureHeaderError}
 
--- what was read from bytes in memory, as many as a header has or fewer
-pub says_header : (bytes : List ℕ) (left : Option (List ℕ)) (read : Result CaptureHeader CaptureHeaderError) → length bytes ≤ 24
-    → ReadsHeader (Some bytes) left read → SaysHeader bytes read
-says_header bytes None (Ok header) within reads = absurd reads.consumed
-says_header bytes (Some rest) (Ok header) within reads =
-    let none : rest ≡ [] =
-    nil_from_length rest (omega (arith, within, reads.has_len, ap length reads.consumed, length-append reads.bytes rest)) in
-    let same : reads.bytes ≡ bytes = sym (append-nil reads.bytes) ∙ ap (λ more. reads.bytes ++ more) (sym none) ∙ sym reads.consumed in
-    subst (λ given. SaysHeader given (Ok header)) same (reads.has_len, reads.accepted, reads.is_header)
-says_header bytes left (Err error) within reads = ap header_refusal (sym (reads.first ∙ take_all 24 bytes within)) ∙ reads.refused
+-- what was read from bytes in memory: their first 24 bytes
+says_header : (bytes : List ℕ) (left : Option (List ℕ)) (read : Result CaptureHeader CaptureHeaderError) → ReadsHeader (Some bytes) left read
+    → SaysHeader (take 24 bytes) read
+says_header bytes None (Ok header) reads = absurd reads.consumed
+says_header bytes (Some rest) (Ok header) reads =
+    let same : take 24 bytes ≡ reads.bytes = ap (take 24) reads.consumed ∙ take_at reads.bytes rest 24 (omega (arith, reads.has_len)) in
+    subst (λ given. SaysHeader given (Ok header)) (sym same) (reads.has_len, reads.accepted, reads.is_header)
+says_header bytes left (Err error) reads = ap header_refusal (sym reads.first) ∙ reads.refused
 
 -- the same of a read that may fail
 pub says_unless_failed : {E : Type 0} → (bytes : List ℕ) (left : Option (List ℕ)) (result : Result (Result CaptureHeader CaptureHeaderError) E)
-    → length bytes ≤ 24 → IfOk result (ReadsHeader (Some bytes) left) → IfOk result (SaysHeader bytes)
-says_unless_failed bytes left (Ok read) within reads = says_header bytes left read within reads
-says_unless_failed bytes left (Err error) within reads = tt
+    → IfOk result (ReadsHeader (Some bytes) left) → IfOk result (SaysHeader (take 24 bytes))
+says_unless_failed bytes left (Ok read) reads = says_header bytes left read reads
+says_unless_failed bytes left (Err error) reads = tt
+
+-- what 24 bytes of a buffer, or fewer, are as a header
+pub says_of_filled : (buffer : List ℕ) (len : ℕ) (read : Result CaptureHeader CaptureHeaderError) → length buffer ≡ 24
+    → SaysHeader (take 24 (take len buffer)) read → SaysHeader (take len buffer) read
+says_of_filled buffer len read room says =
+    subst (λ given. SaysHeader given read) (take_all 24 (take len buffer) (omega (arith, length-take len buffer, room))) says
 
 -- whether the first bytes of an input are the type of a section header block
 pub begins_pcapng : (left : Option (List ℕ)) (bytes : List ℕ) (is_pcapng : Bool) → IfSome left (λ all. bytes ≡ take 12 all)

@@ -1,4 +1,4 @@
-ghost use Rattle.std.specs.Prelude.{◌≡◌, ◌≤◌, IfOk, length, true};
+ghost use Rattle.std.specs.Prelude.{◌≡◌, ◌≤◌, IfOk, length, take, true};
 ghost use Rattle.capture_file.specs.Opening.{SaysHeader};
 ghost use Rattle.capture_file.specs.Pcapng.{is_section_header};
 
@@ -18,14 +18,14 @@ pub fn is_pcapng(bytes: &[u8]) -> bool
     }
 }
 
-/// The header of a classic capture in its first 24 bytes, or the error that refuses them. There are fewer bytes at the end of the input.
+/// The header of a classic capture in the first 24 of these bytes, or the error that refuses them. If there are fewer bytes, the capture
+/// ends with them.
 ///
 /// # Errors
 ///
 /// The error of a read from these bytes.
 pub fn header_in(bytes: &[u8]) -> io::Result<Result<CaptureHeader, CaptureHeaderError>>
-    requires { length bytes.now ≤ 24 }
-    ensures { IfOk result (SaysHeader bytes.now) }
+    ensures { IfOk result (SaysHeader (take 24 bytes.now)) }
 {
     let mut rest = bytes;
     read_capture_header(&mut rest)

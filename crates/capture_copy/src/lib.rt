@@ -12,4 +12,4 @@ mod begin;
 mod pieces;
 
 pub use begin::{header_in, is_pcapng};
-pub use pieces::{CopyError, copy};
+pub use pieces::{BUFFER_LEN, Buffer, CopyError, copy};

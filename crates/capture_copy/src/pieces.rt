@@ -1,10 +1,16 @@
-ghost use Rattle.std.specs.Prelude.{◌<◌, ◌≤◌, IfOk, length};
+ghost use Rattle.std.specs.Prelude.{◌<◌, ◌≤◌, IfOk};
 ghost use Rattle.std.specs.Io.KnownBytes.{IsAtEnd};
 ghost use Rattle.capture_copy.specs.Copies.{CopiesUpTo};
 
 use std::io;
 use std::io::{Read, Write};
 use streams::fill;
+
+/// The length of a buffer for pieces, in bytes. It is the maximum length of a packet that is read, so that one buffer serves both.
+pub const BUFFER_LEN: usize = 524_288;
+
+/// Room for a piece of the bytes that are copied.
+pub type Buffer = [u8; BUFFER_LEN];
 
 /// Why bytes were not copied.
 #[derive(Debug, Drop)]
@@ -15,8 +21,8 @@ pub enum CopyError {
     Write(io::Error),
 }
 
-/// Copies `count` bytes, or all bytes up to the end of input if there are fewer, and returns the number of bytes copied. The buffer, which is
-/// not empty, has room for a piece of them.
+/// Copies `count` bytes, or all bytes up to the end of input if there are fewer, and returns the number of bytes copied. The buffer has room
+/// for a piece of them.
 ///
 /// # Errors
 ///
@@ -24,10 +30,9 @@ pub enum CopyError {
 pub fn copy<R: Read, W: Write>(
     input: &mut R,
     output: &mut W,
-    buffer: &mut [u8],
+    buffer: &mut Buffer,
     count: usize,
 ) -> Result<usize, CopyError>
-    requires room { 1 ≤ length buffer.old }
     ensures copies { CopiesUpTo count result (R.remaining input.old) (R.remaining input.new) (W.contents output.old) (W.contents output.new) }
     ensures within { IfOk result (λ len. len ≤ count) }
     ensures end { IfOk result (λ len. len < count → IsAtEnd (R.remaining input.new)) }

@@ -3,7 +3,7 @@ use Rattle.std.proofs.lemmas.List.{take_all}
 use Rattle.std.specs.Io.KnownBytes.{Consumes}
 use Rattle.capture_file.proofs.ReaderLemmas.{fills_whole}
 use Rattle.capture_file.specs.Opening.{SaysHeader}
-use Rattle.capture_copy.proofs.BeginLemmas.{all_consumed, refuses_header}
+use Rattle.capture_copy.proofs.BeginLemmas.{all_consumed, refuses_header, says_of_filled}
 use Rattle.capture_selection.proofs.CaptureLemmas.{passes_from, selects_capture, selects_to_write_error}
 use Rattle.capture_selection.proofs.PassingLemmas.{write_error_at_limit}
 use Rattle.capture_selection.proofs.capture.select_capture.Goals as goal
@@ -13,7 +13,8 @@ returns-in-Ok-Err-clause-selects g c =
     λ left consumed other.
     let fills = fills_whole 24 c.args.begin.now _ _ c.fill_after.new.buffer c.in-Ok.len (omega (arith, c.requires.begin.0)) c.in-Ok.ensures.fills in (
       refuses_header c.in-Ok-Err.error left _ _ c.args.begin.now c.fill_after.new.buffer c.in-Ok.len (omega (arith, c.fill_after.auto.buffer)) consumed fills
-          (subst (SaysHeader (take c.in-Ok.len c.fill_after.new.buffer)) c.in-Ok-Err.field-0-is c.in-Ok-Err.ensures),
+          (subst (SaysHeader (take c.in-Ok.len c.fill_after.new.buffer)) c.in-Ok-Err.field-0-is
+          (says_of_filled c.fill_after.new.buffer c.in-Ok.len _ (omega (arith, c.fill_after.auto.buffer)) c.in-Ok-Err.ensures)),
       other,
       (refl, refl),
     )
@@ -27,7 +28,8 @@ returns-clause-selects g c =
     let first = c.fill_after.new.buffer in
     let len = c.in-Ok.len in
     let fills = fills_whole 24 c.args.begin.now _ _ first len (omega (arith, c.requires.begin.0)) c.in-Ok.ensures.fills in
-    let says : SaysHeader (take len first) (Ok c.in-Ok-Ok.header) = subst (SaysHeader (take len first)) c.in-Ok-Ok.field-0-is c.in-Ok-Ok.ensures in
+    let says : SaysHeader (take len first) (Ok c.in-Ok-Ok.header) = subst (SaysHeader (take len first)) c.in-Ok-Ok.field-0-is
+    (says_of_filled first len _ (omega (arith, c.fill_after.auto.buffer)) c.in-Ok-Ok.ensures) in
     let whole : take len first ≡ first = take_all len first (omega (arith, says.0, c.fill_after.auto.buffer, fills.within, length-take-le len first fills.within)) in
     selects_capture _ _ left _ _ _ _ _ (record {
       header = c.in-Ok-Ok.header;

@@ -2,7 +2,7 @@ use Rattle.std.proofs.Common.{◌≡◌, Ok, arith, inl, length-take-le, refl, r
 use Rattle.std.proofs.lemmas.List.{take_all}
 use Rattle.std.specs.Io.KnownBytes.{Consumes}
 use Rattle.capture_file.specs.Opening.{SaysHeader}
-use Rattle.capture_copy.proofs.BeginLemmas.{all_consumed, refuses_header}
+use Rattle.capture_copy.proofs.BeginLemmas.{all_consumed, refuses_header, says_of_filled}
 use Rattle.translator.proofs.CaptureLemmas.{passes_from, to_read_error, to_write_error, translates_records}
 use Rattle.translator.proofs.capture.translate_classic.Goals as goal
 
@@ -15,7 +15,8 @@ returns-in-Ok-Err-clause-translates g c =
       no_pcapng,
       refuses_header c.in-Ok-Err.error left _ _ c.args.begin.now c.read_after.new.buffer c.in_ok-len.len (omega (arith, c.read_after.auto.buffer)) consumed
           c.in_ok-len.ensures.fills
-          (subst (SaysHeader (take c.in_ok-len.len c.read_after.new.buffer)) c.in-Ok-Err.field-0-is c.in-Ok-Err.ensures),
+          (subst (SaysHeader (take c.in_ok-len.len c.read_after.new.buffer)) c.in-Ok-Err.field-0-is
+          (says_of_filled c.read_after.new.buffer c.in_ok-len.len _ (omega (arith, c.read_after.auto.buffer)) c.in-Ok-Err.ensures)),
       (refl, refl),
     )
 
@@ -31,7 +32,8 @@ returns-clause-translates g c =
     let first = c.read_after.new.buffer in
     let len = c.in_ok-len.len in
     let fills = c.in_ok-len.ensures.fills in
-    let says : SaysHeader (take len first) (Ok c.in-Ok-Ok.header) = subst (SaysHeader (take len first)) c.in-Ok-Ok.field-0-is c.in-Ok-Ok.ensures in
+    let says : SaysHeader (take len first) (Ok c.in-Ok-Ok.header) = subst (SaysHeader (take len first)) c.in-Ok-Ok.field-0-is
+    (says_of_filled first len _ (omega (arith, c.read_after.auto.buffer)) c.in-Ok-Ok.ensures) in
     let whole : take len first ≡ first = take_all len first (omega (arith, says.0, c.read_after.auto.buffer, fills.within, length-take-le len first fills.within)) in
     translates_records _ c.translate_records.result left _ _ _ _ _ (record {
       header = c.in-Ok-Ok.header;
