@@ -1,7 +1,6 @@
 ghost use Rattle.std.specs.Prelude.{◌≡◌};
 ghost use Rattle.capture_selection.specs.Blocks.{refused_by};
-ghost use Rattle.capture_selection.specs.Passing.{IsReadError};
-ghost use Rattle.capture_request.specs.declared.capture_error.CaptureError.TheVariants.{RecordCutOff};
+ghost use Rattle.capture_request.specs.declared.capture_error.CaptureError.TheVariants.{Read, RecordCutOff};
 ghost use Rattle.capture_selection.specs.declared.selection_error.SelectionError.TheVariants.{Capture};
 
 use crate::SelectionError;
@@ -22,7 +21,7 @@ pub(crate) struct Place {
 impl Place {
     /// The error if reading fails at this place.
     pub fn read_error(self, error: io::Error) -> SelectionError
-        ensures { IsReadError self result }
+        ensures { result ≡ Capture (Read self.number self.offset error) }
     {
         let Place { number, offset } = self;
         SelectionError::Capture(CaptureError::Read {

@@ -1,5 +1,6 @@
-use Rattle.std.proofs.Common.{Err, inl, inr, subst}
+use Rattle.std.proofs.Common.{Err, inl, inr, refl, subst, sym}
 use Rattle.capture_copy.specs.Copies.{CopiesFront, CopiesUpTo}
+use Rattle.capture_selection.specs.Passing.{IsReadError}
 use Rattle.capture_selection.proofs.transfer.copy.Goals as goal
 
 pub returns-in-Err-Read-clause-copies : goal.returns-in-Err-Read-clause-copies
@@ -7,7 +8,7 @@ returns-in-Err-Read-clause-copies g c =
     let front : CopiesFront c.args.count (g.R.Read.remaining c.args.input.now) (g.W.Write.contents c.args.output.now) (g.W.Write.contents c.copy.new.output) =
     subst (λ given. CopiesUpTo c.args.count (Err given) (g.R.Read.remaining c.args.input.now) (g.R.Read.remaining c.copy.new.input)
     (g.W.Write.contents c.args.output.now) (g.W.Write.contents c.copy.new.output)) c.in-Err-Read.field-0-is c.in-Err-Read.ensures.copies in
-    inr (c.read_error.ensures, front.len, front.then_left, front.copies)
+    inr (subst (IsReadError c.args.place) (sym c.read_error.ensures) (refl, refl), front.len, front.then_left, front.copies)
 
 pub returns-in-Err-Write-clause-copies : goal.returns-in-Err-Write-clause-copies
 returns-in-Err-Write-clause-copies g c = inl tt
