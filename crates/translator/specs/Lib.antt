@@ -7,4 +7,5 @@ pub mod Packets
 pub mod Passing
 pub mod Reasons
 pub mod Records
+pub mod ReplacementTexts
 pub mod Replacements

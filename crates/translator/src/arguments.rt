@@ -1,5 +1,8 @@
 //! The arguments of the program.
 
+ghost use Rattle.std.specs.Prelude.{◌≡◌, IfOk, false};
+ghost use Rattle.translator.specs.Replacements.{is_empty_table};
+
 use crate::replacement_error::ReplacementError;
 use crate::replacement_text::{network_replacement, port_replacement};
 use crate::replacements::Replacements;
@@ -53,7 +56,9 @@ pub struct Options<'a> {
 ///
 /// An unknown argument, or one that is no replacement, is named in the text of the error, whose exit status is 2. A request for help or for
 /// the version is also an error. Its text goes to standard output, and its exit status is 0.
-pub fn requested_options<'a>(alloc: Global, words: &'a [String]) -> Result<Options<'a>, Error> {
+pub fn requested_options<'a>(alloc: Global, words: &'a [String]) -> Result<Options<'a>, Error>
+    ensures some { IfOk result (λ options. is_empty_table options.table ≡ false) }
+{
     let matches = command(alloc)?.try_get_matches_from(words)?;
     let mut table = Table::new(alloc);
     add_replacements(alloc, &matches, &mut table)?;

@@ -1,5 +1,8 @@
 //! Replacements as texts: two networks, or two ports, with `=` between them.
 
+ghost use Rattle.std.specs.Prelude.{◌≡◌};
+ghost use Rattle.translator.specs.ReplacementTexts.{ReadsHostBits, ReadsNetwork, ReadsNetworkReplacement, ReadsNetworks, ReadsPort, ReadsPortReplacement, ReadsPorts, ReadsPrefixed, replacement_of};
+
 use crate::network::Network;
 use crate::replacement_error::ReplacementError;
 use crate::replacements::{NetworkReplacement, PortReplacement, Replacements};
@@ -23,12 +26,31 @@ struct NetworkText {
 /// Why the text is no replacement of a network.
 pub(crate) fn network_replacement(
     text: &str,
-) -> Result<(NetworkReplacement, bool), ReplacementError> {
-    let Some((old, new)) = text.split_once('=') else {
-        return Err(ReplacementError::Form);
-    };
+) -> Result<(NetworkReplacement, bool), ReplacementError>
+    ensures reads { ReadsNetworkReplacement text.now result }
+{
+    match text.split_once('=') {
+        Some((old, new)) => networks(old, new),
+        None => Err(ReplacementError::Form),
+    }
+}
+
+/// The replacement of the network with the first text by the network with the second text.
+fn networks(old: &str, new: &str) -> Result<(NetworkReplacement, bool), ReplacementError>
+    ensures { ReadsNetworks old.now new.now result }
+{
     let old = network(old)?;
     let new = network(new)?;
+    replacement_of(&old, &new)
+}
+
+/// The replacement of the first network by the second network.
+fn replacement_of(
+    old: &NetworkText,
+    new: &NetworkText,
+) -> Result<(NetworkReplacement, bool), ReplacementError>
+    ensures { result ≡ replacement_of old.now new.now }
+{
     if old.is_ipv6 != new.is_ipv6 {
         return Err(ReplacementError::Versions);
     }
@@ -43,21 +65,45 @@ pub(crate) fn network_replacement(
 }
 
 /// A network: an address, `/` and the length of its prefix. An address without the length is a network of one address.
-fn network(text: &str) -> Result<NetworkText, ReplacementError> {
-    let (address, prefix_len) = match text.split_once('/') {
-        Some((address, prefix_len)) => (address, Some(prefix_len)),
-        None => (text, None),
+fn network(text: &str) -> Result<NetworkText, ReplacementError>
+    ensures { ReadsNetwork text.now result }
+{
+    match text.split_once('/') {
+        Some((address, prefix_len)) => prefixed(address, prefix_len),
+        None => match text.parse::<IpAddr>() {
+            Ok(address) => network_of(address, 0),
+            Err(_) => Err(ReplacementError::Address),
+        },
+    }
+}
+
+/// The network with these texts before and after its slash.
+fn prefixed(address: &str, prefix_len: &str) -> Result<NetworkText, ReplacementError>
+    ensures { ReadsPrefixed address.now prefix_len.now result }
+{
+    let address = match address.parse::<IpAddr>() {
+        Ok(address) => address,
+        Err(_) => return Err(ReplacementError::Address),
     };
-    let (number, is_ipv6) = number_of(address)?;
-    let bits = if is_ipv6 { 128 } else { 32 };
-    let prefix_len = match prefix_len {
-        Some(text) => prefix_len_of(text)?,
-        None => bits,
+    let prefix_len = match prefix_len.parse::<u32>() {
+        Ok(prefix_len) => prefix_len,
+        Err(_) => return Err(ReplacementError::PrefixLength),
     };
+    let bits = if address.is_ipv6() { 128 } else { 32 };
     if prefix_len > bits {
         return Err(ReplacementError::PrefixLength);
     }
-    let host_bits = bits - prefix_len;
+    network_of(address, bits - prefix_len)
+}
+
+/// The network of this address with this number of bits after its prefix.
+fn network_of(address: IpAddr, host_bits: u32) -> Result<NetworkText, ReplacementError>
+    ensures { ReadsHostBits address host_bits result }
+{
+    let (number, is_ipv6) = match address {
+        IpAddr::V4(ip) => (u128::from(ip.to_bits()), false),
+        IpAddr::V6(ip) => (ip.to_bits(), true),
+    };
     match Network::new(number, host_bits) {
         Some(network) => Ok(NetworkText {
             network,
@@ -68,40 +114,33 @@ fn network(text: &str) -> Result<NetworkText, ReplacementError> {
     }
 }
 
-/// An address as a number, and whether it is of IPv6.
-fn number_of(text: &str) -> Result<(u128, bool), ReplacementError> {
-    match text.parse::<IpAddr>() {
-        Ok(IpAddr::V4(address)) => Ok((u128::from(address.to_bits()), false)),
-        Ok(IpAddr::V6(address)) => Ok((address.to_bits(), true)),
-        Err(_) => Err(ReplacementError::Address),
-    }
-}
-
-/// The length of a prefix.
-fn prefix_len_of(text: &str) -> Result<u32, ReplacementError> {
-    match text.parse::<u32>() {
-        Ok(len) => Ok(len),
-        Err(_) => Err(ReplacementError::PrefixLength),
-    }
-}
-
 /// A replacement of a port.
 ///
 /// # Errors
 ///
 /// Why the text is no replacement of a port.
-pub(crate) fn port_replacement(text: &str) -> Result<PortReplacement, ReplacementError> {
-    let Some((old, new)) = text.split_once('=') else {
-        return Err(ReplacementError::Form);
-    };
-    Ok(PortReplacement {
-        old: port(old)?,
-        new: port(new)?,
-    })
+pub(crate) fn port_replacement(text: &str) -> Result<PortReplacement, ReplacementError>
+    ensures reads { ReadsPortReplacement text.now result }
+{
+    match text.split_once('=') {
+        Some((old, new)) => ports(old, new),
+        None => Err(ReplacementError::Form),
+    }
+}
+
+/// The replacement of the port with the first text by the port with the second text.
+fn ports(old: &str, new: &str) -> Result<PortReplacement, ReplacementError>
+    ensures { ReadsPorts old.now new.now result }
+{
+    let old = port(old)?;
+    let new = port(new)?;
+    Ok(PortReplacement { old, new })
 }
 
 /// A port.
-fn port(text: &str) -> Result<u16, ReplacementError> {
+fn port(text: &str) -> Result<u16, ReplacementError>
+    ensures { ReadsPort text.now result }
+{
     match text.parse::<u16>() {
         Ok(port) => Ok(port),
         Err(_) => Err(ReplacementError::Port),

@@ -1,4 +1,4 @@
-ghost use Rattle.std.specs.Prelude.{◌≡◌};
+ghost use Rattle.std.specs.Prelude.{◌≡◌, true};
 ghost use Rattle.translator.specs.Replacements as specs;
 ghost use Rattle.translator.specs.Replacements.{new_address, new_ipv4, new_ipv6, new_port};
 
@@ -37,7 +37,9 @@ pub struct Replacements {
 
 impl Replacements {
     /// No replacement.
-    pub fn new(alloc: Global) -> Replacements {
+    pub fn new(alloc: Global) -> Replacements
+        ensures none { specs.is_empty result ≡ true }
+    {
         Replacements {
             ipv4: Vec::new(alloc),
             ipv6: Vec::new(alloc),

@@ -1,4 +1,4 @@
-ghost use Rattle.std.specs.Prelude.{◌≡◌};
+ghost use Rattle.std.specs.Prelude.{◌≡◌, true};
 ghost use Rattle.translator.specs.Replacements as specs;
 
 use crate::replacements::Replacements;
@@ -20,7 +20,9 @@ pub type Ports = Option<(u16, u16)>;
 
 impl Table {
     /// A table without replacements.
-    pub fn new(alloc: Global) -> Table {
+    pub fn new(alloc: Global) -> Table
+        ensures none { specs.is_empty_table result ≡ true }
+    {
         Table {
             source: Replacements::new(alloc),
             destination: Replacements::new(alloc),
