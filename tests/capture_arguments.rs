@@ -1,7 +1,9 @@
 //! Tests of the crate `capture_arguments`: the command line of the program `capture_report`.
 
 use crate::expect::{expect_at, expect_equal, expect_ok, expect_some};
-use capture_arguments::{Arguments, no_capture, output_is_capture, requested_options, words_of};
+use capture_arguments::{
+    Arguments, is_filter, no_capture, output_is_capture, requested_options, words_of,
+};
 use std::env::FillError;
 use std::io::ErrorKind;
 use std::process::Abort;
@@ -38,7 +40,7 @@ const NAME: &[u8] = b"capture_report";
 const TOO_LONG: &[u8] = &[b'a'; 131073];
 
 /// Arguments that are accepted: the number of captures, the file for the packets, and whether lines are written out at once.
-static ACCEPTED: [(&[&[u8]], usize, Option<&str>, bool); 8] = [
+static ACCEPTED: [(&[&[u8]], usize, Option<&str>, bool); 12] = [
     (&[b"capture_report"], 0, None, false),
     (&[b"capture_report", b"a.pcap", b"-l"], 1, None, true),
     (
@@ -57,6 +59,26 @@ static ACCEPTED: [(&[&[u8]], usize, Option<&str>, bool); 8] = [
     (&[b"capture_report", b"--", b"-\xFF.pcap"], 1, None, false),
     (&[b"-\xFF", b"a.pcap"], 1, None, false),
     (&[NAME; 150], 149, None, false),
+    // A repeated option replaces its earlier use.
+    (&[b"capture_report", b"-nnvvll", b"-n"], 0, None, true),
+    (
+        &[b"capture_report", b"-nnr", b"a.pcap", b"--json", b"--json"],
+        1,
+        None,
+        false,
+    ),
+    (
+        &[b"capture_report", b"-w", b"b.pcap", b"-w", b"-", b"a.pcap"],
+        1,
+        Some("-"),
+        false,
+    ),
+    (
+        &[b"capture_report", b"-c", b"1", b"-c", b"2", b"--", b"-i"],
+        1,
+        None,
+        false,
+    ),
 ];
 
 /// Arguments that are refused, or request a text, with the exit status.
@@ -70,6 +92,32 @@ static REJECTED: [(&[&[u8]], i32); 9] = [
     (&[b"capture_report", b"--host=10.0.0.1\xFF", b"a.pcap"], 2),
     (&[b"capture_report", b"a.pcap", b"-\xFF"], 2),
     (&[b"capture_report", b"--help", b"-\xFF"], 0),
+];
+
+/// Words that look like options and are none, each with the text of the error, which names no other option.
+static UNKNOWN: [(&[&[u8]], &str); 6] = [
+    (&[b"capture_report", b"--filter", b"tcp"], "--filter"),
+    (&[b"capture_report", b"-i", b"eth0"], "-i"),
+    (&[b"capture_report", b"a.pcap", b"-nx"], "-nx"),
+    (&[b"capture_report", b"--summry"], "--summry"),
+    (&[b"capture_report", b"--host", b"-1"], "-1"),
+    (&[b"capture_report", b"--write-to=-", b"-q"], "--write-to=-"),
+];
+
+/// Several captures with `-w`, and whether the error has the hint at the options for filters.
+static SEVERAL: [(&[&[u8]], bool); 3] = [
+    (
+        &[b"capture_report", b"-w", b"-", b"a.pcap", b"b.pcap"],
+        false,
+    ),
+    (
+        &[b"capture_report", b"-w", b"-", b"a.pcap", b"port", b"53"],
+        true,
+    ),
+    (
+        &[b"capture_report", b"-w", b"-", b"a.pcap", b"tcp port 53"],
+        true,
+    ),
 ];
 
 /// The words of these arguments.
@@ -96,6 +144,32 @@ fn expect_rejected(rt: &(impl Abort + AllocGlobal), row: &(&'static [&'static [u
     expect_at(rt, row, &error.exit_code(), &row.1);
 }
 
+/// Stops the test unless the error of a row is this text and the usage.
+fn expect_unknown(rt: &(impl Abort + AllocGlobal), row: &(&'static [&'static [u8]], &str)) {
+    let words = words(rt, row.0);
+    let error = expect_some(rt, requested_options(&rt.alloc(), words.as_slice()).err());
+    let text = expect_ok(rt, format!(in rt.alloc(); "{error}"));
+    let wanted = expect_ok(
+        rt,
+        format!(in rt.alloc();
+            "error: unexpected argument '{}' found\n\nUsage: capture_report [OPTIONS] [FILE]...\n\nFor more information, try '--help'.\n",
+            row.1
+        ),
+    );
+    expect_at(rt, row, &text.as_str(), &wanted.as_str());
+}
+
+/// Stops the test unless the error of a row has the hint if the row says so.
+fn expect_hint(rt: &(impl Abort + AllocGlobal), row: &(&'static [&'static [u8]], bool)) {
+    let words = words(rt, row.0);
+    let error = expect_some(rt, requested_options(&rt.alloc(), words.as_slice()).err());
+    let text = expect_ok(rt, format!(in rt.alloc(); "{error}"));
+    let has_hint = text
+        .as_str()
+        .contains("; filters are --host, --port and --protocol\n");
+    expect_at(rt, row, &has_hint, &row.1);
+}
+
 /// Stops the test unless an argument that is too long is refused for its length.
 fn expect_too_long(rt: &(impl Abort + AllocGlobal)) {
     static WORDS: [&[u8]; 2] = [NAME, TOO_LONG];
@@ -116,6 +190,22 @@ fn arguments_are_rejected(rt: HostRuntime) {
         expect_rejected(&rt, row);
     }
     expect_too_long(&rt);
+}
+
+#[test]
+fn unknown_options_are_named_without_other_options(rt: HostRuntime) {
+    for row in &UNKNOWN {
+        expect_unknown(&rt, row);
+    }
+}
+
+#[test]
+fn filters_among_several_captures_get_a_hint(rt: HostRuntime) {
+    for row in &SEVERAL {
+        expect_hint(&rt, row);
+    }
+    expect_equal(&rt, &is_filter("portrange 1-2"), &true);
+    expect_equal(&rt, &is_filter("ports.pcap"), &false);
 }
 
 #[test]

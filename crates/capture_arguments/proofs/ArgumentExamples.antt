@@ -33,7 +33,7 @@ use Rattle.capture_arguments.specs.declared.arguments.Options.{Options}
 
 words : List Text
 words =
-    codes "capture_report" ∷ codes "-v" ∷ codes "--json" ∷ codes "--port" ∷ codes "53" ∷ codes "--protocol" ∷ codes "TCP" ∷ codes "-c" ∷ codes "5"
+    codes "capture_report" ∷ codes "-vv" ∷ codes "--json" ∷ codes "--json" ∷ codes "--port" ∷ codes "53" ∷ codes "--protocol" ∷ codes "TCP" ∷ codes "-c" ∷ codes "5"
     ∷ codes "a.pcap" ∷ []
 
 -- a reference to a value

@@ -1,15 +1,16 @@
 -- For the arguments of the command line.
-use Rattle.std.proofs.Common.{◌≡◌, ◌∙◌, ◌⊎◌, ◌++◌, ℕ, Bool, List, [], Result, Err, IfErr, false, inl, inr, map, true, ap, refl, subst, sym, ⊎_elim}
+use Rattle.std.proofs.Common.{◌≡◌, ◌∙◌, ◌⊎◌, ◌++◌, Bool, List, [], MatchOption, false, inl, inr, map, true, ap, refl, subst, ⊎_elim}
 use Rattle.std.specs.Borrow.{Bor}
-use Rattle.clap.specs.Words.{AddsArg, App, HasKind, HasMatchesOf, Rule, Text, app_of, fault_of as faults_of, is_simple, is_simple_and_free, kind_of, rows_of, rule_of, takes, with_rule, found_of}
+use Rattle.clap.specs.Words.{AddsArg, App, HasKind, HasMatchesOf, Rule, Text, app_of, fault_of as faults_of, is_simple, is_simple_and_free, kind_of, rule_of, takes, with_rule}
 use Rattle.clap.specs.declared.builder.arg.Arg.{Arg}
 use Rattle.clap.specs.declared.builder.command.Command.{Command}
 use Rattle.clap.specs.declared.error.Error.{Error}
 use Rattle.clap.specs.declared.error.kind.ErrorKind.{ErrorKind}
-use Rattle.clap.specs.declared.error.kind.ErrorKind.TheVariants.{OutOfMemory}
+use Rattle.clap.specs.declared.error.kind.ErrorKind.TheVariants.{OutOfMemory, UnknownArgument}
 use Rattle.clap.specs.declared.parser.matches.ArgMatches.{ArgMatches}
 use Rattle.capture_arguments.specs.CommandLine.{AreMatchesOf, IsCommandLine, bare_command, choice_rules, end_rules, file_rules, form_rules, line_rules, output_rules, protocol_names, with_rules}
-use Rattle.capture_arguments.specs.Rejections.{AreRejectedBy, HaveFault, IsExplainedUnless}
+use Rattle.capture_arguments.specs.Rejections.{AreRejectedBy, HaveFault, IsExplainedUnless, IsShownFor, named_word}
+use Rattle.capture_arguments.specs.Unknown.{unknown_text}
 
 -- clap says what the matches of the command line are, and why it refuses words
 pub is_simple_command_line : (app : App) → IsCommandLine app → is_simple app ≡ true
@@ -56,25 +57,24 @@ decided : (test : Bool) → (test ≡ true) ⊎ (test ≡ false)
 decided true = inl refl
 decided false = inr refl
 
--- clap refuses the words, unless an allocation failed
-not_taken : (RanOut : Type 0) (Refuses : App → List Text → Error → Type 0) (Explains : App → ErrorKind → Text → Error → Type 0) (app : App)
-    (words : List Text) (error : Error) → IsCommandLine app → (takes app words ≡ true → kind_of error ≡ OutOfMemory)
-    → (kind_of error ≡ OutOfMemory → RanOut) → HasKind (faults_of app words) error → Refuses app words error
-    → AreRejectedBy RanOut Refuses Explains words error
-not_taken RanOut Refuses Explains app words error is_line passes ran_out kinds refused =
-    let about_memory : kind_of error ≡ OutOfMemory → AreRejectedBy RanOut Refuses Explains words error = λ is. inl (is, ran_out is) in
-    ⊎_elim (λ taken. about_memory (passes taken)) (λ rejected.
-    ⊎_elim about_memory (λ among. inr (inl (app, is_line, rejected, among, refused))) kinds) (decided (takes app words))
+-- an error about the memory is shown as it is
+shown_memory : (RanOut : Type 0) (Explains : App → ErrorKind → Text → Error → Type 0) (words : List Text) (found shown : Error)
+    → IsShownFor RanOut Explains words found shown → kind_of found ≡ OutOfMemory → shown ≡ found
+shown_memory RanOut Explains words found shown is_shown is_memory =
+    subst (λ kind. MatchOption (named_word kind words) (shown ≡ found) (λ word. IsExplainedUnless RanOut Explains UnknownArgument (unknown_text word) shown))
+    is_memory is_shown
 
--- the same of a result
-pub no_match : {A : Type 0} → (RanOut : Type 0) (Refuses : App → List Text → Error → Type 0) (Explains : App → ErrorKind → Text → Error → Type 0)
-    (app : App) (words : List Text) (error : Error) (result : Result A Error) → IsCommandLine app
-    → (takes app words ≡ true → kind_of error ≡ OutOfMemory) → (kind_of error ≡ OutOfMemory → RanOut)
-    → (is_simple_and_free app ≡ true → HasKind (faults_of app words) error) → Refuses app words error → result ≡ Err error
-    → IfErr result (AreRejectedBy RanOut Refuses Explains words)
-no_match RanOut Refuses Explains app words error result is_line passes ran_out kinds refused fails =
-    subst (λ given. IfErr given (AreRejectedBy RanOut Refuses Explains words)) (sym fails)
-    (not_taken RanOut Refuses Explains app words error is_line passes ran_out (kinds (is_free_command_line app is_line)) refused)
+-- clap refuses the words, unless an allocation failed
+pub no_match : (RanOut : Type 0) (Refuses : App → List Text → Error → Type 0) (Explains : App → ErrorKind → Text → Error → Type 0) (app : App)
+    (words : List Text) (found shown : Error) → IsCommandLine app → (takes app words ≡ true → kind_of found ≡ OutOfMemory)
+    → (kind_of found ≡ OutOfMemory → RanOut) → (is_simple_and_free app ≡ true → HasKind (faults_of app words) found) → Refuses app words found
+    → IsShownFor RanOut Explains words found shown → AreRejectedBy RanOut Refuses Explains words shown
+no_match RanOut Refuses Explains app words found shown is_line passes ran_out kinds refused is_shown =
+    let about_memory : kind_of found ≡ OutOfMemory → AreRejectedBy RanOut Refuses Explains words shown =
+    λ is. inl (ap kind_of (shown_memory RanOut Explains words found shown is_shown is) ∙ is, ran_out is) in
+    ⊎_elim (λ taken. about_memory (passes taken)) (λ rejected.
+    ⊎_elim about_memory (λ among. inr (inl (app, found, is_line, rejected, among, refused, is_shown))) (kinds (is_free_command_line app is_line)))
+    (decided (takes app words))
 
 -- the words have a fault that clap does not find, or an allocation failed
 pub rejected_by_fault : (RanOut : Type 0) (Refuses : App → List Text → Error → Type 0) (Explains : App → ErrorKind → Text → Error → Type 0)

@@ -98,9 +98,10 @@ file_rules = line_buffered_rule ∷ numeric_rule ∷ read_rule ∷ file_rule ∷
 abbrev pub with_rules : App → List Rule → App
 with_rules app rules = fold with_rule app rules
 
--- the command without options, but with a version
+-- The command without options, but with a version. A repeated option replaces its earlier use, unless its values are appended.
 abbrev pub bare_command : App
-bare_command = let app = new_app (codes "capture_report") in record app { top = record app.top { has_version = true } }
+bare_command =
+    let app = new_app (codes "capture_report") in record app { top = record app.top { has_version = true; args_override_self = true } }
 
 -- the version of the program
 abbrev pub version_text : Text

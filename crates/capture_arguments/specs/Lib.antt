@@ -2,7 +2,9 @@ pub mod Arguments
 pub mod Chosen
 pub mod CommandLine
 pub mod Conflicts
+pub mod Filters
 pub mod Options
 pub mod OutputFaults
 pub mod Rejections
+pub mod Unknown
 pub mod Words

@@ -1,5 +1,5 @@
 -- Why the words of a command line are refused, and by which error. The first word is the name of the program.
-use Rattle.std.specs.Prelude.{◌≡◌, ◌⊎◌, ℕ, false, List, codes, Some}
+use Rattle.std.specs.Prelude.{◌≡◌, ◌⊎◌, ℕ, false, List, codes, MatchOption, None, Option, Some}
 use Rattle.clap.specs.Words.{App, IsAmong, Text, fault_of as faults_of, found_of, kind_of, rows_of, takes}
 use Rattle.clap.specs.declared.error.Error.{Error}
 use Rattle.clap.specs.declared.error.kind.ErrorKind.{ErrorKind}
@@ -10,6 +10,7 @@ use Rattle.capture_arguments.specs.Conflicts.{conflict_in, conflict_text}
 use Rattle.capture_arguments.specs.Options.{IsCompatible}
 use Rattle.capture_arguments.specs.CommandLine.{AreMatchesOf, ArePlainMatchesOf, AreRequestedBy, IsCommandLine}
 use Rattle.capture_arguments.specs.OutputFaults.{fault_of}
+use Rattle.capture_arguments.specs.Unknown.{unknown_option, unknown_text}
 use Rattle.capture_arguments.specs.Words.{escaped_option, escaped_option_text}
 use Rattle.capture_arguments.specs.declared.arguments.Options.{Options}
 use Rattle.capture_arguments.specs.declared.chosen.ChoiceError.{ChoiceError}
@@ -52,12 +53,6 @@ no_capture_text = codes "no FILE is named, and standard input is a terminal"
 
 -- ---- errors
 
--- clap returned this error for these words, which don't fit the command line, or request help or the version. The statement `Refuses` is true
--- of what clap returns for words. The error has the kind of the first fault in them, by clap.
-abbrev pub AreNoMatch : (App → List Text → Error → Type 0) → List Text → Error → Type 0
-AreNoMatch Refuses words error =
-    (app : App) × IsCommandLine app × (takes app words ≡ false) × IsAmong (kind_of error) (faults_of app words) × Refuses app words error
-
 -- clap made this error of this kind, this message and the usage of the program. The statement `Explains` is true of what clap makes of them.
 abbrev pub IsExplained : (App → ErrorKind → Text → Error → Type 0) → ErrorKind → Text → Error → Type 0
 IsExplained Explains kind message error =
@@ -71,11 +66,29 @@ IsAboutMemory RanOut error = (kind_of error ≡ OutOfMemory) × RanOut
 abbrev pub IsExplainedUnless : Type 0 → (App → ErrorKind → Text → Error → Type 0) → ErrorKind → Text → Error → Type 0
 IsExplainedUnless RanOut Explains kind message error = IsExplained Explains kind message error ⊎ IsAboutMemory RanOut error
 
+-- the word that an error of this kind names, if it names a word that looks like an option and is none
+abbrev pub named_word : ErrorKind → List Text → Option Text
+named_word UnknownArgument words = unknown_option words
+named_word kind words = None
+
+-- The error `shown` is shown for the error `found`, which clap found in these words. If `found` is about a word that looks like an option and
+-- is none, `shown` names this word, and no other option. Otherwise it is `found`.
+abbrev pub IsShownFor : Type 0 → (App → ErrorKind → Text → Error → Type 0) → List Text → Error → Error → Type 0
+IsShownFor RanOut Explains words found shown = MatchOption (named_word (kind_of found) words) (shown ≡ found)
+    (λ word. IsExplainedUnless RanOut Explains UnknownArgument (unknown_text word) shown)
+
+-- These words don't fit the command line, or request help or the version. clap found an error in them, and `error` is shown for it. The
+-- statement `Refuses` is true of what clap returns for words. The error of clap has the kind of the first fault in them.
+abbrev pub AreNoMatch : Type 0 → (App → List Text → Error → Type 0) → (App → ErrorKind → Text → Error → Type 0) → List Text → Error → Type 0
+AreNoMatch RanOut Refuses Explains words error =
+    (app : App) × (found : Error) × IsCommandLine app × (takes app words ≡ false) × IsAmong (kind_of found) (faults_of app words)
+    × Refuses app words found × IsShownFor RanOut Explains words found error
+
 -- clap refuses these words, or the error has the kind and the message of the first fault in them, or it is about the memory
 abbrev pub AreRejectedBy : Type 0 → (App → List Text → Error → Type 0) → (App → ErrorKind → Text → Error → Type 0) → List Text → Error → Type 0
 AreRejectedBy RanOut Refuses Explains words error =
     IsAboutMemory RanOut error
-    ⊎ (AreNoMatch Refuses words error
+    ⊎ (AreNoMatch RanOut Refuses Explains words error
     ⊎ ((kind : ErrorKind) × (message : Text) × HaveFault words kind message × IsExplained Explains kind message error))
 
 -- the exit status after the text of such an error: 0 for help and for the version, 3 if no memory is left, and 2 for every other error

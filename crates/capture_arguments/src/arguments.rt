@@ -10,7 +10,8 @@ ghost use Rattle.capture_arguments.specs.Chosen.{choice_text};
 ghost use Rattle.capture_arguments.specs.Conflicts.{conflict_in, conflict_text};
 ghost use Rattle.capture_arguments.specs.OutputFaults.{fault_of, is_capture_text};
 ghost use Rattle.capture_arguments.specs.Words.{escaped_option_text};
-ghost use Rattle.capture_arguments.specs.Rejections.{AreRejectedBy, IsExplainedUnless, no_capture_text};
+ghost use Rattle.capture_arguments.specs.Unknown.{unknown_text};
+ghost use Rattle.capture_arguments.specs.Rejections.{AreRejectedBy, IsExplainedUnless, IsShownFor, no_capture_text};
 ghost use Rattle.capture_arguments.specs.CommandLine.{AreRequestedBy, IsCommandLine, IsDescribed, bare_command, choice_rules, count_rule, end_rules, file_rule, file_rules, flag_rule, form_rules, line_buffered_rule, line_rules, numeric_rule, output_rules, parsed_rule, protocol_names, protocol_rule, read_rule, repeated, top_rule, value_rule, verbose_rule, with_rules, write_rule};
 ghost use Rattle.capture_summary.specs.Ranking.{default_top};
 ghost use Rattle.capture_words.specs.TimeText.{times_by};
@@ -18,7 +19,9 @@ ghost use Rattle.capture_request.specs.declared.parts.Format.TheVariants as Form
 
 use crate::chosen::{ChoiceError, choice_of, choice_text};
 use crate::conflicts::{conflict_in, conflict_text};
+use crate::filters::has_filter;
 use crate::memory::Memory;
+use crate::unknown::{unknown_option, unknown_text};
 use crate::words::{escaped_option, escaped_option_text};
 use capture_request::{Format, Parts, STANDARD_INPUT, Times};
 use capture_summary::BUSIEST;
@@ -49,6 +52,13 @@ static PROTOCOLS: [&str; 5] = ["udp", "tcp", "icmp", "icmpv4", "icmpv6"];
 
 /// The error if the file to write is the capture.
 const OUTPUT_IS_CAPTURE: &str = "the FILE of '--write <FILE>' is the capture";
+
+/// The error if several captures are named.
+const SEVERAL_CAPTURES: &str = "'--write <FILE>' is used with more than one capture";
+
+/// The same error if one of the names begins like a filter.
+const SEVERAL_OR_FILTER: &str =
+    "'--write <FILE>' is used with more than one capture; filters are --host, --port and --protocol";
 
 /// The options in the arguments.
 #[derive(Drop)]
@@ -93,7 +103,10 @@ fn given_options<'a, M: Memory>(memory: &M, words: &'a [String]) -> Result<Optio
         (map (λ word. string_bytes word) words.now)) }
 {
     let command = command(memory)?;
-    let matches = memory.matches(command, words)?;
+    let matches = match memory.matches(command, words) {
+        Ok(matches) => matches,
+        Err(error) => return Err(without_tips(memory, words, error)),
+    };
     match escaped_option(words) {
         Some(word) => Err(invalid_option(memory, word)),
         None => match options_of(memory, &matches) {
@@ -102,6 +115,19 @@ fn given_options<'a, M: Memory>(memory: &M, words: &'a [String]) -> Result<Optio
             Err(OptionsError::Choice(error)) => Err(invalid_choice(memory, error)),
             Err(OptionsError::NoMemory(error)) => Err(error.into()),
         },
+    }
+}
+
+/// The error of clap for these words. If it is about an unknown option, it is made anew, without the tips of clap, which name other options.
+fn without_tips<M: Memory>(memory: &M, words: &[String], error: Error) -> Error
+    ensures { IsShownFor (M.ran_out memory.now) (M.explains memory.now) (map (λ word. string_bytes word) words.now) error result }
+{
+    if error.kind() != ErrorKind::UnknownArgument {
+        return error;
+    }
+    match unknown_option(words) {
+        Some(word) => invalid_word(memory, word),
+        None => error,
     }
 }
 
@@ -224,6 +250,16 @@ fn invalid_option<M: Memory>(memory: &M, word: &str) -> Error
     }
 }
 
+/// The error for a word that is no option, with the usage. If no memory is left for its text, the error is about the memory.
+fn invalid_word<M: Memory>(memory: &M, word: &str) -> Error
+    ensures { IsExplainedUnless (M.ran_out memory.now) (M.explains memory.now) ErrorKind.UnknownArgument (unknown_text word.now) result }
+{
+    match unknown_text(memory, word) {
+        Ok(message) => error_with_usage(memory, ErrorKind::UnknownArgument, message.as_str()),
+        Err(error) => error.into(),
+    }
+}
+
 /// The error for two options that are not used together, with the usage. If no memory is left for its text, the error is about the memory.
 fn invalid_pair<M: Memory>(memory: &M, first: &str, second: &str) -> Error
     ensures { IsExplainedUnless (M.ran_out memory.now) (M.explains memory.now) ErrorKind.ArgumentConflict (conflict_text first.now second.now) result }
@@ -254,7 +290,8 @@ fn output_fault(options: &Options<'_>) -> Option<&'static str>
         [] => None,
         [file] if *file != name || name == STANDARD_INPUT => None,
         [_] => Some(OUTPUT_IS_CAPTURE),
-        _ => Some("'--write <FILE>' is used with more than one capture"),
+        files if has_filter(files) => Some(SEVERAL_OR_FILTER),
+        _ => Some(SEVERAL_CAPTURES),
     }
 }
 
@@ -320,7 +357,7 @@ fn command<'a, M: Memory>(memory: &M) -> Result<Command<'a>, AllocError>
     with_files(memory, command)
 }
 
-/// The command line without options.
+/// The command line without options. An option without several values that is repeated replaces its earlier use, so that `-nn` is `-n`.
 fn bare<'a>(alloc: Global) -> Command<'a>
     ensures app { app_of result ≡ bare_command }
     ensures described { IsDescribed result }
@@ -329,6 +366,7 @@ fn bare<'a>(alloc: Global) -> Command<'a>
         .version(VERSION)
         .about("Reads captures, and reports what each packet is and whether its checksum is right")
         .after_help(AFTER_HELP)
+        .args_override_self(true)
 }
 
 /// The command line with the options for the parts and the lines of the report.

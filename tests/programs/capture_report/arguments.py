@@ -17,11 +17,31 @@ def check_values(tally):
         (("--protocol", "sctp"), "sctp"), (("--top", "-1"), "-1"), (("--top", "ten"), "ten"),
         (("--top", "18446744073709551616"), "18446744073709551616"), (("--top", "3", "--packets"), "--packets"), (("--host",), "--host"),
         (("--absolute", "--summary"), "--summary"),
-        (("--top", "1", "--top", "2"), "--top"), (("-c", "0"), "'0'"), (("-c", "-1"), "-1"), (("--count", "x"), "'x'"),
-        (("-c", "18446744073709551616"), "18446744073709551616"), (("-c", "1", "-c", "2"), "--count"),
+        (("-c", "0"), "'0'"), (("-c", "-1"), "-1"), (("--count", "x"), "'x'"),
+        (("-c", "18446744073709551616"), "18446744073709551616"),
     ]:
         done = run(b"", *arguments)
         tally.expect(f"{arguments}", (done.returncode, done.stdout, words in done.stderr.decode()), (2, b"", True))
+
+
+def check_unknown_options(tally):
+    """A word that looks like an option and is none is named, and no other option is."""
+    for word in ("--filter", "-i", "-nx", "--summry", "--write-to=-", "-1"):
+        done = run(b"", word, "eth0")
+        message = f"error: unexpected argument '{word}' found\n\nUsage: capture_report [OPTIONS] [FILE]...\n\nFor more information, try '--help'.\n"
+        tally.expect(f"{word}", (done.returncode, done.stdout, done.stderr.decode()), (2, b"", message))
+
+
+def check_repeated_options(tally):
+    """A repeated option replaces its earlier use."""
+    data = capture(RAW, [ipv4(17, udp(IPV4, b"abc"))] * 3)
+    for arguments, same in [
+        (("-nn",), ("-n",)), (("-vvv",), ("-v",)), (("-nnvvr", "-"), ("-nvr", "-")), (("--json", "--json"), ("--json",)), (("-ll", "-l"), ("-l",)),
+        (("--packets", "-c", "1", "--packets", "-c", "2"), ("--packets", "-c", "2")), (("--top", "x", "--top", "2"), ("--top", "x")),
+        (("--top", "1", "--top", "0"), ("--top", "0")), (("-w", "none/a.pcap", "-w", "-"), ("-w", "-")),
+    ]:
+        done, wanted = run(data, *arguments), run(data, *same)
+        tally.expect(f"{arguments}", (done.returncode, done.stdout, done.stderr), (wanted.returncode, wanted.stdout, wanted.stderr))
 
 
 def check_options_not_utf_8(tally):

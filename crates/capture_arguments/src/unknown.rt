@@ -1,0 +1,102 @@
+//! Words that look like options, and are no options of the program.
+
+ghost use Rattle.std.specs.Prelude.{◌≡◌, IfOk, OnErr, map, option_map, string_bytes};
+ghost use Rattle.capture_arguments.specs.Unknown.{has_unknown_letter, is_unknown, option_name, unknown_option, unknown_text};
+
+use crate::memory::Memory;
+use std::alloc::AllocError;
+
+/// The options with long names.
+static LONG_OPTIONS: [&str; 18] = [
+    "--summary",
+    "--packets",
+    "--wrong",
+    "--verbose",
+    "--absolute",
+    "--check",
+    "--json",
+    "--top",
+    "--host",
+    "--port",
+    "--protocol",
+    "--count",
+    "--write",
+    "--line-buffered",
+    "--numeric",
+    "--read",
+    "--help",
+    "--version",
+];
+
+/// The letters of the options without a value.
+const FLAGS: &[u8] = b"vlnhV";
+
+/// The letters of the options with a value, which can follow in the same word.
+const VALUED: &[u8] = b"cwr";
+
+/// The first word that looks like an option and is no option of the program, if there is one. The first word is the name of the program,
+/// and no word after `--` is an option.
+pub fn unknown_option(words: &[String]) -> Option<&str>
+    ensures { option_map (λ word. word.now) result ≡ unknown_option (map (λ word. string_bytes word) words.now) }
+{
+    let [_, arguments @ ..] = words else {
+        return None;
+    };
+    let mut left = arguments;
+    while let [word, others @ ..] = left {
+        if word.as_str() == "--" {
+            return None;
+        }
+        if is_unknown(word.as_str()) {
+            return Some(word.as_str());
+        }
+        left = others;
+    }
+    None
+}
+
+/// Whether a word begins with `-`, and is no option of the program.
+fn is_unknown(word: &str) -> bool
+    ensures { result ≡ is_unknown word.now }
+{
+    match word.as_bytes() {
+        [b'-', b'-', ..] => !LONG_OPTIONS.contains(&option_name(word)),
+        [b'-', letters @ ..] => has_unknown_letter(letters),
+        _ => false,
+    }
+}
+
+/// The part of a word before its first `=`, or the whole word.
+fn option_name(word: &str) -> &str
+    ensures { result.now ≡ option_name word.now }
+{
+    match word.split_once('=') {
+        Some((name, _)) => name,
+        None => word,
+    }
+}
+
+/// Whether one of these letters is no option. The letters after an option with a value are its value.
+fn has_unknown_letter(letters: &[u8]) -> bool
+    ensures { result ≡ has_unknown_letter letters.now }
+{
+    let mut left = letters;
+    while let [letter, others @ ..] = left {
+        if VALUED.contains(letter) {
+            return false;
+        }
+        if !FLAGS.contains(letter) {
+            return true;
+        }
+        left = others;
+    }
+    false
+}
+
+/// The message about a word that is no option of the program.
+pub fn unknown_text<M: Memory>(memory: &M, word: &str) -> Result<String, AllocError>
+    ensures text { IfOk result (λ text. string_bytes text ≡ unknown_text word.now) }
+    ensures ran_out { OnErr result (M.ran_out memory.now) }
+{
+    memory.text(format_args!("unexpected argument '{word}' found"))
+}
