@@ -300,7 +300,7 @@ enum etherparse_status_number {
 #define ETHERPARSE_STATUS_ECHO_NO_REPLY 44
 /* The IPv4 options contain a loose or strict source route, so the packet is not translated: no other field. */
 #define ETHERPARSE_STATUS_TRANSLATE_SOURCE_ROUTE 45
-/* The checksum of the packet is not tested, so no checksum is stored in it: actual, which is the verdict, an ETHERPARSE_VERDICT_UNTESTED_.. */
+/* No checksum is stored, because the packet's checksum can't be tested: actual, which is the verdict, ETHERPARSE_VERDICT_UNTESTED_.. */
 #define ETHERPARSE_STATUS_CHECKSUM_UNTESTED 46
 
 /* The layer whose length was wrong. 0 means no layer. The numbers from 8 on are reserved for IP headers. */
@@ -425,12 +425,12 @@ typedef struct etherparse_ip_transport {
  * `destination` can be passed to the calls for IPv4 and for IPv6. No checksum is tested. The checksum of a fragment can be tested only
  * after its packet is reassembled. If has_destination is 0, the checksum can't be tested.
  *
- * In this order: ETHERPARSE_STATUS_IP_HEADER_CUT_OFF: no bytes. ETHERPARSE_STATUS_IP_VERSION. Of IPv4
+ * In this order: ETHERPARSE_STATUS_IP_HEADER_CUT_OFF: no bytes. ETHERPARSE_STATUS_IP_VERSION. For IPv4:
  * ETHERPARSE_STATUS_IP_HEADER_CUT_OFF: fewer than 20 bytes; ETHERPARSE_STATUS_IP_HEADER_LENGTH;
- * ETHERPARSE_STATUS_IP_HEADER_CUT_OFF: fewer bytes than the header length; ETHERPARSE_STATUS_IP_TOTAL_LENGTH. Of IPv6
- * ETHERPARSE_STATUS_IP_HEADER_CUT_OFF: fewer than 40 bytes, or hop-by-hop options that would have the length and are not all there;
- * ETHERPARSE_STATUS_IP_JUMBO_PAYLOAD_LENGTH; ETHERPARSE_STATUS_IP_JUMBO_PAYLOAD_MISSING. ETHERPARSE_STATUS_IP_PACKET_CUT_OFF. Of each
- * extension header ETHERPARSE_STATUS_IP_EXTENSION_CUT_OFF; ETHERPARSE_STATUS_IP_JUMBO_PAYLOAD_UNEXPECTED;
+ * ETHERPARSE_STATUS_IP_HEADER_CUT_OFF: fewer bytes than the header length; ETHERPARSE_STATUS_IP_TOTAL_LENGTH. For IPv6:
+ * ETHERPARSE_STATUS_IP_HEADER_CUT_OFF: fewer than 40 bytes, or the hop-by-hop options that must contain the length are cut off;
+ * ETHERPARSE_STATUS_IP_JUMBO_PAYLOAD_LENGTH; ETHERPARSE_STATUS_IP_JUMBO_PAYLOAD_MISSING. ETHERPARSE_STATUS_IP_PACKET_CUT_OFF. For each
+ * extension header: ETHERPARSE_STATUS_IP_EXTENSION_CUT_OFF; ETHERPARSE_STATUS_IP_JUMBO_PAYLOAD_UNEXPECTED;
  * ETHERPARSE_STATUS_IP_JUMBO_PAYLOAD_FRAGMENT.
  */
 ETHERPARSE_CHECK_RESULT ETHERPARSE_NOT_NULL(3)
@@ -438,11 +438,11 @@ etherparse_status etherparse_transport_in_ip(const uint8_t *bytes, size_t len, e
                                              etherparse_error *error);
 
 /*
- * The same, but a packet with fewer bytes than its header counts is not refused. Its payload is the bytes that are there, and is_cut_off
- * is 1. So this call reads packets of a truncated capture. If the header states no length, all bytes are counted, and is_length_missing is
- * 1. These are IPv4 packets with total length 0, and IPv6 packets with payload length 0, no jumbo payload length and another next header
- * than 59 (no next header). A host captures such packets before its network card segments them. The other call refuses such a packet, or
- * sets is_length_missing to 0.
+ * Like etherparse_transport_in_ip, but accepts a packet with fewer bytes than its header counts. Its payload is then the bytes that are
+ * present, and is_cut_off is 1. So this call reads packets of a truncated capture. If the header states no length, all bytes are counted,
+ * and is_length_missing is 1. An IPv4 header states no length if its total length is 0. An IPv6 header states no length if its payload
+ * length is 0, there is no jumbo payload length, and the next header is not 59 (no next header). A host captures such packets before its
+ * network card segments them. etherparse_transport_in_ip refuses them, or sets is_length_missing to 0.
  */
 ETHERPARSE_CHECK_RESULT ETHERPARSE_NOT_NULL(3)
 etherparse_status etherparse_transport_in_ip_lax(const uint8_t *bytes, size_t len, etherparse_ip_transport *transport,
@@ -459,8 +459,8 @@ typedef struct etherparse_ip_addresses {
  * Reads the addresses of the IP header at the front of the bytes. Options, extension headers, and lengths other than the IPv4 header
  * length are ignored, so the packet may be cut off after its header.
  *
- * In this order: ETHERPARSE_STATUS_IP_HEADER_CUT_OFF: no bytes. ETHERPARSE_STATUS_IP_VERSION. Of IPv4 as
- * etherparse_ipv4_header_checksum refuses. Of IPv6 ETHERPARSE_STATUS_IP_HEADER_CUT_OFF: fewer than 40 bytes.
+ * In this order: ETHERPARSE_STATUS_IP_HEADER_CUT_OFF: no bytes. ETHERPARSE_STATUS_IP_VERSION. Then an IPv4 header is refused as by
+ * etherparse_ipv4_header_checksum, and an IPv6 header with ETHERPARSE_STATUS_IP_HEADER_CUT_OFF: fewer than 40 bytes.
  */
 ETHERPARSE_CHECK_RESULT ETHERPARSE_NOT_NULL(3)
 etherparse_status etherparse_ip_header_addresses(const uint8_t *bytes, size_t len, etherparse_ip_addresses *addresses,
@@ -930,7 +930,7 @@ enum {
     ETHERPARSE_ICMPV4_CODE_BAD_LENGTH = 2
 };
 
-/* An ICMPv4 header. When read, a field that its kind does not have is 0, except type, code, checksum and bytes4to7. */
+/* An ICMPv4 header. A read sets type, code, checksum and bytes4to7 for every kind, and the fields of other kinds to 0. */
 typedef struct etherparse_icmpv4_header {
     uint32_t kind;                /* ETHERPARSE_ICMPV4_KIND_.. */
     uint32_t originate_timestamp; /* of timestamp messages: bytes 8 to 11 */
@@ -1087,7 +1087,7 @@ enum {
     ETHERPARSE_ICMPV6_NEIGHBOR_OVERRIDE = 0x20
 };
 
-/* An ICMPv6 header. When read, a field that its kind does not have is 0, except type, code, checksum and bytes4to7. */
+/* An ICMPv6 header. A read sets type, code, checksum and bytes4to7 for every kind, and the fields of other kinds to 0. */
 typedef struct etherparse_icmpv6_header {
     uint32_t kind;            /* ETHERPARSE_ICMPV6_KIND_.. */
     uint32_t mtu;             /* of a packet that was too big, in bytes: bytes 4 to 7 */

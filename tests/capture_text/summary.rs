@@ -12,8 +12,8 @@ packets 0, bytes 0
 conversations 0
 ";
 
-/// The whole summary of five packets: two of UDP, one in each direction, one of ICMPv6 and two refused ones. The protocols are in the order of
-/// their packets, and two with as many in the order of the table.
+/// The whole summary of five packets: two of UDP, one in each direction, one of ICMPv6 and two refused packets. The protocol with the most
+/// packets is first. Protocols with the same number of packets are in the order of the table.
 const OF_FIVE_PACKETS: &str = "\
 packets 5, bytes 1312, bytes a packet 262
 conversations 1

@@ -52,7 +52,7 @@ fn is_timestamp(type_u8: u8) -> bool {
     type_u8 == 13 || type_u8 == 14
 }
 
-/// Stops the test unless an ICMPv4 message quotes this packet. Returns 1 if it quotes one.
+/// Stops the test unless an ICMPv4 message with these fields quotes the expected bytes. Returns 1 if a packet is quoted, otherwise 0.
 fn expect_icmpv4(rt: &impl Abort, type_u8: u8, field: u8, len: usize) -> u32 {
     if is_timestamp(type_u8) {
         return 0;
@@ -66,7 +66,7 @@ fn expect_icmpv4(rt: &impl Abort, type_u8: u8, field: u8, len: usize) -> u32 {
     u32::from(quoted.is_some())
 }
 
-/// Stops the test unless an ICMPv6 message quotes this packet. Returns 1 if it quotes one.
+/// Stops the test unless an ICMPv6 message with these fields quotes the expected bytes. Returns 1 if a packet is quoted, otherwise 0.
 fn expect_icmpv6(rt: &impl Abort, type_u8: u8, field: u8, len: usize) -> u32 {
     let whole = message(type_u8, 4, field);
     let bytes = bytes_to(rt, &whole, len.saturating_add(8));

@@ -25,7 +25,7 @@ ReadsPlaces Reads (text ∷ texts) [] = ⊥
 ReadsPlaces Reads (text ∷ texts) (None ∷ places) = ⊥
 ReadsPlaces Reads (text ∷ texts) (Some value ∷ places) = Reads text value × ReadsPlaces Reads texts places
 
--- the values of these texts; none of no texts
+-- the values of these texts; `None` if there are no texts
 abbrev pub AreRead : {X : Type 0} → (List ℕ → X → Type 0) → List (List ℕ) → Option (List (Option X)) → Type 0
 AreRead Reads texts None = texts ≡ []
 AreRead Reads texts (Some places) = (texts ≢ []) × ReadsPlaces Reads texts places
@@ -52,7 +52,7 @@ pub record AreChosen (names : List (List ℕ)) (chosen : Protocols) : Type 0 whe
   pub icmpv4 : IsTrue chosen.icmpv4 ↔ (IsNamed (codes "icmp") names ⊎ IsNamed (codes "icmpv4") names)
   pub icmpv6 : IsTrue chosen.icmpv6 ↔ (IsNamed (codes "icmp") names ⊎ IsNamed (codes "icmpv6") names)
 
--- the protocols with these names; none of no names
+-- the protocols with these names; `None` if there are no names
 abbrev pub HasProtocols : List (List ℕ) → Option Protocols → Type 0
 HasProtocols names None = names ≡ []
 HasProtocols names (Some chosen) = (names ≢ []) × AreChosen names chosen
@@ -87,7 +87,7 @@ AreNoHosts texts (Host text error) =
     (length texts ≤ 16) × IsFirstWrong ReadsHost (λ wrong. ReadsNetwork wrong (Err error)) texts text.now
 AreNoHosts texts (Port text) = ⊥
 
--- the same for the texts of ports
+-- why the ports with these texts choose no packets: there are more than 16 of them, or this is the first that is no port
 abbrev pub AreNoPorts : List (List ℕ) → ChoiceError → Type 0
 AreNoPorts texts (TooMany name) = (name.now ≡ codes "port") × (16 < length texts)
 AreNoPorts texts (Host text error) = ⊥

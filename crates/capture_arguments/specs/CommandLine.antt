@@ -134,7 +134,7 @@ abbrev pub AreMatchesOf : List Text → ArgMatches → Type 0
 AreMatchesOf words matches =
     (app : App) × IsCommandLine app × (faults_of app words ≡ []) × (rows_of (found_of matches) ≡ matches_of app words)
 
--- the same, and each word that is an option is UTF-8
+-- the words fit the command line with these matches, and each word that is an option is UTF-8
 abbrev pub ArePlainMatchesOf : List Text → ArgMatches → Type 0
 ArePlainMatchesOf words matches = AreMatchesOf words matches × (escaped_option words ≡ None)
 

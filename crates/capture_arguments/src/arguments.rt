@@ -607,7 +607,7 @@ fn numeric<'a>(alloc: Global) -> Arg<'a>
     .short('n')
 }
 
-/// The captures that are named as in other programs.
+/// The captures that the option `-r` names, as in tcpdump.
 fn read<'a>(alloc: Global) -> Arg<'a>
     ensures rule { rule_of result ≡ read_rule }
     ensures local { result.global ≡ false }

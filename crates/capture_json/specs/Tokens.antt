@@ -20,39 +20,39 @@ tokens_in line = line.writer.tokens
 abbrev pub value_tokens : Data → List Token
 value_tokens value = json_tokens (outline value)
 
--- ---- the tokens after a part is written
+-- ---- the tokens after writing a part
 
--- the tokens after a member is written
+-- the tokens after writing a member
 unfoldable pub put : List ℕ → Data → List Token → List Token
 put name value before = before ++ token.key name ∷ value_tokens value
 
--- the tokens after these members are written in their order
+-- the tokens after writing these members in their order
 abbrev pub with_members : List Member → List Token → List Token
 with_members [] before = before
 with_members (first ∷ more) before = with_members more (put first.0 first.1 before)
 
--- the tokens after an item of an array is written
+-- the tokens after writing an item of an array
 unfoldable pub push : Data → List Token → List Token
 push value before = before ++ value_tokens value
 
--- the tokens after these items of an array are written in their order
+-- the tokens after writing these items of an array in their order
 abbrev pub with_items : List Data → List Token → List Token
 with_items [] before = before
 with_items (first ∷ more) before = with_items more (push first before)
 
--- the tokens after the name of an object and its opening brace are written
+-- the tokens after writing the name of an object and its opening brace
 abbrev pub object_begun : List ℕ → List Token → List Token
 object_begun name before = before ++ token.key name ∷ token.begin_object ∷ []
 
--- the tokens after the name of an array and its opening bracket are written
+-- the tokens after writing the name of an array and its opening bracket
 abbrev pub array_begun : List ℕ → List Token → List Token
 array_begun name before = before ++ token.key name ∷ token.begin_array ∷ []
 
--- the tokens after the closing brace of an object is written
+-- the tokens after writing the closing brace of an object
 abbrev pub object_ended : List Token → List Token
 object_ended before = before ++ token.end_object ∷ []
 
--- the tokens after the closing bracket of an array is written
+-- the tokens after writing the closing bracket of an array
 abbrev pub array_ended : List Token → List Token
 array_ended before = before ++ token.end_array ∷ []
 

@@ -108,13 +108,13 @@ pub record EndsInTag (header : EtherHeader) (frame : List ℕ) (tags : ℕ) : Ty
   pub there : tagged_len header tags ≤ length frame
   pub ends : length frame < tagged_len header (suc tags)
 
--- the frame ends within a tag; with the whole tag it would have this length
+-- the frame ends within a tag, whose end is at byte `required_len`
 pub record NeedsTag (header : EtherHeader) (frame : List ℕ) (required_len : ℕ) : Type 0 where
   pub tags : ℕ
   pub in_tag : EndsInTag header frame tags
   pub is_required_len : required_len ≡ tagged_len header (suc tags)
 
--- the frame ends within the header after its last ether type; with the whole header it would have this length
+-- the frame has all its tags, and ends within the header after the last ether type; that header needs `required_len` bytes of the frame
 pub record NeedsAfterTags (header : EtherHeader) (frame : List ℕ) (required_len : ℕ) : Type 0 where
   pub tags : ℕ
   pub has : HasTags header frame tags
@@ -167,7 +167,7 @@ HasWhole frame len next end (Ok (Whole header)) = (len ≡ header.len) × (next 
 HasWhole frame len next end (Ok (EtherType header)) = HasEtherHeader header frame len next end
 HasWhole frame len next end (Err error) = ⊥
 
--- the same for a frame of this link type
+-- a frame of this link type has a whole link header; `len`, `next` and `end` are as in `HasWhole`
 abbrev pub HasLinkHeader : LinkType → ByteOrder → List ℕ → ℕ → Option NetworkProtocol → Option ℕ → Type 0
 HasLinkHeader link_type order frame len next end = HasWhole frame len next end (first_header link_type order frame)
 
@@ -177,7 +177,7 @@ NeedsWhole frame required_len (Ok (Whole header)) = ⊥
 NeedsWhole frame required_len (Ok (EtherType header)) = NeedsEtherHeader header frame required_len
 NeedsWhole frame required_len (Err error) = required_len ≡ error.required_len
 
--- the same for a frame of this link type
+-- a frame of this link type ends within its link header; `required_len` is as in `NeedsWhole`
 abbrev pub NeedsLinkHeader : LinkType → ByteOrder → List ℕ → ℕ → Type 0
 NeedsLinkHeader link_type order frame required_len = NeedsWhole frame required_len (first_header link_type order frame)
 

@@ -44,7 +44,7 @@ by_device header frame device_type protocol =
     else if protocol == cooked_llc then llc_at frame header.len
     else Ok (EtherType header)
 
--- the first header of a Linux cooked frame with this header, and the device type at this place
+-- the first header of a Linux cooked frame; `header` is its layout, and the device type is at byte `device_at`
 abbrev pub cooked_header : EtherHeader → ℕ → List ℕ → Result FirstHeader LinkHeaderCutOff
 cooked_header header device_at frame = with_bytes frame header.len (
     by_device header frame (be_number frame device_at 2) (be_number frame header.ether_type_at 2))

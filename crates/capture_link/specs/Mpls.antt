@@ -11,7 +11,7 @@ use Rattle.capture_link.specs.declared.network_protocol.NetworkProtocol.{Network
 abbrev pub begins_ip : ℕ → Bool
 begins_ip first = first / 16 == 4 && nat_le 5 (first % 16) || first / 16 == 6
 
--- the protocol after the last label: IP if the first byte is the first byte of an IP packet, otherwise this protocol
+-- the protocol after the last label: `None`, which is IP, if an IP packet can have this first byte, otherwise `other`
 abbrev pub by_first_byte : NetworkProtocol → ℕ → Option NetworkProtocol
 by_first_byte other first = if begins_ip first then None else Some other
 

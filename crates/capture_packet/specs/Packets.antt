@@ -1,4 +1,4 @@
--- A packet of a capture that is in no tunnel.
+-- A captured packet outside a tunnel.
 use Rattle.std.specs.Prelude.{[], None}
 use Rattle.capture_packet.specs.declared.content.Content.{Content}
 use Rattle.capture_packet.specs.declared.packet.Packet.{Packet}

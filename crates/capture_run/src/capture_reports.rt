@@ -64,8 +64,8 @@ impl CaptureReports {
     }
 
     /// Reads a capture, and adds its chosen packets to the counts of the captures before it. Writes the line of each chosen packet that has
-    /// a line. Numbers and times of packets start again in each capture. The first packet of a capture has number 1, and times are shown
-    /// since the first time of a packet. Both are independent of the choice of packets.
+    /// a line. Numbers and times of packets start again in each capture. The first packet of a capture has number 1, and times count
+    /// from the first packet that has a time. Both are independent of the choice of packets.
     ///
     /// The inner error is the reason why the capture was refused, or why its records can't be read further. Packets before the error are
     /// counted, and another capture can follow.

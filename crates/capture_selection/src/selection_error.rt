@@ -22,7 +22,7 @@ pub enum SelectionError {
 }
 
 impl SelectionError {
-    /// The error of the first block of a pcapng file, as the report has it: the block is the beginning of the capture.
+    /// Turns an error of the first block of a pcapng file into an error of the capture's header, because the block is this header.
     pub(crate) fn at_beginning(self) -> SelectionError
         ensures { result ≡ at_beginning self }
     {

@@ -86,7 +86,7 @@ impl RefusalKind {
         self as usize
     }
 
-    /// The rows of the table with their names, in their order. The counts are in the order of the places.
+    /// The rows of the table in their order, each with its name and count. `counts` contains the count of a row at its place.
     pub(crate) fn rows(
         counts: &[u64; RefusalKind::COUNT],
     ) -> [(&'static str, u64); RefusalKind::COUNT]

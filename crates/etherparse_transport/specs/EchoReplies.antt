@@ -41,7 +41,7 @@ is_group_ipv6 address = slice_index address 0 == 0xFF
 abbrev pub is_loopback_ipv4 : List ℕ → Bool
 is_loopback_ipv4 address = slice_index address 0 == 127
 
--- the same over IPv6: ::1 (RFC 4291, section 2.5.3)
+-- the IPv6 address of the host itself: ::1 (RFC 4291, section 2.5.3)
 abbrev pub is_loopback_ipv6 : List ℕ → Bool
 is_loopback_ipv6 address = from_be_bytes w128 address == 1
 
@@ -90,7 +90,7 @@ icmpv4_refusal message = first_of (
     ∷ refused_if (not (is_all_ones (total message))) Checksum
     ∷ [])
 
--- the same over IPv6, where the type is 128 and the code is 0 (RFC 4443, section 4.1)
+-- the ICMPv6 message is too short, is no echo request (type 128, code 0; RFC 4443, section 4.1), or has a wrong checksum
 abbrev pub icmpv6_refusal : List ℕ → List ℕ → List ℕ → Option AnswerEchoError
 icmpv6_refusal source destination message = first_of (
     option_map Len (icmpv6.refusal message)
@@ -122,7 +122,7 @@ ipv4_rules packet headers = first_of (
     ∷ refused_if (not (is_host_ipv4 (slice_range packet 12 16))) RequestSource
     ∷ [])
 
--- the same for an IPv6 packet, whose header has no checksum
+-- the rules for an IPv6 packet, as in `ipv4_rules`, except that its header has no checksum
 abbrev pub ipv6_rules : List ℕ → Headers → Option AnswerEchoError
 ipv6_rules packet headers = first_of (
     refused_if (not (version packet == 6)) NoEchoRequest
@@ -143,7 +143,7 @@ ipv4_request_refusal packet = first_of (
     ∷ refusal_by_headers (ipv4_rules packet) (ip.headers_of false packet)
     ∷ [])
 
--- the same for an IPv6 packet
+-- the errors of an IPv6 packet that contains no request, in the order of `ipv4_request_refusal`
 abbrev pub ipv6_request_refusal : List ℕ → Option AnswerEchoError
 ipv6_request_refusal packet = first_of (
     option_map Ip (ip.refusal packet)
@@ -158,7 +158,7 @@ ipv4_answer_refusal source packet = first_of (
     ∷ refused_if (not (is_host_ipv4 (unwrap_or source (slice_range packet 16 20)))) ReplySource
     ∷ [])
 
--- the same for an IPv6 packet
+-- the errors of the reply to an IPv6 packet, in the order of `ipv4_answer_refusal`
 abbrev pub ipv6_answer_refusal : Option (List ℕ) → List ℕ → Option AnswerEchoError
 ipv6_answer_refusal source packet = first_of (
     ipv6_request_refusal packet
@@ -173,7 +173,7 @@ pub record IsIpv4Request (packet : List ℕ) : Type 0 where
   pub there : ip.counted_len false packet ≤ length packet
   pub message : icmpv4_refusal (ipv4_message packet) ≡ None
 
--- the same about an accepted IPv6 packet, whose payload length counts the request
+-- what the rules show about an accepted IPv6 packet: its payload length counts a whole request
 pub record IsIpv6Request (packet : List ℕ) : Type 0 where
   pub is_ipv6 : version packet ≡ 6
   pub end : ip.counted_len false packet ≡ ipv6_header_len + length (ipv6_message packet)
@@ -190,7 +190,7 @@ icmpv4_reply echo payload = record {
   checksum = checksum_of (icmpv4.checksummed (record { icmp_type = v4.EchoReply echo; checksum = 0 }) payload);
 }
 
--- the same over IPv6, from this source to this destination
+-- the ICMPv6 header of the reply, from this source to this destination, which the checksum covers too
 abbrev pub icmpv6_reply : List ℕ → List ℕ → IcmpEchoHeader → List ℕ → Icmpv6Header
 icmpv6_reply source destination echo payload = record {
   icmp_type = v6.EchoReply echo;
@@ -201,7 +201,7 @@ icmpv6_reply source destination echo payload = record {
 abbrev pub icmpv4_reply_to : List ℕ → Icmpv4Header
 icmpv4_reply_to message = icmpv4_reply (echo_of message 4) (drop echo_header_len message)
 
--- the same over IPv6, from this source to this destination
+-- the ICMPv6 header of the reply to the message of a packet; the reply goes from this source to this destination
 abbrev pub icmpv6_reply_to : List ℕ → List ℕ → List ℕ → Icmpv6Header
 icmpv6_reply_to source destination message = icmpv6_reply source destination (echo_of message 4) (drop echo_header_len message)
 

@@ -38,7 +38,7 @@ ipv4_destination_place = 16
 abbrev pub sum_of_ipv4 : Ipv4Header → ℕ
 sum_of_ipv4 addresses = sum_of_pieces 0 (addresses.source ∷ addresses.destination ∷ [])
 
--- the same without the end-around carry
+-- the sum of source and destination without the end-around carry
 abbrev pub total_of_ipv4 : Ipv4Header → ℕ
 total_of_ipv4 addresses = total addresses.source + total addresses.destination
 
@@ -105,7 +105,7 @@ ipv4_opposite new = record {
   destination_port = new.source_port;
 }
 
--- the translation of the quoted packet: a passed translation, or otherwise the opposite of the translation of the packet
+-- the translation of the quoted packet: `passed`, or if there is none, the opposite of the translation of the packet
 abbrev pub ipv4_of_quoted : Ipv4Translation → Option (Bor Ipv4Translation) → Ipv4Translation
 ipv4_of_quoted new None = ipv4_opposite new
 ipv4_of_quoted new (Some passed) = passed.now
@@ -164,23 +164,23 @@ abbrev pub ipv4_refusal_by : Bool → Bool → List ℕ → Option TranslateErro
 ipv4_refusal_by has_port has_quoted_port packet = first_of (
     ipv4_place_refusal has_port packet ∷ ipv4_message_refusal packet ∷ ipv4_quoted_refusal has_quoted_port (ipv4_quoted packet) ∷ [])
 
--- the same for two translations: of the packet, and of the packet that it quotes. Each replaces a port or only addresses.
+-- the errors for a translation of the packet and a translation of the quoted packet. Each replaces a port or only addresses.
 abbrev pub ipv4_refusal_with : Ipv4Translation → Ipv4Translation → List ℕ → Option TranslateError
 ipv4_refusal_with new of_quoted packet =
     ipv4_refusal_by (has_port new.source_port new.destination_port) (has_port of_quoted.source_port of_quoted.destination_port) packet
 
--- the same with one translation
+-- the errors for one translation, whose opposite applies to the quoted packet
 abbrev pub ipv4_refusal : Ipv4Translation → List ℕ → Option TranslateError
 ipv4_refusal new packet = ipv4_refusal_with new (ipv4_opposite new) packet
 
 -- ---- the translated packet
 
--- the message of an IPv4 packet that quotes this packet, which has a translation of its own, or that has no quoted packet
+-- the translated message of an IPv4 packet; `quoted` is the quoted packet, if there is one, and `of_quoted` is its translation
 abbrev pub ipv4_message_by : Option (List ℕ) → Ipv4Translation → Ipv4Translation → List ℕ → List ℕ
 ipv4_message_by None new of_quoted packet = ipv4_flow_message new packet
 ipv4_message_by (Some quoted) new of_quoted packet = with_quote 0 0 quoted (ipv4_translated_flow of_quoted quoted) (message_in_ipv4 packet)
 
--- the same with the opposite translation of the quoted packet
+-- the message if the opposite translation applies to the quoted packet
 abbrev pub ipv4_message_with : Option (List ℕ) → Ipv4Translation → List ℕ → List ℕ
 ipv4_message_with quoted new packet = ipv4_message_by quoted new (ipv4_opposite new) packet
 

@@ -35,7 +35,7 @@ ipv6_destination_place = 24
 abbrev pub sum_of_ipv6 : Ipv6Header → ℕ
 sum_of_ipv6 addresses = sum_of_pieces 0 (addresses.source ∷ addresses.destination ∷ [])
 
--- the same without the end-around carry
+-- the sum of source and destination without the end-around carry
 abbrev pub total_of_ipv6 : Ipv6Header → ℕ
 total_of_ipv6 addresses = total addresses.source + total addresses.destination
 
@@ -103,23 +103,23 @@ ipv6_opposite new = record {
   destination_port = new.source_port;
 }
 
--- the translation of the quoted packet: a passed translation, or otherwise the opposite of the translation of the packet
+-- the translation of the quoted packet: `passed`, or if there is none, the opposite of the translation of the packet
 abbrev pub ipv6_of_quoted : Ipv6Translation → Option (Bor Ipv6Translation) → Ipv6Translation
 ipv6_of_quoted new None = ipv6_opposite new
 ipv6_of_quoted new (Some passed) = passed.now
 
 -- ---- errors
 
--- The extension headers, which may contain another address or precede a message that covers addresses, and the protocols over IPv6 whose
--- checksum covers the addresses, except UDP, TCP and ICMPv6: DCCP (33; RFC 4340, section 9.1), OSPF (89; RFC 5340, section A.3.1), PIM (103;
--- RFC 7761, section 4.9), VRRP (112; RFC 5798, section 5.2.8) and UDP-Lite (136; RFC 3828, section 3.1). ICMPv4 (1) has no meaning over IPv6.
+-- An extension header, which may contain another address or precede a message that covers addresses. Or a protocol whose checksum covers
+-- addresses and is not translated: DCCP (33; RFC 4340, section 9.1), OSPF (89; RFC 5340, section A.3.1), PIM (103; RFC 7761, section 4.9),
+-- VRRP (112; RFC 5798, section 5.2.8) or UDP-Lite (136; RFC 3828, section 3.1). Or ICMPv4 (1), which has no meaning over IPv6.
 abbrev pub covers_ipv6_addresses : ℕ → Bool
 covers_ipv6_addresses number =
     is_extension number
     || (number == icmpv4_number || (number == 33 || (number == 89 || (number == 103 || (number == 112 || number == 136)))))
 
--- An IPv6 packet whose message is not found directly after its header or its fragment header: the errors of `transport_in_ip_lax`, another
--- version, and a number there other than UDP, TCP and ICMPv6 if it covers addresses, or if a port is replaced.
+-- The errors, in this order: an error of `transport_in_ip_lax`; another version; a protocol after the header or the fragment header that is
+-- not UDP, TCP or ICMPv6, if the protocol covers addresses or if a port is replaced.
 abbrev pub ipv6_place_refusal : Bool → List ℕ → Option TranslateError
 ipv6_place_refusal has_port packet = first_of (
     option_map Ip (ip.lax_refusal packet)
@@ -156,25 +156,25 @@ abbrev pub ipv6_refusal_by : Bool → Bool → List ℕ → Option TranslateErro
 ipv6_refusal_by has_port has_quoted_port packet = first_of (
     ipv6_place_refusal has_port packet ∷ ipv6_message_refusal packet ∷ ipv6_quoted_refusal has_quoted_port (ipv6_quoted packet) ∷ [])
 
--- the same for two translations: of the packet, and of the packet that it quotes. Each replaces a port or only addresses.
+-- the errors for a translation of the packet and a translation of the quoted packet. Each replaces a port or only addresses.
 abbrev pub ipv6_refusal_with : Ipv6Translation → Ipv6Translation → List ℕ → Option TranslateError
 ipv6_refusal_with new of_quoted packet =
     ipv6_refusal_by (has_port new.source_port new.destination_port) (has_port of_quoted.source_port of_quoted.destination_port) packet
 
--- the same with one translation
+-- the errors for one translation, whose opposite applies to the quoted packet
 abbrev pub ipv6_refusal : Ipv6Translation → List ℕ → Option TranslateError
 ipv6_refusal new packet = ipv6_refusal_with new (ipv6_opposite new) packet
 
 -- ---- the translated packet
 
--- the message of an IPv6 packet that quotes this packet, which has a translation of its own, or that has no quoted packet
+-- the translated message of an IPv6 packet; `quoted` is the quoted packet, if there is one, and `of_quoted` is its translation
 abbrev pub ipv6_message_by : Option (List ℕ) → Ipv6Translation → Ipv6Translation → List ℕ → List ℕ
 ipv6_message_by None new of_quoted packet = ipv6_flow_message new packet
 ipv6_message_by (Some quoted) new of_quoted packet =
     with_quote (sum_of_ipv6 (ipv6_header_of packet)) (sum_of_ipv6 (ipv6_addresses new packet))
     quoted (ipv6_translated_flow of_quoted quoted) (message_in_ipv6 packet)
 
--- the same with the opposite translation of the quoted packet
+-- the message if the opposite translation applies to the quoted packet
 abbrev pub ipv6_message_with : Option (List ℕ) → Ipv6Translation → List ℕ → List ℕ
 ipv6_message_with quoted new packet = ipv6_message_by quoted new (ipv6_opposite new) packet
 

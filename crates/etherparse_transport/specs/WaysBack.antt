@@ -44,7 +44,7 @@ IsChecksumRestored protos.Tcp message = number tcp_checksum_place message ≢ al
 IsChecksumRestored protos.Icmpv4 message = is_query protos.Icmpv4 message ≡ true → number icmp_checksum_place message ≢ lost_checksum message
 IsChecksumRestored protos.Icmpv6 message = number icmp_checksum_place message ≢ all_ones
 
--- the same in a packet, whose later fragments contain no checksum
+-- the checksum of the message of a packet is restored; a later fragment contains no checksum
 abbrev pub IsChecksumRestoredIn : Bool → Option Proto → List ℕ → Type 0
 IsChecksumRestoredIn is_later_fragment None message = ⊤
 IsChecksumRestoredIn is_later_fragment (Some proto) message = (is_later_fragment ≡ false) → IsChecksumRestored proto message
@@ -80,7 +80,7 @@ ipv4_back_by (Some quoted) new packet = ipv4_opposite (ipv4_flow_back (ipv4_oppo
 abbrev pub ipv4_way_back : Ipv4Translation → List ℕ → Ipv4Translation
 ipv4_way_back new packet = ipv4_back_by (ipv4_quoted packet) new packet
 
--- the way back of the packet that is quoted, if one is, by its own translation
+-- the way back of the quoted packet by its own translation, if a packet is quoted
 abbrev pub ipv4_quoted_back : Option (List ℕ) → Ipv4Translation → Ipv4Translation
 ipv4_quoted_back None of_quoted = of_quoted
 ipv4_quoted_back (Some quoted) of_quoted = ipv4_flow_back of_quoted quoted
@@ -90,8 +90,8 @@ abbrev pub IsIpv4FlowRestored : List ℕ → Type 0
 IsIpv4FlowRestored packet = (number header_checksum_place packet ≢ all_ones)
     × IsChecksumRestoredIn (ipv4_is_later_fragment packet) (ipv4_proto packet) (message_in_ipv4 packet)
 
--- The checksums of an ICMP error and the quoted packet are restored. A replaced source of the error is the destination of the quoted
--- packet, and a replaced destination is its source. Otherwise two addresses become one, for example if a router sent the error.
+-- The checksums of error and quoted packet are restored. If the source of the error is replaced, it is the destination of the quoted
+-- packet. If its destination is replaced, it is the source. Otherwise two addresses become equal, for example if a router sent the error.
 pub record IsIpv4ErrorRestored (new : Ipv4Translation) (packet quoted : List ℕ) : Type 0 where
   pub header : number header_checksum_place packet ≢ all_ones
   pub message : number icmp_checksum_place (message_in_ipv4 packet) ≢ all_ones
@@ -99,7 +99,7 @@ pub record IsIpv4ErrorRestored (new : Ipv4Translation) (packet quoted : List ℕ
   pub source : IfSome new.source (λ _. (ipv4_header_of quoted).destination ≡ (ipv4_header_of packet).source)
   pub destination : IfSome new.destination (λ _. (ipv4_header_of quoted).source ≡ (ipv4_header_of packet).destination)
 
--- the same for a packet that quotes this packet, or none
+-- the conditions for a packet that quotes `quoted`, or quotes no packet
 abbrev pub IsIpv4RestoredBy : Option (List ℕ) → Ipv4Translation → List ℕ → Type 0
 IsIpv4RestoredBy None new packet = IsIpv4FlowRestored packet
 IsIpv4RestoredBy (Some quoted) new packet = IsIpv4ErrorRestored new packet quoted
@@ -108,13 +108,13 @@ IsIpv4RestoredBy (Some quoted) new packet = IsIpv4ErrorRestored new packet quote
 abbrev pub IsIpv4Restored : Ipv4Translation → List ℕ → Type 0
 IsIpv4Restored new packet = IsIpv4RestoredBy (ipv4_quoted packet) new packet
 
--- With a translation of its own for the quoted packet no address is lost: only checksums are.
+-- The checksums of an ICMP error and the quoted packet are restored. Addresses always are if each packet has its own translation.
 pub record AreIpv4ChecksumsRestored (packet quoted : List ℕ) : Type 0 where
   pub header : number header_checksum_place packet ≢ all_ones
   pub message : number icmp_checksum_place (message_in_ipv4 packet) ≢ all_ones
   pub quoted_packet : IsIpv4FlowRestored quoted
 
--- the same for a packet that quotes this packet, or none
+-- the conditions for a packet that quotes `quoted`, or quotes no packet
 abbrev pub IsIpv4RestoredWithBy : Option (List ℕ) → List ℕ → Type 0
 IsIpv4RestoredWithBy None packet = IsIpv4FlowRestored packet
 IsIpv4RestoredWithBy (Some quoted) packet = AreIpv4ChecksumsRestored packet quoted
@@ -149,7 +149,7 @@ ipv6_back_by (Some quoted) new packet = ipv6_opposite (ipv6_flow_back (ipv6_oppo
 abbrev pub ipv6_way_back : Ipv6Translation → List ℕ → Ipv6Translation
 ipv6_way_back new packet = ipv6_back_by (ipv6_quoted packet) new packet
 
--- the way back of the packet that is quoted, if one is, by its own translation
+-- the way back of the quoted packet by its own translation, if a packet is quoted
 abbrev pub ipv6_quoted_back : Option (List ℕ) → Ipv6Translation → Ipv6Translation
 ipv6_quoted_back None of_quoted = of_quoted
 ipv6_quoted_back (Some quoted) of_quoted = ipv6_flow_back of_quoted quoted
@@ -158,14 +158,14 @@ ipv6_quoted_back (Some quoted) of_quoted = ipv6_flow_back of_quoted quoted
 abbrev pub IsIpv6FlowRestored : List ℕ → Type 0
 IsIpv6FlowRestored packet = IsChecksumRestoredIn (ipv6_is_later_fragment packet) (ipv6_proto packet) (message_in_ipv6 packet)
 
--- an ICMP error, as over IPv4
+-- the conditions of `IsIpv4ErrorRestored` for an ICMP error over IPv6, whose header has no checksum
 pub record IsIpv6ErrorRestored (new : Ipv6Translation) (packet quoted : List ℕ) : Type 0 where
   pub message : number icmp_checksum_place (message_in_ipv6 packet) ≢ all_ones
   pub quoted_packet : IsIpv6FlowRestored quoted
   pub source : IfSome new.source (λ _. (ipv6_header_of quoted).destination ≡ (ipv6_header_of packet).source)
   pub destination : IfSome new.destination (λ _. (ipv6_header_of quoted).source ≡ (ipv6_header_of packet).destination)
 
--- the same for a packet that quotes this packet, or none
+-- the conditions for a packet that quotes `quoted`, or quotes no packet
 abbrev pub IsIpv6RestoredBy : Option (List ℕ) → Ipv6Translation → List ℕ → Type 0
 IsIpv6RestoredBy None new packet = IsIpv6FlowRestored packet
 IsIpv6RestoredBy (Some quoted) new packet = IsIpv6ErrorRestored new packet quoted
@@ -174,12 +174,12 @@ IsIpv6RestoredBy (Some quoted) new packet = IsIpv6ErrorRestored new packet quote
 abbrev pub IsIpv6Restored : Ipv6Translation → List ℕ → Type 0
 IsIpv6Restored new packet = IsIpv6RestoredBy (ipv6_quoted packet) new packet
 
--- With a translation of its own for the quoted packet no address is lost: only checksums are.
+-- The checksums of an ICMP error and the quoted packet are restored. Addresses always are if each packet has its own translation.
 pub record AreIpv6ChecksumsRestored (packet quoted : List ℕ) : Type 0 where
   pub message : number icmp_checksum_place (message_in_ipv6 packet) ≢ all_ones
   pub quoted_packet : IsIpv6FlowRestored quoted
 
--- the same for a packet that quotes this packet, or none
+-- the conditions for a packet that quotes `quoted`, or quotes no packet
 abbrev pub IsIpv6RestoredWithBy : Option (List ℕ) → List ℕ → Type 0
 IsIpv6RestoredWithBy None packet = IsIpv6FlowRestored packet
 IsIpv6RestoredWithBy (Some quoted) packet = AreIpv6ChecksumsRestored packet quoted

@@ -1,4 +1,4 @@
-//! Laws of the types: a clone is the same value, and two values are equal exactly if they are the same. Each law is the contract of a
+//! Laws of the types: a clone is the same value, and `==` holds exactly if two values are the same. Each law is the contract of a
 //! function, so that it is checked with the calls.
 //!
 //! # Errors
@@ -18,7 +18,7 @@ pub fn cloned_transport_header(header: &TransportHeader) -> Result<TransportHead
     header.clone()
 }
 
-/// Two values of `TransportHeader` are equal exactly if they are the same.
+/// `==` holds for two values of `TransportHeader` exactly if they are the same.
 pub fn equal_transport_header(a: &TransportHeader, b: &TransportHeader) -> bool
     ensures same { IsTrue result ↔ (a.now ≡ b.now) }
 {
@@ -34,7 +34,7 @@ pub fn cloned_transport_checksum_error(
     error.clone()
 }
 
-/// Two values of `TransportChecksumError` are equal exactly if they are the same.
+/// `==` holds for two values of `TransportChecksumError` exactly if they are the same.
 pub fn equal_transport_checksum_error(
     a: &TransportChecksumError,
     b: &TransportChecksumError,
@@ -53,7 +53,7 @@ pub fn cloned_build_slice_write_error(
     error.clone()
 }
 
-/// Two values of `BuildSliceWriteError` are equal exactly if they are the same.
+/// `==` holds for two values of `BuildSliceWriteError` exactly if they are the same.
 pub fn equal_build_slice_write_error(a: &BuildSliceWriteError, b: &BuildSliceWriteError) -> bool
     ensures same { IsTrue result ↔ (a.now ≡ b.now) }
 {
@@ -67,7 +67,7 @@ pub fn cloned_answer_echo_error(error: &AnswerEchoError) -> Result<AnswerEchoErr
     error.clone()
 }
 
-/// Two values of `AnswerEchoError` are equal exactly if they are the same.
+/// `==` holds for two values of `AnswerEchoError` exactly if they are the same.
 pub fn equal_answer_echo_error(a: &AnswerEchoError, b: &AnswerEchoError) -> bool
     ensures { IsTrue result ↔ (a.now ≡ b.now) }
 {

@@ -53,8 +53,8 @@ pub extern "C" fn etherparse_echo_answer(
     }
 }
 
-/// Turns the echo request in an IPv4 packet into its reply from this source, otherwise as `etherparse_echo_answer`. If the request was sent
-/// to a multicast or broadcast address, `source` is an address of the host.
+/// Turns the echo request in an IPv4 packet into its reply from `source`, like `etherparse_echo_answer`. If the request was sent to a
+/// multicast or broadcast address, pass an address of the host as `source`.
 ///
 /// # Errors
 ///
@@ -85,8 +85,8 @@ pub extern "C" fn etherparse_echo_answer_ipv4(
     }
 }
 
-/// Turns the echo request in an IPv6 packet into its reply from this source, otherwise as `etherparse_echo_answer`. If the request was sent
-/// to a multicast address, `source` is an address of the host.
+/// Turns the echo request in an IPv6 packet into its reply from `source`, like `etherparse_echo_answer`. If the request was sent to a
+/// multicast address, pass an address of the host as `source`.
 ///
 /// # Errors
 ///

@@ -205,7 +205,7 @@ fn translate_error(error: &EtherparseError) -> Option<TranslateError>
     }
 }
 
-/// Returns the reason why a checksum was not tested, with the verdict of this number.
+/// Returns the reason why a checksum was not tested, from the number of its verdict.
 fn untested(number: usize) -> Option<Untested>
     ensures { result ≡ specs.untested_at number }
 {
@@ -220,7 +220,7 @@ fn untested(number: usize) -> Option<Untested>
     }
 }
 
-/// Returns the text of a checksum that was not tested, with the verdict of this number.
+/// Returns the text of the error for a checksum that was not tested, from the number of its verdict.
 fn untested_text(number: usize) -> ErrorText
     ensures { reads_as result ≡ specs.untested_text_at number }
 {

@@ -225,7 +225,7 @@ fn find_lax_apart(bytes: &[u8], transport: &mut EtherparseIpTransport, error: Er
     find_lax(bytes, transport, error)
 }
 
-/// Finds the transport in an IP packet that may be cut off or state no length, otherwise as `etherparse_transport_in_ip`. If fewer bytes
+/// Like `etherparse_transport_in_ip`, but accepts an IP packet that is cut off, or whose header states no length. If fewer bytes
 /// were passed than the IP header counts, the payload ends with the passed bytes, and `is_cut_off` is 1. If the header states no length, as
 /// `transport_in_ip_lax` defines it, all bytes are counted, and `is_length_missing` is 1.
 ///

@@ -125,7 +125,7 @@ pub extern "C" fn etherparse_translate_ipv4(
     }
 }
 
-/// Translates an IPv6 packet in place, otherwise as `etherparse_translate_ipv4`.
+/// Translates an IPv6 packet in place, like `etherparse_translate_ipv4`.
 ///
 /// # Errors
 ///

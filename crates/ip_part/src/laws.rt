@@ -1,4 +1,4 @@
-//! Laws of the types: a clone is the same value, and two values are equal exactly if they are the same, with
+//! Laws of the types: a clone is the same value, and `==` holds exactly if two values are the same, with
 //! addresses and payload compared by their bytes. Each law is the contract of a function, so that it is checked with
 //! the calls.
 //!
@@ -21,7 +21,7 @@ pub fn cloned_ip_addresses<'a>(value: &IpAddresses<'a>) -> Result<IpAddresses<'a
     value.clone()
 }
 
-/// Two values of `IpAddresses` are equal exactly if their bytes are the same.
+/// `==` holds for two values of `IpAddresses` exactly if their bytes are the same.
 pub fn equal_ip_addresses<'a>(a: &IpAddresses<'a>, b: &IpAddresses<'a>) -> bool
     ensures same { IsTrue result ↔ (by_value a.now ≡ by_value b.now) }
 {
@@ -35,7 +35,7 @@ pub fn cloned_fixed_header<'a>(value: &FixedHeader<'a>) -> Result<FixedHeader<'a
     value.clone()
 }
 
-/// Two values of `FixedHeader` are equal exactly if their bytes are the same.
+/// `==` holds for two values of `FixedHeader` exactly if their bytes are the same.
 pub fn equal_fixed_header<'a>(a: &FixedHeader<'a>, b: &FixedHeader<'a>) -> bool
     ensures same { IsTrue result ↔ (fixed_by_value a.now ≡ fixed_by_value b.now) }
 {
@@ -49,7 +49,7 @@ pub fn cloned_ip_error(value: &IpError) -> Result<IpError, AllocError>
     value.clone()
 }
 
-/// Two values of `IpError` are equal exactly if they are the same.
+/// `==` holds for two values of `IpError` exactly if they are the same.
 pub fn equal_ip_error(a: &IpError, b: &IpError) -> bool
     ensures same { IsTrue result ↔ (a.now ≡ b.now) }
 {
@@ -63,7 +63,7 @@ pub fn cloned_proto(proto: &Proto) -> Result<Proto, AllocError>
     proto.clone()
 }
 
-/// Two values of `Proto` are equal exactly if they are the same.
+/// `==` holds for two values of `Proto` exactly if they are the same.
 pub fn equal_proto(a: &Proto, b: &Proto) -> bool
     ensures same { IsTrue result ↔ (a.now ≡ b.now) }
 {
@@ -79,7 +79,7 @@ pub fn cloned_transport_in_ip<'a>(
     value.clone()
 }
 
-/// Two values of `TransportInIp` are equal exactly if their fields are equal, with the payload and the fixed
+/// `==` holds for two values of `TransportInIp` exactly if their fields are equal, with the payload and the fixed
 /// header compared by their bytes.
 pub fn equal_transport_in_ip<'a>(a: &TransportInIp<'a>, b: &TransportInIp<'a>) -> bool
     ensures same { IsTrue result ↔ AreAlike a.now b.now }

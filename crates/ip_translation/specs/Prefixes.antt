@@ -112,7 +112,7 @@ with_zero_suffix prefix address =
 
 -- ---- global addresses
 
--- the first bits of an IPv4 address, as many as this, are the first bits of the block
+-- the IPv4 address is in the block: their first `bits` bits are the same
 abbrev pub is_in : List ℕ → ℕ → List ℕ → Bool
 is_in block bits ipv4 = from_be_bytes w32 ipv4 / 2 ^ (32 - bits) == from_be_bytes w32 block / 2 ^ (32 - bits)
 

@@ -240,7 +240,7 @@ fn is_not_global(ipv4: [u8; 4]) -> bool
         || is_in([240, 0, 0, 0], 4, ipv4)
 }
 
-/// Whether an address begins with the first bits of a block, as many as this.
+/// Whether an address is in a block: the first `bits` bits of both are the same.
 fn is_in(block: [u8; 4], bits: u32, ipv4: [u8; 4]) -> bool
     requires { (1 ≤ bits) × (bits ≤ 32) }
     ensures { result ≡ specs.is_in block bits ipv4 }

@@ -1,4 +1,4 @@
-//! Laws of the types: a clone is the same value, two values are equal exactly if they are the same, and a hasher is fed every
+//! Laws of the types: a clone is the same value, `==` holds exactly if two values are the same, and a hasher is fed every
 //! field. The protocol numbers are here too. Each law is the contract of a function, so that it is checked with the calls.
 //!
 //! # Errors
@@ -30,7 +30,7 @@ pub fn cloned_layer(value: &Layer) -> Result<Layer, AllocError>
     value.clone()
 }
 
-/// Two values of `Layer` are equal exactly if they are the same.
+/// `==` holds for two values of `Layer` exactly if they are the same.
 pub fn equal_layer(a: &Layer, b: &Layer) -> bool
     ensures same { IsTrue result ↔ (a.now ≡ b.now) }
 {
@@ -44,7 +44,7 @@ pub fn cloned_len_source(value: &LenSource) -> Result<LenSource, AllocError>
     value.clone()
 }
 
-/// Two values of `LenSource` are equal exactly if they are the same.
+/// `==` holds for two values of `LenSource` exactly if they are the same.
 pub fn equal_len_source(a: &LenSource, b: &LenSource) -> bool
     ensures same { IsTrue result ↔ (a.now ≡ b.now) }
 {
@@ -58,7 +58,7 @@ pub fn cloned_value_type(value: &ValueType) -> Result<ValueType, AllocError>
     value.clone()
 }
 
-/// Two values of `ValueType` are equal exactly if they are the same.
+/// `==` holds for two values of `ValueType` exactly if they are the same.
 pub fn equal_value_type(a: &ValueType, b: &ValueType) -> bool
     ensures same { IsTrue result ↔ (a.now ≡ b.now) }
 {
@@ -72,7 +72,7 @@ pub fn cloned_len_error(value: &LenError) -> Result<LenError, AllocError>
     value.clone()
 }
 
-/// Two values of `LenError` are equal exactly if they are the same.
+/// `==` holds for two values of `LenError` exactly if they are the same.
 pub fn equal_len_error(a: &LenError, b: &LenError) -> bool
     ensures same { IsTrue result ↔ (a.now ≡ b.now) }
 {
@@ -88,7 +88,7 @@ pub fn cloned_value_too_big_error(
     value.clone()
 }
 
-/// Two values of `ValueTooBigError` are equal exactly if they are the same.
+/// `==` holds for two values of `ValueTooBigError` exactly if they are the same.
 pub fn equal_value_too_big_error(a: &ValueTooBigError<usize>, b: &ValueTooBigError<usize>) -> bool
     ensures same { IsTrue result ↔ (a.now ≡ b.now) }
 {
@@ -102,7 +102,7 @@ pub fn cloned_header_error(value: &HeaderError) -> Result<HeaderError, AllocErro
     value.clone()
 }
 
-/// Two values of `HeaderError` are equal exactly if they are the same.
+/// `==` holds for two values of `HeaderError` exactly if they are the same.
 pub fn equal_header_error(a: &HeaderError, b: &HeaderError) -> bool
     ensures same { IsTrue result ↔ (a.now ≡ b.now) }
 {
@@ -116,7 +116,7 @@ pub fn cloned_header_slice_error(value: &HeaderSliceError) -> Result<HeaderSlice
     value.clone()
 }
 
-/// Two values of `HeaderSliceError` are equal exactly if they are the same.
+/// `==` holds for two values of `HeaderSliceError` exactly if they are the same.
 pub fn equal_header_slice_error(a: &HeaderSliceError, b: &HeaderSliceError) -> bool
     ensures same { IsTrue result ↔ (a.now ≡ b.now) }
 {
@@ -132,7 +132,7 @@ pub fn cloned_option_read_error(
     value.clone()
 }
 
-/// Two values of `TcpOptionReadError` are equal exactly if they are the same.
+/// `==` holds for two values of `TcpOptionReadError` exactly if they are the same.
 pub fn equal_option_read_error(a: &TcpOptionReadError, b: &TcpOptionReadError) -> bool
     ensures same { IsTrue result ↔ (a.now ≡ b.now) }
 {
@@ -148,7 +148,7 @@ pub fn cloned_option_write_error(
     value.clone()
 }
 
-/// Two values of `TcpOptionWriteError` are equal exactly if they are the same.
+/// `==` holds for two values of `TcpOptionWriteError` exactly if they are the same.
 pub fn equal_option_write_error(a: &TcpOptionWriteError, b: &TcpOptionWriteError) -> bool
     ensures same { IsTrue result ↔ (a.now ≡ b.now) }
 {
@@ -162,7 +162,7 @@ pub fn cloned_text_part(value: &TextPart) -> Result<TextPart, AllocError>
     value.clone()
 }
 
-/// Two values of `TextPart` are equal exactly if they are the same words or the same number.
+/// `==` holds for two values of `TextPart` exactly if they are the same words or the same number.
 pub fn equal_text_part(a: &TextPart, b: &TextPart) -> bool
     ensures same { IsTrue result ↔ (part_by_value a.now ≡ part_by_value b.now) }
 {
@@ -176,7 +176,7 @@ pub fn cloned_error_text(value: &ErrorText) -> Result<ErrorText, AllocError>
     value.clone()
 }
 
-/// Two values of `ErrorText` are equal exactly if they have the same parts.
+/// `==` holds for two values of `ErrorText` exactly if they have the same parts.
 pub fn equal_error_text(a: &ErrorText, b: &ErrorText) -> bool
     ensures same { IsTrue result ↔ (map part_by_value a.now ≡ map part_by_value b.now) }
 {
@@ -190,7 +190,7 @@ pub fn cloned_ip_number(value: &IpNumber) -> Result<IpNumber, AllocError>
     value.clone()
 }
 
-/// Two values of `IpNumber` are equal exactly if they are the same.
+/// `==` holds for two values of `IpNumber` exactly if they are the same.
 pub fn equal_ip_number(a: &IpNumber, b: &IpNumber) -> bool
     ensures same { IsTrue result ↔ (a.now ≡ b.now) }
 {
@@ -204,7 +204,7 @@ pub fn cloned_ipv4_header(value: &Ipv4Header) -> Result<Ipv4Header, AllocError>
     value.clone()
 }
 
-/// Two values of `Ipv4Header` are equal exactly if they are the same.
+/// `==` holds for two values of `Ipv4Header` exactly if they are the same.
 pub fn equal_ipv4_header(a: &Ipv4Header, b: &Ipv4Header) -> bool
     ensures same { IsTrue result ↔ (a.now ≡ b.now) }
 {
@@ -220,7 +220,7 @@ pub fn cloned_ipv4_header_slice<'a>(
     value.clone()
 }
 
-/// Two values of `Ipv4HeaderSlice` are equal exactly if they are the same.
+/// `==` holds for two values of `Ipv4HeaderSlice` exactly if they are the same.
 pub fn equal_ipv4_header_slice<'a>(a: &Ipv4HeaderSlice<'a>, b: &Ipv4HeaderSlice<'a>) -> bool
     ensures same { IsTrue result ↔ (a.now ≡ b.now) }
 {
@@ -234,7 +234,7 @@ pub fn cloned_ipv6_header(value: &Ipv6Header) -> Result<Ipv6Header, AllocError>
     value.clone()
 }
 
-/// Two values of `Ipv6Header` are equal exactly if they are the same.
+/// `==` holds for two values of `Ipv6Header` exactly if they are the same.
 pub fn equal_ipv6_header(a: &Ipv6Header, b: &Ipv6Header) -> bool
     ensures same { IsTrue result ↔ (a.now ≡ b.now) }
 {
@@ -250,7 +250,7 @@ pub fn cloned_ipv6_header_slice<'a>(
     value.clone()
 }
 
-/// Two values of `Ipv6HeaderSlice` are equal exactly if they are the same.
+/// `==` holds for two values of `Ipv6HeaderSlice` exactly if they are the same.
 pub fn equal_ipv6_header_slice<'a>(a: &Ipv6HeaderSlice<'a>, b: &Ipv6HeaderSlice<'a>) -> bool
     ensures same { IsTrue result ↔ (a.now ≡ b.now) }
 {

@@ -50,15 +50,15 @@ ipv4_fragment_by header packet = record {
   bytes = drop (ipv4_header_len packet) packet;
 }
 
--- this fragment, if the packet is not whole
+-- the fragment in an IPv4 packet without padding; `None` if the packet is not a fragment
 abbrev pub ipv4_fragment_in : List ℕ → Option FragmentValue
 ipv4_fragment_in packet =
     if ipv4_is_fragment (ipv4_header packet) then Some (ipv4_fragment_by (ipv4_header packet) packet) else None
 
 -- ---- IPv6
 
--- The place of the first fragment header in a packet without padding, if an extension header of this number begins at this place, with fewer
--- than this number of headers from there on. Each header names the number of the next (RFC 8200, section 4).
+-- The place of the first fragment header in a packet without padding, from the header at `place` on, whose number is `number`. Each header
+-- contains the number of the next header (RFC 8200, section 4). The first argument limits the number of headers.
 unfoldable pub fragment_header_from : ℕ → ℕ → ℕ → List ℕ → Option ℕ
 fragment_header_from zero number place packet = None
 fragment_header_from (suc more) number place packet =
@@ -67,7 +67,7 @@ fragment_header_from (suc more) number place packet =
     else if nat_lt (length packet) (place + extension_len number (drop place packet)) then None
     else fragment_header_from more (next_number (drop place packet)) (place + extension_len number (drop place packet)) packet
 
--- this place, from the IPv6 header on; each header is at least one byte long
+-- the place of the first fragment header after the IPv6 header; each header has at least one byte, so the limit is never reached
 abbrev pub fragment_header_place : List ℕ → Option ℕ
 fragment_header_place packet = fragment_header_from (suc (length packet)) (slice_index packet 6) 40 packet
 
@@ -76,8 +76,8 @@ abbrev pub ipv6_key : List ℕ → List ℕ → FragmentKey
 ipv6_key header fragment_header =
     keys.Ipv6 (slice_range header 8 24) (slice_range header 24 40) (be_number fragment_header 4 4)
 
--- the fragment in an IPv6 packet without padding, by its IPv6 header and the bytes from its fragment header on, if the packet is not whole;
--- the offset in the fragment header counts units of 8 bytes (RFC 8200, section 4.5)
+-- The fragment in an IPv6 packet without padding. `header` is the IPv6 header, and `rest` begins with the fragment header. `None` for an
+-- atomic fragment (RFC 6946). The offset in the fragment header counts units of 8 bytes (RFC 8200, section 4.5).
 abbrev pub ipv6_fragment_by : List ℕ → List ℕ → Option FragmentValue
 ipv6_fragment_by header rest =
     if is_one_of_fragments fragment rest then Some (record {
@@ -112,18 +112,18 @@ transport_header_len protocol bytes =
     else if nat_lt (length bytes) 20 then 20
     else slice_index bytes 12 / 16 * 4
 
--- the bytes of a transport are fewer than its header
+-- the bytes end within the transport header
 abbrev pub header_chain_refusal : ℕ → List ℕ → Option FragmentError
 header_chain_refusal protocol bytes =
     refused_if (nat_lt (length bytes) (transport_header_len protocol bytes))
     (HeaderChainCutOff (transport_header_len protocol bytes) (length bytes))
 
--- the same for a first fragment, whose offset is 0; no other fragment contains a transport header
+-- a first fragment, whose offset is 0, ends within its transport header; a later fragment contains no transport header
 abbrev pub first_refusal : Option FragmentValue → ℕ → List ℕ → Option FragmentError
 first_refusal None protocol bytes = None
 first_refusal (Some fragment) protocol bytes = if fragment.offset == 0 then header_chain_refusal protocol bytes else None
 
--- the same for a packet whose headers were read
+-- the packet is a first fragment that ends within its transport header; `None` if its headers are refused
 abbrev pub transport_refusal : List ℕ → Result Headers IpError → Option FragmentError
 transport_refusal packet (Err error) = None
 transport_refusal packet (Ok headers) = first_refusal (fragment_of packet) headers.protocol.0 (drop headers.len (counted false packet))

@@ -16,7 +16,7 @@ end_of piece = piece.offset + length piece.bytes
 abbrev pub covers : ℕ → Piece → Bool
 covers place piece = nat_le piece.offset place && nat_lt place (end_of piece)
 
--- two pieces that are not empty contain a byte of the same place
+-- each piece begins before the end of the other; if neither is empty, both contain a byte at the same place
 abbrev pub overlaps : Piece → Piece → Bool
 overlaps a b = nat_lt a.offset (end_of b) && nat_lt b.offset (end_of a)
 

@@ -67,14 +67,14 @@ abbrev pub reaches : ℕ → List Piece → Bool
 reaches place pieces = list_any (λ piece. nat_le place (end_of piece)) pieces
 
 -- The errors that concern the end of the payload. The last fragment ends there, and any other fragment ends before it. So the last fragment
--- is refused if the end is known and another, or if another fragment reaches its end.
+-- is refused if the known end differs from its end, or if another fragment reaches its end.
 abbrev pub end_refusal : Option ℕ → Bool → FragmentValue → Option ReassemblyError
 end_refusal (Some end) is_reached fragment =
     if fragment.more_fragments then refused_if (nat_le end (end_of_fragment fragment)) BehindEnd
     else refused_if (not (end_of_fragment fragment == end)) OtherEnd
 end_refusal None is_reached fragment = if fragment.more_fragments then None else refused_if is_reached BehindEnd
 
--- another piece contains a byte of the same place, and is not the same (RFC 5722, section 3; RFC 8200, section 4.5)
+-- another piece overlaps this piece, and is not the same piece (RFC 5722, section 3; RFC 8200, section 4.5)
 abbrev pub conflicts : Piece → Piece → Bool
 conflicts piece other = overlaps piece other && not (is_same piece other)
 

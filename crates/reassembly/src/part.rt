@@ -25,7 +25,7 @@ pub(crate) fn is_reached(parts: &[Part], place: usize) -> bool
     is_reached
 }
 
-/// Whether one of the parts contains a byte of the same place as this piece, and is not the same piece.
+/// Whether one of the parts overlaps this piece, and is not the same piece.
 pub(crate) fn has_conflict(buffer: &[u8], parts: &[Part], offset: usize, bytes: &[u8]) -> bool
     requires fit { All (Fits buffer.now) parts.now }
     requires room { offset + length bytes.now ≤ length buffer.now }
@@ -50,7 +50,7 @@ pub(crate) fn is_repeated(buffer: &[u8], parts: &[Part], offset: usize, bytes: &
     is_repeated
 }
 
-/// Whether a part contains a byte of the same place as this piece, and is not the same piece.
+/// Whether a part overlaps this piece, and is not the same piece.
 #[tactic(auto, using(crate::proofs::PartLemmas::piece_len))]
 fn conflicts(buffer: &[u8], part: Part, offset: usize, bytes: &[u8]) -> bool
     requires fits { Fits buffer.now part }

@@ -186,7 +186,7 @@ pub fn equal_raw_iterators(a: &TcpRawOptionsIterator<'_>, b: &TcpRawOptionsItera
     a == b
 }
 
-/// Errors of options are equal exactly if they are the same.
+/// `==` holds for two errors of options exactly if they are the same.
 pub fn equal_raw_option_errors(a: &TcpRawOptionError, b: &TcpRawOptionError) -> bool
     ensures same { IsTrue result ↔ (a.now ≡ b.now) }
 {

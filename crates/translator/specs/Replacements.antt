@@ -15,17 +15,17 @@ use Rattle.translator.specs.declared.table.Table.{Table}
 
 -- ---- networks
 
--- the number whose last bits are 1, as many as this, and whose other bits are 0; an address has 128 bits at most
+-- the number whose last `host_bits` bits are 1 and whose other bits are 0; an address has at most 128 bits
 abbrev pub host_mask : ℕ → ℕ
 host_mask host_bits = min (2 ^ host_bits) (2 ^ 128) - 1
 
--- the network of the addresses that share all bits with this address, except for this number of bits at the end, which are 0 in the address
+-- the network of the addresses that differ from `address` only in the last `host_bits` bits, which are 0 in `address`
 pub record HasHostBits (address host_bits : ℕ) (network : Network) : Type 0 where
   pub first : network.first ≡ address
   pub mask : network.host_mask ≡ host_mask host_bits
   pub none_set : bit_and address network.host_mask ≡ 0
 
--- the network contains this address: both have the same bits before those of hosts
+-- the network contains this address: their bits before the host bits are the same
 abbrev pub is_in : Network → ℕ → Bool
 is_in network address = bit_or address network.host_mask == bit_or network.first network.host_mask
 
@@ -48,7 +48,7 @@ new_port replacements port = option_map (λ replacement. replacement.new) (find 
 abbrev pub new_ipv4 : Replacements → List ℕ → Option (List ℕ)
 new_ipv4 replacements address = option_map (to_be_bytes w32) (new_address replacements.ipv4.items (from_be_bytes w32 address))
 
--- the same of IPv6
+-- the new address of IPv6, by its number
 abbrev pub new_ipv6 : Replacements → List ℕ → Option (List ℕ)
 new_ipv6 replacements address = option_map (to_be_bytes w128) (new_address replacements.ipv6.items (from_be_bytes w128 address))
 

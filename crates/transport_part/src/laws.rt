@@ -1,4 +1,4 @@
-//! Laws of the types: a clone is the same value, and two values are equal exactly if they are the same. Each law is the contract of a
+//! Laws of the types: a clone is the same value, and `==` holds exactly if two values are the same. Each law is the contract of a
 //! function, so that it is checked with the calls.
 //!
 //! # Errors
@@ -19,7 +19,7 @@ pub fn cloned_transport_slice<'a>(
     transport.clone()
 }
 
-/// Two values of `TransportSlice` are equal exactly if they are the same.
+/// `==` holds for two values of `TransportSlice` exactly if they are the same.
 pub fn equal_transport_slice<'a>(a: &TransportSlice<'a>, b: &TransportSlice<'a>) -> bool
     ensures same { IsTrue result ↔ (a.now ≡ b.now) }
 {
@@ -33,7 +33,7 @@ pub fn cloned_checksum_verdict(verdict: &ChecksumVerdict) -> Result<ChecksumVerd
     verdict.clone()
 }
 
-/// Two values of `ChecksumVerdict` are equal exactly if they are the same.
+/// `==` holds for two values of `ChecksumVerdict` exactly if they are the same.
 pub fn equal_checksum_verdict(a: &ChecksumVerdict, b: &ChecksumVerdict) -> bool
     ensures same { IsTrue result ↔ (a.now ≡ b.now) }
 {
@@ -47,7 +47,7 @@ pub fn cloned_untested(why: &Untested) -> Result<Untested, AllocError>
     why.clone()
 }
 
-/// Two values of `Untested` are equal exactly if they are the same.
+/// `==` holds for two values of `Untested` exactly if they are the same.
 pub fn equal_untested(a: &Untested, b: &Untested) -> bool
     ensures same { IsTrue result ↔ (a.now ≡ b.now) }
 {

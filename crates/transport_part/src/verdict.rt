@@ -40,7 +40,7 @@ pub(crate) fn lacks_length(transport: &TransportSlice<'_>) -> bool
     }
 }
 
-/// The verdict by the addresses, for any length field of a UDP packet.
+/// The verdict by the addresses, whatever the length field of a UDP packet is.
 #[inline(always)]
 pub(crate) fn verdict_over(
     addresses: IpAddresses<'_>,

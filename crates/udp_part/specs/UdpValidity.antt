@@ -9,7 +9,7 @@ use Rattle.net_base.specs.StoredChecksum.{udp_checksum_place}
 abbrev pub checksum_field : List ℕ → ℕ
 checksum_field bytes = be_number bytes udp_checksum_place 2
 
--- pseudo header and packet sum up to all ones; the pseudo header counts the bytes of the packet for any length field
+-- pseudo header and packet sum up to all ones; the pseudo header counts the bytes of the packet, whatever its length field is
 abbrev pub SumsUpOverIpv4 : List ℕ → List ℕ → List ℕ → Type 0
 SumsUpOverIpv4 source destination bytes = VerifiesOverIpv4 source destination udp_number bytes
 

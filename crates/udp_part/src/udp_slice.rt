@@ -160,8 +160,8 @@ impl<'a> UdpSlice<'a> {
     /// Whether the checksum is right over IPv4, as a receiver checks it. It is right if it is 0, which means that
     /// there is none (RFC 768), or if pseudo header and packet sum up to all ones (RFC 1071, section 1).
     ///
-    /// The sum covers all bytes of the slice, and the pseudo header counts them, for any length field. If that field
-    /// is 0, or above the bytes that `from_slice_lax` kept, the kept bytes are summed. So a truncated packet is
+    /// The sum covers all bytes of the slice, and the pseudo header counts them, whatever the length field is. If that
+    /// field is 0, or above the bytes that `from_slice_lax` kept, the kept bytes are summed. So a truncated packet is
     /// usually wrong. With a checksum, more than 65,535 bytes are never right.
     ///
     /// In a packet with a right checksum this check detects each change of one byte, and of one aligned two-byte word
@@ -196,8 +196,8 @@ impl<'a> UdpSlice<'a> {
     /// sum up to all ones (RFC 8200, section 8.1; RFC 1071, section 1). With a routing header, pass the final
     /// destination. A tunnel that allows packets without a checksum must check for 0 first (RFC 6935).
     ///
-    /// The sum covers all bytes of the slice, and the pseudo header counts them, for any length field. So a jumbogram, whose length
-    /// field is 0, is summed with its real length (RFC 2675, section 4). If the field is above the bytes that `from_slice_lax` kept,
+    /// The sum covers all bytes of the slice, and the pseudo header counts them, whatever the length field is. So a jumbogram, whose
+    /// length field is 0, is summed with its real length (RFC 2675, section 4). If the field is above the bytes that `from_slice_lax` kept,
     /// the kept bytes are summed. So a truncated packet is usually wrong. More than 4,294,967,295 bytes are never right.
     ///
     /// In a right packet this check detects each change of one byte, and of one aligned two-byte word except from

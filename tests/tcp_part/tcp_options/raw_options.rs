@@ -235,7 +235,7 @@ static NO_ELEMENTS: [(u8, &[u8], TcpOptionReadError); 10] = [
     (255, &[], UnknownId(255)),
 ];
 
-/// The same if the value is the first bytes of `NUMBERS`.
+/// A kind, the length of its value, and the error. The value is the first bytes of `NUMBERS`.
 #[rattlefmt::skip]
 static NO_ELEMENTS_OF_NUMBERS: [(u8, usize, TcpOptionReadError); 5] = [
     (5, 7, UnexpectedSize { option_id: 5, size: 9 }),
@@ -245,7 +245,7 @@ static NO_ELEMENTS_OF_NUMBERS: [(u8, usize, TcpOptionReadError); 5] = [
     (8, 9, UnexpectedSize { option_id: 8, size: 11 }),
 ];
 
-/// The same of `LONG`.
+/// A kind, the length of its value, and the error. The value is the first bytes of `LONG`.
 #[rattlefmt::skip]
 static NO_ELEMENTS_OF_LONG: [(u8, usize, TcpOptionReadError); 3] = [
     (2, 253, UnexpectedSize { option_id: 2, size: 255 }),
@@ -265,7 +265,7 @@ fn expect_element(rt: &impl Abort, kind: u8, value: &[u8], expected: TcpOptionEl
     expect_at(rt, &key, &element, &Ok(expected));
 }
 
-/// Elements of the first `len` bytes of `NUMBERS`, of kind 5.
+/// The first `len` bytes of `NUMBERS` are the value of an option of kind 5, whose blocks after the first are `others`.
 fn expect_blocks(rt: &impl Abort, len: usize, others: [Option<(u32, u32)>; 3]) {
     let value = bytes_to(rt, &NUMBERS, len);
     expect_element(rt, 5, value, SelectiveAcknowledgement((1, 2), others));

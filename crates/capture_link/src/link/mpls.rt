@@ -66,7 +66,7 @@ fn after_stack(
     })
 }
 
-/// The network protocol after a label stack: IP if the first byte is the first byte of an IP packet, otherwise this protocol.
+/// The network protocol after a label stack: `None`, which is IP, if an IP packet can have this first byte, otherwise `other`.
 fn by_first_byte(other: NetworkProtocol, first: u8) -> Option<NetworkProtocol>
     ensures { result ≡ specs.by_first_byte other first }
 {

@@ -57,7 +57,7 @@ pub(super) fn ppp_header(frame: &[u8]) -> Result<LinkHeader, LinkHeaderCutOff>
     }
 }
 
-/// The header of a LINKTYPE_PPP_ETHER frame: a discovery packet, or the header up to the packet in a session.
+/// The link header of a LINKTYPE_PPP_ETHER frame. In a session it ends where the packet begins. For discovery it is the PPPoE header.
 pub(super) fn pppoe_frame(frame: &[u8]) -> Result<LinkHeader, LinkHeaderCutOff>
     ensures is { result ≡ specs.pppoe_frame frame.now }
     ensures within { IfOk result (IsHeaderWithin frame.now) }

@@ -223,7 +223,7 @@ fn quoted_ipv6_place(quoted: &[u8], new: &Ipv6Translation) -> Result<Place, Tran
     ipv6_place(quoted, new)
 }
 
-/// Whether a packet is refused for its protocol: only the addresses could be replaced, and the protocol covers them, or a port is passed.
+/// Whether a packet is refused because its protocol is not UDP, TCP or ICMPv6, and a port is replaced or the protocol covers the addresses.
 #[inline(always)]
 fn is_ipv6_refused(proto: Option<Proto>, number: IpNumber, new: &Ipv6Translation) -> bool
     ensures { result ≡ (is_none proto && (has_port new.now.source_port new.now.destination_port || specs.covers_ipv6_addresses number.0)) }
@@ -236,8 +236,8 @@ const OSPF: IpNumber = IpNumber(89);
 
 const PIM: IpNumber = IpNumber(103);
 
-/// Whether this is the number of an extension header, or the checksum of this protocol covers the addresses of an IPv6 packet, except for
-/// UDP, TCP and ICMPv6.
+/// Whether this is the number of an extension header, of a protocol with a checksum that covers the addresses and is not translated, or of
+/// ICMPv4, which has no meaning over IPv6.
 fn covers_ipv6_addresses(number: IpNumber) -> bool
     ensures { result ≡ specs.covers_ipv6_addresses number.0 }
 {

@@ -51,7 +51,7 @@ pub(crate) fn translate_message(
     }
 }
 
-/// Translates a query over IPv4, whose checksum covers no addresses, as far as it is there. Any other message is kept.
+/// Translates a query over IPv4, as far as the query is present. Its checksum covers no addresses. Any other message is kept.
 #[inline(always)]
 fn translate_icmpv4(
     message: &mut [u8],
@@ -213,7 +213,7 @@ pub(crate) fn update_checksum(message: &mut [u8], change: ChecksumChange) -> Che
     replace_number(message, ICMP_CHECKSUM_AT, checksum, change)
 }
 
-/// Translates a query, as far as it is there. The checksum covers the first change, and the second change is extended.
+/// Translates a query, as far as the query is present. `covered` updates its checksum, and the returned change extends `addresses`.
 #[inline(always)]
 fn translate_query(
     message: &mut [u8],
