@@ -1,8 +1,6 @@
 //! Tests of the crate `reassembly`.
 
-use crate::expect::{
-    expect_at, expect_bytes, expect_equal, expect_ok, expect_some, expect_text,
-};
+use crate::expect::{expect_at, expect_bytes, expect_equal, expect_ok, expect_some, expect_text};
 use ip_part::IpError;
 use net_base::ip_number;
 use reassembly::{
@@ -108,7 +106,11 @@ fn a_fragment_that_is_cut_off_is_refused(rt: HostRuntime) {
         len: 27,
     };
     let packet = over_ipv4(0x20, 0);
-    expect_equal(&rt, &Fragment::of(&packet[..27]), &Err(FragmentError::Ip(error)));
+    expect_equal(
+        &rt,
+        &Fragment::of(&packet[..27]),
+        &Err(FragmentError::Ip(error)),
+    );
 }
 
 #[test]
@@ -223,7 +225,11 @@ fn a_fragment_agrees_with_the_known_end(rt: HostRuntime) {
     expect_equal(&rt, &behind_end, &Err(ReassemblyError::BehindEnd));
     let mut other_key = fragment(0, true, &PAYLOAD[..8]);
     other_key.key = KEY_OVER_IPV6;
-    expect_equal(&rt, &reassembly.add(&other_key), &Err(ReassemblyError::OtherKey));
+    expect_equal(
+        &rt,
+        &reassembly.add(&other_key),
+        &Err(ReassemblyError::OtherKey),
+    );
 }
 
 #[test]

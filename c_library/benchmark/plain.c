@@ -574,6 +574,7 @@ etherparse_status plain_echo_answer_ipv4(uint8_t *packet, size_t packet_len, con
     memcpy(host, packet + 12, 4);
     change = replace_4(packet + 12, source);
     change += replace_4(packet + 16, host);
+    change += replace_2(packet + 6, 0x4000);
     change += replace_2(packet + 8, (uint16_t)(time_to_live << 8 | ETHERPARSE_PROTOCOL_ICMPV4));
     put_16(packet + 10, updated(packet + 10, change));
     checksum = updated(message + 2, replace_2(message, 0));

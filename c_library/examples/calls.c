@@ -757,7 +757,7 @@ static void ipv4_header(void)
 /* An echo request from 192.168.1.1 to 192.168.1.2 and its reply, and both over IPv6; each with 2 bytes of padding. */
 static const uint8_t request_ipv4[34] = {0x45, 0, 0, 32, 0, 7, 0, 0, 9, 1, 0x2e, 0x83, 192, 168, 1, 1, 192,
                                          168, 1, 2, 8, 0, 0x19, 0x2c, 0, 1, 0, 2, 'p', 'i', 'n', 'g', 0xaa, 0xbb};
-static const uint8_t reply_ipv4[34] = {0x45, 0, 0, 32, 0, 7, 0, 0, 64, 1, 0xf7, 0x82, 192, 168, 1, 2, 192,
+static const uint8_t reply_ipv4[34] = {0x45, 0, 0, 32, 0, 7, 0x40, 0, 64, 1, 0xb7, 0x82, 192, 168, 1, 2, 192,
                                        168, 1, 1, 0, 0, 0x21, 0x2c, 0, 1, 0, 2, 'p', 'i', 'n', 'g', 0xaa, 0xbb};
 static const uint8_t request_ipv6[54] = {0x60, 0, 0, 0, 0, 12, 58, 9, 0x20, 0x01, 0x0d, 0xb8, 0, 0, 0, 0, 0, 0,
                                          0, 0, 0, 0, 0, 1, 0x20, 0x01, 0x0d, 0xb8, 0, 0, 0, 0, 0, 0, 0, 0,
@@ -788,7 +788,7 @@ static void echo(void)
     REFUSED(etherparse_echo_answer_ipv6(packet4, 34, host6, 64, &written, &error), ETHERPARSE_STATUS_ECHO_NO_REQUEST);
     EXPECT(memcmp(packet4, request_ipv4, 34) == 0 && memcmp(packet6, request_ipv6, 54) == 0 && written == 77);
     OK(etherparse_echo_answer_ipv4(packet4, 34, host4, 64, &written, &error));
-    EXPECT(packet4[15] == 3 && memcmp(packet4 + 16, reply_ipv4 + 16, 18) == 0 && stores(packet4, reply_ipv4, 12, 10, 0xf781));
+    EXPECT(packet4[15] == 3 && memcmp(packet4 + 16, reply_ipv4 + 16, 18) == 0 && stores(packet4, reply_ipv4, 12, 10, 0xb781));
     OK(etherparse_echo_answer_ipv6(packet6, 54, host6, 64, &written, &error));
     EXPECT(packet6[23] == 3 && stores(packet6 + 24, reply_ipv6 + 24, 30, 18, 0x446f) && written == 52);
 }
