@@ -1,6 +1,7 @@
 """Tests of arguments: values that are refused, pairs of options, and long words."""
 import itertools
 import pathlib
+import re
 import tempfile
 
 from ..build import IPV4, RAW, capture, ipv4, udp
@@ -30,6 +31,16 @@ def check_unknown_options(tally):
         done = run(b"", word, "eth0")
         message = f"error: unexpected argument '{word}' found\n\nUsage: capture_report [OPTIONS] [FILE]...\n\nFor more information, try '--help'.\n"
         tally.expect(f"{word}", (done.returncode, done.stdout, done.stderr.decode()), (2, b"", message))
+
+
+def check_known_options(tally):
+    """Each option that the help shows is known, so that an error about another word names this word."""
+    shown = re.findall(r"^ +(?:(-[a-zA-Z]), )?(--[a-z-]+)", run(b"", "--help").stdout.decode(), re.MULTILINE)
+    tally.expect("options of the help", len(shown), 18)
+    for name in [name for names in shown for name in names if name not in ("", "-h", "--help", "-V", "--version")]:
+        value = {"--host": "192.0.2.1", "--protocol": "udp"}.get(name, "1")
+        done = run(b"", name, value, "--other")
+        tally.expect(f"{name} and --other", (done.returncode, done.stderr.decode().split("\n")[0]), (2, "error: unexpected argument '--other' found"))
 
 
 def check_repeated_options(tally):
