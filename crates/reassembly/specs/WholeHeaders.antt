@@ -4,7 +4,7 @@ use Rattle.std.specs.Int.{to_be_bytes, w16}
 use Rattle.word_sum.specs.Checksum.{checksum_of, total}
 
 -- The first ten bytes of an IPv4 header, by the header of the first fragment: the total length is that of the whole packet, and more
--- fragments and the fragment offset are 0. "Don't fragment" stays, and so do the other fields.
+-- fragments and the fragment offset are 0. The reserved flag and "don't fragment" (C0) stay, and so do the other fields.
 abbrev pub ipv4_front : List ℕ → ℕ → List ℕ
 ipv4_front header total_len =
     slice_index header 0 ∷ slice_index header 1 ∷ (to_be_bytes w16 total_len ++ (
@@ -19,3 +19,7 @@ ipv4_with_checksum header total_len checksum = ipv4_front header total_len ++ (t
 abbrev pub whole_ipv4_header : List ℕ → ℕ → List ℕ
 whole_ipv4_header header total_len =
     ipv4_with_checksum header total_len (checksum_of (total (ipv4_with_checksum header total_len 0)))
+
+-- the longest IPv4 packet: the greatest number of the total length field (RFC 791, section 3.1)
+abbrev pub max_total_len : ℕ
+max_total_len = 65535

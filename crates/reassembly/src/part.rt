@@ -15,7 +15,7 @@ pub(crate) struct Part {
 
 /// Whether one of the parts ends at this place or after it.
 pub(crate) fn is_reached(parts: &[Part], place: usize) -> bool
-    requires { All (EndsWithin 65535) parts.now }
+    requires { All (EndsWithin specs.max_payload_len) parts.now }
     ensures { result ≡ part_reaches place parts.now }
 {
     let mut is_reached = false;

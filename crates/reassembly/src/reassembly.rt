@@ -181,7 +181,7 @@ fn check_end(
     parts: &[Part],
     fragment: &Fragment<'_>,
 ) -> Result<(), ReassemblyError>
-    requires { All (EndsWithin 65535) parts.now }
+    requires { All (EndsWithin specs.max_payload_len) parts.now }
     ensures { RefusesExactly result (specs.end_refusal end (part_reaches (specs.end_of_fragment (by_value fragment.now)) parts.now) (by_value fragment.now)) }
 {
     let fragment_end = usize::from(fragment.offset) + fragment.payload.len();

@@ -22,7 +22,7 @@ pub fn whole_ipv4_header(
     first_fragment: &[u8],
     payload_len: u16,
 ) -> Option<ArrayVec<u8, MAX_IPV4_HEADER_LEN>>
-    ensures found { IsSome result ↔ (BeginsWithIpv4Header first_fragment.now × (ipv4_header_len first_fragment.now + payload_len ≤ 65535)) }
+    ensures found { IsSome result ↔ (BeginsWithIpv4Header first_fragment.now × (ipv4_header_len first_fragment.now + payload_len ≤ specs.max_total_len)) }
     ensures written { IfSome result (λ header. header.items
         ≡ specs.whole_ipv4_header (ipv4_header first_fragment.now) (ipv4_header_len first_fragment.now + payload_len)) }
     ensures verifies { IfSome result (λ header. Verifies [] header.items) }
