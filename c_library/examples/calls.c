@@ -968,10 +968,29 @@ static int becomes_ipv6(const uint8_t *packet, const uint8_t *other, size_t len,
            changed[len] == 0xaa && error_is_untouched();
 }
 
+/* The packet with a quoted total length without the header, as hosts that follow BSD quote it. The quoted checksum becomes 20 more. */
+static void without_header_len(uint8_t changed[59], const uint8_t packet[59])
+{
+    memcpy(changed, packet, 59);
+    changed[31] -= 20;
+    changed[39] += 20;
+}
+
+/* The TCP segment over IPv6 behind hop-by-hop options. */
+static void behind_options(uint8_t changed[69], const uint8_t packet[61])
+{
+    static const uint8_t options[8] = {6, 0, 1, 4, 0, 0, 0, 0};
+    memcpy(changed, packet, 40);
+    changed[5] += 8;
+    changed[6] = 0;
+    memcpy(changed + 40, options, 8);
+    memcpy(changed + 48, packet + 40, 21);
+}
+
 static void translations(void)
 {
     static const etherparse_ipv4_translation nothing = {{1, 2, 3, 4}, {5, 6, 7, 8}, 9, 10, 0, 0, 0, 0};
-    uint8_t fragment[31], expected[31];
+    uint8_t fragment[31], expected[31], outside[69], inside[69];
     EXPECT(becomes(udp_inside, udp_outside, 31, &to_outside) && becomes(udp_outside, udp_inside, 31, &back_inside));
     EXPECT(becomes(echo_inside, echo_outside, 32, &to_outside) && becomes(echo_outside, echo_inside, 32, &back_inside));
     EXPECT(becomes(icmp_error_outside, icmp_error_inside, 59, &to_inside));
@@ -981,6 +1000,12 @@ static void translations(void)
     EXPECT(becomes_ipv6(tcp_outside_ipv6, tcp_inside_ipv6, 61, translation_ipv6(1, 0)));
     EXPECT(becomes_ipv6(icmp_error_outside_ipv6, icmp_error_inside_ipv6, 100, translation_ipv6(0, 0)));
     EXPECT(becomes_ipv6(icmp_error_inside_ipv6, icmp_error_outside_ipv6, 100, translation_ipv6(0, 1)));
+    without_header_len(outside, icmp_error_outside);
+    without_header_len(inside, icmp_error_inside);
+    EXPECT(becomes(outside, inside, 59, &to_inside) && becomes(inside, outside, 59, &back_outside));
+    behind_options(outside, tcp_outside_ipv6);
+    behind_options(inside, tcp_inside_ipv6);
+    EXPECT(becomes_ipv6(inside, outside, 69, translation_ipv6(1, 1)) && becomes_ipv6(outside, inside, 69, translation_ipv6(1, 0)));
     EXPECT(becomes(zeros_outside, zeros_inside, 28, &to_inside));
     EXPECT(etherparse_icmpv4_checksum_test(zeros_outside + 20, 8, NULL) == ETHERPARSE_STATUS_CHECKSUM_WRONG);
     OK(etherparse_icmpv4_checksum_test(zeros_inside + 20, 8, NULL));

@@ -1274,18 +1274,19 @@ typedef struct etherparse_ipv6_translation {
  * length changes.
  *
  * The packet that an ICMP error is about went in the other direction. It is translated with source and destination exchanged, as far as the
- * error contains it: a program passes the translation of the flow in the direction of the error. A first fragment has ports, and in a later
- * fragment only the addresses are replaced. A packet that is cut off, or whose header states no length, is translated as
- * etherparse_transport_in_ip_lax reads it.
+ * error contains it, whatever its total length over IPv4 is: a program passes the translation of the flow in the direction of the error.
+ * A first fragment has ports, and in a later fragment only the addresses are replaced. A packet that is cut off, or whose header states no
+ * length, is translated as etherparse_transport_in_ip_lax reads it. Extension headers that contain no other address of the packet are
+ * skipped, and stay: hop-by-hop options, fragment headers, routing headers without segments left, and destination options without a home
+ * address.
  *
  * In this order: refused as by etherparse_transport_in_ip_lax. ETHERPARSE_STATUS_IP_VERSION: the other version of IP.
  * ETHERPARSE_STATUS_TRANSLATE_SOURCE_ROUTE: a loose or strict source route among the IPv4 options (RFC 791, section 3.1), with or without
  * an address left. Other options stay. ETHERPARSE_STATUS_TRANSLATE_PROTOCOL: neither UDP nor TCP nor ICMP of the version of the call, if
- * a port is passed, or if the protocol covers the addresses: an authentication header, DCCP, UDP-Lite and others, and an IPv6 extension
- * header, except one fragment header directly after the IPv6 header. ETHERPARSE_STATUS_TRANSLATE_HEADER_CUT_OFF: fewer than 8 bytes of UDP,
- * TCP or ICMP. ETHERPARSE_STATUS_TRANSLATE_ICMP_MESSAGE: no query and no error, or a redirect.
- * ETHERPARSE_STATUS_TRANSLATE_QUOTED_PACKET: the packet that an ICMP error is about is refused up to its protocol. The bytes are
- * unchanged.
+ * a port is passed, or if the protocol covers the addresses: an authentication header, DCCP, UDP-Lite and others, and any other IPv6
+ * extension header. ETHERPARSE_STATUS_TRANSLATE_HEADER_CUT_OFF: fewer than 8 bytes of UDP, TCP or ICMP.
+ * ETHERPARSE_STATUS_TRANSLATE_ICMP_MESSAGE: no query and no error, or a redirect. ETHERPARSE_STATUS_TRANSLATE_QUOTED_PACKET: the packet
+ * that an ICMP error is about is refused up to its protocol, except for its total length. The bytes are unchanged.
  */
 ETHERPARSE_CHECK_RESULT ETHERPARSE_NOT_NULL(3)
 etherparse_status etherparse_translate_ipv4(uint8_t *packet, size_t packet_len, const etherparse_ipv4_translation *translation,

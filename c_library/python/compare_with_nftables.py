@@ -23,8 +23,9 @@ import etherparse_transport as ept
 
 # Values of Linux that Python's modules lack.
 TUNSETIFF, IFF_TUN, IFF_NO_PI = 0x400454CA, 1, 0x1000
-UDP, TCP, ICMP, GRE, ESP, ICMPV6, OSPF, IP_IN_IP, HOP_BY_HOP, DESTINATION_OPTIONS = 17, 6, 1, 47, 50, 58, 89, 4, 0, 60
+UDP, TCP, ICMP, GRE, ESP, ICMPV6, OSPF, IP_IN_IP, HOP_BY_HOP, ROUTING, DESTINATION_OPTIONS = 17, 6, 1, 47, 50, 58, 89, 4, 0, 43, 60
 SYN, ACK = 2, 16
+PADDING = bytes([0, 1, 4, 0, 0, 0, 0])  # an extension header of eight bytes with an option PadN
 SECONDS = 2
 INSIDE_PORT, OUTSIDE_PORT, HOST_PORT = 5000, 6000, 7000
 
@@ -226,7 +227,6 @@ class Step(NamedTuple):
     name: str
     packet: bytes
     from_inside: bool
-    is_refused: bool = False  # by `translate`, although Linux translates it
 
 
 def ends_of(version, number):
@@ -284,12 +284,14 @@ def options_exchange(version, number):
     yield Step("UDP that must not be fragmented", udp(before, b"question", flags=0x4000), True)
 
 
-def extension_exchange(first):
+def extension_exchange(first, rest):
+    """UDP behind an extension header, of which `rest` comes after the number of the next header, and an error about it."""
     def exchange(version, number):
         before, after = ends_of(version, number)
-        packet = udp(before, b"question", protocol=first, between=bytes([UDP, 0, 1, 4, 0, 0, 0, 0]))
-        yield Step(f"UDP behind extension header {first}", packet, True, is_refused=True)
-        yield Step("its answer", udp(after.back(), b"a"), False)
+        fields = {"protocol": first, "between": bytes([UDP]) + rest}
+        yield Step(f"UDP behind extension header {first}", udp(before, b"question", **fields), True)
+        yield Step("its answer", udp(after.back(), b"a", **fields), False)
+        yield Step("an error about it", error(after.back(), 1, 4, udp(after, b"question", **fields)), False)
     return exchange
 
 
@@ -332,6 +334,16 @@ def extended_error(version, number):
     yield Step("an error with a length below 128 bytes", error(after.back(), 11, 0, quoted, 5 << 16), False)
 
 
+def errors_of_bsd(version, number):
+    """Errors whose quoted packet states a total length without its header, as hosts that follow BSD quote it."""
+    before, after = ends_of(version, number)
+    yield Step("what the errors are about", udp(before, b"question"), True)
+    for payload in (b"", b"abcd", b"twelve bytes", b"nineteen bytes here"):
+        quoted = udp(after, payload)
+        header = with_checksum(quoted[:2] + struct.pack(">H", len(quoted) - 20) + quoted[4:20], 10)
+        yield Step(f"total length {len(quoted) - 20}", error(after.back(), 3, 3, header + quoted[20:]), False)
+
+
 def redirect(version, number):
     """A redirect, which contains an address of the other side."""
     before, after = ends_of(version, number)
@@ -361,13 +373,14 @@ EXCHANGES = {
         other_exchange(ESP, bytes(range(16))), other_exchange(OSPF, bytes(24)),
         other_exchange(IP_IN_IP, udp(Ends("192.0.2.1", "192.0.2.2", 1, 2), b"inner")),
         errors_from_outside(datagram, ERRORS_V4), errors_from_outside(segment, ERRORS_V4),
-        errors_from_inside(datagram, ERRORS_V4), errors_from_inside(segment, ERRORS_V4), extended_error, redirect,
+        errors_from_inside(datagram, ERRORS_V4), errors_from_inside(segment, ERRORS_V4), extended_error, errors_of_bsd,
+        redirect,
     ],
     IPV6: [
         udp_exchange, tcp_exchange, echo_exchange, other_exchange(ESP, bytes(range(16))),
         errors_from_outside(datagram, ERRORS_V6), errors_from_outside(segment, ERRORS_V6),
         errors_from_inside(datagram, ERRORS_V6), errors_from_inside(segment, ERRORS_V6),
-        extension_exchange(HOP_BY_HOP), extension_exchange(DESTINATION_OPTIONS),
+        extension_exchange(HOP_BY_HOP, PADDING), extension_exchange(DESTINATION_OPTIONS, PADDING), extension_exchange(ROUTING, bytes(7)),
     ],
 }
 
@@ -383,12 +396,9 @@ class Translation(unittest.TestCase):
                     with self.subTest(version=version.number, step=step.name, number=number):
                         found = router.forwarded(step.packet, step.from_inside)
                         expected = translated(step.packet, step.from_inside, version)
-                        if step.is_refused:
-                            self.assertIsNotNone(found)
-                            found = None
                         self.assertEqual(found and found.hex(), expected and expected.hex())
                     count += 1
-        self.assertEqual(count, 123)
+        self.assertEqual(count, 133)
 
 
 if __name__ == "__main__":

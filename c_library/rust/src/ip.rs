@@ -536,8 +536,8 @@ impl Ipv4Translation {
 /// Translates the IPv4 packet at the front of the bytes, in place, as an address translator does. It replaces addresses, and ports or the
 /// identifier of an ICMP query, and updates the checksums. A receiver accepts the packet if it accepted it before.
 ///
-/// The packet that an ICMP error is about is translated with source and destination exchanged. In a later fragment only the addresses are
-/// replaced. A packet that is cut off is translated as [`Transport::read_lax`] reads it.
+/// The packet that an ICMP error is about is translated with source and destination exchanged, whatever its total length is. In a later
+/// fragment only the addresses are replaced. A packet that is cut off is translated as [`Transport::read_lax`] reads it.
 ///
 /// Errors: as [`Transport::read_lax`]; `IpVersion` for an IPv6 packet; `TranslateSourceRoute`, `TranslateProtocol`, `TranslateHeaderCutOff`,
 /// `TranslateIcmpMessage`, `TranslateQuotedPacket`. The bytes are as they were.
@@ -621,10 +621,12 @@ impl Ipv6Translation {
     }
 }
 
-/// Translates the IPv6 packet at the front of the bytes, in place, otherwise as [`translate_ipv4`].
+/// Translates the IPv6 packet at the front of the bytes, in place, otherwise as [`translate_ipv4`]. Extension headers that contain no other
+/// address are skipped: hop-by-hop options, fragment headers, routing headers without segments left, destination options without a home
+/// address.
 ///
-/// Errors: as [`translate_ipv4`], except `TranslateSourceRoute`. An IPv4 packet is refused with `IpVersion`, and a packet with extension
-/// headers with `TranslateProtocol`, except one fragment header directly after the IPv6 header.
+/// Errors: as [`translate_ipv4`], except `TranslateSourceRoute`. An IPv4 packet is refused with `IpVersion`, and a packet with another
+/// extension header with `TranslateProtocol`.
 ///
 /// ```
 /// use etherparse_transport_c::ErrorKind;

@@ -3,7 +3,7 @@ use Rattle.std.proofs.Common.{◌≡◌, ℕ, ◌+◌, ◌-◌, ◌≤◌, ◌==
 use Rattle.std.specs.Prelude.{◌↔◌, IfSome, is_none, unwrap_or}
 use Rattle.std.proofs.lemmas.List.{length-drop, length-take}
 use Rattle.ip_part.specs.Addresses.{Ipv6}
-use Rattle.ip_part.specs.ExtensionHeaders.{fragment_offset, is_extension}
+use Rattle.ip_part.specs.ExtensionHeaders.{is_extension}
 use Rattle.ip_part.specs.Ip.{counted_len, lacks_len}
 use Rattle.ip_part.specs.Ip as ip
 use Rattle.ip_part.specs.Protocols.{proto_over}
@@ -17,16 +17,15 @@ use Rattle.std.specs.Option.{option_map}
 use Rattle.etherparse_transport.specs.declared.err.packet.translate_error.TranslateError.TheVariants.{Ip, OtherVersion, Protocol, QuotedPacket}
 use Rattle.net_base.specs.declared.ipv6_header.Ipv6Header.{Ipv6Header}
 use Rattle.word_sum.proofs.ChecksumLemmas.{folded-lt}
-use Rattle.etherparse_transport.specs.Ipv6Translations.{ipv6_message_by, ipv6_translated_with, covers_ipv6_addresses, AreIpv6Addresses, ipv6_addresses, ipv6_flow_message, ipv6_has_fragment_header, ipv6_is_later_fragment, ipv6_message_refusal, ipv6_message_with, ipv6_opposite, ipv6_place_refusal, ipv6_proto, ipv6_protocol, ipv6_quoted, ipv6_quoted_refusal, ipv6_refusal_by, ipv6_start, ipv6_translated, ipv6_translated_flow, ipv6_with_message, message_in_ipv6, sum_of_ipv6}
+use Rattle.etherparse_transport.specs.Ipv6Translations.{ipv6_message_by, ipv6_translated_with, covers_ipv6_addresses, AreIpv6Addresses, ipv6_addresses, ipv6_flow_message, ipv6_is_later_fragment, ipv6_message_refusal, ipv6_message_with, ipv6_opposite, ipv6_place_refusal, ipv6_proto, ipv6_protocol, ipv6_quoted, ipv6_quoted_refusal, ipv6_refusal_by, ipv6_start, ipv6_translated, ipv6_translated_flow, ipv6_with_message, message_in_ipv6, sum_of_ipv6}
 use Rattle.etherparse_transport.specs.Translations.{message_refusal, quoted_in, translated_in, with_bytes, with_quote}
 use Rattle.etherparse_transport.specs.WaysBack.{AreIpv6ChecksumsRestored, IsIpv6RestoredWith, IsIpv6RestoredWithBy, ipv6_quoted_back, ArePorts, IsChecksumRestoredIn, IsIpv6ErrorRestored, IsIpv6FlowRestored, IsIpv6Restored, IsIpv6RestoredBy, IsIpv6Translation, instead, ipv6_back_by, ipv6_flow_back, ipv6_way_back, port_in}
 use Rattle.etherparse_transport.specs.declared.ip.ipv6_translation.Ipv6Translation.{Ipv6Translation}
 use Rattle.etherparse_transport.proofs.TranslationLemmas.{IsRange, ipv6_accepts, last_of_three, message_is_range}
 use Rattle.etherparse_transport.proofs.BuiltLemmas.{mapped_none, none_first, none_if}
 use Rattle.etherparse_transport.proofs.EchoReplyLemmas.{is_number, once}
-use Rattle.etherparse_transport.proofs.TranslationReading.{IsIpv6Flow, IsIpv6Kept, StatesAlike, fragment_kept, ipv6_flow_kept, ipv6_flow_message_len, ipv6_header_there, ipv6_parts_destination, ipv6_room, protocol_kept, start_kept, states_alike, ipv6_parts_kept, ipv6_parts_message, ipv6_parts_source, ipv6_within, message_kept, range_at}
+use Rattle.etherparse_transport.proofs.TranslationReading.{IsIpv6Flow, IsIpv6Kept, StatesAlike, ipv6_after, ipv6_flow_kept, ipv6_flow_message_len, ipv6_parts_destination, ipv6_start_within, protocol_kept, skipped_kept, start_kept, states_alike, ipv6_parts_kept, ipv6_parts_message, ipv6_parts_source, ipv6_within, message_kept, range_at}
 use Rattle.etherparse_transport.proofs.TranslationSums.{range_len}
-use Rattle.etherparse_transport.proofs.FragmentLemmas.{after_header}
 use Rattle.etherparse_transport.proofs.ReplacedBytes.{bytes_drop, bytes_take, iff_along, put, put_len, put_same, put_there, replaced_again, replaced_same}
 use Rattle.etherparse_transport.proofs.ThereAndBack.{address_iff, address_len, new_address_len, part_back}
 use Rattle.etherparse_transport.proofs.TranslatedAgain.{error_accepted, ports_accepted, quote_back, quote_len, quoted_range, quotes_none, quotes_translated}
@@ -48,7 +47,7 @@ module _ (new : Ipv6Translation) (packet message : List ℕ) (proto : Option Pro
   translated = ipv6_with_message new message packet
 
   after : 40 ≤ start
-  after = after_header (ipv6_has_fragment_header packet)
+  after = ipv6_after packet
 
   there : start + length message ≤ length packet
   there =
@@ -67,14 +66,13 @@ module _ (new : Ipv6Translation) (packet message : List ℕ) (proto : Option Pro
 
   pub kept : IsIpv6Kept packet translated
   kept =
-      let room : slice_index packet 6 ≡ 44 → 48 ≤ start = λ number. omega (arith, ap {B = ℕ} (λ n. if n == 44 then 48 else 40) number) in
-      ipv6_parts_kept start source destination message packet after sixteen.source sixteen.destination there room
+      ipv6_parts_kept start source destination message packet after sixteen.source sixteen.destination there refl
 
   pub flow_too : IsIpv6Flow translated proto
   flow_too = ipv6_flow_kept packet translated proto kept flow
 
   pub start_is : ipv6_start translated ≡ start
-  start_is = start_kept packet translated kept
+  start_is = start_kept packet translated proto kept flow
 
   pub source_is : slice_range translated 8 24 ≡ source
   source_is = ipv6_parts_source start source destination message packet after sixteen.source sixteen.destination there
@@ -89,26 +87,23 @@ module _ (new : Ipv6Translation) (packet message : List ℕ) (proto : Option Pro
 
   pub message_is : message_in_ipv6 translated ≡ message
   message_is =
-      let alike : StatesAlike packet translated = states_alike packet translated proto kept flow.is_ipv6 flow.number in
+      let alike : StatesAlike packet translated = states_alike packet translated kept flow.accepted flow.is_ipv6 in
       let missing : Bool = lacks_len packet in
       ap (λ len. drop len (take (counted_len (lacks_len translated) translated) translated)) start_is
       ∙ ap (λ missing. drop start (take (counted_len missing translated) translated)) alike.lacks
       ∙ ap (λ n. drop start (take n translated)) (alike.counts missing)
       ∙ message_kept start (counted_len missing packet) packet translated message
       (ipv6_parts_message start source destination message packet after sixteen.source sixteen.destination there)
-      same (ipv6_within packet proto flow (omega (arith, after, flow.there))) flow.there
+      same (ipv6_within packet proto flow) flow.there
 
   pub number_is : ipv6_protocol translated ≡ ipv6_protocol packet
-  number_is = protocol_kept packet translated kept
+  number_is = protocol_kept packet translated proto kept flow
 
   pub proto_is : ipv6_proto translated ≡ ipv6_proto packet
-  proto_is = ap (proto_over (Ipv6 [] None)) (protocol_kept packet translated kept)
+  proto_is = ap (proto_over (Ipv6 [] None)) (protocol_kept packet translated proto kept flow)
 
   pub later_is : ipv6_is_later_fragment translated ≡ ipv6_is_later_fragment packet
-  later_is =
-      let is_later : List ℕ → Bool = λ bytes. not (fragment_offset bytes == 0) in
-      ap (λ n. n == 44 && is_later (slice_range translated 40 48)) (kept.front.front 6 (omega arith))
-      ∙ fragment_kept (ipv6_has_fragment_header packet) is_later packet translated kept refl
+  later_is = ap (λ skipped. skipped.is_later_fragment) (skipped_kept packet translated proto kept flow)
 
   pub quoted_is : ipv6_quoted translated ≡ quoted_in (ipv6_is_later_fragment packet) (ipv6_proto packet) message
   quoted_is =
@@ -134,7 +129,7 @@ addresses_there packet there =
 
 -- an accepted packet contains its header
 header_there : (packet : List ℕ) (proto : Option Proto) → IsIpv6Flow packet proto → 40 ≤ length packet
-header_there packet proto flow = omega (arith, flow.there, after_header (ipv6_has_fragment_header packet))
+header_there packet proto flow = omega (arith, flow.there, ipv6_after packet)
 
 -- the message of a packet is where it was
 message_there : (packet : List ℕ) (proto : Option Proto) → IsIpv6Flow packet proto
@@ -144,7 +139,7 @@ message_there packet proto flow =
     let message : List ℕ = message_in_ipv6 packet in
     let count : len + length message - len ≡ length message = omega arith in
     sym (ap (λ n. take n (drop len packet)) count)
-    ∙ message_is_range len (counted_len (lacks_len packet) packet) packet (ipv6_within packet proto flow (header_there packet proto flow))
+    ∙ message_is_range len (counted_len (lacks_len packet) packet) packet (ipv6_within packet proto flow)
 
 -- the packet with this message
 restored_iff : (packet message : List ℕ) (proto : Option Proto) → IsIpv6Flow packet proto → length message ≡ length (message_in_ipv6 packet)
@@ -171,7 +166,7 @@ pub bytes_back : (new back : Ipv6Translation) (packet message message_too : List
 bytes_back new back packet message message_too proto flow sixteen same sixteen_too same_too =
     let start : ℕ = ipv6_start packet in
     let old : Ipv6Header = ipv6_header_of packet in
-    let after : 40 ≤ start = after_header (ipv6_has_fragment_header packet) in
+    let after : 40 ≤ start = ipv6_after packet in
     let changed : List ℕ = ipv6_with_message new message packet in
     let changed_flow : IsIpv6Flow changed proto = flow_too new packet message proto flow sixteen same in
     let same_back : length message_too ≡ length (message_in_ipv6 changed) =
@@ -279,10 +274,6 @@ flow_restored new packet proto of_proto sixteen ports =
       λ restored. bytes.1 (addresses_is, message_too_is ∙ messages.1 (subst restored_in of_proto.known restored)),
     )
 
-start_there : (has : Bool) (len : ℕ) → 40 ≤ len → (has ≡ true → 48 ≤ len) → (if has then 48 else 40) ≤ len
-start_there true len long room = room refl
-start_there false len long room = long
-
 -- the rule for the protocol, by the protocol and its number
 abbrev pub is_refused : Bool → Option Proto → ℕ → Bool
 is_refused has_port proto number = is_none proto && (has_port || covers_ipv6_addresses number)
@@ -312,12 +303,7 @@ flow_found has_port packet fits found =
           accepted = accepted;
           is_ipv6 = is;
           number = number;
-          there = start_there (ipv6_has_fragment_header packet) (length packet) (ipv6_header_there packet (ipv6_proto packet) accepted is number)
-              (λ has. omega (
-                arith,
-                ipv6_room packet accepted is (is_number (slice_index packet 6) 44 has),
-                length-take (counted_len (lacks_len packet) packet) packet,
-              ));
+          there = omega (arith, ipv6_start_within packet accepted is number, length-take (counted_len (lacks_len packet) packet) packet);
         };
         known = refl;
         fits = fits;

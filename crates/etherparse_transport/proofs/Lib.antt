@@ -2,13 +2,13 @@ pub mod BuiltLemmas
 pub mod CanonicalLemmas
 pub mod EchoReplyLemmas
 pub mod EchoRequestLemmas
-pub mod FragmentLemmas
 pub mod FrontLemmas
 pub mod Ipv4ThereAndBack
 pub mod Ipv6ThereAndBack
 pub mod PacketLemmas
 pub mod ReplacedBytes
 pub mod ReplyToLemmas
+pub mod SkippedHeaderLemmas
 mod SourceRouteLemmas
 pub mod ThereAndBack
 pub mod TranslatedAgain

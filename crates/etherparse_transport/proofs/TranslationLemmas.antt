@@ -1,5 +1,5 @@
 -- Laws of the translation of packets.
-use Rattle.std.proofs.Common.{◌≡◌, ℕ, ◌+◌, ◌-◌, ◌*◌, ◌%◌, ◌^◌, ◌≤◌, ◌==◌, ◌&&◌, ◌||◌, not, Bool, true, false, if◌then◌else◌, List, [], ◌∷◌, ◌++◌, take, drop, slice_index, slice_range, length, Option, Some, None, Result, Ok, Err, refl, sym, ap, ◌∙◌, subst, arith}
+use Rattle.std.proofs.Common.{◌≡◌, ◌≢◌, ℕ, ◌+◌, ◌-◌, ◌*◌, ◌%◌, ◌^◌, ◌≤◌, ◌==◌, ◌&&◌, ◌||◌, not, Bool, true, false, if◌then◌else◌, List, [], ◌∷◌, ◌++◌, take, drop, slice_index, slice_range, length, Option, Some, None, Result, Ok, Err, refl, sym, ap, ◌∙◌, subst, arith}
 use Rattle.std.proofs.lemmas.Bool.Decides.{nat_tests}
 use Rattle.std.proofs.lemmas.List.{drop-drop, drop-take, get_or-take, length-take, length-drop, length-take-le, take-append-drop, take_all, take_at}
 use borrow.Rule.Slice.PartMut.{put_mid}
@@ -19,8 +19,8 @@ use Rattle.ip_part.specs.declared.proto.Proto.{Proto}
 use Rattle.net_base.specs.IpHeaders.{BeginsWithIpv4Header, BeginsWithIpv6Header, ipv4_fragment_offset, ipv4_header_len, ipv4_header_of, ipv6_header_of, version}
 use Rattle.word_sum.specs.Checksum.{folded}
 use Rattle.word_sum.proofs.ChecksumLemmas.{folded-add}
-use Rattle.etherparse_transport.proofs.BuiltLemmas.{none_first, none_if}
-use Rattle.etherparse_transport.proofs.EchoReplyLemmas.{is_number}
+use Rattle.etherparse_transport.proofs.BuiltLemmas.{mapped_none, none_first, none_if}
+use Rattle.etherparse_transport.proofs.EchoReplyLemmas.{is_number, once}
 use Rattle.etherparse_transport.proofs.UpdatedAlike.{translated_alike}
 use Rattle.etherparse_transport.specs.Packets.{number_of}
 use Rattle.etherparse_transport.specs.Ipv4Translations.{IsIpv4Place, has_source_route, ipv4_addresses, ipv4_flow_message, ipv4_is_later_fragment, ipv4_message_refusal, ipv4_place_refusal, ipv4_proto, ipv4_quoted, ipv4_quoted_refusal, ipv4_refusal_by, covers_ipv4_addresses, message_in_ipv4, sum_of_ipv4}
@@ -31,7 +31,7 @@ use Rattle.std.specs.Option.{option_map}
 use Rattle.net_base.specs.Refusals.{first_of, refused_if}
 use Rattle.net_base.specs.declared.ip_number.IpNumber.{IpNumber}
 use Rattle.etherparse_transport.specs.declared.err.packet.translate_error.TranslateError.{TranslateError}
-use Rattle.etherparse_transport.specs.declared.err.packet.translate_error.TranslateError.TheVariants.{Ip, OtherVersion, Protocol, SourceRoute}
+use Rattle.etherparse_transport.specs.declared.err.packet.translate_error.TranslateError.TheVariants.{Ip, OtherVersion, Protocol, QuotedPacket, SourceRoute}
 use Rattle.etherparse_transport.specs.declared.ip.message_place.Place.{Place}
 use Rattle.etherparse_transport.specs.declared.ip.ipv4_translation.Ipv4Translation.{Ipv4Translation}
 use Rattle.etherparse_transport.specs.declared.ip.ipv6_translation.Ipv6Translation.{Ipv6Translation}
@@ -123,10 +123,10 @@ message_is_range len n packet within =
     ap (λ n. take n (drop len packet)) count ∙ first_bytes (n - len) (drop len packet) ∙ sym is
 
 pub message_range : (len : ℕ) (packet : List ℕ) (found : TransportInIp) (carries : Carries packet found) → carries.headers.len ≡ len
-    → found.is_length_missing ≡ ip.lacks_len packet → slice_range packet len (len + length found.payload.now) ≡ counted_after len packet
+    → found.is_length_missing ≡ ip.lacks_len packet → slice_range packet len (len + length found.payload.now) ≡ counted_after false len packet
 message_range len packet found carries is missing =
     let n : ℕ = counted_len (ip.lacks_len packet) packet in
-    let payload_is : found.payload.now ≡ counted_after len packet =
+    let payload_is : found.payload.now ≡ counted_after false len packet =
     carries.payload ∙ ap (λ n. drop n (counted found.is_length_missing packet)) is ∙ ap (λ missing. drop len (counted missing packet)) missing in
     let within : len ≤ n = omega (arith, is, carries.within, ap (λ missing. length (counted missing packet)) missing, length-take n packet) in
     ap (λ payload. slice_range packet len (len + length payload)) payload_is ∙ message_is_range len n packet within
@@ -139,19 +139,18 @@ put_is place end bytes new len =
 
 -- ---- the message of a packet
 
-pub ipv4_flow_message_is : (new : Ipv4Translation) (packet bytes : List ℕ) (is_later_fragment : Bool) (proto : Option Proto) (removed added : ℕ)
-    → bytes ≡ message_in_ipv4 packet → is_later_fragment ≡ ipv4_is_later_fragment packet → proto ≡ ipv4_proto packet
+pub ipv4_flow_message_is : (new : Ipv4Translation) (packet message : List ℕ) (is_later_fragment : Bool) (proto : Option Proto) (removed added : ℕ)
+    → is_later_fragment ≡ ipv4_is_later_fragment packet → proto ≡ ipv4_proto packet
     → removed ≡ sum_of_ipv4 (ipv4_header_of packet) → added ≡ sum_of_ipv4 (ipv4_addresses new packet)
-    → translated_in is_later_fragment proto removed added new.source_port new.destination_port bytes ≡ ipv4_flow_message new packet
-ipv4_flow_message_is new packet bytes is_later_fragment proto removed added message later known is is_too =
-    let message_of : Bool → Option Proto → ℕ → ℕ → List ℕ → List ℕ = λ later proto removed added bytes.
-    translated_in later proto removed added new.source_port new.destination_port bytes in
+    → translated_in is_later_fragment proto removed added new.source_port new.destination_port message ≡ ipv4_flow_message new message packet
+ipv4_flow_message_is new packet message is_later_fragment proto removed added later known is is_too =
+    let message_of : Bool → Option Proto → ℕ → ℕ → List ℕ = λ later proto removed added.
+    translated_in later proto removed added new.source_port new.destination_port message in
     let later_is : Bool = ipv4_is_later_fragment packet in
-    ap (message_of is_later_fragment proto removed added) message
-    ∙ ap (λ later. message_of later proto removed added (message_in_ipv4 packet)) later
-    ∙ ap (λ removed. message_of later_is proto removed added (message_in_ipv4 packet)) is
-    ∙ ap (λ added. message_of later_is proto (sum_of_ipv4 (ipv4_header_of packet)) added (message_in_ipv4 packet)) is_too
-    ∙ ap (λ proto. message_of later_is proto (sum_of_ipv4 (ipv4_header_of packet)) (sum_of_ipv4 (ipv4_addresses new packet)) (message_in_ipv4 packet)) known
+    ap (λ later. message_of later proto removed added) later
+    ∙ ap (λ removed. message_of later_is proto removed added) is
+    ∙ ap (λ added. message_of later_is proto (sum_of_ipv4 (ipv4_header_of packet)) added) is_too
+    ∙ ap (λ proto. message_of later_is proto (sum_of_ipv4 (ipv4_header_of packet)) (sum_of_ipv4 (ipv4_addresses new packet))) known
 
 -- ---- the quoted packet
 
@@ -231,7 +230,7 @@ pub record IsIpv4Found (packet : List ℕ) (found : TransportInIp) (proto : Opti
 
 pub ipv4_place_is : (packet : List ℕ) (found : TransportInIp) (proto : Option Proto) (place : Place) → IsIpv4Found packet found proto
     → place.start ≡ length (ip.ipv4_header packet) → place.end ≡ place.start + length found.payload.now → place.proto ≡ proto
-    → place.is_later_fragment ≡ found.is_later_fragment → IsIpv4Place packet place
+    → place.is_later_fragment ≡ found.is_later_fragment → IsIpv4Place (message_in_ipv4 false packet) packet place
 ipv4_place_is packet found proto place at start_is end is later =
     let start : place.start ≡ ipv4_header_len packet = start_is ∙ length-take-le (ipv4_header_len packet) packet at.begins.whole in
     let known : proto ≡ proto_over (Ipv4 [] []) (slice_index (ip.ipv4_header packet) 9) =
@@ -242,7 +241,7 @@ ipv4_place_is packet found proto place at start_is end is later =
       is_ipv4 = at.begins.is_version_4;
       start = start;
       message = ap (slice_range packet place.start) end ∙ message_range place.start packet found at.carries len at.missing
-          ∙ ap (λ n. counted_after n packet) start;
+          ∙ ap (λ n. counted_after false n packet) start;
       header = omega (arith, start, at.begins.five_words);
       ordered = omega (arith, end);
       there = omega (
@@ -259,6 +258,119 @@ ipv4_place_is packet found proto place at start_is end is later =
       later = later ∙ ipv4_later_is packet found at.over at.begins.five_words;
     }
 
+-- ---- the place of a message in a quoted packet
+
+-- the message after the header, up to the end
+rest_is_range : (len : ℕ) (packet : List ℕ) → len ≤ length packet → slice_range packet len (length packet) ≡ drop len (take (length packet) packet)
+rest_is_range len packet there =
+    let end : len + length (drop len (take (length packet) packet)) ≡ length packet =
+    omega (arith, there, length-drop len (take (length packet) packet), length-take-le (length packet) packet (omega arith)) in
+    sym (ap (slice_range packet len) end) ∙ message_is_range len (length packet) packet there
+
+pub quoted_place_is : (packet : List ℕ) (place : Place) → BeginsWithIpv4Header packet → place.start ≡ length (ip.ipv4_header packet)
+    → place.end ≡ length packet → place.proto ≡ ipv4_proto (ip.ipv4_header packet) → place.is_later_fragment ≡ ipv4_is_later_fragment (ip.ipv4_header packet)
+    → IsIpv4Place (message_in_ipv4 true packet) packet place
+quoted_place_is packet place begins start_is end known later =
+    let n : ℕ = ipv4_header_len packet in
+    let start : place.start ≡ n = start_is ∙ length-take-le n packet begins.whole in
+    record {
+      is_ipv4 = begins.is_version_4;
+      start = start;
+      message = ap (λ start. slice_range packet start place.end) start ∙ ap (slice_range packet n) end ∙ rest_is_range n packet begins.whole;
+      header = omega (arith, start, begins.five_words);
+      ordered = omega (arith, start, end, begins.whole);
+      there = omega (arith, end);
+      proto = known ∙ ap (proto_over (Ipv4 [] [])) (get_or-take n packet 9 0 (omega (arith, begins.five_words)));
+      later = later
+          ∙ ap (λ high. not (((0 * 256 + high) * 256 + slice_index (take n packet) 7) % 2 ^ 13 == 0)) (get_or-take n packet 6 0 (omega (arith, begins.five_words)))
+          ∙ ap (λ low. not (((0 * 256 + slice_index packet 6) * 256 + low) % 2 ^ 13 == 0)) (get_or-take n packet 7 0 (omega (arith, begins.five_words)));
+    }
+
+-- the rules for a quoted packet after its header
+quoted_rules : Bool → List ℕ → List (Option TranslateError)
+quoted_rules has_port packet =
+    refused_if (has_source_route packet) SourceRoute
+    ∷ refused_if (is_none (ipv4_proto packet) && (has_port || covers_ipv4_addresses (slice_index packet 9))) (Protocol (record { 0 = slice_index packet 9 }))
+    ∷ []
+
+-- the rules of the header and of its version accept a quoted packet that begins with a header
+quoted_header_accepted : (short small cut : Bool) (error error_too error_three : IpError) (rules : List (Option TranslateError)) (v : ℕ)
+    → short ≡ false → small ≡ false → cut ≡ false → v ≡ 4
+    → first_of (option_map Ip (first_of (refused_if short error ∷ refused_if small error_too ∷ refused_if cut error_three ∷ []))
+    ∷ refused_if (not (v == 4)) OtherVersion ∷ rules) ≡ first_of rules
+quoted_header_accepted true small cut error error_too error_three rules v is is_too is_three is_version = absurd (cc is)
+quoted_header_accepted false true cut error error_too error_three rules v is is_too is_three is_version = absurd (cc is_too)
+quoted_header_accepted false false true error error_too error_three rules v is is_too is_three is_version = absurd (cc is_three)
+quoted_header_accepted false false false error error_too error_three rules v is is_too is_three is_version =
+    ap (λ v. first_of (refused_if (not (v == 4)) OtherVersion ∷ rules)) is_version
+
+long_enough : (len least : ℕ) → least ≤ len → nat_lt len least ≡ false
+long_enough len least there = grind (arith, nat_tests)
+
+-- the errors of a quoted packet that begins with a header
+quoted_after_header : (has_port : Bool) (packet : List ℕ) → BeginsWithIpv4Header packet → ipv4_place_refusal true has_port packet ≡ first_of (quoted_rules has_port packet)
+unfolding quoted_rules
+quoted_after_header has_port packet begins =
+    let n : ℕ = ipv4_header_len packet in
+    quoted_header_accepted (nat_lt (length packet) 20) (nat_lt n 20) (nat_lt (length packet) n) _ _ _ (quoted_rules has_port packet) (version packet)
+    (long_enough (length packet) 20 begins.shortest) (long_enough n 20 begins.five_words) (long_enough (length packet) n begins.whole) begins.is_version_4
+
+pub quoted_accepted : (has_port : Bool) (packet : List ℕ) → BeginsWithIpv4Header packet → has_source_route packet ≡ false
+    → (is_none (ipv4_proto packet) && (has_port || covers_ipv4_addresses (slice_index packet 9))) ≡ false → ipv4_place_refusal true has_port packet ≡ None
+unfolding quoted_rules
+quoted_accepted has_port packet begins no_route covered =
+    let protocol : TranslateError = Protocol (record { 0 = slice_index packet 9 }) in
+    let refused : Bool = is_none (ipv4_proto packet) && (has_port || covers_ipv4_addresses (slice_index packet 9)) in
+    quoted_after_header has_port packet begins
+    ∙ ap (λ has_route. first_of (refused_if has_route SourceRoute ∷ refused_if refused protocol ∷ [])) no_route
+    ∙ ap (λ refused. first_of (None ∷ refused_if refused protocol ∷ [])) covered
+
+pub quoted_with_route : (has_port : Bool) (packet : List ℕ) → BeginsWithIpv4Header packet → has_source_route packet ≡ true
+    → ipv4_place_refusal true has_port packet ≢ None
+unfolding quoted_rules
+quoted_with_route has_port packet begins has_route = λ none.
+    let protocol : TranslateError = Protocol (record { 0 = slice_index packet 9 }) in
+    let refused : Bool = is_none (ipv4_proto packet) && (has_port || covers_ipv4_addresses (slice_index packet 9)) in
+    let is : first_of (quoted_rules has_port packet) ≡ Some SourceRoute =
+    ap (λ has_route. first_of (refused_if has_route SourceRoute ∷ refused_if refused protocol ∷ [])) has_route in
+    cc (none, quoted_after_header has_port packet begins, is)
+
+pub quoted_no_proto : (has_port : Bool) (packet : List ℕ) → BeginsWithIpv4Header packet → has_source_route packet ≡ false
+    → (is_none (ipv4_proto packet) && (has_port || covers_ipv4_addresses (slice_index packet 9))) ≡ true → ipv4_place_refusal true has_port packet ≢ None
+unfolding quoted_rules
+quoted_no_proto has_port packet begins no_route covered = λ none.
+    let protocol : TranslateError = Protocol (record { 0 = slice_index packet 9 }) in
+    let refused : Bool = is_none (ipv4_proto packet) && (has_port || covers_ipv4_addresses (slice_index packet 9)) in
+    let is : first_of (quoted_rules has_port packet) ≡ Some protocol =
+    ap (λ has_route. first_of (refused_if has_route SourceRoute ∷ refused_if refused protocol ∷ [])) no_route
+    ∙ ap (λ refused. first_of (None ∷ refused_if refused protocol ∷ [])) covered in
+    cc (none, quoted_after_header has_port packet begins, is)
+
+-- a quoted packet that is accepted begins with a header
+pub quoted_no_header : (has_port : Bool) (packet : List ℕ) → ¬ BeginsWithIpv4Header packet → ipv4_place_refusal true has_port packet ≢ None
+quoted_no_header has_port packet other = λ none.
+    let n : ℕ = ipv4_header_len packet in
+    let after_ip = none_first (option_map Ip (ip.ipv4_header_refusal packet)) _ none in
+    let after_version = none_first (refused_if (not (version packet == 4)) OtherVersion) _ after_ip.1 in
+    let of_header : ip.ipv4_header_refusal packet ≡ None = mapped_none Ip (ip.ipv4_header_refusal packet) after_ip.0 in
+    let after_shortest = none_first (refused_if (nat_lt (length packet) 20) (HeaderCutOff 20 (length packet))) _ of_header in
+    let after_words = none_first (refused_if (nat_lt n 20) (HeaderLength n)) _ after_shortest.1 in
+    let after_whole = none_first (refused_if (nat_lt (length packet) n) (HeaderCutOff n (length packet))) _ after_words.1 in
+    let shortest = none_if (nat_lt (length packet) 20) (HeaderCutOff 20 (length packet)) after_shortest.0 in
+    let five_words = none_if (nat_lt n 20) (HeaderLength n) after_words.0 in
+    let whole = none_if (nat_lt (length packet) n) (HeaderCutOff n (length packet)) after_whole.0 in
+    other (record {
+      shortest = grind (arith, nat_tests, shortest);
+      is_version_4 = is_number (version packet) 4 (once (version packet == 4) (none_if _ OtherVersion after_version.0));
+      five_words = grind (arith, nat_tests, five_words);
+      whole = grind (arith, nat_tests, whole);
+    })
+
+-- a refused quoted packet is the last error
+pub quoted_is_refused : (refusal : Option TranslateError) → refusal ≢ None → option_map (λ _. QuotedPacket) refusal ≡ Some QuotedPacket
+quoted_is_refused None refused = absurd (refused refl)
+quoted_is_refused (Some error) refused = refl
+
 -- the rules for a message and its quoted packet, by the place of the message
 pub record IsIpv4Left (has_port has_quoted_port : Bool) (packet : List ℕ) (quoted : Option (List ℕ)) : Type 0 where
   pub refusal : ipv4_refusal_by has_port has_quoted_port packet ≡ ipv4_quoted_refusal has_quoted_port quoted
@@ -272,13 +384,13 @@ pub last_of_three : {E : Type 0} (first second third : Option E) → first ≡ N
 last_of_three first second third is is_too =
     ap (λ first. first_of (first ∷ second ∷ third ∷ [])) is ∙ ap (λ second. first_of (second ∷ third ∷ [])) is_too ∙ first_of_one third
 
-pub ipv4_left : (has_port has_quoted_port : Bool) (packet : List ℕ) (place : Place) (quoted : Option (List ℕ)) → IsIpv4Place packet place
-    → ipv4_place_refusal has_port packet ≡ None
+pub ipv4_left : (has_port has_quoted_port : Bool) (packet : List ℕ) (place : Place) (quoted : Option (List ℕ)) → IsIpv4Place (message_in_ipv4 false packet) packet place
+    → ipv4_place_refusal false has_port packet ≡ None
     → message_refusal place.is_later_fragment place.proto (slice_range packet place.start place.end) ≡ None
     → quoted_in place.is_later_fragment place.proto (slice_range packet place.start place.end) ≡ quoted
     → IsIpv4Left has_port has_quoted_port packet quoted
 ipv4_left has_port has_quoted_port packet place quoted at found accepted quotes =
-    let message : List ℕ = message_in_ipv4 packet in
+    let message : List ℕ = message_in_ipv4 false packet in
     let later : Bool = ipv4_is_later_fragment packet in
     let no_error : ipv4_message_refusal packet ≡ None =
     sym (ap (message_refusal place.is_later_fragment place.proto) at.message
@@ -289,7 +401,7 @@ ipv4_left has_port has_quoted_port packet place quoted at found accepted quotes 
     ∙ ap (λ later. quoted_in later place.proto message) at.later
     ∙ ap (λ proto. quoted_in later proto message) at.proto) ∙ quotes in
     record {
-      refusal = last_of_three (ipv4_place_refusal has_port packet) (ipv4_message_refusal packet)
+      refusal = last_of_three (ipv4_place_refusal false has_port packet) (ipv4_message_refusal packet)
           (ipv4_quoted_refusal has_quoted_port (ipv4_quoted packet)) found no_error
           ∙ ap (ipv4_quoted_refusal has_quoted_port) quoted_is;
       quoted_is = quoted_is;
@@ -408,7 +520,7 @@ not_version_4 true packet test accepted other =
     }))
 
 -- a packet that is read, and that does not begin with an IPv4 header, has another version
-pub no_version_4 : (has_port : Bool) (packet : List ℕ) → ip.lax_refusal packet ≡ None → ¬ BeginsWithIpv4Header packet → ipv4_place_refusal has_port packet ≡ Some OtherVersion
+pub no_version_4 : (has_port : Bool) (packet : List ℕ) → ip.lax_refusal packet ≡ None → ¬ BeginsWithIpv4Header packet → ipv4_place_refusal false has_port packet ≡ Some OtherVersion
 no_version_4 has_port packet accepted other =
     let last : List (Option TranslateError) = refused_if (has_source_route packet) SourceRoute
     ∷ refused_if (is_none (ipv4_proto packet) && (has_port || covers_ipv4_addresses (slice_index packet 9))) (Protocol (record { 0 = slice_index packet 9 }))

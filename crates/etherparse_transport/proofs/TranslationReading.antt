@@ -1,34 +1,36 @@
 -- Laws of the reading of translated packets: what is kept of a packet, and what is found in it.
-use Rattle.std.proofs.Common.{◌≡◌, ℕ, ◌+◌, ◌-◌, ◌*◌, ◌/◌, ◌%◌, ◌^◌, ◌<◌, ◌≤◌, ◌==◌, ◌&&◌, ◌||◌, not, nat_lt, nat_le, Bool, true, false, if◌then◌else◌, List, [], ◌∷◌, ◌++◌, take, drop, bit_and, slice_index, slice_range, length, length-append, Option, Some, None, Result, Ok, Err, refl, sym, ap, ◌∙◌, subst, arith}
+use Rattle.std.proofs.Common.{◌≡◌, ℕ, suc, ◌+◌, ◌-◌, ◌*◌, ◌/◌, ◌%◌, ◌^◌, ◌<◌, ◌≤◌, ◌==◌, ◌&&◌, ◌||◌, not, nat_lt, nat_le, Bool, true, false, if◌then◌else◌, List, [], ◌∷◌, ◌++◌, take, drop, bit_and, slice_index, slice_range, length, length-append, Option, Some, None, Result, Ok, Err, refl, sym, ap, ◌∙◌, subst, arith}
 use Rattle.std.specs.Prelude.{IfOk, is_none, is_some, unwrap_or}
 use Rattle.std.proofs.lemmas.Bool.Decides.{nat_tests}
 use Rattle.std.proofs.lemmas.List.{drop-drop, drop-take, drop_at, drop_all, get_or-drop, get_or-take, get_or_append_left, length-drop, length-take, length-take-le, take_all, take_at, append-nil}
 use Rattle.std.proofs.lemmas.Slice.{drop-put_mid}
-use Rattle.ip_part.specs.Addresses.{Ipv4, Ipv6}
-use Rattle.ip_part.specs.ExtensionHeaders.{fragment_offset, is_extension}
+use Rattle.ip_part.specs.Addresses.{Addresses, Ipv4, Ipv6, by_value}
+use Rattle.ip_part.specs.ExtensionHeaders.{extension_len, is_extension}
 use Rattle.ip_part.specs.Headers.{Headers}
-use Rattle.ip_part.specs.Ip.{Carries, counted, counted_len, error_of, first_headers, header_refusal, headers_of, is_extended, lacks_len, lax_refusal}
+use Rattle.ip_part.specs.Ip.{Carries, IsAfterHeaders, counted, counted_len, error_of, first_headers, header_refusal, headers_of, headers_to_transport, is_extended, lacks_len, lax_refusal}
 use Rattle.ip_part.specs.Ip as ip
 use Rattle.ip_part.specs.Options as options
-use Rattle.ip_part.specs.Options.{ipv4_option, options_of}
+use Rattle.ip_part.specs.Options.{ipv4_option, jumbo_payload_len, options_of}
+use Rattle.ip_part.specs.Protocols.{proto_over}
 use Rattle.std.specs.List.{find}
 use Rattle.ip_part.specs.declared.ip_error.IpError.{IpError}
 use Rattle.ip_part.specs.declared.ip_error.IpError.TheVariants.{HeaderCutOff, HeaderLength, TotalLength, Version}
 use Rattle.ip_part.specs.declared.proto.Proto.{Proto}
 use Rattle.ip_part.specs.declared.transport.TransportInIp.{TransportInIp}
 use Rattle.ip_part.proofs.HeadersLemmas.{ended}
-use Rattle.net_base.specs.Bytes.{flag}
-use Rattle.net_base.specs.IpHeaders.{ipv4_fragment_offset, ipv4_header_len, version}
+use Rattle.net_base.specs.IpHeaders.{BeginsWithIpv6Header, ipv4_fragment_offset, ipv4_header_len, version}
 use Rattle.net_base.specs.Refusals.{first_of, refused_if}
 use Rattle.ip_part.specs.declared.proto.Proto.TheVariants as protos
 use Rattle.net_base.specs.StoredChecksum.{with_checksum}
 use Rattle.std.specs.Int.{to_be_bytes, w16}
-use Rattle.etherparse_transport.specs.Translations.{IsReadWith, is_query, new_identifier, translated_in, translated_message, translated_query, with_bytes, with_number, with_ports, with_updated_checksum}
+use Rattle.etherparse_transport.specs.SkippedHeaders.{header_at, is_skipped, only_ipv6_header, skip, skipped_headers, with_next}
+use Rattle.etherparse_transport.specs.declared.ip.skipped_headers.SkippedHeaders.{SkippedHeaders}
+use Rattle.etherparse_transport.specs.Translations.{IsReadWith, counted_after, is_query, new_identifier, translated_in, translated_message, translated_query, with_bytes, with_number, with_ports, with_updated_checksum}
 use Rattle.std.specs.Option.{option_map}
 use Rattle.etherparse_transport.proofs.SourceRouteLemmas.{no_route as route_read_too}
 use Rattle.etherparse_transport.specs.SourceRoutes.{contain_source_route}
-use Rattle.etherparse_transport.specs.Ipv4Translations.{AreIpv4Addresses, IsIpv4Place, ipv4_addresses, ipv4_between, ipv4_flow_message, ipv4_is_later_fragment, ipv4_place_refusal, ipv4_proto, ipv4_with_message, covers_ipv4_addresses, has_source_route, message_in_ipv4, updated_header_checksum}
-use Rattle.etherparse_transport.specs.Ipv6Translations.{AreIpv6Addresses, IsIpv6Place, covers_ipv6_addresses, ipv6_addresses, ipv6_between, ipv6_flow_message, ipv6_has_fragment_header, ipv6_is_later_fragment, ipv6_place_refusal, ipv6_proto, ipv6_protocol, ipv6_start, ipv6_with_message, message_in_ipv6}
+use Rattle.etherparse_transport.specs.Ipv4Translations.{AreIpv4Addresses, IsIpv4Place, ipv4_addresses, ipv4_between, ipv4_flow_message, ipv4_is_later_fragment, ipv4_headers_refusal, ipv4_place_refusal, ipv4_proto, ipv4_with_message, covers_ipv4_addresses, has_source_route, message_in_ipv4, updated_header_checksum}
+use Rattle.etherparse_transport.specs.Ipv6Translations.{AreIpv6Addresses, IsIpv6Place, covers_ipv6_addresses, ipv6_addresses, ipv6_between, ipv6_flow_message, ipv6_is_later_fragment, ipv6_place_refusal, ipv6_proto, ipv6_protocol, ipv6_start, ipv6_with_message, message_in_ipv6}
 use Rattle.etherparse_transport.specs.declared.ip.ipv4_translation.Ipv4Translation.{Ipv4Translation}
 use Rattle.etherparse_transport.specs.declared.ip.ipv6_translation.Ipv6Translation.{Ipv6Translation}
 use Rattle.etherparse_transport.specs.declared.ip.message_place.Place.{Place}
@@ -36,8 +38,8 @@ use Rattle.etherparse_transport.specs.declared.err.packet.translate_error.Transl
 use Rattle.etherparse_transport.proofs.BuiltLemmas.{mapped_none, none_first, none_if}
 use Rattle.etherparse_transport.proofs.EchoReplyLemmas.{is_number, once}
 use Rattle.etherparse_transport.proofs.EchoRequestLemmas.{in_front}
-use Rattle.etherparse_transport.proofs.FragmentLemmas.{fragment_first_byte, fragment_read, fragment_room, ipv6_byte, ipv6_headers_are, no_jumbo_len, no_len_in_options, not_options}
-use Rattle.etherparse_transport.proofs.TranslationLemmas.{first_is_last, ipv4_accepts, ipv6_accepts, ipv6_ended}
+use Rattle.etherparse_transport.proofs.SkippedHeaderLemmas.{AreAt, AreWalked, at_least, between, header_alike, least_len, len_alike, not_below, rest_true, skip_even, skip_len, skip_more, two_rules, walk}
+use Rattle.etherparse_transport.proofs.TranslationLemmas.{first_is_last, ipv4_accepts, ipv6_accepts, message_range, over_ipv6_addresses, read_once}
 use borrow.Rule.Slice.PartMut.{put_mid}
 
 -- ---- replaced bytes
@@ -114,9 +116,9 @@ pub record IsKept (count : ℕ) (packet changed : List ℕ) : Type 0 where
   pub len : length changed ≡ length packet
   pub front : (k : ℕ) → k < count → slice_index changed k ≡ slice_index packet k
 
--- an accepted packet without a source route
-pub record IsIpv4Flow (packet : List ℕ) (proto : Option Proto) : Type 0 where
-  pub accepted : lax_refusal packet ≡ None
+-- an accepted packet without a source route, or a quoted packet
+pub record IsIpv4Flow (is_quoted : Bool) (packet : List ℕ) (proto : Option Proto) : Type 0 where
+  pub accepted : ipv4_headers_refusal is_quoted packet ≡ None
   pub is_ipv4 : version packet ≡ 4
   pub five_words : 20 ≤ ipv4_header_len packet
   pub no_route : has_source_route packet ≡ false
@@ -187,7 +189,7 @@ ipv4_header_accepted packet changed is is_too len header_len total_len =
     ∙ sym (ipv4_header_refusal_is packet is)
 
 -- no extension header comes next
-ipv4_ended : (packet : List ℕ) (proto : Option Proto) → IsIpv4Flow packet proto → is_extended (first_headers packet) ≡ false
+ipv4_ended : (packet : List ℕ) (proto : Option Proto) → IsIpv4Flow false packet proto → is_extended (first_headers packet) ≡ false
 ipv4_ended packet proto flow =
     let four : Headers = ip.ipv4_headers (ipv4_header_len packet) (ip.ipv4_header packet) in
     ap (λ v. is_extended (if v == 4 then four else ip.ipv6_headers (ip.is_jumbogram packet) (ip.ipv6_header packet))) flow.is_ipv4
@@ -200,15 +202,34 @@ accepted_by packet accepted last =
     ap (λ refusal. first_of (refusal ∷ error_of (headers_of (lacks_len packet) packet) ∷ [])) accepted
     ∙ ap (λ read. first_of (None ∷ error_of read ∷ [])) (ended (length (counted (lacks_len packet) packet)) (first_headers packet) (counted (lacks_len packet) packet) last)
 
-pub ipv4_flow_kept : (packet changed : List ℕ) (proto : Option Proto) → IsIpv4Kept packet changed → IsIpv4Flow packet proto → IsIpv4Flow changed proto
-ipv4_flow_kept packet changed proto kept flow =
+-- a header without its total length is accepted alike
+quoted_header_alike : (packet changed : List ℕ) → length changed ≡ length packet → ipv4_header_len changed ≡ ipv4_header_len packet
+    → ip.ipv4_header_refusal changed ≡ ip.ipv4_header_refusal packet
+quoted_header_alike packet changed len header_len =
+    let by : ℕ → ℕ → Option IpError = λ len header_len. first_of (
+    refused_if (nat_lt len 20) (HeaderCutOff 20 len)
+    ∷ refused_if (nat_lt header_len 20) (HeaderLength header_len)
+    ∷ refused_if (nat_lt len header_len) (HeaderCutOff header_len len)
+    ∷ []) in
+    ap (λ len. by len (ipv4_header_len changed)) len ∙ ap (by (length packet)) header_len
+
+-- the headers are accepted if the IP header is accepted alike
+headers_kept : (is_quoted : Bool) (packet changed : List ℕ) → ipv4_headers_refusal is_quoted packet ≡ None
+    → ip.ipv4_header_refusal changed ≡ ip.ipv4_header_refusal packet → (lax_refusal packet ≡ None → lax_refusal changed ≡ None)
+    → ipv4_headers_refusal is_quoted changed ≡ None
+headers_kept true packet changed accepted header all = header ∙ accepted
+headers_kept false packet changed accepted header all = all accepted
+
+pub ipv4_flow_kept : (is_quoted : Bool) (packet changed : List ℕ) (proto : Option Proto) → IsIpv4Kept packet changed → IsIpv4Flow is_quoted packet proto
+    → IsIpv4Flow is_quoted changed proto
+ipv4_flow_kept is_quoted packet changed proto kept flow =
     let is : version changed ≡ 4 = ap (λ byte. byte / 16) (kept.front.front 0 (omega arith)) ∙ flow.is_ipv4 in
     let header_len : ipv4_header_len changed ≡ ipv4_header_len packet = header_len_kept packet changed kept in
     let five : 20 ≤ ipv4_header_len changed = omega (arith, header_len, flow.five_words) in
     let total_len : ip.total_len changed ≡ ip.total_len packet = total_len_kept packet changed kept flow.five_words in
-    let header : header_refusal changed ≡ None =
+    let header : lax_refusal packet ≡ None → header_refusal changed ≡ None = λ accepted.
     ipv4_header_accepted packet changed flow.is_ipv4 is kept.front.len header_len total_len
-    ∙ (none_first (header_refusal packet) _ flow.accepted).0 in
+    ∙ (none_first (header_refusal packet) _ accepted).0 in
     let number : (slice_index changed 9 == 51) ≡ false = ap (λ number. number == 51) (kept.front.front 9 (omega arith)) ∙ flow.number in
     let last : is_extended (first_headers changed) ≡ false =
     ap (λ v. is_extended (if v == 4 then ip.ipv4_headers (ipv4_header_len changed) (ip.ipv4_header changed)
@@ -216,7 +237,8 @@ ipv4_flow_kept packet changed proto kept flow =
     ∙ ap (λ b. (b && (ipv4_fragment_offset (ip.ipv4_header changed) == 0)) && is_extension (slice_index (ip.ipv4_header changed) 9))
     (ap (λ number. number == 51) (header_byte changed five 9 (omega arith)) ∙ number) in
     record {
-      accepted = accepted_by changed header last;
+      accepted = headers_kept is_quoted packet changed flow.accepted (quoted_header_alike packet changed kept.front.len header_len)
+          (λ accepted. accepted_by changed (header accepted) last);
       is_ipv4 = is;
       five_words = five;
       no_route = ap contain_source_route (options_kept packet changed kept flow.five_words)
@@ -225,7 +247,7 @@ ipv4_flow_kept packet changed proto kept flow =
       there = omega (arith, kept.front.len, header_len, flow.there);
     }
 
-ipv4_headers_are : (packet : List ℕ) (proto : Option Proto) (found : TransportInIp) (carries : Carries packet found) → IsIpv4Flow packet proto
+ipv4_headers_are : (packet : List ℕ) (proto : Option Proto) (found : TransportInIp) (carries : Carries packet found) → IsIpv4Flow false packet proto
     → carries.headers ≡ ip.ipv4_headers (ipv4_header_len packet) (ip.ipv4_header packet)
 ipv4_headers_are packet proto found carries flow =
     first_is_last packet found carries (ipv4_ended packet proto flow)
@@ -256,13 +278,13 @@ ipv4_destination_is packet five no_route =
     (route_read_too (drop 20 (ip.ipv4_header packet)) no_route))
     ∙ in_front (ipv4_header_len packet) 16 4 packet (omega (arith, five))
 
-pub ipv4_reading : (packet changed source destination message : List ℕ) (proto : Option Proto) → IsIpv4Kept packet changed → IsIpv4Flow packet proto
+pub ipv4_reading : (packet changed source destination message : List ℕ) (proto : Option Proto) → IsIpv4Kept packet changed → IsIpv4Flow false packet proto
     → slice_range changed 12 16 ≡ source → slice_range changed 16 20 ≡ destination
     → drop (ipv4_header_len packet) changed ≡ message ++ drop (ipv4_header_len packet + length message) packet
     → length message ≡ length (drop (ipv4_header_len packet) (counted (lacks_len packet) packet)) → ipv4_header_len packet ≤ counted_len (lacks_len packet) packet
     → IsReadWith packet changed (Ipv4 source destination) message
 ipv4_reading packet changed source destination message proto kept flow source_is destination_is message_is same within =
-    let flow_too : IsIpv4Flow changed proto = ipv4_flow_kept packet changed proto kept flow in
+    let flow_too : IsIpv4Flow false changed proto = ipv4_flow_kept false packet changed proto kept flow in
     let header_len : ipv4_header_len changed ≡ ipv4_header_len packet = header_len_kept packet changed kept in
     let total_len : ip.total_len changed ≡ ip.total_len packet = total_len_kept packet changed kept flow.five_words in
     let byte : (k : ℕ) → k < 10 → slice_index (ip.ipv4_header changed) k ≡ slice_index (ip.ipv4_header packet) k =
@@ -420,10 +442,12 @@ part_len false (Some proto) old new source destination message = translated_len 
 
 -- ---- the reading of a translated IPv4 packet
 
-pub ipv4_flow_message_len : (new : Ipv4Translation) (packet : List ℕ) → length (ipv4_flow_message new packet) ≡ length (message_in_ipv4 packet)
-ipv4_flow_message_len new packet = part_len (ipv4_is_later_fragment packet) (ipv4_proto packet) _ _ new.source_port new.destination_port (message_in_ipv4 packet)
+pub ipv4_flow_message_len : (new : Ipv4Translation) (message packet : List ℕ) → length (ipv4_flow_message new message packet) ≡ length message
+ipv4_flow_message_len new message packet =
+    part_len (ipv4_is_later_fragment packet) (ipv4_proto packet) _ _ new.source_port new.destination_port message
 
-ipv4_flow_of : (has_port : Bool) (packet : List ℕ) (place : Place) → ipv4_place_refusal has_port packet ≡ None → IsIpv4Place packet place → IsIpv4Flow packet place.proto
+ipv4_flow_of : (has_port : Bool) (packet : List ℕ) (place : Place) → ipv4_place_refusal false has_port packet ≡ None
+    → IsIpv4Place (message_in_ipv4 false packet) packet place → IsIpv4Flow false packet place.proto
 ipv4_flow_of has_port packet place found at =
     let after_ip = none_first (option_map Ip (lax_refusal packet)) _ found in
     let after_version = none_first (refused_if (not (version packet == 4)) OtherVersion) _ after_ip.1 in
@@ -445,9 +469,17 @@ unfolding ipv4_refusal_by
 header_by true len header_len total_len accepted = absurd (cc accepted)
 header_by false len header_len total_len accepted = (grind (arith, nat_tests), grind (arith, nat_tests))
 
-pub ipv4_header_there : (packet : List ℕ) → lax_refusal packet ≡ None → version packet ≡ 4
+quoted_header_by : (len header_len : ℕ) → first_of (
+    refused_if (nat_lt len 20) (HeaderCutOff 20 len)
+    ∷ refused_if (nat_lt header_len 20) (HeaderLength header_len)
+    ∷ refused_if (nat_lt len header_len) (HeaderCutOff header_len len)
+    ∷ []) ≡ None → (20 ≤ header_len) × (header_len ≤ len)
+quoted_header_by len header_len accepted = (grind (arith, nat_tests), grind (arith, nat_tests))
+
+pub ipv4_header_there : (is_quoted : Bool) (packet : List ℕ) → ipv4_headers_refusal is_quoted packet ≡ None → version packet ≡ 4
     → (20 ≤ ipv4_header_len packet) × (ipv4_header_len packet ≤ length packet)
-ipv4_header_there packet accepted is =
+ipv4_header_there true packet accepted is = quoted_header_by (length packet) (ipv4_header_len packet) accepted
+ipv4_header_there false packet accepted is =
     header_by (length packet == 0) (length packet) (ipv4_header_len packet) (ip.total_len packet)
     (sym (ipv4_header_refusal_is packet is) ∙ (none_first (header_refusal packet) _ accepted).0)
 
@@ -459,8 +491,10 @@ unfolding ipv4_refusal_by
 within_by true len header_len total_len is there accepted = there
 within_by false len header_len total_len is there accepted = grind (arith, nat_tests)
 
-pub ipv4_within : (packet : List ℕ) (proto : Option Proto) → IsIpv4Flow packet proto → ipv4_header_len packet ≤ counted_len (lacks_len packet) packet
-ipv4_within packet proto flow =
+pub ipv4_within : (is_quoted : Bool) (packet : List ℕ) (proto : Option Proto) → IsIpv4Flow is_quoted packet proto
+    → ipv4_header_len packet ≤ counted_len (is_quoted || lacks_len packet) packet
+ipv4_within true packet proto flow = flow.there
+ipv4_within false packet proto flow =
     let total : ℕ = ip.total_len packet in
     let accepted = sym (ipv4_header_refusal_is packet flow.is_ipv4) ∙ (none_first (header_refusal packet) _ flow.accepted).0 in
     let counts : counted_len (lacks_len packet) packet ≡ (if is_none (if total == 0 then None else Some total) then length packet else total) =
@@ -468,11 +502,12 @@ ipv4_within packet proto flow =
     ∙ ap (λ missing. if missing then length packet else total) (ipv4_lacks_len_is packet flow.is_ipv4) in
     subst (λ n. ipv4_header_len packet ≤ n) (sym counts) (within_by (total == 0) (length packet) (ipv4_header_len packet) total refl flow.there accepted)
 
-pub ipv4_read : (has_port : Bool) (new : Ipv4Translation) (packet changed message : List ℕ) (place : Place) → ipv4_place_refusal has_port packet ≡ None → IsIpv4Place packet place
-    → AreIpv4Addresses (ipv4_addresses new packet) → length message ≡ length (message_in_ipv4 packet) → changed ≡ ipv4_with_message new message packet
+pub ipv4_read : (has_port : Bool) (new : Ipv4Translation) (packet changed message : List ℕ) (place : Place) → ipv4_place_refusal false has_port packet ≡ None
+    → IsIpv4Place (message_in_ipv4 false packet) packet place
+    → AreIpv4Addresses (ipv4_addresses new packet) → length message ≡ length (message_in_ipv4 false packet) → changed ≡ ipv4_with_message new message packet
     → IsReadWith packet changed (ipv4_between new packet) message
 ipv4_read has_port new packet changed message place found at four same is =
-    let flow : IsIpv4Flow packet place.proto = ipv4_flow_of has_port packet place found at in
+    let flow : IsIpv4Flow false packet place.proto = ipv4_flow_of has_port packet place found at in
     let source : List ℕ = (ipv4_addresses new packet).source in
     let destination : List ℕ = (ipv4_addresses new packet).destination in
     let n : ℕ = counted_len (lacks_len packet) packet in
@@ -486,7 +521,7 @@ ipv4_read has_port new packet changed message place found at four same is =
     (ipv4_parts_source start checksum source destination message packet flow.five_words refl four.source four.destination there)
     (ipv4_parts_destination start checksum source destination message packet flow.five_words refl four.source four.destination there)
     (ipv4_parts_message start checksum source destination message packet flow.five_words refl four.source four.destination there)
-    same (ipv4_within packet place.proto flow))
+    same (ipv4_within false packet place.proto flow))
 
 -- three facts about a success
 pub if_ok : {T E : Type 0} {P Q R S : Type 0} (result : Result T E) → IfOk result (λ value. P) → IfOk result (λ value. Q) → IfOk result (λ value. R)
@@ -496,147 +531,309 @@ if_ok (Err error) p q r all = p
 
 -- ---- IPv6
 
--- an accepted packet whose message comes after its header or its fragment header
+pub ipv6_byte : (packet : List ℕ) (k : ℕ) → k < 40 → slice_index (ip.ipv6_header packet) k ≡ slice_index packet k
+ipv6_byte packet k within = get_or-take 40 packet k 0 within
+
+-- an accepted packet whose message comes after the headers that are skipped
 pub record IsIpv6Flow (packet : List ℕ) (proto : Option Proto) : Type 0 where
   pub accepted : lax_refusal packet ≡ None
   pub is_ipv6 : version packet ≡ 6
   pub number : is_extension (ipv6_protocol packet) ≡ false
   pub there : ipv6_start packet ≤ length packet
 
--- a packet with the length, the first eight bytes and the fragment header of another packet
+-- a packet with the length, the first eight bytes and the skipped headers of another packet
 pub record IsIpv6Kept (packet changed : List ℕ) : Type 0 where
   pub front : IsKept 8 packet changed
-  pub fragment : slice_index packet 6 ≡ 44 → slice_range changed 40 48 ≡ slice_range packet 40 48
+  pub headers : slice_range changed 40 (ipv6_start packet) ≡ slice_range packet 40 (ipv6_start packet)
 
--- a fact about a fragment header
-pub fragment_kept : (has : Bool) (fact : List ℕ → Bool) (packet changed : List ℕ) → IsIpv6Kept packet changed → has ≡ (slice_index packet 6 == 44)
-    → (has && fact (slice_range changed 40 48)) ≡ (has && fact (slice_range packet 40 48))
-fragment_kept true fact packet changed kept test = ap fact (kept.fragment (is_number (slice_index packet 6) 44 (sym test)))
-fragment_kept false fact packet changed kept test = refl
+-- the message begins after the IPv6 header, at an even place
+pub ipv6_after : (packet : List ℕ) → 40 ≤ ipv6_start packet
+ipv6_after packet = skip_len (suc (length packet)) (only_ipv6_header (slice_index packet 6)) packet
 
-protocol_by : (has : Bool) (packet changed : List ℕ) → IsIpv6Kept packet changed → has ≡ (slice_index packet 6 == 44)
-    → (if has then slice_index changed 40 else slice_index changed 6) ≡ (if has then slice_index packet 40 else slice_index packet 6)
-protocol_by true packet changed kept test =
-    sym (fragment_first_byte changed) ∙ ap (λ bytes. slice_index bytes 0) (kept.fragment (is_number (slice_index packet 6) 44 (sym test)))
-    ∙ fragment_first_byte packet
-protocol_by false packet changed kept test = kept.front.front 6 (omega arith)
+pub ipv6_even : (packet : List ℕ) → ipv6_start packet % 2 ≡ 0
+ipv6_even packet = skip_even (suc (length packet)) (only_ipv6_header (slice_index packet 6)) packet refl
 
-pub protocol_kept : (packet changed : List ℕ) → IsIpv6Kept packet changed → ipv6_protocol changed ≡ ipv6_protocol packet
-protocol_kept packet changed kept =
-    ap (λ n. if n == 44 then slice_index changed 40 else slice_index changed 6) (kept.front.front 6 (omega arith))
-    ∙ protocol_by (ipv6_has_fragment_header packet) packet changed kept refl
-
-pub start_kept : (packet changed : List ℕ) → IsIpv6Kept packet changed → ipv6_start changed ≡ ipv6_start packet
-start_kept packet changed kept = ap (λ n. if n == 44 then 48 else 40) (kept.front.front 6 (omega arith))
-
-ipv6_header_refusal_is : (packet : List ℕ) → version packet ≡ 6 → (slice_index packet 6 == 0) ≡ false
-    → header_refusal packet ≡ (if length packet == 0 then Some (HeaderCutOff 1 0) else first_of (refused_if (nat_lt (length packet) 40) (HeaderCutOff 40 (length packet)) ∷ None ∷ []))
-ipv6_header_refusal_is packet is other =
+-- the errors of an IPv6 header
+ipv6_header_refusal_is : (packet : List ℕ) → version packet ≡ 6
+    → header_refusal packet ≡ (if length packet == 0 then Some (HeaderCutOff 1 0)
+    else first_of (refused_if (nat_lt (length packet) 40) (HeaderCutOff 40 (length packet)) ∷ ip.jumbo_refusal packet ∷ []))
+ipv6_header_refusal_is packet is =
     ap (λ v. if length packet == 0 then Some (HeaderCutOff 1 0) else if v == 4 then ip.ipv4_refusal packet
     else if v == 6 then ip.ipv6_refusal packet else Some (Version (version packet))) is
-    ∙ ap (λ has. if length packet == 0 then Some (HeaderCutOff 1 0)
-    else first_of (refused_if (nat_lt (length packet) 40) (HeaderCutOff 40 (length packet))
-    ∷ (if has then ip.len_in_options_refusal (drop 40 packet) else None) ∷ [])) (no_len_in_options packet other)
 
-ipv6_header_by : (is_empty : Bool) (len : ℕ)
-    → (if is_empty then Some (HeaderCutOff 1 0) else first_of (refused_if (nat_lt len 40) (HeaderCutOff 40 len) ∷ None ∷ [])) ≡ None → 40 ≤ len
-ipv6_header_by true len accepted = absurd (cc accepted)
-ipv6_header_by false len accepted = grind (arith, nat_tests)
+ipv6_header_by : (is_empty : Bool) (len : ℕ) (rule : Option IpError)
+    → (if is_empty then Some (HeaderCutOff 1 0) else first_of (refused_if (nat_lt len 40) (HeaderCutOff 40 len) ∷ rule ∷ [])) ≡ None
+    → (40 ≤ len) × (rule ≡ None)
+ipv6_header_by true len rule accepted = absurd (cc accepted)
+ipv6_header_by false len rule accepted =
+    let after_len = none_first (refused_if (nat_lt len 40) (HeaderCutOff 40 len)) _ accepted in
+    let test : nat_lt len 40 ≡ false = none_if (nat_lt len 40) _ after_len.0 in
+    (grind (arith, nat_tests), (none_first rule [] after_len.1).0)
 
-pub ipv6_header_there : (packet : List ℕ) (proto : Option Proto) → lax_refusal packet ≡ None → version packet ≡ 6 → is_extension (ipv6_protocol packet) ≡ false
-    → 40 ≤ length packet
-ipv6_header_there packet proto accepted is number =
-    ipv6_header_by (length packet == 0) (length packet)
-    (sym (ipv6_header_refusal_is packet is (not_options packet number)) ∙ (none_first (header_refusal packet) _ accepted).0)
+ipv6_header_accepted : (packet : List ℕ) → lax_refusal packet ≡ None → version packet ≡ 6 → (40 ≤ length packet) × (ip.jumbo_refusal packet ≡ None)
+ipv6_header_accepted packet accepted is =
+    ipv6_header_by (length packet == 0) (length packet) (ip.jumbo_refusal packet)
+    (sym (ipv6_header_refusal_is packet is) ∙ (none_first (header_refusal packet) _ accepted).0)
+
+pub ipv6_header_there : (packet : List ℕ) → lax_refusal packet ≡ None → version packet ≡ 6 → 40 ≤ length packet
+ipv6_header_there packet accepted is = (ipv6_header_accepted packet accepted is).0
+
+ipv6_lacks_len_is : (packet : List ℕ) → version packet ≡ 6
+    → lacks_len packet ≡ is_none (ip.ipv6_stated_len (ip.jumbo_len packet) (ip.payload_len packet) (ip.next_header packet))
+ipv6_lacks_len_is packet is =
+    ap (λ v. is_none (if v == 4 then ip.ipv4_stated_len packet
+    else ip.ipv6_stated_len (ip.jumbo_len packet) (ip.payload_len packet) (ip.next_header packet))) is
+
+ipv6_counted_len_is : (missing : Bool) (packet : List ℕ) → version packet ≡ 6
+    → counted_len missing packet ≡ (if missing then length packet else 40 + unwrap_or (ip.jumbo_len packet) (ip.payload_len packet))
+ipv6_counted_len_is missing packet is =
+    ap (λ v. if missing then length packet else if v == 4 then ip.total_len packet else 40 + unwrap_or (ip.jumbo_len packet) (ip.payload_len packet)) is
+
+counted_within : (missing : Bool) (len payload_len : ℕ) → 40 ≤ len → 40 ≤ (if missing then len else 40 + payload_len)
+counted_within true len payload_len there = there
+counted_within false len payload_len there = omega arith
+
+-- the counted bytes contain the IPv6 header
+ipv6_counted_there : (missing : Bool) (packet : List ℕ) → version packet ≡ 6 → 40 ≤ length packet → 40 ≤ length (counted missing packet)
+ipv6_counted_there missing packet is there =
+    omega (
+      arith,
+      there,
+      length-take (counted_len missing packet) packet,
+      ipv6_counted_len_is missing packet is,
+      counted_within missing (length packet) (unwrap_or (ip.jumbo_len packet) (ip.payload_len packet)) there,
+    )
+
+-- ---- the jumbo payload length
+
+-- hop-by-hop options that contain the length are skipped
+options_skipped : (packet : List ℕ) → slice_index packet 6 ≡ 0 → ip.options_refusal (drop 40 packet) ≡ None
+    → (extension_len 0 (drop 40 packet) ≤ ipv6_start packet - 40) × (8 ≤ length (drop 40 packet))
+options_skipped packet number accepted =
+    let rest : List ℕ = drop 40 packet in
+    let e : ℕ = extension_len 0 rest in
+    let lengths = two_rules (nat_lt (length rest) 8) (nat_lt (length rest) e) _ _ [] accepted in
+    let eight : 8 ≤ length rest = not_below _ _ lengths.0 in
+    let whole : e ≤ length rest = not_below _ _ lengths.1 in
+    let first : SkippedHeaders = only_ipv6_header (slice_index packet 6) in
+    let is : is_skipped first rest ≡ true =
+    ap (λ number. is_skipped (only_ipv6_header number) rest) number
+    ∙ ap (λ b. b && (nat_le e (length rest) && not false)) (at_least 8 (length rest) eight)
+    ∙ ap (λ b. b && not false) (at_least e (length rest) whole) in
+    let next : SkippedHeaders = with_next first (header_at (slice_index packet 6) rest) in
+    let start : ipv6_start packet ≡ (skip (length packet) next packet).len = ap (λ skipped. skipped.len) (skip_more (length packet) first packet is) in
+    let len : next.len ≡ 40 + e =
+    ap (λ number. 40 + length (header_at number rest)) number ∙ ap (λ n. 40 + n) (length-take-le e rest whole) in
+    (omega (arith, start, len, skip_len (length packet) next packet), eight)
+
+-- the length in hop-by-hop options, and its errors, are kept
+record AreOptionsKept (has : Bool) (packet changed : List ℕ) : Type 0 where
+  pub len : (if has then ip.len_in_options (drop 40 changed) else None) ≡ (if has then ip.len_in_options (drop 40 packet) else None)
+  pub refusal : (if has then ip.len_in_options_refusal (drop 40 changed) else None) ≡ (if has then ip.len_in_options_refusal (drop 40 packet) else None)
+
+options_kept_by : (has : Bool) (packet changed : List ℕ) → IsIpv6Kept packet changed → has ≡ ip.has_len_in_options packet
+    → (if has then ip.len_in_options_refusal (drop 40 packet) else None) ≡ None → AreOptionsKept has packet changed
+options_kept_by false packet changed kept test accepted = record { len = refl; refusal = refl }
+options_kept_by true packet changed kept test accepted =
+    let rest : List ℕ = drop 40 packet in
+    let rest_too : List ℕ = drop 40 changed in
+    let number : slice_index packet 6 ≡ 0 =
+    sym (ipv6_byte packet 6 (omega arith)) ∙ is_number (ip.next_header packet) 0 (rest_true (ip.payload_len packet == 0) _ (sym test)) in
+    let within = options_skipped packet number (none_first (ip.options_refusal rest) _ accepted).0 in
+    let k : ℕ = ipv6_start packet - 40 in
+    let long : 8 ≤ k = omega (arith, within.0, least_len 0 rest) in
+    let e : extension_len 0 rest_too ≡ extension_len 0 rest = len_alike k 0 rest_too rest (omega (arith, long)) kept.headers in
+    let options : ip.options_at rest_too ≡ ip.options_at rest = header_alike k 0 rest_too rest long within.0 kept.headers in
+    let len : length rest_too ≡ length rest = omega (arith, kept.front.len, length-drop 40 packet, length-drop 40 changed) in
+    let by : ℕ → ℕ → List ℕ → Option IpError = λ len e options. first_of (
+    first_of (
+    refused_if (nat_lt len 8) (HeaderCutOff 48 (40 + len))
+    ∷ refused_if (nat_lt len e) (HeaderCutOff (40 + e) (40 + len))
+    ∷ [])
+    ∷ ip.jumbo_len_refusal (jumbo_payload_len options)
+    ∷ []) in
+    record {
+      len = ap jumbo_payload_len options;
+      refusal = ap (λ len. by len (extension_len 0 rest_too) (ip.options_at rest_too)) len
+          ∙ ap (λ e. by (length rest) e (ip.options_at rest_too)) e ∙ ap (by (length rest) (extension_len 0 rest)) options;
+    }
+
+-- the kept bytes state the same length, and the IPv6 header is accepted
+pub record StatesAlike (packet changed : List ℕ) : Type 0 where
+  pub is_ipv6 : version changed ≡ 6
+  pub number : slice_index changed 6 ≡ slice_index packet 6
+  pub byte : (k : ℕ) → k < 8 → slice_index (ip.ipv6_header changed) k ≡ slice_index (ip.ipv6_header packet) k
+  pub jumbo : ip.jumbo_len changed ≡ ip.jumbo_len packet
+  pub lacks : lacks_len changed ≡ lacks_len packet
+  pub counts : (missing : Bool) → counted_len missing changed ≡ counted_len missing packet
+  pub header : header_refusal changed ≡ None
+
+pub states_alike : (packet changed : List ℕ) → IsIpv6Kept packet changed → lax_refusal packet ≡ None → version packet ≡ 6 → StatesAlike packet changed
+states_alike packet changed kept accepted is =
+    let is_too : version changed ≡ 6 = ap (λ byte. byte / 16) (kept.front.front 0 (omega arith)) ∙ is in
+    let header = ipv6_header_accepted packet accepted is in
+    let byte : (k : ℕ) → k < 8 → slice_index (ip.ipv6_header changed) k ≡ slice_index (ip.ipv6_header packet) k = λ k before.
+    ipv6_byte changed k (omega (arith, before)) ∙ kept.front.front k before ∙ sym (ipv6_byte packet k (omega (arith, before))) in
+    let payload_len : ip.payload_len changed ≡ ip.payload_len packet = omega (arith, byte 4 (omega arith), byte 5 (omega arith)) in
+    let next : ip.next_header changed ≡ ip.next_header packet = byte 6 (omega arith) in
+    let has : ip.has_len_in_options changed ≡ ip.has_len_in_options packet =
+    ap (λ len. (len == 0) && (ip.next_header changed == 0)) payload_len ∙ ap (λ number. (ip.payload_len packet == 0) && (number == 0)) next in
+    let options : AreOptionsKept (ip.has_len_in_options packet) packet changed =
+    options_kept_by (ip.has_len_in_options packet) packet changed kept refl header.1 in
+    let jumbo : ip.jumbo_len changed ≡ ip.jumbo_len packet =
+    ap (λ has. if has then ip.len_in_options (drop 40 changed) else None) has ∙ options.len in
+    let rule : ip.jumbo_refusal changed ≡ None =
+    ap (λ has. if has then ip.len_in_options_refusal (drop 40 changed) else None) has ∙ options.refusal ∙ header.1 in
+    let by : ℕ → Option IpError → Option IpError = λ len rule.
+    if len == 0 then Some (HeaderCutOff 1 0) else first_of (refused_if (nat_lt len 40) (HeaderCutOff 40 len) ∷ rule ∷ []) in
+    record {
+      is_ipv6 = is_too;
+      number = kept.front.front 6 (omega arith);
+      byte = byte;
+      jumbo = jumbo;
+      lacks = ipv6_lacks_len_is changed is_too
+          ∙ ap (λ jumbo. is_none (ip.ipv6_stated_len jumbo (ip.payload_len changed) (ip.next_header changed))) jumbo
+          ∙ ap (λ len. is_none (ip.ipv6_stated_len (ip.jumbo_len packet) len (ip.next_header changed))) payload_len
+          ∙ ap (λ number. is_none (ip.ipv6_stated_len (ip.jumbo_len packet) (ip.payload_len packet) number)) next
+          ∙ sym (ipv6_lacks_len_is packet is);
+      counts = λ missing.
+          ipv6_counted_len_is missing changed is_too
+          ∙ ap (λ n. if missing then n else 40 + unwrap_or (ip.jumbo_len changed) (ip.payload_len changed)) kept.front.len
+          ∙ ap (λ jumbo. if missing then length packet else 40 + unwrap_or jumbo (ip.payload_len changed)) jumbo
+          ∙ ap (λ len. if missing then length packet else 40 + unwrap_or (ip.jumbo_len packet) len) payload_len
+          ∙ sym (ipv6_counted_len_is missing packet is);
+      header = ipv6_header_refusal_is changed is_too ∙ ap (λ len. by len (ip.jumbo_refusal changed)) kept.front.len
+          ∙ ap (by (length packet)) (rule ∙ sym header.1)
+          ∙ sym (ipv6_header_refusal_is packet is) ∙ (none_first (header_refusal packet) _ accepted).0;
+    }
+
+-- ---- the skipped headers
 
 -- a result without an error
 ok_of : {T E : Type 0} (result : Result T E) → error_of result ≡ None → (value : T) × (result ≡ Ok value)
 ok_of (Ok value) none = (value, refl)
 ok_of (Err error) none = absurd (cc none)
 
--- a fragment header is there
-pub ipv6_room : (packet : List ℕ) → lax_refusal packet ≡ None → version packet ≡ 6 → slice_index packet 6 ≡ 44
-    → 48 ≤ length (counted (lacks_len packet) packet)
-ipv6_room packet accepted is number =
-    let after_header = none_first (header_refusal packet) _ accepted in
-    let read = ok_of (headers_of (lacks_len packet) packet) (none_first (error_of (headers_of (lacks_len packet) packet)) [] after_header.1).0 in
-    fragment_room (lacks_len packet) packet read.0 read.1 is number
+-- the contents of the IPv6 header
+first_is : (packet : List ℕ) → version packet ≡ 6 → first_headers packet ≡ ip.ipv6_headers (ip.is_jumbogram packet) (ip.ipv6_header packet)
+first_is packet is =
+    ap (λ v. if v == 4 then ip.ipv4_headers (ipv4_header_len packet) (ip.ipv4_header packet)
+    else ip.ipv6_headers (ip.is_jumbogram packet) (ip.ipv6_header packet)) is
 
-accepted_by_start : (has : Bool) (packet : List ℕ) (proto : Option Proto) → has ≡ (slice_index packet 6 == 44) → version packet ≡ 6
-    → is_extension (if has then slice_index packet 40 else slice_index packet 6) ≡ false → header_refusal packet ≡ None
-    → (slice_index packet 6 ≡ 44 → 48 ≤ length (counted (lacks_len packet) packet)) → lax_refusal packet ≡ None
-accepted_by_start true packet proto test is known accepted room =
-    let number : slice_index packet 6 ≡ 44 = is_number (slice_index packet 6) 44 (sym test) in
-    ap (λ refusal. first_of (refusal ∷ error_of (headers_of (lacks_len packet) packet) ∷ [])) accepted
-    ∙ ap (λ read. first_of (None ∷ error_of read ∷ [])) (fragment_read (lacks_len packet) packet is number known (room number))
-accepted_by_start false packet proto test is known accepted room =
-    accepted_by packet accepted (ipv6_ended packet is (ap is_extension (ipv6_byte packet 6 (omega arith)) ∙ known))
+abbrev source_of : List ℕ → List ℕ
+source_of packet = slice_range (ip.ipv6_header packet) 8 24
 
-ipv6_lacks_len_is : (packet : List ℕ) (proto : Option Proto) → version packet ≡ 6 → is_extension (ipv6_protocol packet) ≡ false
-    → lacks_len packet ≡ is_none (if ip.payload_len packet == 0 && not (ip.next_header packet == 59) then None else Some (40 + ip.payload_len packet))
-ipv6_lacks_len_is packet proto is known =
-    ap (λ v. is_none (if v == 4 then ip.ipv4_stated_len packet
-    else ip.ipv6_stated_len (ip.jumbo_len packet) (ip.payload_len packet) (ip.next_header packet))) is
-    ∙ ap (λ jumbo. is_none (ip.ipv6_stated_len jumbo (ip.payload_len packet) (ip.next_header packet))) (no_jumbo_len packet (not_options packet known))
+abbrev destination_of : List ℕ → Option (List ℕ)
+destination_of packet = Some (slice_range (ip.ipv6_header packet) 24 40)
 
-ipv6_counted_len_is : (missing : Bool) (packet : List ℕ) (proto : Option Proto) → version packet ≡ 6 → is_extension (ipv6_protocol packet) ≡ false
-    → counted_len missing packet ≡ (if missing then length packet else 40 + ip.payload_len packet)
-ipv6_counted_len_is missing packet proto is known =
-    ap (λ v. if missing then length packet else if v == 4 then ip.total_len packet else 40 + unwrap_or (ip.jumbo_len packet) (ip.payload_len packet)) is
-    ∙ ap (λ jumbo. if missing then length packet else 40 + unwrap_or jumbo (ip.payload_len packet)) (no_jumbo_len packet (not_options packet known))
+first_at : (packet : List ℕ) → version packet ≡ 6
+    → AreAt (source_of packet) (destination_of packet) (only_ipv6_header (slice_index packet 6)) (first_headers packet)
+first_at packet is =
+    subst (AreAt (source_of packet) (destination_of packet) (only_ipv6_header (slice_index packet 6))) (sym (first_is packet is)) (record {
+      addresses = refl;
+      protocol = ap (λ n. record { 0 = n }) (ipv6_byte packet 6 (omega arith));
+      len = refl;
+      later = refl;
+      may = refl;
+    })
 
--- the kept bytes state the same length
-pub record StatesAlike (packet changed : List ℕ) : Type 0 where
-  pub is_ipv6 : version changed ≡ 6
-  pub known : ipv6_protocol changed ≡ ipv6_protocol packet
-  pub lacks : lacks_len changed ≡ lacks_len packet
-  pub counts : (missing : Bool) → counted_len missing changed ≡ counted_len missing packet
+-- the contents of the IPv6 header of a changed packet
+first_between : (packet changed : List ℕ) → version packet ≡ 6 → StatesAlike packet changed
+    → first_headers changed ≡ between (Ipv6 (source_of changed) (destination_of changed)) (first_headers packet)
+first_between packet changed is alike =
+    let by : ℕ → ℕ → Bool → Headers = λ number payload_len is_jumbogram. record {
+      addresses = Ipv6 (source_of changed) (destination_of changed);
+      protocol = record { 0 = number };
+      len = 40;
+      is_fragment = false;
+      is_later_fragment = false;
+      may_be_extended = true;
+      payload_len = payload_len;
+      is_jumbogram = is_jumbogram;
+    } in
+    let payload_len : ip.payload_len changed ≡ ip.payload_len packet = omega (arith, alike.byte 4 (omega arith), alike.byte 5 (omega arith)) in
+    first_is changed alike.is_ipv6
+    ∙ ap (λ number. by number (ip.payload_len changed) (ip.is_jumbogram changed)) (alike.byte 6 (omega arith))
+    ∙ ap (λ len. by (ip.next_header packet) len (ip.is_jumbogram changed)) payload_len
+    ∙ ap (λ jumbo. by (ip.next_header packet) (ip.payload_len packet) (is_some jumbo)) alike.jumbo
+    ∙ ap (between (Ipv6 (source_of changed) (destination_of changed))) (sym (first_is packet is))
 
-pub states_alike : (packet changed : List ℕ) (proto : Option Proto) → IsIpv6Kept packet changed → version packet ≡ 6 → is_extension (ipv6_protocol packet) ≡ false
-    → StatesAlike packet changed
-states_alike packet changed proto kept is number =
-    let is_too : version changed ≡ 6 = ap (λ byte. byte / 16) (kept.front.front 0 (omega arith)) ∙ is in
-    let known : ipv6_protocol changed ≡ ipv6_protocol packet = protocol_kept packet changed kept in
-    let byte : (k : ℕ) → k < 8 → slice_index (ip.ipv6_header changed) k ≡ slice_index (ip.ipv6_header packet) k = λ k before.
-    ipv6_byte changed k (omega (arith, before)) ∙ kept.front.front k before ∙ sym (ipv6_byte packet k (omega (arith, before))) in
-    let payload_len : ip.payload_len changed ≡ ip.payload_len packet = omega (arith, byte 4 (omega arith), byte 5 (omega arith)) in
-    record {
-      is_ipv6 = is_too;
-      known = known;
-      lacks = ipv6_lacks_len_is changed proto is_too (ap is_extension known ∙ number)
-          ∙ ap (λ n. is_none (if n == 0 && not (ip.next_header changed == 59) then None else Some (40 + n))) payload_len
-          ∙ ap (λ number. is_none (if ip.payload_len packet == 0 && not (number == 59) then None else Some (40 + ip.payload_len packet))) (byte 6 (omega arith))
-          ∙ sym (ipv6_lacks_len_is packet proto is number);
-      counts = λ missing.
-          ipv6_counted_len_is missing changed proto is_too (ap is_extension known ∙ number)
-          ∙ ap (λ n. if missing then n else 40 + ip.payload_len changed) kept.front.len ∙ ap (λ n. if missing then length packet else 40 + n) payload_len
-          ∙ sym (ipv6_counted_len_is missing packet proto is number);
-    }
+-- the headers up to the message, also of a changed packet
+pub ipv6_walked : (missing : Bool) (packet changed : List ℕ) (headers : Headers) → version packet ≡ 6 → 40 ≤ length packet
+    → is_extension (ipv6_protocol packet) ≡ false → headers_of missing packet ≡ Ok headers
+    → (len : length changed ≡ length packet) → slice_range changed 40 (ipv6_start packet) ≡ slice_range packet 40 (ipv6_start packet)
+    → AreWalked (counted_len missing packet) packet changed (source_of packet) (source_of changed) (destination_of packet) (destination_of changed) len
+    (suc (length (counted missing packet))) (suc (length packet)) (only_ipv6_header (slice_index packet 6)) (first_headers packet) headers
+ipv6_walked missing packet changed headers is there number read len kept =
+    let at = first_at packet is in
+    let within : 40 ≤ length (counted missing packet) = ipv6_counted_there missing packet is there in
+    walk (counted_len missing packet) packet changed (source_of packet) (source_of changed) (destination_of packet) (destination_of changed) len
+    (suc (length (counted missing packet))) (suc (length packet)) (only_ipv6_header (slice_index packet 6)) (first_headers packet) headers
+    at read (omega (arith, at.len, within)) (omega (arith, at.len)) (omega (arith, at.len)) number kept
+
+-- the headers of the packet itself
+pub ipv6_headers_are : (packet : List ℕ) (found : TransportInIp) (carries : Carries packet found) → version packet ≡ 6 → 40 ≤ length packet
+    → is_extension (ipv6_protocol packet) ≡ false → AreAt (source_of packet) (destination_of packet) (skipped_headers packet) carries.headers
+ipv6_headers_are packet found carries is there number =
+    (ipv6_walked found.is_length_missing packet packet carries.headers is there number carries.read refl refl).at
+
+-- the headers of a changed packet
+pub changed_headers : (missing : Bool) (packet changed : List ℕ) (headers : Headers) (proto : Option Proto) → IsIpv6Kept packet changed → IsIpv6Flow packet proto
+    → headers_of missing packet ≡ Ok headers
+    → (headers_of missing changed ≡ Ok (between (Ipv6 (source_of changed) (destination_of changed)) headers)) × (skipped_headers changed ≡ skipped_headers packet)
+changed_headers missing packet changed headers proto kept flow read =
+    let alike : StatesAlike packet changed = states_alike packet changed kept flow.accepted flow.is_ipv6 in
+    let there : 40 ≤ length packet = ipv6_header_there packet flow.accepted flow.is_ipv6 in
+    let walked = ipv6_walked missing packet changed headers flow.is_ipv6 there flow.number read kept.front.len kept.headers in
+    let c : counted_len missing changed ≡ counted_len missing packet = alike.counts missing in
+    let bytes : counted missing changed ≡ take (counted_len missing packet) changed = ap (λ n. take n changed) c in
+    let len : length (counted missing changed) ≡ length (counted missing packet) =
+    ap length bytes ∙ omega (arith, kept.front.len, length-take (counted_len missing packet) packet, length-take (counted_len missing packet) changed) in (
+      ap (λ bytes. headers_to_transport (suc (length (counted missing changed))) (first_headers changed) bytes) bytes
+          ∙ ap (λ n. headers_to_transport (suc n) (first_headers changed) (take (counted_len missing packet) changed)) len
+          ∙ ap (λ first. headers_to_transport (suc (length (counted missing packet))) first (take (counted_len missing packet) changed))
+          (first_between packet changed flow.is_ipv6 alike)
+          ∙ walked.read,
+      ap (λ n. skip (suc n) (only_ipv6_header (slice_index changed 6)) changed) kept.front.len
+          ∙ ap (λ number. skip (suc (length packet)) (only_ipv6_header number) changed) alike.number ∙ walked.same,
+    )
+
+-- the headers of an accepted packet
+accepted_headers : (packet : List ℕ) → lax_refusal packet ≡ None → (headers : Headers) × (headers_of (lacks_len packet) packet ≡ Ok headers)
+accepted_headers packet accepted =
+    ok_of (headers_of (lacks_len packet) packet) (none_first (error_of (headers_of (lacks_len packet) packet)) [] (none_first (header_refusal packet) _ accepted).1).0
+
+-- the counted bytes contain the headers
+pub ipv6_start_within : (packet : List ℕ) → lax_refusal packet ≡ None → version packet ≡ 6 → is_extension (ipv6_protocol packet) ≡ false
+    → ipv6_start packet ≤ length (counted (lacks_len packet) packet)
+ipv6_start_within packet accepted is number =
+    let read = accepted_headers packet accepted in
+    let walked = ipv6_walked (lacks_len packet) packet packet read.0 is (ipv6_header_there packet accepted is) number read.1 refl refl in
+    omega (arith, walked.within, walked.at.len)
+
+pub skipped_kept : (packet changed : List ℕ) (proto : Option Proto) → IsIpv6Kept packet changed → IsIpv6Flow packet proto → skipped_headers changed ≡ skipped_headers packet
+skipped_kept packet changed proto kept flow =
+    let read = accepted_headers packet flow.accepted in
+    (changed_headers (lacks_len packet) packet changed read.0 proto kept flow read.1).1
+
+pub start_kept : (packet changed : List ℕ) (proto : Option Proto) → IsIpv6Kept packet changed → IsIpv6Flow packet proto → ipv6_start changed ≡ ipv6_start packet
+start_kept packet changed proto kept flow = ap (λ skipped. skipped.len) (skipped_kept packet changed proto kept flow)
+
+pub protocol_kept : (packet changed : List ℕ) (proto : Option Proto) → IsIpv6Kept packet changed → IsIpv6Flow packet proto → ipv6_protocol changed ≡ ipv6_protocol packet
+protocol_kept packet changed proto kept flow = ap (λ skipped. skipped.protocol.0) (skipped_kept packet changed proto kept flow)
 
 pub ipv6_flow_kept : (packet changed : List ℕ) (proto : Option Proto) → IsIpv6Kept packet changed → IsIpv6Flow packet proto → IsIpv6Flow changed proto
 ipv6_flow_kept packet changed proto kept flow =
-    let alike : StatesAlike packet changed = states_alike packet changed proto kept flow.is_ipv6 flow.number in
-    let number : is_extension (ipv6_protocol changed) ≡ false = ap is_extension alike.known ∙ flow.number in
-    let by : ℕ → Option IpError = λ len.
-    if len == 0 then Some (HeaderCutOff 1 0) else first_of (refused_if (nat_lt len 40) (HeaderCutOff 40 len) ∷ None ∷ []) in
-    let header : header_refusal changed ≡ None =
-    ipv6_header_refusal_is changed alike.is_ipv6 (not_options changed number) ∙ ap by kept.front.len
-    ∙ sym (ipv6_header_refusal_is packet flow.is_ipv6 (not_options packet flow.number)) ∙ (none_first (header_refusal packet) _ flow.accepted).0 in
-    let room : slice_index changed 6 ≡ 44 → 48 ≤ length (counted (lacks_len changed) changed) = λ is.
-    omega (
-      arith,
-      ipv6_room packet flow.accepted flow.is_ipv6 (sym (kept.front.front 6 (omega arith)) ∙ is),
-      length-take (counted_len (lacks_len packet) packet) packet,
-      length-take (counted_len (lacks_len changed) changed) changed,
-      ap (λ missing. counted_len missing changed) alike.lacks,
-      alike.counts (lacks_len packet),
-      kept.front.len,
-    ) in
+    let alike : StatesAlike packet changed = states_alike packet changed kept flow.accepted flow.is_ipv6 in
+    let read = accepted_headers packet flow.accepted in
+    let headers = changed_headers (lacks_len packet) packet changed read.0 proto kept flow read.1 in
     record {
-      accepted = accepted_by_start (ipv6_has_fragment_header changed) changed proto refl alike.is_ipv6 number header room;
+      accepted = ap (λ refusal. first_of (refusal ∷ error_of (headers_of (lacks_len changed) changed) ∷ [])) alike.header
+          ∙ ap (λ missing. first_of (None ∷ error_of (headers_of missing changed) ∷ [])) alike.lacks
+          ∙ ap (λ read. first_of (None ∷ error_of read ∷ [])) headers.0;
       is_ipv6 = alike.is_ipv6;
-      number = number;
-      there = omega (arith, kept.front.len, start_kept packet changed kept, flow.there);
+      number = ap is_extension (protocol_kept packet changed proto kept flow) ∙ flow.number;
+      there = omega (arith, kept.front.len, start_kept packet changed proto kept flow, flow.there);
     }
 
 pub ipv6_reading : (packet changed source destination message : List ℕ) (proto : Option Proto) → IsIpv6Kept packet changed → IsIpv6Flow packet proto
@@ -646,45 +843,79 @@ pub ipv6_reading : (packet changed source destination message : List ℕ) (proto
     → IsReadWith packet changed (Ipv6 source (Some destination)) message
 ipv6_reading packet changed source destination message proto kept flow source_is destination_is message_is same within =
     let flow_too : IsIpv6Flow changed proto = ipv6_flow_kept packet changed proto kept flow in
-    let alike : StatesAlike packet changed = states_alike packet changed proto kept flow.is_ipv6 flow.number in
-    let has : Bool = ipv6_has_fragment_header packet in
-    let next : slice_index changed 6 ≡ slice_index packet 6 = kept.front.front 6 (omega arith) in
-    let start : ipv6_start changed ≡ ipv6_start packet = start_kept packet changed kept in
-    let bytes : List ℕ = slice_range packet 40 48 in
-    let bytes_too : List ℕ = slice_range changed 40 48 in
-    let is_later : List ℕ → Bool = λ bytes. not (fragment_offset bytes == 0) in
-    let later : (has && is_later bytes_too) ≡ (has && is_later bytes) = fragment_kept has is_later packet changed kept refl in
-    let more : (has && flag bytes_too 3 1) ≡ (has && flag bytes 3 1) = fragment_kept has (λ bytes. flag bytes 3 1) packet changed kept refl in
+    let alike : StatesAlike packet changed = states_alike packet changed kept flow.accepted flow.is_ipv6 in
+    let there : 40 ≤ length packet = ipv6_header_there packet flow.accepted flow.is_ipv6 in
+    let addresses : Addresses = Ipv6 (source_of changed) (destination_of changed) in
     record {
       accepted = flow_too.accepted;
       found = λ was found carries missing carries_too missing_too.
-          let headers = ipv6_headers_are packet was carries flow.is_ipv6 flow.number in
-          let headers_too = ipv6_headers_are changed found carries_too flow_too.is_ipv6 flow_too.number in
           let missing_is : found.is_length_missing ≡ was.is_length_missing = missing_too ∙ alike.lacks ∙ sym missing in
+          let headers_is : carries_too.headers ≡ between addresses carries.headers =
+          read_once (headers_of found.is_length_missing changed) carries_too.headers (between addresses carries.headers) carries_too.read
+          (ap (λ missing. headers_of missing changed) missing_is
+          ∙ (changed_headers was.is_length_missing packet changed carries.headers proto kept flow carries.read).0) in
+          let start : carries.headers.len ≡ ipv6_start packet = (ipv6_headers_are packet was carries flow.is_ipv6 there flow.number).len in
+          let start_too : carries_too.headers.len ≡ ipv6_start packet = ap (λ headers. headers.len) headers_is ∙ start in
           record {
-            addresses = carries_too.addresses ∙ headers_too.addresses
+            addresses = carries_too.addresses ∙ ap (λ headers. headers.addresses) headers_is
                 ∙ ap (λ source. Ipv6 source (Some (slice_range (ip.ipv6_header changed) 24 40))) (in_front 40 8 16 changed (omega arith) ∙ source_is)
                 ∙ ap (λ destination. Ipv6 source (Some destination)) (in_front 40 24 16 changed (omega arith) ∙ destination_is);
-            protocol = carries_too.protocol ∙ headers_too.protocol ∙ ap (λ n. record { 0 = n }) alike.known
-                ∙ sym (carries.protocol ∙ headers.protocol);
-            payload = carries_too.payload ∙ ap (λ len. drop len (counted found.is_length_missing changed)) (headers_too.len ∙ start)
+            protocol = carries_too.protocol ∙ ap (λ headers. headers.protocol) headers_is ∙ sym carries.protocol;
+            payload = carries_too.payload ∙ ap (λ len. drop len (counted found.is_length_missing changed)) start_too
                 ∙ ap (λ missing. drop (ipv6_start packet) (counted missing changed)) (missing_too ∙ alike.lacks)
                 ∙ ap (λ n. drop (ipv6_start packet) (take n changed)) (alike.counts (lacks_len packet))
                 ∙ message_kept (ipv6_start packet) (counted_len (lacks_len packet) packet) packet changed message message_is same within flow.there;
-            payload_offset = carries_too.payload_offset ∙ headers_too.len ∙ start ∙ sym (carries.payload_offset ∙ headers.len);
-            is_fragment = carries_too.is_fragment ∙ headers_too.is_fragment
-                ∙ ap (λ n. (n == 44 && is_later bytes_too) || (n == 44 && flag bytes_too 3 1)) next
-                ∙ ap (λ b. b || (has && flag bytes_too 3 1)) later ∙ ap (λ b. (has && is_later bytes) || b) more
-                ∙ sym (carries.is_fragment ∙ headers.is_fragment);
-            is_later_fragment = carries_too.is_later_fragment ∙ headers_too.is_later_fragment
-                ∙ ap (λ n. n == 44 && is_later bytes_too) next ∙ later
-                ∙ sym (carries.is_later_fragment ∙ headers.is_later_fragment);
+            payload_offset = carries_too.payload_offset ∙ start_too ∙ sym (carries.payload_offset ∙ start);
+            is_fragment = carries_too.is_fragment ∙ ap (λ headers. headers.is_fragment) headers_is ∙ sym carries.is_fragment;
+            is_later_fragment = carries_too.is_later_fragment ∙ ap (λ headers. headers.is_later_fragment) headers_is ∙ sym carries.is_later_fragment;
             is_cut_off = carries_too.is_cut_off ∙ ap (λ missing. ip.is_cut_off missing changed) missing_is
                 ∙ ap (λ n. nat_lt (length changed) n) (alike.counts was.is_length_missing)
                 ∙ ap (λ len. nat_lt len (counted_len was.is_length_missing packet)) kept.front.len
                 ∙ sym carries.is_cut_off;
             is_length_missing = missing_is;
           };
+    }
+
+-- ---- the place of a message
+
+-- an accepted packet and the protocol after its headers
+pub record IsIpv6Found (packet : List ℕ) (found : TransportInIp) (proto : Option Proto) : Type 0 where
+  pub begins : BeginsWithIpv6Header packet
+  pub carries : Carries packet found
+  pub missing : found.is_length_missing ≡ lacks_len packet
+  pub after : IsAfterHeaders packet found
+  pub known : proto ≡ proto_over (by_value found.addresses) (ipv6_protocol packet)
+  pub has_port : Bool
+  pub accepted : (is_none proto && (has_port || covers_ipv6_addresses (ipv6_protocol packet))) ≡ false
+
+pub ipv6_place_is : (packet : List ℕ) (found : TransportInIp) (proto : Option Proto) (place : Place) → IsIpv6Found packet found proto
+    → place.start ≡ ipv6_start packet → place.end ≡ place.start + length found.payload.now → place.proto ≡ proto
+    → place.is_later_fragment ≡ ipv6_is_later_fragment packet → IsIpv6Place packet place
+ipv6_place_is packet found proto place at start end is later =
+    let known : proto ≡ proto_over (Ipv6 [] None) (ipv6_protocol packet) =
+    at.known ∙ ap (λ addresses. proto_over addresses (ipv6_protocol packet)) (over_ipv6_addresses packet found at.after at.begins.is_version_6) in
+    let headers = ipv6_headers_are packet found at.carries at.begins.is_version_6 at.begins.whole
+    (ipv6_accepts at.has_port [] None (ipv6_protocol packet) proto known at.accepted) in
+    let len : at.carries.headers.len ≡ place.start = headers.len ∙ sym start in
+    record {
+      is_ipv6 = at.begins.is_version_6;
+      start = start;
+      message = ap (slice_range packet place.start) end ∙ message_range place.start packet found at.carries len at.missing
+          ∙ ap (λ n. counted_after false n packet) start;
+      header = omega (arith, start, ipv6_after packet);
+      even = ap (λ n. n % 2) start ∙ ipv6_even packet;
+      ordered = omega (arith, end);
+      there = omega (
+        arith,
+        end,
+        len,
+        ap length at.carries.payload,
+        length-drop at.carries.headers.len (counted found.is_length_missing packet),
+        at.carries.within,
+        length-take (counted_len found.is_length_missing packet) packet,
+      );
+      proto = is ∙ known;
+      later = later;
     }
 
 -- ---- a translated IPv6 packet
@@ -717,8 +948,8 @@ module _ (start : ℕ) (source destination message packet : List ℕ) (after : 4
       drop_after 24 destination ipv6_source_in ipv6_destination_there n (omega (arith, behind, sixteen_too))
       ∙ drop_after 8 source ipv6_message_in ipv6_source_there n (omega (arith, behind, sixteen))
 
-  pub ipv6_parts_kept : (slice_index packet 6 ≡ 44 → 48 ≤ start) → IsIpv6Kept packet ipv6_parts
-  ipv6_parts_kept room =
+  pub ipv6_parts_kept : start ≡ ipv6_start packet → IsIpv6Kept packet ipv6_parts
+  ipv6_parts_kept is =
       record {
         front = record {
           len = length_kept 24 destination ipv6_source_in ipv6_destination_there ∙ ipv6_source_len;
@@ -727,7 +958,8 @@ module _ (start : ℕ) (source destination message packet : List ℕ) (after : 4
               ∙ index_before 8 source ipv6_message_in ipv6_source_there k within
               ∙ index_before start message packet there k (omega (arith, after, within));
         };
-        fragment = λ number. ap (take 8) (ipv6_parts_after 40 (omega arith)) ∙ range_before start message packet there 40 8 (room number);
+        headers = ap (take (ipv6_start packet - 40)) (ipv6_parts_after 40 (omega arith))
+            ∙ range_before start message packet there 40 (ipv6_start packet - 40) (omega (arith, after, is));
       }
 
   pub ipv6_parts_source : slice_range ipv6_parts 8 24 ≡ source
@@ -757,25 +989,14 @@ ipv6_flow_of has_port packet place found at =
       there = omega (arith, at.start, at.ordered, at.there);
     }
 
-counted_within : (missing : Bool) (len payload_len : ℕ) → 40 ≤ len → 40 ≤ (if missing then len else 40 + payload_len)
-counted_within true len payload_len there = there
-counted_within false len payload_len there = omega arith
-
-within_by_start : (has : Bool) (n : ℕ) → 40 ≤ n → (has ≡ true → 48 ≤ n) → (if has then 48 else 40) ≤ n
-within_by_start true n within room = room refl
-within_by_start false n within room = within
-
 -- the counted bytes contain the headers
-pub ipv6_within : (packet : List ℕ) (proto : Option Proto) → IsIpv6Flow packet proto → 40 ≤ length packet → ipv6_start packet ≤ counted_len (lacks_len packet) packet
-ipv6_within packet proto flow there =
-    within_by_start (ipv6_has_fragment_header packet) (counted_len (lacks_len packet) packet)
-    (subst (λ n. 40 ≤ n) (sym (ipv6_counted_len_is (lacks_len packet) packet proto flow.is_ipv6 flow.number))
-    (counted_within (lacks_len packet) (length packet) (ip.payload_len packet) there))
-    (λ is. omega (
+pub ipv6_within : (packet : List ℕ) (proto : Option Proto) → IsIpv6Flow packet proto → ipv6_start packet ≤ counted_len (lacks_len packet) packet
+ipv6_within packet proto flow =
+    omega (
       arith,
-      ipv6_room packet flow.accepted flow.is_ipv6 (is_number (slice_index packet 6) 44 is),
+      ipv6_start_within packet flow.accepted flow.is_ipv6 flow.number,
       length-take (counted_len (lacks_len packet) packet) packet,
-    ))
+    )
 
 pub ipv6_read : (has_port : Bool) (new : Ipv6Translation) (packet changed message : List ℕ) (place : Place) → ipv6_place_refusal has_port packet ≡ None → IsIpv6Place packet place
     → AreIpv6Addresses (ipv6_addresses new packet) → length message ≡ length (message_in_ipv6 packet) → changed ≡ ipv6_with_message new message packet
@@ -789,11 +1010,10 @@ ipv6_read has_port new packet changed message place found at four same is =
     let after : 40 ≤ start = omega (arith, at.start, at.header) in
     let there : start + length message ≤ length packet =
     omega (arith, same, flow.there, length-drop start (take n packet), length-take n packet) in
-    let room : slice_index packet 6 ≡ 44 → 48 ≤ start = λ number. omega (arith, ap {B = ℕ} (λ n. if n == 44 then 48 else 40) number) in
     subst (λ changed. IsReadWith packet changed (ipv6_between new packet) message) (sym is)
     (ipv6_reading packet _ source destination message place.proto
-    (ipv6_parts_kept start source destination message packet after four.source four.destination there room) flow
+    (ipv6_parts_kept start source destination message packet after four.source four.destination there refl) flow
     (ipv6_parts_source start source destination message packet after four.source four.destination there)
     (ipv6_parts_destination start source destination message packet after four.source four.destination there)
     (ipv6_parts_message start source destination message packet after four.source four.destination there)
-    same (ipv6_within packet place.proto flow (omega (arith, after, flow.there))))
+    same (ipv6_within packet place.proto flow))

@@ -20,7 +20,7 @@ use Rattle.net_base.specs.PseudoHeader.{ipv4_pseudo_header, ipv6_pseudo_header}
 use Rattle.net_base.specs.declared.ipv4_header.Ipv4Header.{Ipv4Header}
 use Rattle.net_base.specs.declared.ipv6_header.Ipv6Header.{Ipv6Header}
 use Rattle.word_sum.specs.UpdatedChecksum.{TurnsIntoBy, updated_checksum_of}
-use Rattle.etherparse_transport.specs.Ipv4Translations.{AreIpv4Addresses, IsHeaderAccepted, IsIpv4Accepted, IsIpv4Place, ipv4_addresses, ipv4_flow_message, ipv4_is_later_fragment, ipv4_quoted, ipv4_pseudo_header_of, sum_of_ipv4, IsIpv4ErrorAccepted, ipv4_proto, message_in_ipv4}
+use Rattle.etherparse_transport.specs.Ipv4Translations.{AreIpv4Addresses, IsAcceptedByIpv4, IsHeaderAccepted, IsIpv4Accepted, IsIpv4Place, ipv4_addresses, ipv4_flow_message, ipv4_is_later_fragment, ipv4_quoted, ipv4_pseudo_header_of, sum_of_ipv4, IsIpv4ErrorAccepted, ipv4_proto, message_in_ipv4}
 use Rattle.etherparse_transport.specs.Ipv6Translations.{AreIpv6Addresses, IsIpv6Accepted, IsIpv6Place, ipv6_addresses, ipv6_flow_message, ipv6_is_later_fragment, ipv6_proto, ipv6_quoted, ipv6_pseudo_header_of, message_in_ipv6, sum_of_ipv6, IsIpv6ErrorAccepted}
 use Rattle.etherparse_transport.specs.Translations.{AreUpdatedAlike, HaveSums, IsAcceptedAlike, IsUpdated, least_summed, translated_in, translated_message, translated_udp, is_query, is_reply, is_request, number, rest_of_message, quoted_by, quoted_in, with_bytes, with_number}
 use Rattle.etherparse_transport.specs.declared.ip.ipv4_translation.Ipv4Translation.{Ipv4Translation}
@@ -409,16 +409,15 @@ translated_known is_later_fragment known proto removed added source destination 
 pub range_len : (from n : ℕ) (packet : List ℕ) → from + n ≤ length packet → length (take n (drop from packet)) ≡ n
 range_len from n packet there = length-take-le n (drop from packet) (omega (arith, there, length-drop from packet))
 
-pub ipv4_verifies : (new : Ipv4Translation) (packet bytes translated : List ℕ) (place : Place) (removed added : ℕ)
-    → IsIpv4Place packet place → bytes ≡ message_in_ipv4 packet → translated ≡ ipv4_flow_message new packet
+pub ipv4_verifies : (new : Ipv4Translation) (packet message translated : List ℕ) (place : Place) (removed added : ℕ)
+    → IsIpv4Place message packet place → translated ≡ ipv4_flow_message new message packet
     → removed ≡ sum_of_ipv4 (ipv4_header_of packet) → added ≡ sum_of_ipv4 (ipv4_addresses new packet) → AreIpv4Addresses (ipv4_addresses new packet)
     → (place.is_later_fragment ≡ false → (proto : Proto) → place.proto ≡ Some proto → (before after : ℕ) → HaveSums proto removed added before after
-    → IsUpdated proto bytes → IsAcceptedAlike before after bytes translated)
-    → IsIpv4Accepted new packet (ipv4_flow_message new packet)
-ipv4_verifies new packet bytes translated place removed added at bytes_is translated_is removed_is added_is four alike = λ proto known later updated.
+    → IsUpdated proto message → IsAcceptedAlike before after message translated)
+    → IsAcceptedByIpv4 new message packet (ipv4_flow_message new message packet)
+ipv4_verifies new packet message translated place removed added at translated_is removed_is added_is four alike = λ proto known later updated.
     let old : Ipv4Header = ipv4_header_of packet in
-    let message : List ℕ = message_in_ipv4 packet in
-    let to : List ℕ = ipv4_flow_message new packet in
+    let to : List ℕ = ipv4_flow_message new message packet in
     let old_four : AreIpv4Addresses old = record {
       source = range_len 12 4 packet (omega (arith, at.header, at.ordered, at.there));
       destination = range_len 16 4 packet (omega (arith, at.header, at.ordered, at.there));
@@ -430,16 +429,16 @@ ipv4_verifies new packet bytes translated place removed added at bytes_is transl
     let alike_too : (before after : ℕ) → HaveSums proto (sum_of_ipv4 old) (sum_of_ipv4 (ipv4_addresses new packet)) before after → IsUpdated proto message
     → IsAcceptedAlike before after message to = λ before after have updated.
     subst (IsAcceptedAlike before after message) translated_is
-    (subst (λ bytes. IsAcceptedAlike before after bytes translated) bytes_is (alike (at.later ∙ later) proto (at.proto ∙ known) before after
+    (alike (at.later ∙ later) proto (at.proto ∙ known) before after
     (subst (λ removed. HaveSums proto removed added before after) (sym removed_is)
-    (subst (λ added. HaveSums proto (sum_of_ipv4 old) added before after) (sym added_is) have)) (subst (IsUpdated proto) (sym bytes_is) updated))) in
+    (subst (λ added. HaveSums proto (sum_of_ipv4 old) added before after) (sym added_is) have)) updated) in
     let flow : to ≡ translated_message proto (sum_of_ipv4 old) (sum_of_ipv4 (ipv4_addresses new packet)) new.source_port new.destination_port message =
     translated_known (ipv4_is_later_fragment packet) (ipv4_proto packet) proto _ _ new.source_port new.destination_port message known later in
     record {
       whole = alike_too (before (length message)) (after (length message)) (sums (length message)) updated;
       received = λ len count missing least.
           alike_by_proto proto _ _ (before len) (after len) count new.source_port new.destination_port message to missing (sums len) updated
-          (ipv4_flow_message_len new packet) flow alike_too least;
+          (ipv4_flow_message_len new message packet) flow alike_too least;
     }
 
 -- ---- a receiver's check of a translated IPv6 packet
@@ -541,7 +540,7 @@ no_quote protos.Icmpv6 message updated = icmpv6_none message (icmpv6_type messag
 
 pub ipv4_accepted : (new : Ipv4Translation) (packet quoted translated : List ℕ) → ipv4_quoted packet ≡ Some quoted → IsIpv4Accepted new packet translated
 ipv4_accepted new packet quoted translated quotes = λ proto known later updated.
-    let message : List ℕ = message_in_ipv4 packet in
+    let message : List ℕ = message_in_ipv4 false packet in
     let none : ipv4_quoted packet ≡ None =
     ap (λ proto. quoted_in (ipv4_is_later_fragment packet) proto message) known ∙ ap (λ later. quoted_in later (Some proto) message) later
     ∙ no_quote proto message updated in
@@ -573,11 +572,11 @@ quotes_some false (Some protos.Tcp) message quoted other quotes = absurd (cc quo
 quotes_some false (Some protos.Icmpv4) message quoted other quotes = λ zero. absurd (cc (icmpv4_zero message zero, quotes))
 quotes_some false (Some protos.Icmpv6) message quoted other quotes = absurd (other refl)
 
-pub ipv4_error_accepted : (packet quoted translated : List ℕ) → ipv4_quoted packet ≡ Some quoted → length translated ≡ length (message_in_ipv4 packet)
-    → (slice_index (message_in_ipv4 packet) 0 ≢ 0 → (sum : ℕ) → IsAcceptedAlike sum sum (message_in_ipv4 packet) translated)
+pub ipv4_error_accepted : (packet quoted translated : List ℕ) → ipv4_quoted packet ≡ Some quoted → length translated ≡ length (message_in_ipv4 false packet)
+    → (slice_index (message_in_ipv4 false packet) 0 ≢ 0 → (sum : ℕ) → IsAcceptedAlike sum sum (message_in_ipv4 false packet) translated)
     → IsIpv4ErrorAccepted packet translated
 ipv4_error_accepted packet quoted translated quotes len accepted = λ other is.
-    let message : List ℕ = message_in_ipv4 packet in
+    let message : List ℕ = message_in_ipv4 false packet in
     let alike : (sum : ℕ) → IsAcceptedAlike sum sum message translated =
     accepted (quotes_some (ipv4_is_later_fragment packet) (ipv4_proto packet) message quoted (no_icmpv6 _ _ _) quotes) in
     record {
@@ -791,13 +790,13 @@ pub not_zero_by : (byte version : ℕ) → byte / 16 ≡ suc version → byte �
 not_zero_by byte version is none = absurd (omega (arith, is, none))
 
 -- the header in front of another message
-pub header_in_front : (packet changed message : List ℕ) (place : Place) → IsIpv4Place packet place
+pub header_in_front : (packet changed message found : List ℕ) (place : Place) → IsIpv4Place found packet place
     → (20 ≤ ipv4_header_len (put_mid place.start (place.end - place.start) packet message)
     → ipv4_header_len (put_mid place.start (place.end - place.start) packet message) ≤ length (put_mid place.start (place.end - place.start) packet message)
     → IsHeaderAccepted (put_mid place.start (place.end - place.start) packet message) changed)
     → length (put_mid place.start (place.end - place.start) packet message) ≡ length packet
     → IsHeaderAccepted packet changed
-header_in_front packet changed message place at accepted same =
+header_in_front packet changed message found place at accepted same =
     let between : List ℕ = put_mid place.start (place.end - place.start) packet message in
     let there : place.start ≤ length packet = omega (arith, at.ordered, at.there) in
     let front : take place.start between ≡ take place.start packet = take_put place.start (place.end - place.start) packet message there in
@@ -869,11 +868,6 @@ ipv6_header_put start n packet message after there =
     let front : take start changed ≡ take start packet = take_put start n packet message there in
     ap (λ source. record { source = source; destination = slice_range changed 24 40 }) (same_range 8 16 start packet changed front (omega (arith, after)))
     ∙ ap (λ destination. record { source = slice_range packet 8 24; destination = destination }) (same_range 24 16 start packet changed front (omega (arith, after)))
-
--- with a fragment header or without one, the message begins at an even place
-pub start_even : (has_fragment_header : Bool) → (if has_fragment_header then 48 else 40) % 2 ≡ 0
-start_even true = refl
-start_even false = refl
 
 -- ---- the checksum of an ICMP error
 

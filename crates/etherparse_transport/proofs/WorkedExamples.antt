@@ -11,9 +11,13 @@ use Rattle.net_base.specs.declared.err.tcp.header_error.HeaderError.TheVariants.
 use Rattle.net_base.specs.declared.err.tcp.header_slice_error.HeaderSliceError.TheVariants.{Len, Content}
 use Rattle.word_sum.specs.Checksum.{folded}
 use Rattle.etherparse_transport.specs.EchoReplies.{answer_refusal, reply}
-use Rattle.etherparse_transport.specs.Ipv4Translations.{ipv4_translated}
+use Rattle.etherparse_transport.specs.Ipv4Translations.{ipv4_refusal, ipv4_translated}
+use Rattle.etherparse_transport.specs.Ipv6Translations.{ipv6_refusal, ipv6_translated}
+use Rattle.etherparse_transport.specs.SkippedHeaders.{skip}
 use Rattle.etherparse_transport.specs.WaysBack.{ipv4_way_back}
+use Rattle.etherparse_transport.specs.declared.err.packet.translate_error.TranslateError.TheVariants.{Protocol}
 use Rattle.etherparse_transport.specs.declared.ip.ipv4_translation.Ipv4Translation.{Ipv4Translation}
+use Rattle.etherparse_transport.specs.declared.ip.ipv6_translation.Ipv6Translation.{Ipv6Translation}
 use Rattle.etherparse_transport.specs.Formats.{canonical, refusal}
 use Rattle.transport_part.specs.Layouts.{layout_of}
 
@@ -162,3 +166,65 @@ error_restored = refl
 router_lost : slice_range (there_and_back (time_exceeded 1)) 12 16 ≡ 192 ∷ 168 ∷ 1 ∷ 2 ∷ []
 unfolding there_and_back folded
 router_lost = refl
+
+-- ---- a quoted packet whose total length leaves out the header
+
+-- A port unreachable message of 192.168.1.2, as a host that follows BSD sends it. The packet that it quotes went from port 53 of 198.51.100.7
+-- to port 5000. The total length of this packet is 8, which is below the length of its header.
+abbrev quoted_by_bsd : List ℕ
+quoted_by_bsd =
+    0x45 ∷ 0 ∷ 0 ∷ 0x38 ∷ 0x12 ∷ 0x34 ∷ 0 ∷ 0 ∷ 0x40 ∷ 1 ∷ 0x7C ∷ 0xAC ∷ 0xC0 ∷ 0xA8 ∷ 1 ∷ 2 ∷ 0xC6 ∷ 0x33 ∷ 0x64 ∷ 7 ∷ 3 ∷ 3 ∷ 0xE8 ∷
+    0xFB ∷ 0 ∷ 0 ∷ 0 ∷ 0 ∷ 0x45 ∷ 0 ∷ 0 ∷ 8 ∷ 0x12 ∷ 0x34 ∷ 0 ∷ 0 ∷ 1 ∷ 0x11 ∷ 0xBB ∷ 0xCC ∷ 0xC6 ∷ 0x33 ∷ 0x64 ∷ 7 ∷ 0xC0 ∷ 0xA8 ∷ 1 ∷
+    2 ∷ 0 ∷ 0x35 ∷ 0x13 ∷ 0x88 ∷ 0 ∷ 8 ∷ 0 ∷ 0x3C ∷ []
+
+quoted_by_bsd_accepted : ipv4_refusal other_source quoted_by_bsd ≡ None
+unfolding headers_to_transport options_within
+quoted_by_bsd_accepted = refl
+
+-- the quoted packet now went to port 40000 of 203.0.113.7, and its checksums are right
+quoted_by_bsd_translated : ipv4_translated other_source quoted_by_bsd ≡
+    0x45 ∷ 0 ∷ 0 ∷ 0x38 ∷ 0x12 ∷ 0x34 ∷ 0 ∷ 0 ∷ 0x40 ∷ 1 ∷ 2 ∷ 0x4F ∷ 0xCB ∷ 0 ∷ 0x71 ∷ 7 ∷ 0xC6 ∷ 0x33 ∷ 0x64 ∷ 7 ∷ 3 ∷ 3 ∷ 0x63 ∷
+    0x59 ∷ 0 ∷ 0 ∷ 0 ∷ 0 ∷ 0x45 ∷ 0 ∷ 0 ∷ 8 ∷ 0x12 ∷ 0x34 ∷ 0 ∷ 0 ∷ 1 ∷ 0x11 ∷ 0x41 ∷ 0x6F ∷ 0xC6 ∷ 0x33 ∷ 0x64 ∷ 7 ∷ 0xCB ∷ 0 ∷ 0x71 ∷
+    7 ∷ 0xC3 ∷ 0x50 ∷ 0x9C ∷ 0x40 ∷ 0 ∷ 8 ∷ 0x3A ∷ 0x0A ∷ []
+unfolding folded
+quoted_by_bsd_translated = refl
+
+-- ---- extension headers of IPv6
+
+-- to another source and port
+abbrev other_ipv6_source : Ipv6Translation
+other_ipv6_source = record {
+  source = Some (0x20 ∷ 1 ∷ 0x0D ∷ 0xB8 ∷ 0 ∷ 1 ∷ 0 ∷ 0 ∷ 0 ∷ 0 ∷ 0 ∷ 0 ∷ 0 ∷ 0 ∷ 0 ∷ 7 ∷ []);
+  destination = None;
+  source_port = Some 40000;
+  destination_port = None;
+}
+
+-- UDP behind hop-by-hop options and destination options
+abbrev behind_options : List ℕ
+behind_options =
+    0x60 ∷ 1 ∷ 0x23 ∷ 0x45 ∷ 0 ∷ 0x18 ∷ 0 ∷ 0x40 ∷ 0xFD ∷ 0 ∷ 0 ∷ 0 ∷ 0 ∷ 0 ∷ 0 ∷ 0 ∷ 0 ∷ 0 ∷ 0 ∷ 0 ∷ 0 ∷ 0 ∷ 0 ∷ 2 ∷ 0x20 ∷ 1 ∷ 0x0D ∷
+    0xB8 ∷ 0 ∷ 2 ∷ 0 ∷ 0 ∷ 0 ∷ 0 ∷ 0 ∷ 0 ∷ 0 ∷ 0 ∷ 0 ∷ 9 ∷ 0x3C ∷ 0 ∷ 1 ∷ 4 ∷ 0 ∷ 0 ∷ 0 ∷ 0 ∷ 0x11 ∷ 0 ∷ 1 ∷ 4 ∷ 0 ∷ 0 ∷ 0 ∷ 0 ∷ 0x13 ∷
+    0x88 ∷ 0 ∷ 0x35 ∷ 0 ∷ 8 ∷ 0xC1 ∷ 0x5A ∷ []
+
+behind_options_accepted : ipv6_refusal other_ipv6_source behind_options ≡ None
+unfolding headers_to_transport options_within skip
+behind_options_accepted = refl
+
+behind_options_translated : ipv6_translated other_ipv6_source behind_options ≡
+    0x60 ∷ 1 ∷ 0x23 ∷ 0x45 ∷ 0 ∷ 0x18 ∷ 0 ∷ 0x40 ∷ 0x20 ∷ 1 ∷ 0x0D ∷ 0xB8 ∷ 0 ∷ 1 ∷ 0 ∷ 0 ∷ 0 ∷ 0 ∷ 0 ∷ 0 ∷ 0 ∷ 0 ∷ 0 ∷ 7 ∷ 0x20 ∷ 1 ∷
+    0x0D ∷ 0xB8 ∷ 0 ∷ 2 ∷ 0 ∷ 0 ∷ 0 ∷ 0 ∷ 0 ∷ 0 ∷ 0 ∷ 0 ∷ 0 ∷ 9 ∷ 0x3C ∷ 0 ∷ 1 ∷ 4 ∷ 0 ∷ 0 ∷ 0 ∷ 0 ∷ 0x11 ∷ 0 ∷ 1 ∷ 4 ∷ 0 ∷ 0 ∷ 0 ∷ 0 ∷
+    0x9C ∷ 0x40 ∷ 0 ∷ 0x35 ∷ 0 ∷ 8 ∷ 7 ∷ 0xE4 ∷ []
+unfolding folded options_within skip
+behind_options_translated = refl
+
+-- UDP behind destination options with a home address, option 0xC9
+abbrev behind_home_address : List ℕ
+behind_home_address =
+    0x60 ∷ 1 ∷ 0x23 ∷ 0x45 ∷ 0 ∷ 0x20 ∷ 0x3C ∷ 0x40 ∷ 0xFD ∷ 0 ∷ 0 ∷ 0 ∷ 0 ∷ 0 ∷ 0 ∷ 0 ∷ 0 ∷ 0 ∷ 0 ∷ 0 ∷ 0 ∷ 0 ∷ 0 ∷ 2 ∷ 0x20 ∷ 1 ∷
+    0x0D ∷ 0xB8 ∷ 0 ∷ 2 ∷ 0 ∷ 0 ∷ 0 ∷ 0 ∷ 0 ∷ 0 ∷ 0 ∷ 0 ∷ 0 ∷ 9 ∷ 0x11 ∷ 2 ∷ 1 ∷ 2 ∷ 0 ∷ 0 ∷ 0xC9 ∷ 0x10 ∷ 0x20 ∷ 1 ∷ 0x0D ∷ 0xB8 ∷ 0 ∷
+    4 ∷ 0 ∷ 0 ∷ 0 ∷ 0 ∷ 0 ∷ 0 ∷ 0 ∷ 0 ∷ 0 ∷ 4 ∷ 0x13 ∷ 0x88 ∷ 0 ∷ 0x35 ∷ 0 ∷ 8 ∷ 0xC1 ∷ 0x5A ∷ []
+
+home_address_refused : ipv6_refusal other_ipv6_source behind_home_address ≡ Some (Protocol (record { 0 = 60 }))
+unfolding headers_to_transport options_within skip
+home_address_refused = refl

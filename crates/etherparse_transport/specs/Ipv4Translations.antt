@@ -1,6 +1,6 @@
 -- The translation of an IPv4 packet, as an address translator makes it (RFC 3022; RFC 5508 for ICMP): new addresses, the checksum of the
 -- header updated by them (RFC 1624), and the translated message.
-use Rattle.std.specs.Prelude.{◌≡◌, ◌≤◌, ◌↔◌, ℕ, ◌+◌, ◌==◌, ◌&&◌, ◌||◌, Bool, false, is_none, not, List, [], ◌∷◌, drop, length, slice_index, slice_range, take, Option, Some, None, unwrap_or}
+use Rattle.std.specs.Prelude.{◌≡◌, ◌≤◌, ◌↔◌, ℕ, ◌+◌, ◌==◌, ◌&&◌, ◌||◌, Bool, false, true, is_none, not, List, [], ◌∷◌, drop, length, slice_index, slice_range, take, Option, Some, None, unwrap_or}
 use Rattle.std.specs.Int.{to_be_bytes, w16}
 use Rattle.std.specs.Borrow.{Bor}
 use Rattle.std.specs.Option.{option_map}
@@ -8,6 +8,7 @@ use Rattle.ip_part.specs.Addresses.{Addresses, Ipv4}
 use Rattle.ip_part.specs.ExtensionHeaders.{authentication, host_identity}
 use Rattle.ip_part.specs.Ip as ip
 use Rattle.ip_part.specs.Protocols.{proto_over}
+use Rattle.ip_part.specs.declared.ip_error.IpError.{IpError}
 use Rattle.ip_part.specs.declared.proto.Proto.{Proto}
 use Rattle.ip_part.specs.declared.proto.Proto.TheVariants as protos
 use Rattle.net_base.specs.IpHeaders.{ipv4_fragment_offset, ipv4_header_len, ipv4_header_of, version}
@@ -76,23 +77,24 @@ ipv4_addresses new packet = record {
 abbrev pub ipv4_is_later_fragment : List ℕ → Bool
 ipv4_is_later_fragment packet = not (ipv4_fragment_offset packet == 0)
 
--- the message of an IPv4 packet, which begins after its header, options included
-abbrev pub message_in_ipv4 : List ℕ → List ℕ
-message_in_ipv4 packet = counted_after (ipv4_header_len packet) packet
+-- The message of an IPv4 packet, which begins after its header, options included. A packet that an ICMP error quotes extends to the end of
+-- the quote, whatever its total length is: some hosts quote it without the length of the header.
+abbrev pub message_in_ipv4 : Bool → List ℕ → List ℕ
+message_in_ipv4 is_quoted packet = counted_after is_quoted (ipv4_header_len packet) packet
 
--- the message of an IPv4 packet with new ports
-abbrev pub ipv4_flow_message : Ipv4Translation → List ℕ → List ℕ
-ipv4_flow_message new packet =
+-- this message of an IPv4 packet with new ports
+abbrev pub ipv4_flow_message : Ipv4Translation → List ℕ → List ℕ → List ℕ
+ipv4_flow_message new message packet =
     translated_in (ipv4_is_later_fragment packet) (ipv4_proto packet) (sum_of_ipv4 (ipv4_header_of packet)) (sum_of_ipv4 (ipv4_addresses new packet))
-    new.source_port new.destination_port (message_in_ipv4 packet)
+    new.source_port new.destination_port message
 
 -- an IPv4 packet with new addresses and this message
 abbrev pub ipv4_with_message : Ipv4Translation → List ℕ → List ℕ → List ℕ
 ipv4_with_message new message packet = with_ipv4_addresses (ipv4_addresses new packet) (with_bytes (ipv4_header_len packet) message packet)
 
--- an IPv4 packet with new addresses and ports
-abbrev pub ipv4_translated_flow : Ipv4Translation → List ℕ → List ℕ
-ipv4_translated_flow new packet = ipv4_with_message new (ipv4_flow_message new packet) packet
+-- an IPv4 packet with new addresses, and with new ports in this message
+abbrev pub ipv4_translated_flow : Ipv4Translation → List ℕ → List ℕ → List ℕ
+ipv4_translated_flow new message packet = ipv4_with_message new (ipv4_flow_message new message packet) packet
 
 -- ---- an ICMP error
 
@@ -124,22 +126,26 @@ covers_ipv4_addresses number =
     number == authentication
     || (number == icmpv6_number || (number == 33 || (number == 112 || (number == 136 || number == host_identity))))
 
--- An IPv4 packet whose message is not found directly after its header, or whose addresses are not all in the header: the errors of
--- `transport_in_ip_lax`, another version, a source route, and a protocol other than UDP, TCP and ICMPv4 if it covers addresses, or if a port
--- is replaced.
-abbrev pub ipv4_place_refusal : Bool → List ℕ → Option TranslateError
-ipv4_place_refusal has_port packet = first_of (
-    option_map Ip (ip.lax_refusal packet)
+-- the errors of the headers: those of `transport_in_ip_lax`, and for a quoted packet only those of an IPv4 header without its total length
+abbrev pub ipv4_headers_refusal : Bool → List ℕ → Option IpError
+ipv4_headers_refusal false packet = ip.lax_refusal packet
+ipv4_headers_refusal true packet = ip.ipv4_header_refusal packet
+
+-- An IPv4 packet whose message is not found directly after its header, or whose addresses are not all in the header: the errors of the
+-- headers, another version, a source route, and a protocol other than UDP, TCP and ICMPv4 if it covers addresses, or if a port is replaced.
+abbrev pub ipv4_place_refusal : Bool → Bool → List ℕ → Option TranslateError
+ipv4_place_refusal is_quoted has_port packet = first_of (
+    option_map Ip (ipv4_headers_refusal is_quoted packet)
     ∷ refused_if (not (version packet == 4)) OtherVersion
     ∷ refused_if (has_source_route packet) SourceRoute
     ∷ refused_if (is_none (ipv4_proto packet) && (has_port || covers_ipv4_addresses (slice_index packet 9))) (Protocol (record { 0 = slice_index packet 9 }))
     ∷ [])
 
--- where the message of an IPv4 packet is, and what it is
-pub record IsIpv4Place (packet : List ℕ) (place : Place) : Type 0 where
+-- where these bytes, the message of an IPv4 packet, are, and what they are
+pub record IsIpv4Place (bytes packet : List ℕ) (place : Place) : Type 0 where
   pub is_ipv4 : version packet ≡ 4
   pub start : place.start ≡ ipv4_header_len packet
-  pub message : slice_range packet place.start place.end ≡ message_in_ipv4 packet
+  pub message : slice_range packet place.start place.end ≡ bytes
   pub header : 20 ≤ place.start
   pub ordered : place.start ≤ place.end
   pub there : place.end ≤ length packet
@@ -148,21 +154,21 @@ pub record IsIpv4Place (packet : List ℕ) (place : Place) : Type 0 where
 
 -- the errors of the message of an IPv4 packet
 abbrev pub ipv4_message_refusal : List ℕ → Option TranslateError
-ipv4_message_refusal packet = message_refusal (ipv4_is_later_fragment packet) (ipv4_proto packet) (message_in_ipv4 packet)
+ipv4_message_refusal packet = message_refusal (ipv4_is_later_fragment packet) (ipv4_proto packet) (message_in_ipv4 false packet)
 
 -- the packet that an IPv4 packet quotes
 abbrev pub ipv4_quoted : List ℕ → Option (List ℕ)
-ipv4_quoted packet = quoted_in (ipv4_is_later_fragment packet) (ipv4_proto packet) (message_in_ipv4 packet)
+ipv4_quoted packet = quoted_in (ipv4_is_later_fragment packet) (ipv4_proto packet) (message_in_ipv4 false packet)
 
 -- a quoted packet that can't be translated
 abbrev pub ipv4_quoted_refusal : Bool → Option (List ℕ) → Option TranslateError
 ipv4_quoted_refusal has_port None = None
-ipv4_quoted_refusal has_port (Some quoted) = option_map (λ _. QuotedPacket) (ipv4_place_refusal has_port quoted)
+ipv4_quoted_refusal has_port (Some quoted) = option_map (λ _. QuotedPacket) (ipv4_place_refusal true has_port quoted)
 
 -- the errors in this order: of the packet, of its message, and of the packet that an ICMP error is about
 abbrev pub ipv4_refusal_by : Bool → Bool → List ℕ → Option TranslateError
 ipv4_refusal_by has_port has_quoted_port packet = first_of (
-    ipv4_place_refusal has_port packet ∷ ipv4_message_refusal packet ∷ ipv4_quoted_refusal has_quoted_port (ipv4_quoted packet) ∷ [])
+    ipv4_place_refusal false has_port packet ∷ ipv4_message_refusal packet ∷ ipv4_quoted_refusal has_quoted_port (ipv4_quoted packet) ∷ [])
 
 -- the errors for a translation of the packet and a translation of the quoted packet. Each replaces a port or only addresses.
 abbrev pub ipv4_refusal_with : Ipv4Translation → Ipv4Translation → List ℕ → Option TranslateError
@@ -177,8 +183,9 @@ ipv4_refusal new packet = ipv4_refusal_with new (ipv4_opposite new) packet
 
 -- the translated message of an IPv4 packet; `quoted` is the quoted packet, if there is one, and `of_quoted` is its translation
 abbrev pub ipv4_message_by : Option (List ℕ) → Ipv4Translation → Ipv4Translation → List ℕ → List ℕ
-ipv4_message_by None new of_quoted packet = ipv4_flow_message new packet
-ipv4_message_by (Some quoted) new of_quoted packet = with_quote 0 0 quoted (ipv4_translated_flow of_quoted quoted) (message_in_ipv4 packet)
+ipv4_message_by None new of_quoted packet = ipv4_flow_message new (message_in_ipv4 false packet) packet
+ipv4_message_by (Some quoted) new of_quoted packet =
+    with_quote 0 0 quoted (ipv4_translated_flow of_quoted (message_in_ipv4 true quoted) quoted) (message_in_ipv4 false packet)
 
 -- the message if the opposite translation applies to the quoted packet
 abbrev pub ipv4_message_with : Option (List ℕ) → Ipv4Translation → List ℕ → List ℕ
@@ -217,20 +224,24 @@ ipv4_pseudo_header_of protos.Tcp addresses len = ipv4_pseudo_header addresses.so
 ipv4_pseudo_header_of protos.Icmpv4 addresses len = []
 ipv4_pseudo_header_of protos.Icmpv6 addresses len = ipv4_pseudo_header addresses.source addresses.destination icmpv6_number len
 
--- A receiver accepts this message between the new addresses exactly if it accepts the old message between the old addresses. This holds for
+-- A receiver accepts this message between the new addresses exactly if it accepts this old message between the old addresses. This holds for
 -- a message whose checksum is updated, also if it is a part of a message, and not for a later fragment.
-abbrev pub IsIpv4Accepted : Ipv4Translation → List ℕ → List ℕ → Type 0
-IsIpv4Accepted new packet translated = (proto : Proto) → ipv4_proto packet ≡ Some proto
-    → (ipv4_is_later_fragment packet ≡ false) → IsUpdated proto (message_in_ipv4 packet)
-    → IsVerifiedAlike (least_summed proto (length (message_in_ipv4 packet)))
+abbrev pub IsAcceptedByIpv4 : Ipv4Translation → List ℕ → List ℕ → List ℕ → Type 0
+IsAcceptedByIpv4 new message packet translated = (proto : Proto) → ipv4_proto packet ≡ Some proto
+    → (ipv4_is_later_fragment packet ≡ false) → IsUpdated proto message
+    → IsVerifiedAlike (least_summed proto (length message))
     (ipv4_pseudo_header_of proto (ipv4_header_of packet)) (ipv4_pseudo_header_of proto (ipv4_addresses new packet))
-    (message_in_ipv4 packet) translated
+    message translated
+
+-- this message of a translated packet is accepted
+abbrev pub IsIpv4Accepted : Ipv4Translation → List ℕ → List ℕ → Type 0
+IsIpv4Accepted new packet translated = IsAcceptedByIpv4 new (message_in_ipv4 false packet) packet translated
 
 -- A receiver accepts a translated ICMP error exactly if it accepts the error, whose checksum covers the packet that it quotes. This holds also
 -- if some bytes of the error are in other fragments or are cut off.
 abbrev pub IsIpv4ErrorAccepted : List ℕ → List ℕ → Type 0
 IsIpv4ErrorAccepted packet translated = (quoted : List ℕ) → ipv4_quoted packet ≡ Some quoted
-    → IsVerifiedAlike (length (message_in_ipv4 packet)) (λ len. []) (λ len. []) (message_in_ipv4 packet) translated
+    → IsVerifiedAlike (length (message_in_ipv4 false packet)) (λ len. []) (λ len. []) (message_in_ipv4 false packet) translated
 
 -- a router accepts the header exactly if it accepted the old header (RFC 791, section 3.1)
 abbrev pub IsHeaderAccepted : List ℕ → List ℕ → Type 0

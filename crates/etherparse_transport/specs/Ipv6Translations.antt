@@ -1,10 +1,10 @@
 -- The translation of an IPv6 packet, as an address translator makes it (RFC 3022; RFC 5508 for ICMP): new addresses and the
 -- translated message. An IPv6 header has no checksum.
-use Rattle.std.specs.Prelude.{◌≡◌, ◌≤◌, ℕ, ◌+◌, ◌==◌, ◌&&◌, ◌||◌, Bool, false, if◌then◌else◌, is_none, not, List, [], ◌∷◌, length, slice_index, slice_range, Option, Some, None, unwrap_or}
+use Rattle.std.specs.Prelude.{◌≡◌, ◌≤◌, ◌%◌, ℕ, ◌+◌, ◌==◌, ◌&&◌, ◌||◌, Bool, false, is_none, not, List, [], ◌∷◌, length, slice_index, slice_range, Option, Some, None, unwrap_or}
 use Rattle.std.specs.Borrow.{Bor}
 use Rattle.std.specs.Option.{option_map}
 use Rattle.ip_part.specs.Addresses.{Addresses, Ipv6}
-use Rattle.ip_part.specs.ExtensionHeaders.{fragment, is_extension, is_later_fragment}
+use Rattle.ip_part.specs.ExtensionHeaders.{is_extension}
 use Rattle.ip_part.specs.Ip as ip
 use Rattle.ip_part.specs.Protocols.{proto_over}
 use Rattle.ip_part.specs.declared.proto.Proto.{Proto}
@@ -15,6 +15,7 @@ use Rattle.net_base.specs.PseudoHeader.{ipv6_pseudo_header}
 use Rattle.net_base.specs.Refusals.{first_of, refused_if}
 use Rattle.net_base.specs.declared.ipv6_header.Ipv6Header.{Ipv6Header}
 use Rattle.word_sum.specs.Checksum.{sum_of_pieces, total}
+use Rattle.etherparse_transport.specs.SkippedHeaders.{skipped_headers}
 use Rattle.etherparse_transport.specs.Translations.{IsUpdated, IsVerifiedAlike, counted_after, has_port, least_summed, message_refusal, quoted_in, translated_in, with_bytes, with_quote}
 use Rattle.etherparse_transport.specs.declared.ip.ipv6_translation.Ipv6Translation.{Ipv6Translation}
 use Rattle.etherparse_transport.specs.declared.ip.message_place.Place.{Place}
@@ -45,29 +46,25 @@ with_ipv6_addresses new packet = with_bytes ipv6_destination_place new.destinati
 
 -- ---- the protocol
 
--- a fragment header comes directly after the IPv6 header (RFC 8200, section 4.5)
-abbrev pub ipv6_has_fragment_header : List ℕ → Bool
-ipv6_has_fragment_header packet = slice_index packet 6 == fragment
-
--- the start of the message: after the IPv6 header, and after the fragment header if there is one
+-- the start of the message: after the IPv6 header and the extension headers that are skipped
 abbrev pub ipv6_start : List ℕ → ℕ
-ipv6_start packet = if ipv6_has_fragment_header packet then 48 else 40
+ipv6_start packet = (skipped_headers packet).len
 
--- the number of the protocol: in the fragment header if there is one, otherwise in the IPv6 header
+-- the number of the protocol, in the last of these headers
 abbrev pub ipv6_protocol : List ℕ → ℕ
-ipv6_protocol packet = if ipv6_has_fragment_header packet then slice_index packet 40 else slice_index packet 6
+ipv6_protocol packet = (skipped_headers packet).protocol.0
 
 -- the protocol of an IPv6 packet, by this number
 abbrev pub ipv6_proto : List ℕ → Option Proto
 ipv6_proto packet = proto_over (Ipv6 (ipv6_header_of packet).source (Some (ipv6_header_of packet).destination)) (ipv6_protocol packet)
 
--- the fragment header directly after the IPv6 header belongs to a later fragment
+-- the last of these headers is the fragment header of a later fragment
 abbrev pub ipv6_is_later_fragment : List ℕ → Bool
-ipv6_is_later_fragment packet = is_later_fragment (slice_index packet 6) (slice_range packet 40 48)
+ipv6_is_later_fragment packet = (skipped_headers packet).is_later_fragment
 
 -- the message of an IPv6 packet
 abbrev pub message_in_ipv6 : List ℕ → List ℕ
-message_in_ipv6 packet = counted_after (ipv6_start packet) packet
+message_in_ipv6 packet = counted_after false (ipv6_start packet) packet
 
 -- ---- a packet of a flow
 
@@ -110,7 +107,8 @@ ipv6_of_quoted new (Some passed) = passed.now
 
 -- ---- errors
 
--- An extension header, which may contain another address or precede a message that covers addresses. Or a protocol whose checksum covers
+-- An extension header that is not skipped, since it contains another address or precedes a message that covers addresses, or whose contents are
+-- in another fragment. Or a protocol whose checksum covers
 -- addresses and is not translated: DCCP (33; RFC 4340, section 9.1), OSPF (89; RFC 5340, section A.3.1), PIM (103; RFC 7761, section 4.9),
 -- VRRP (112; RFC 5798, section 5.2.8) or UDP-Lite (136; RFC 3828, section 3.1). Or ICMPv4 (1), which has no meaning over IPv6.
 abbrev pub covers_ipv6_addresses : ℕ → Bool
@@ -118,8 +116,8 @@ covers_ipv6_addresses number =
     is_extension number
     || (number == icmpv4_number || (number == 33 || (number == 89 || (number == 103 || (number == 112 || number == 136)))))
 
--- The errors, in this order: an error of `transport_in_ip_lax`; another version; a protocol after the header or the fragment header that is
--- not UDP, TCP or ICMPv6, if the protocol covers addresses or if a port is replaced.
+-- The errors, in this order: an error of `transport_in_ip_lax`; another version; a protocol after the skipped headers that is not UDP, TCP or
+-- ICMPv6, if the protocol covers addresses or if a port is replaced.
 abbrev pub ipv6_place_refusal : Bool → List ℕ → Option TranslateError
 ipv6_place_refusal has_port packet = first_of (
     option_map Ip (ip.lax_refusal packet)
@@ -133,6 +131,7 @@ pub record IsIpv6Place (packet : List ℕ) (place : Place) : Type 0 where
   pub start : place.start ≡ ipv6_start packet
   pub message : slice_range packet place.start place.end ≡ message_in_ipv6 packet
   pub header : 40 ≤ place.start
+  pub even : place.start % 2 ≡ 0
   pub ordered : place.start ≤ place.end
   pub there : place.end ≤ length packet
   pub proto : place.proto ≡ ipv6_proto packet

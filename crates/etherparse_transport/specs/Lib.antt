@@ -28,6 +28,7 @@ pub mod Ipv4Translations
 pub mod Ipv6Translations
 pub mod Packets
 pub mod ReplyTo
+pub mod SkippedHeaders
 pub mod SourceRoutes
 pub mod Translations
 pub mod WaysBack

@@ -163,9 +163,10 @@ with_bytes place new bytes = take place bytes ++ (new ++ drop (place + length ne
 
 -- ---- the message in its packet
 
--- the message after headers of this length: the counted bytes after them
-abbrev pub counted_after : ℕ → List ℕ → List ℕ
-counted_after len packet = drop len (ip.counted (ip.lacks_len packet) packet)
+-- The message after headers of this length: the counted bytes after them. If no length is stated, or if an ICMP error quotes the packet and
+-- its length is not used, these are all bytes after them.
+abbrev pub counted_after : Bool → ℕ → List ℕ → List ℕ
+counted_after is_quoted len packet = drop len (ip.counted (is_quoted || ip.lacks_len packet) packet)
 
 -- A message with new ports, if its protocol is known. In a later fragment the first bytes are not a transport header.
 abbrev pub translated_in : Bool → Option Proto → ℕ → ℕ → Option ℕ → Option ℕ → List ℕ → List ℕ

@@ -62,19 +62,19 @@ pub record IsIpv4Translation (new : Ipv4Translation) : Type 0 where
   pub destination : IfSome new.destination (λ address. length address ≡ 4)
   pub ports : ArePorts new.source_port new.destination_port
 
--- the way back of a packet of a flow
-abbrev pub ipv4_flow_back : Ipv4Translation → List ℕ → Ipv4Translation
-ipv4_flow_back new packet = record {
+-- the way back of a packet of a flow with this message
+abbrev pub ipv4_flow_back : Ipv4Translation → List ℕ → List ℕ → Ipv4Translation
+ipv4_flow_back new message packet = record {
   source = instead (ipv4_header_of packet).source new.source;
   destination = instead (ipv4_header_of packet).destination new.destination;
-  source_port = instead (port_in (ipv4_proto packet) source_port_place (message_in_ipv4 packet)) new.source_port;
-  destination_port = instead (port_in (ipv4_proto packet) destination_port_place (message_in_ipv4 packet)) new.destination_port;
+  source_port = instead (port_in (ipv4_proto packet) source_port_place message) new.source_port;
+  destination_port = instead (port_in (ipv4_proto packet) destination_port_place message) new.destination_port;
 }
 
 -- the way back of a packet that quotes this packet, by what is replaced in the quoted packet, or of a packet that quotes none
 abbrev pub ipv4_back_by : Option (List ℕ) → Ipv4Translation → List ℕ → Ipv4Translation
-ipv4_back_by None new packet = ipv4_flow_back new packet
-ipv4_back_by (Some quoted) new packet = ipv4_opposite (ipv4_flow_back (ipv4_opposite new) quoted)
+ipv4_back_by None new packet = ipv4_flow_back new (message_in_ipv4 false packet) packet
+ipv4_back_by (Some quoted) new packet = ipv4_opposite (ipv4_flow_back (ipv4_opposite new) (message_in_ipv4 true quoted) quoted)
 
 -- the way back of a packet
 abbrev pub ipv4_way_back : Ipv4Translation → List ℕ → Ipv4Translation
@@ -83,25 +83,25 @@ ipv4_way_back new packet = ipv4_back_by (ipv4_quoted packet) new packet
 -- the way back of the quoted packet by its own translation, if a packet is quoted
 abbrev pub ipv4_quoted_back : Option (List ℕ) → Ipv4Translation → Ipv4Translation
 ipv4_quoted_back None of_quoted = of_quoted
-ipv4_quoted_back (Some quoted) of_quoted = ipv4_flow_back of_quoted quoted
+ipv4_quoted_back (Some quoted) of_quoted = ipv4_flow_back of_quoted (message_in_ipv4 true quoted) quoted
 
--- the checksums of the header and of the message are restored
-abbrev pub IsIpv4FlowRestored : List ℕ → Type 0
-IsIpv4FlowRestored packet = (number header_checksum_place packet ≢ all_ones)
-    × IsChecksumRestoredIn (ipv4_is_later_fragment packet) (ipv4_proto packet) (message_in_ipv4 packet)
+-- the checksums of the header and of this message are restored
+abbrev pub IsIpv4FlowRestored : List ℕ → List ℕ → Type 0
+IsIpv4FlowRestored message packet = (number header_checksum_place packet ≢ all_ones)
+    × IsChecksumRestoredIn (ipv4_is_later_fragment packet) (ipv4_proto packet) message
 
 -- The checksums of error and quoted packet are restored. If the source of the error is replaced, it is the destination of the quoted
 -- packet. If its destination is replaced, it is the source. Otherwise two addresses become equal, for example if a router sent the error.
 pub record IsIpv4ErrorRestored (new : Ipv4Translation) (packet quoted : List ℕ) : Type 0 where
   pub header : number header_checksum_place packet ≢ all_ones
-  pub message : number icmp_checksum_place (message_in_ipv4 packet) ≢ all_ones
-  pub quoted_packet : IsIpv4FlowRestored quoted
+  pub message : number icmp_checksum_place (message_in_ipv4 false packet) ≢ all_ones
+  pub quoted_packet : IsIpv4FlowRestored (message_in_ipv4 true quoted) quoted
   pub source : IfSome new.source (λ _. (ipv4_header_of quoted).destination ≡ (ipv4_header_of packet).source)
   pub destination : IfSome new.destination (λ _. (ipv4_header_of quoted).source ≡ (ipv4_header_of packet).destination)
 
 -- the conditions for a packet that quotes `quoted`, or quotes no packet
 abbrev pub IsIpv4RestoredBy : Option (List ℕ) → Ipv4Translation → List ℕ → Type 0
-IsIpv4RestoredBy None new packet = IsIpv4FlowRestored packet
+IsIpv4RestoredBy None new packet = IsIpv4FlowRestored (message_in_ipv4 false packet) packet
 IsIpv4RestoredBy (Some quoted) new packet = IsIpv4ErrorRestored new packet quoted
 
 -- the way back restores the packet
@@ -111,12 +111,12 @@ IsIpv4Restored new packet = IsIpv4RestoredBy (ipv4_quoted packet) new packet
 -- The checksums of an ICMP error and the quoted packet are restored. Addresses always are if each packet has its own translation.
 pub record AreIpv4ChecksumsRestored (packet quoted : List ℕ) : Type 0 where
   pub header : number header_checksum_place packet ≢ all_ones
-  pub message : number icmp_checksum_place (message_in_ipv4 packet) ≢ all_ones
-  pub quoted_packet : IsIpv4FlowRestored quoted
+  pub message : number icmp_checksum_place (message_in_ipv4 false packet) ≢ all_ones
+  pub quoted_packet : IsIpv4FlowRestored (message_in_ipv4 true quoted) quoted
 
 -- the conditions for a packet that quotes `quoted`, or quotes no packet
 abbrev pub IsIpv4RestoredWithBy : Option (List ℕ) → List ℕ → Type 0
-IsIpv4RestoredWithBy None packet = IsIpv4FlowRestored packet
+IsIpv4RestoredWithBy None packet = IsIpv4FlowRestored (message_in_ipv4 false packet) packet
 IsIpv4RestoredWithBy (Some quoted) packet = AreIpv4ChecksumsRestored packet quoted
 
 -- the ways back of both translations restore the packet

@@ -9,6 +9,7 @@ mod ipv4_translation;
 mod ipv6_translation;
 mod message_place;
 mod reply_to;
+mod skipped_headers;
 mod source_route;
 mod translated_ipv4;
 mod translated_ipv6;

@@ -1,4 +1,4 @@
-ghost use Rattle.std.specs.Prelude.{◌≡◌, ◌≢◌, ◌↔◌, ℕ, slice_index, ◌≤◌, ◌+◌, ◌%◌, ◌&&◌, ◌||◌, is_none, IfErr, IfOk, IfSome, None, Some, length, slice_range};
+ghost use Rattle.std.specs.Prelude.{◌≡◌, ◌≢◌, ◌↔◌, ℕ, slice_index, ◌≤◌, ◌+◌, ◌%◌, ◌&&◌, ◌||◌, is_none, IfErr, IfOk, IfSome, MatchOption, None, Some, false, true, length, slice_range};
 ghost use Rattle.net_base.specs.Bytes.{IsBytes};
 ghost use Rattle.net_base.specs.IpHeaders.{ipv4_header_len, ipv4_header_of};
 ghost use Rattle.net_base.specs.Refusals.{RefusesExactly};
@@ -14,7 +14,7 @@ use crate::ip::ip_header::{IPV4_CHECKSUM_AT, IPV4_DESTINATION_AT, IPV4_LEN, IPV4
 use crate::ip::message_place::{ICMP_LEN, Place, quoted_len, replace_bytes, translate_flow};
 use crate::ip::source_route::contain_source_route;
 use crate::ip::translated_message::{number, update_checksum};
-use crate::ip::{Ipv4Translation, proto_over, transport_in_ip_lax};
+use crate::ip::{IpAddresses, Ipv4Translation, proto_over, transport_in_ip_lax};
 use crate::{IpNumber, Ipv4Header, Ipv4HeaderSlice, Proto, ip_number};
 
 /// Translates an IPv4 packet in place, as an address translator does: new addresses, and new ports or a new identifier of an ICMP query (RFC
@@ -32,7 +32,8 @@ use crate::{IpNumber, Ipv4Header, Ipv4HeaderSlice, Proto, ip_number};
 /// - **ICMP queries**, with any code: echo, timestamp, information and address mask (RFC 5508, section 3).
 /// - **Other protocols**, such as GRE, ESP and SCTP, if no port is passed: only the addresses are replaced (RFC 3022, section 2.1).
 /// - **ICMP errors**: the packet that an error is about went in the other direction, and is translated with source and destination
-///   exchanged, as far as the error contains it. Its checksums and the checksum of the error are updated too (RFC 5508, section 4).
+///   exchanged, as far as the error contains it, whatever its total length is. Its checksums and the checksum of the error are updated too
+///   (RFC 5508, section 4).
 /// - **Fragments**: a first fragment has ports. In a later fragment only the addresses are replaced. If the TCP header is divided, its checksum
 ///   is in the second fragment and stays, so that the translated fragments together are refused.
 /// - **Packets that are cut off, or state no length**, are translated as `transport_in_ip_lax` reads them.
@@ -50,7 +51,7 @@ use crate::{IpNumber, Ipv4Header, Ipv4HeaderSlice, Proto, ip_number};
 ///   HIP, ICMPv6, UDP-Lite and VRRP.
 /// - `HeaderCutOff` if fewer than 8 bytes of UDP, TCP or ICMP are there.
 /// - `IcmpMessage` for an ICMP message that is no query and no error, and for a redirect, which contains another address.
-/// - `QuotedPacket` if one of the first four cases is true of the packet that an ICMP error is about.
+/// - `QuotedPacket` if one of the first four cases is true of the packet that an ICMP error is about, except that its total length is not read.
 pub fn translate_ipv4(packet: &mut [u8], new: &Ipv4Translation) -> Result<(), TranslateError>
     ensures refused { RefusesExactly result (specs.ipv4_refusal new.now packet.old) }
     ensures unchanged { IfErr result (λ _. packet.new ≡ packet.old) }
@@ -106,7 +107,7 @@ pub fn translate_ipv4_with_quoted(
     // The translated packet is accepted again.
     ensures again { IfOk result (λ _. specs.ipv4_refusal_with new.now quoted.now packet.new ≡ None) }
     // The ways back of both translations restore the packet, exactly unless a checksum is lost (RFC 1624).
-    ensures there_and_back { IfOk result (λ _. (specs.ipv4_translated_with (ipv4_flow_back new.now packet.old)
+    ensures there_and_back { IfOk result (λ _. (specs.ipv4_translated_with (ipv4_flow_back new.now (specs.message_in_ipv4 false packet.old) packet.old)
         (ipv4_quoted_back (specs.ipv4_quoted packet.old) quoted.now) packet.new ≡ packet.old) ↔ IsIpv4RestoredWith packet.old) }
 {
     translate_ipv4_by(packet, new, Some(quoted))
@@ -151,8 +152,8 @@ fn translate_ipv4_by(
 // of 57.4 ns for an ICMP error (27 Nov 2026).
 #[inline(always)]
 fn ipv4_place(packet: &[u8], new: &Ipv4Translation) -> Result<Place, TranslateError>
-    ensures refused { RefusesExactly result (specs.ipv4_place_refusal (has_port new.now.source_port new.now.destination_port) packet.now) }
-    ensures place { IfOk result (λ place. specs.IsIpv4Place packet.now place) }
+    ensures refused { RefusesExactly result (specs.ipv4_place_refusal false (has_port new.now.source_port new.now.destination_port) packet.now) }
+    ensures place { IfOk result (λ place. specs.IsIpv4Place (specs.message_in_ipv4 false packet.now) packet.now place) }
     ensures bytes { IsBytes packet.now }
 {
     let found = match transport_in_ip_lax(packet) {
@@ -214,20 +215,20 @@ fn translate_ipv4_error(
     new: &Ipv4Translation,
     passed: Option<&Ipv4Translation>,
 ) -> Result<(), TranslateError>
-    requires place { specs.IsIpv4Place packet.old place.now }
-    requires room { 8 + quoted_len ≤ length (specs.message_in_ipv4 packet.old) }
+    requires place { specs.IsIpv4Place (specs.message_in_ipv4 false packet.old) packet.old place.now }
+    requires room { 8 + quoted_len ≤ length (specs.message_in_ipv4 false packet.old) }
     ensures refused { RefusesExactly result
-        (specs.ipv4_quoted_refusal (has_port (specs.ipv4_of_quoted new.now passed.entry).source_port (specs.ipv4_of_quoted new.now passed.entry).destination_port) (Some (slice_range (specs.message_in_ipv4 packet.old) 8 (8 + quoted_len)))) }
+        (specs.ipv4_quoted_refusal (has_port (specs.ipv4_of_quoted new.now passed.entry).source_port (specs.ipv4_of_quoted new.now passed.entry).destination_port) (Some (slice_range (specs.message_in_ipv4 false packet.old) 8 (8 + quoted_len)))) }
     ensures unchanged { IfErr result (λ _. packet.new ≡ packet.old) }
     ensures translated { IfOk result (λ _. packet.new ≡ specs.ipv4_with_message new.now
-        (specs.ipv4_message_by (Some (slice_range (specs.message_in_ipv4 packet.old) 8 (8 + quoted_len))) new.now
+        (specs.ipv4_message_by (Some (slice_range (specs.message_in_ipv4 false packet.old) 8 (8 + quoted_len))) new.now
         (specs.ipv4_of_quoted new.now passed.entry) packet.old) packet.old) }
     ensures len { IfOk result (λ _. length
-        (specs.ipv4_message_by (Some (slice_range (specs.message_in_ipv4 packet.old) 8 (8 + quoted_len))) new.now
+        (specs.ipv4_message_by (Some (slice_range (specs.message_in_ipv4 false packet.old) 8 (8 + quoted_len))) new.now
         (specs.ipv4_of_quoted new.now passed.entry) packet.old)
-        ≡ length (specs.message_in_ipv4 packet.old)) }
-    ensures verifies { IfOk result (λ _. slice_index (specs.message_in_ipv4 packet.old) 0 ≢ 0 → (sum : ℕ) → IsAcceptedAlike sum sum (specs.message_in_ipv4 packet.old)
-        (specs.ipv4_message_by (Some (slice_range (specs.message_in_ipv4 packet.old) 8 (8 + quoted_len))) new.now
+        ≡ length (specs.message_in_ipv4 false packet.old)) }
+    ensures verifies { IfOk result (λ _. slice_index (specs.message_in_ipv4 false packet.old) 0 ≢ 0 → (sum : ℕ) → IsAcceptedAlike sum sum (specs.message_in_ipv4 false packet.old)
+        (specs.ipv4_message_by (Some (slice_range (specs.message_in_ipv4 false packet.old) 8 (8 + quoted_len))) new.now
         (specs.ipv4_of_quoted new.now passed.entry) packet.old)) }
     ensures addresses { IfOk result (λ _. specs.AreIpv4Addresses (specs.ipv4_addresses new.now packet.old)) }
     ensures header { IfOk result (λ _. specs.IsHeaderAccepted packet.old packet.new) }
@@ -235,7 +236,8 @@ fn translate_ipv4_error(
 {
     let for_quoted = new.of_quoted(passed);
     let message = &packet[place.start..place.end];
-    let Ok(quoted) = ipv4_place(&message[ICMP_LEN..ICMP_LEN + quoted_len], &for_quoted) else {
+    let Some(quoted) = quoted_ipv4_place(&message[ICMP_LEN..ICMP_LEN + quoted_len], &for_quoted)
+    else {
         return Err(TranslateError::QuotedPacket);
     };
     let addresses = new_ipv4_addresses(packet, new);
@@ -250,6 +252,46 @@ fn translate_ipv4_error(
     Ok(())
 }
 
+/// The message of the packet that an ICMP error over IPv4 is about. `None` if it can't be translated. It extends to the end of the quote: hosts
+/// that follow BSD quote a packet with a total length that leaves out the header.
+fn quoted_ipv4_place(quoted: &[u8], new: &Ipv4Translation) -> Option<Place>
+    ensures found { MatchOption result
+        (specs.ipv4_place_refusal true (has_port new.now.source_port new.now.destination_port) quoted.now ≢ None)
+        (λ place. specs.ipv4_place_refusal true (has_port new.now.source_port new.now.destination_port) quoted.now ≡ None) }
+    ensures place { IfSome result (λ place. specs.IsIpv4Place (specs.message_in_ipv4 true quoted.now) quoted.now place) }
+{
+    let header = Ipv4HeaderSlice::from_slice(quoted)?;
+    let options = header.options();
+    if contain_source_route(options) {
+        return None;
+    }
+    let protocol = header.protocol();
+    let proto = ipv4_proto(&header);
+    if is_ipv4_refused(proto, protocol, new) {
+        return None;
+    }
+    Some(Place {
+        start: header.slice().len(),
+        end: quoted.len(),
+        proto,
+        is_later_fragment: header.fragments_offset() != 0,
+    })
+}
+
+/// The protocol of an IPv4 packet with this header.
+fn ipv4_proto(header: &Ipv4HeaderSlice<'_>) -> Option<Proto>
+    ensures { result ≡ specs.ipv4_proto header.now }
+{
+    let (source, destination) = (&header.source(), &header.destination());
+    proto_over(
+        IpAddresses::Ipv4 {
+            source,
+            destination,
+        },
+        header.protocol(),
+    )
+}
+
 /// Translates the packet that an ICMP error over IPv4 is about, and updates the checksum of the error.
 #[inline(always)]
 fn translate_ipv4_quoted(
@@ -259,9 +301,10 @@ fn translate_ipv4_quoted(
     new: &Ipv4Translation,
 )
     requires room { 8 + quoted_len ≤ length message.old }
-    requires place { specs.IsIpv4Place (slice_range message.old 8 (8 + quoted_len)) place.now }
+    requires place { specs.IsIpv4Place (specs.message_in_ipv4 true (slice_range message.old 8 (8 + quoted_len))) (slice_range message.old 8 (8 + quoted_len)) place.now }
     ensures translated { message.new ≡ with_quote 0 0 (slice_range message.old 8 (8 + quoted_len))
-        (specs.ipv4_translated_flow new.now (slice_range message.old 8 (8 + quoted_len))) message.old }
+        (specs.ipv4_translated_flow new.now (specs.message_in_ipv4 true (slice_range message.old 8 (8 + quoted_len)))
+        (slice_range message.old 8 (8 + quoted_len))) message.old }
     ensures verifies { slice_index message.old 0 ≢ 0 → (sum : ℕ) → IsAcceptedAlike sum sum message.old message.new }
     ensures types { IsIpv4Translation new.now }
 {
@@ -275,12 +318,13 @@ fn translate_ipv4_quoted(
 /// Translates an IPv4 packet, as far as its message is there. The returned change replaces the words that are replaced.
 #[inline(always)]
 fn translate_ipv4_flow(packet: &mut [u8], place: &Place, new: &Ipv4Translation) -> ChecksumChange
-    requires place { specs.IsIpv4Place packet.old place.now }
-    ensures translated { packet.new ≡ specs.ipv4_translated_flow new.now packet.old }
+    requires place { specs.IsIpv4Place (slice_range packet.old place.now.start place.now.end) packet.old place.now }
+    ensures translated { packet.new ≡ specs.ipv4_translated_flow new.now (slice_range packet.old place.now.start place.now.end) packet.old }
     // The replaced words are all that differs.
     ensures turns { (total packet.old + added_value result) % all_ones ≡ (total packet.new + removed_value result) % all_ones }
     ensures version { slice_index packet.new 0 ≡ slice_index packet.old 0 }
-    ensures verifies { specs.IsIpv4Accepted new.now packet.old (specs.ipv4_flow_message new.now packet.old) }
+    ensures verifies { specs.IsAcceptedByIpv4 new.now (slice_range packet.old place.now.start place.now.end) packet.old
+        (specs.ipv4_flow_message new.now (slice_range packet.old place.now.start place.now.end) packet.old) }
     ensures header { specs.IsHeaderAccepted packet.old packet.new }
     ensures addresses { specs.AreIpv4Addresses (specs.ipv4_addresses new.now packet.old) }
     ensures types { IsIpv4Translation new.now }

@@ -14,6 +14,7 @@ use crate::checksum_change::ChecksumChange;
 use crate::err::packet::TranslateError;
 use crate::ip::ip_header::IPV6_LEN;
 use crate::ip::message_place::{ICMP_LEN, Place, quoted_len, replace_bytes, translate_flow};
+use crate::ip::skipped_headers::skip_headers;
 use crate::ip::translated_ipv4::{DCCP, UDP_LITE, VRRP};
 use crate::ip::translated_message::update_checksum;
 use crate::ip::{Ipv6Translation, proto_over, transport_in_ip_lax};
@@ -30,18 +31,19 @@ use crate::{IpNumber, Ipv6Header, Ipv6HeaderSlice, Proto, ip_number};
 /// The checksums are updated by the replaced bytes (RFC 1624), so that a receiver accepts the packet exactly if it accepted it before. ICMP
 /// errors, packets that are cut off, packets that state no length, and partial checksums are treated as by `translate_ipv4`.
 ///
-/// A fragment header may follow the IPv6 header (RFC 8200, section 4.5). A first fragment has ports, and so has an atomic fragment (RFC
-/// 6946). In a later fragment only the addresses are replaced. Of other protocols only the addresses are replaced, if no port is passed.
+/// Extension headers that contain no other address of the packet are skipped, and stay: hop-by-hop options, fragment headers, routing headers
+/// without segments left, and destination options without a home address (RFC 8200, section 4; RFC 6275, section 6.3). A first fragment has
+/// ports, and so has an atomic fragment (RFC 6946). In a later fragment only the addresses are replaced. Of other protocols only the
+/// addresses are replaced, if no port is passed.
 ///
 /// # Errors
 ///
 /// The call checks these cases, in this order, and changes nothing after an error:
 /// - `Ip` if `transport_in_ip_lax` refuses the packet.
 /// - `OtherVersion` for an IPv4 packet.
-/// - `Protocol` if the next header, or the next header of a fragment header after the IPv6 header, is not UDP, TCP or ICMPv6, and a port is
-///   passed or the protocol covers the addresses: DCCP, ICMPv4, OSPF, PIM, UDP-Lite and VRRP. So a packet with another extension header is
-///   refused: a routing header or a home address would contain another address that a checksum covers (RFC 8200, section 8.1; RFC 6275,
-///   section 6.3).
+/// - `Protocol` if the protocol after these headers is not UDP, TCP or ICMPv6, and a port is passed or the protocol covers the addresses: DCCP,
+///   ICMPv4, OSPF, PIM, UDP-Lite and VRRP. So a packet with another extension header is refused: segments left or a home address would
+///   contain another address that a checksum covers (RFC 8200, section 8.1; RFC 6275, section 6.3).
 /// - `HeaderCutOff` if fewer than 8 bytes of UDP, TCP or ICMP are there.
 /// - `IcmpMessage` for an ICMP message that is no query and no error, or a redirect.
 /// - `QuotedPacket` if one of the first three cases is true of the packet that an ICMP error is about.
@@ -142,7 +144,7 @@ const SOURCE_AT: usize = Ipv6Header::SOURCE_AT;
 
 const DESTINATION_AT: usize = Ipv6Header::DESTINATION_AT;
 
-/// The message of an IPv6 packet, which begins after the IPv6 header or after a fragment header that follows it.
+/// The message of an IPv6 packet, which begins after the headers that are skipped.
 // perf: this looks for the IPv6 header first, so that nothing of IPv4 is compiled into the rest. All steps of the translation are compiled
 // into one function, which keeps the new addresses in registers. Together with `replaced_ipv6_change` it takes 160 instead of 239
 // instructions for a UDP packet (27 Nov 2026).
@@ -159,16 +161,16 @@ fn ipv6_place(packet: &[u8], new: &Ipv6Translation) -> Result<Place, TranslateEr
         Ok(found) => found,
         Err(error) => return Err(TranslateError::Ip(error)),
     };
-    let (start, protocol) = message_start(packet, header.next_header());
-    let proto = proto_over(found.addresses, protocol);
-    if is_ipv6_refused(proto, protocol, new) {
-        return Err(TranslateError::Protocol(protocol));
+    let headers = skip_headers(packet, header.next_header());
+    let proto = proto_over(found.addresses, headers.protocol);
+    if is_ipv6_refused(proto, headers.protocol, new) {
+        return Err(TranslateError::Protocol(headers.protocol));
     }
     Ok(Place {
-        start,
-        end: start + found.payload.len(),
+        start: headers.len,
+        end: headers.len + found.payload.len(),
         proto,
-        is_later_fragment: found.is_later_fragment,
+        is_later_fragment: headers.is_later_fragment,
     })
 }
 
@@ -193,24 +195,6 @@ fn error_or_other_version(packet: &[u8]) -> TranslateError
         Ok(_) => TranslateError::OtherVersion,
         Err(error) => TranslateError::Ip(error),
     }
-}
-
-/// The length of a fragment header, in bytes (RFC 8200, section 4.5).
-const FRAGMENT_LEN: usize = 8;
-
-/// The start of the message of an IPv6 packet with this next header, and the number of its protocol. A fragment header names it in its
-/// first byte.
-#[inline(always)]
-fn message_start(packet: &[u8], next_header: IpNumber) -> (usize, IpNumber)
-    requires next { next_header.0 ≡ slice_index packet.now 6 }
-    requires fragment { slice_index packet.now 6 ≡ 44 → 48 ≤ length packet.now }
-    ensures start { result.0 ≡ specs.ipv6_start packet.now }
-    ensures protocol { result.1.0 ≡ specs.ipv6_protocol packet.now }
-{
-    if next_header == ip_number::IPV6_FRAGMENTATION_HEADER {
-        return (IPV6_LEN + FRAGMENT_LEN, IpNumber(packet[IPV6_LEN]));
-    }
-    (IPV6_LEN, next_header)
 }
 
 /// The message of the packet that an ICMP error over IPv6 is about.

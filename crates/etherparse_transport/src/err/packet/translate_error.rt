@@ -36,7 +36,7 @@ pub enum TranslateError {
     HeaderCutOff {
         /// The number of bytes of the transport header that are needed, which is 8.
         required_len: usize,
-        /// The number of bytes after the IP header, and after a fragment header if there is one.
+        /// The number of bytes after the IP header, and over IPv6 after the extension headers that are skipped.
         len: usize,
     },
     /// The ICMP message is no query and no error, or it is a redirect.

@@ -17,8 +17,8 @@ returns-clause-translated c =
     let start : ℕ = c.args.place.now.start in
     let end : ℕ = c.args.place.now.end in
     let message : List ℕ = c.translate_flow-all.new.message in
-    let message_is : message ≡ ipv4_flow_message c.args.new.now packet =
-    c.translate_flow-all.ensures.translated ∙ ipv4_flow_message_is c.args.new.now packet _ _ _ _ _ (search rules) c.requires.place.later c.requires.place.proto (search rules) (search rules) in
+    let message_is : message ≡ ipv4_flow_message c.args.new.now (slice_range packet start end) packet =
+    c.translate_flow-all.ensures.translated ∙ ipv4_flow_message_is c.args.new.now packet _ _ _ _ _ c.requires.place.later c.requires.place.proto (search rules) (search rules) in
     c.replace_ipv4_addresses-old.ensures.replaced
     ∙ ap (λ addresses. with_ipv4_addresses addresses (put_mid start (end - start) packet message)) c.new_ipv4_addresses-addresses.ensures.new
     ∙ ap (with_ipv4_addresses (ipv4_addresses c.args.new.now packet)) (put_is start end packet message (search rules)
@@ -28,18 +28,19 @@ returns-clause-translated c =
 pub returns-clause-verifies : goal.returns-clause-verifies
 returns-clause-verifies c =
     let packet : List ℕ = c.args.packet.now in
-    let message_is : c.translate_flow-all.new.message ≡ ipv4_flow_message c.args.new.now packet =
+    let message : List ℕ = slice_range packet c.args.place.now.start c.args.place.now.end in
+    let message_is : c.translate_flow-all.new.message ≡ ipv4_flow_message c.args.new.now message packet =
     c.translate_flow-all.ensures.translated
-    ∙ ipv4_flow_message_is c.args.new.now packet _ _ _ _ _ (search rules) c.requires.place.later c.requires.place.proto (search rules) (search rules) in
-    ipv4_verifies c.args.new.now packet (slice_range packet c.args.place.now.start c.args.place.now.end) c.translate_flow-all.new.message c.args.place.now _ _
-    c.requires.place c.requires.place.message message_is c.ipv4_change-change.ensures.removed
+    ∙ ipv4_flow_message_is c.args.new.now packet _ _ _ _ _ c.requires.place.later c.requires.place.proto (search rules) (search rules) in
+    ipv4_verifies c.args.new.now packet message c.translate_flow-all.new.message c.args.place.now _ _
+    c.requires.place message_is c.ipv4_change-change.ensures.removed
     (c.ipv4_change-change.ensures.added ∙ ap sum_of_ipv4 c.new_ipv4_addresses-addresses.ensures.new)
     (subst AreIpv4Addresses c.new_ipv4_addresses-addresses.ensures.new c.new_ipv4_addresses-addresses.ensures.addresses)
     c.translate_flow-all.ensures.verifies
 
 pub returns-clause-header : goal.returns-clause-header
 returns-clause-header c =
-    header_in_front c.args.packet.now c.replace_ipv4_addresses-old.new.packet c.translate_flow-all.new.message c.args.place.now c.requires.place c.replace_ipv4_addresses-old.ensures.header (search rules)
+    header_in_front c.args.packet.now c.replace_ipv4_addresses-old.new.packet c.translate_flow-all.new.message _ c.args.place.now c.requires.place c.replace_ipv4_addresses-old.ensures.header (search rules)
 
 pub replace_ipv4_addresses-old-requires-clause-removed : goal.replace_ipv4_addresses-old-requires-clause-removed
 replace_ipv4_addresses-old-requires-clause-removed c =

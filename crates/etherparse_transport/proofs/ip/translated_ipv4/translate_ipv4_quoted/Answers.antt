@@ -1,10 +1,10 @@
-use Rattle.std.proofs.Common.{◌≡◌, ◌≢◌, ◌+◌, ◌-◌, ◌%◌, ◌<◌, [], ◌∷◌, List, ℕ, slice_index, slice_range, refl, sym, ap, ◌∙◌, subst, arith, rules}
+use Rattle.std.proofs.Common.{◌≡◌, true, ◌≢◌, ◌+◌, ◌-◌, ◌%◌, ◌<◌, [], ◌∷◌, List, ℕ, slice_index, slice_range, refl, sym, ap, ◌∙◌, subst, arith, rules}
 use Rattle.word_sum.specs.Checksum.{folded, total}
 use Rattle.word_sum.specs.ChecksumChange.{TurnsInto, added_value, removed_value}
 use Rattle.word_sum.specs.declared.checksum_change.ChecksumChange.{ChecksumChange}
 use Rattle.word_sum.proofs.ChecksumChangeLemmas.{folded-remainder}
 use Rattle.word_sum.proofs.ChecksumLemmas.{folded-lt}
-use Rattle.etherparse_transport.specs.Ipv4Translations.{ipv4_translated_flow}
+use Rattle.etherparse_transport.specs.Ipv4Translations.{IsIpv4Place, ipv4_translated_flow, message_in_ipv4}
 use Rattle.etherparse_transport.specs.Translations.{number, with_bytes, with_number, with_updated_checksum}
 use Rattle.etherparse_transport.proofs.TranslationLemmas.{put_is}
 use Rattle.etherparse_transport.proofs.TranslationSums.{error_alike, first_counts, first_put, folded_some, message_total, not_zero_by, quote_alike, turned_by}
@@ -16,11 +16,12 @@ returns-clause-translated c =
     let message : List ℕ = c.args.message.now in
     let end : ℕ = 8 + c.args.quoted_len in
     let quoted : List ℕ = slice_range message 8 end in
-    let translated : List ℕ = ipv4_translated_flow c.args.new.now quoted in
+    let translated : List ℕ = ipv4_translated_flow c.args.new.now (message_in_ipv4 true quoted) quoted in
     let changed : List ℕ = c.translate_ipv4_flow-change.new.packet in
     let flow : ChecksumChange = c.translate_ipv4_flow-change.result in
     let first : List ℕ = slice_index quoted 0 ∷ slice_index quoted 1 ∷ [] in
-    let changed_is : changed ≡ translated = c.translate_ipv4_flow-change.ensures.translated in
+    let changed_is : changed ≡ translated =
+    c.translate_ipv4_flow-change.ensures.translated ∙ ap (λ message. ipv4_translated_flow c.args.new.now message quoted) c.requires.place.message in
     let version : slice_index quoted 0 ≢ 0 = not_zero_by (slice_index quoted 0) 3 c.requires.place.is_ipv4 in
     let first_some : total first ≢ 0 = first_counts first version in
     let some : added_value c.replace_2bytes.result ≢ 0 = λ none.
@@ -64,3 +65,10 @@ returns-clause-verifies c = λ some sum.
     (λ none. first_counts message some (omega (arith, none)))
     (λ none. first_counts c.update_checksum.new.message
     (λ zero. some (sym (c.update_checksum.ensures.first ∙ first_put 8 (end - 8) message changed (omega arith) (search rules)) ∙ zero)) (omega (arith, none)))
+
+pub translate_ipv4_flow-change-requires : goal.translate_ipv4_flow-change-requires
+translate_ipv4_flow-change-requires c =
+    record {
+      place = subst (λ message. IsIpv4Place message (slice_range c.args.message.now 8 (8 + c.args.quoted_len)) c.args.place.now)
+          (sym c.requires.place.message) c.requires.place;
+    }

@@ -1,6 +1,6 @@
-use Rattle.std.proofs.Common.{◌≡◌, List, ℕ, sym, subst}
+use Rattle.std.proofs.Common.{◌≡◌, false, List, ℕ, sym, subst}
 use Rattle.std.specs.Prelude.{◌↔◌}
-use Rattle.etherparse_transport.specs.Ipv4Translations.{ipv4_quoted, ipv4_translated_with}
+use Rattle.etherparse_transport.specs.Ipv4Translations.{ipv4_quoted, ipv4_translated_with, message_in_ipv4}
 use Rattle.etherparse_transport.specs.WaysBack.{IsIpv4RestoredWith, ipv4_flow_back, ipv4_quoted_back}
 use Rattle.etherparse_transport.specs.declared.ip.ipv4_translation.Ipv4Translation.{Ipv4Translation}
 use Rattle.etherparse_transport.proofs.Ipv4ThereAndBack.{ipv4_both_there_and_back}
@@ -13,5 +13,5 @@ returns-clause-there_and_back c =
     let new : Ipv4Translation = c.args.new.now in
     let result = c.translate_ipv4_by.result in
     if_ok_four result c.translate_ipv4_by.ensures.bytes c.translate_ipv4_by.ensures.types (if_ok_accepted result _ c.translate_ipv4_by.ensures.refused) c.translate_ipv4_by.ensures.translated
-    (λ bytes types accepted is. subst (λ changed. (ipv4_translated_with (ipv4_flow_back new packet) (ipv4_quoted_back (ipv4_quoted packet) c.args.quoted.now) changed ≡ packet) ↔ IsIpv4RestoredWith packet)
+    (λ bytes types accepted is. subst (λ changed. (ipv4_translated_with (ipv4_flow_back new (message_in_ipv4 false packet) packet) (ipv4_quoted_back (ipv4_quoted packet) c.args.quoted.now) changed ≡ packet) ↔ IsIpv4RestoredWith packet)
     (sym is) (ipv4_both_there_and_back _ _ new c.args.quoted.now packet bytes types.0 types.1 accepted))

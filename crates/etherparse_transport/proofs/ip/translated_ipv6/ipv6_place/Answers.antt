@@ -1,7 +1,11 @@
-use Rattle.std.proofs.Common.{refl, sym, ◌∙◌, rules}
+use Rattle.std.proofs.Common.{◌&&◌, ◌||◌, refl, sym, ap, ◌∙◌, rules}
+use Rattle.std.specs.Prelude.{is_none}
+use Rattle.ip_part.specs.Addresses.{by_value}
+use Rattle.ip_part.specs.Protocols.{proto_over}
+use Rattle.etherparse_transport.specs.Ipv6Translations.{covers_ipv6_addresses}
 use Rattle.net_base.specs.IpHeaders.{BeginsWithIpv6Header}
 use Rattle.etherparse_transport.specs.Translations.{has_port}
-use Rattle.etherparse_transport.proofs.FragmentLemmas.{fragment_there, ipv6_place_is}
+use Rattle.etherparse_transport.proofs.TranslationReading.{ipv6_place_is}
 use Rattle.etherparse_transport.proofs.TranslationLemmas.{ipv6_no_proto}
 use Rattle.etherparse_transport.proofs.ip.translated_ipv6.ipv6_place.Goals as goal
 
@@ -10,24 +14,22 @@ returns-clause-place c =
     let begins : BeginsWithIpv6Header c.args.packet.now = c.in-Some.ensures.found.0 refl in
     ipv6_place_is c.args.packet.now c.in-Ok.found c.proto_over-proto.result _
     (record {
-      is_ipv6 = begins.is_version_6;
+      begins = begins;
       carries = c.in-Ok.ensures.found;
       missing = c.in-Ok.ensures.stated;
       after = c.in-Ok.ensures.parts;
-      known = search rules;
+      known = c.proto_over-proto.ensures ∙ ap (λ headers. proto_over (by_value c.in-Ok.found.addresses) headers.protocol.0) c.skip_headers-headers.ensures.skipped;
       has_port = has_port c.args.new.now.source_port c.args.new.now.destination_port;
-      accepted = search rules;
-    }) (search rules) refl refl refl
+      accepted = ap (λ headers. is_none c.proto_over-proto.result && (has_port c.args.new.now.source_port c.args.new.now.destination_port || covers_ipv6_addresses headers.protocol.0))
+          (sym c.skip_headers-headers.ensures.skipped) ∙ sym c.is_ipv6_refused.ensures ∙ c.if-is_ipv6_refused.false;
+    }) (ap (λ headers. headers.len) c.skip_headers-headers.ensures.skipped) refl refl
+    (ap (λ headers. headers.is_later_fragment) c.skip_headers-headers.ensures.skipped)
 
 pub returns-then-is_ipv6_refused-clause-refused : goal.returns-then-is_ipv6_refused-clause-refused
 returns-then-is_ipv6_refused-clause-refused c =
     let begins : BeginsWithIpv6Header c.args.packet.now = c.in-Some.ensures.found.0 refl in
     ipv6_no_proto _ c.args.packet.now c.in-Ok.found _ c.proto_over-proto.result c.in-Ok.ensures.refused begins.is_version_6 c.in-Ok.ensures.parts
-    c.message_start-start.ensures.protocol c.proto_over-proto.ensures (sym c.is_ipv6_refused.ensures ∙ c.if-is_ipv6_refused.true)
-
-pub message_start-start-requires-clause-fragment : goal.message_start-start-requires-clause-fragment
-message_start-start-requires-clause-fragment c = λ number.
-    fragment_there c.args.packet.now c.in-Ok.found (search rules) (search rules) number
+    (ap (λ headers. headers.protocol.0) c.skip_headers-headers.ensures.skipped) c.proto_over-proto.ensures (sym c.is_ipv6_refused.ensures ∙ c.if-is_ipv6_refused.true)
 
 pub returns-in_default-clause-bytes : goal.returns-in_default-clause-bytes
 returns-in_default-clause-bytes c = λ place. (c.type_inv.packet place).fits

@@ -7,7 +7,7 @@ use Rattle.etherparse_transport.specs.Ipv6Translations.{AreIpv6Addresses, total_
 use Rattle.etherparse_transport.specs.Translations.{with_bytes}
 use Rattle.etherparse_transport.specs.declared.ip.ipv6_translation.Ipv6Translation.{Ipv6Translation}
 use Rattle.etherparse_transport.proofs.TranslationLemmas.{ipv6_flow_message_is, put_is}
-use Rattle.etherparse_transport.proofs.TranslationSums.{flow_turns, ipv6_header_put, ipv6_verifies, message_total, start_even}
+use Rattle.etherparse_transport.proofs.TranslationSums.{flow_turns, ipv6_header_put, ipv6_verifies, message_total}
 use Rattle.etherparse_transport.proofs.ip.translated_ipv6.translate_ipv6_flow.Goals as goal
 use borrow.Rule.Slice.PartMut.{put_mid}
 
@@ -58,6 +58,6 @@ returns-clause-turns c =
     old.source old.destination new.source new.destination removed added 0 0 (removed_value c.translate_flow-change.result) (added_value c.translate_flow-change.result)
     c.replaced_ipv6_change-change.ensures
     (c.translate_flow-change.ensures.turns (removed + total message) added (ap folded (omega arith)))
-    (message_total start end packet translated (ap (λ n. n % 2) c.requires.place.start ∙ start_even _) (search rules) c.requires.place.ordered c.requires.place.there)
+    (message_total start end packet translated c.requires.place.even (search rules) c.requires.place.ordered c.requires.place.there)
     (omega (arith, c.replace_ipv6_addresses.ensures.total, ap total_of_ipv6 header, ap (λ header. total_of_ipv6 (addresses_from c.args.new.now header)) header)) in
     omega (arith, all)
