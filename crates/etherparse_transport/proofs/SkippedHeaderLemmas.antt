@@ -5,7 +5,6 @@ use Rattle.std.specs.List.{find, fold}
 use Rattle.std.proofs.lemmas.Bool.Decides.{nat_tests}
 use Rattle.std.proofs.lemmas.List.{drop-drop, drop-take, get_or-take, length-drop, length-take, length-take-le}
 use Rattle.net_base.specs.Refusals.{first_of, refused_if}
-use Rattle.net_base.specs.declared.ip_number.IpNumber.{IpNumber}
 use Rattle.ip_part.specs.Addresses.{Addresses, Ipv6, is_ipv6}
 use Rattle.ip_part.specs.ExtensionHeaders.{destination_after, extension_len, final_destination, has_segments_left, is_extension, is_later_fragment, is_one_of_fragments, next_number, source_after}
 use Rattle.ip_part.specs.Headers.{Headers}
@@ -17,8 +16,6 @@ use Rattle.ip_part.specs.Ip as ip
 use Rattle.ip_part.proofs.HeadersLemmas.{ended}
 use Rattle.etherparse_transport.specs.SkippedHeaders.{adds_address, adds_none, contain_home_address, header_at, is_home_address, is_skipped, may_be_skipped, only_ipv6_header, skip, skipped_headers, with_next}
 use Rattle.etherparse_transport.specs.declared.ip.skipped_headers.SkippedHeaders.{SkippedHeaders}
-use Rattle.etherparse_transport.proofs.BuiltLemmas.{none_first, none_if}
-use Rattle.etherparse_transport.proofs.EchoReplyLemmas.{is_number}
 use Rattle.etherparse_transport.proofs.EchoRequestLemmas.{in_front}
 
 -- ---- tests

@@ -470,18 +470,6 @@ ipv6_accepts has_port source destination number None is accepted =
 ipv6_accepts has_port source destination number (Some proto) is accepted =
     ap is_extension (ipv6_number source destination number proto is) ∙ no_extension proto
 
--- it is not the number of hop-by-hop options
-pub no_hop_by_hop_options : (number : ℕ) → is_extension number ≡ false → (number == 0) ≡ false
-no_hop_by_hop_options number other = first_false (number == 0) _ other
-
--- no extension header comes after the IPv6 header
-pub ipv6_ended : (packet : List ℕ) → version packet ≡ 6 → is_extension (ip.next_header packet) ≡ false
-    → is_extended (first_headers packet) ≡ false
-ipv6_ended packet is other =
-    ap (λ v. is_extended (if v == 4 then ip.ipv4_headers (ipv4_header_len packet) (ip.ipv4_header packet)
-    else ip.ipv6_headers (ip.is_jumbogram packet) (ip.ipv6_header packet))) is
-    ∙ other
-
 -- the second rule accepts, since no rule refuses
 second_accepts : {E : Type 0} (first second : Bool) (error error_too : E) (rules : List (Option E))
     → (if first then Some error else first_of (refused_if second error_too ∷ rules)) ≡ None → second ≡ false

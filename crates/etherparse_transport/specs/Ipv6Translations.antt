@@ -1,6 +1,6 @@
 -- The translation of an IPv6 packet, as an address translator makes it (RFC 3022; RFC 5508 for ICMP): new addresses and the
 -- translated message. An IPv6 header has no checksum.
-use Rattle.std.specs.Prelude.{◌≡◌, ◌≤◌, ◌%◌, ℕ, ◌+◌, ◌==◌, ◌&&◌, ◌||◌, Bool, false, is_none, not, List, [], ◌∷◌, length, slice_index, slice_range, Option, Some, None, unwrap_or}
+use Rattle.std.specs.Prelude.{◌≡◌, ◌≤◌, ◌%◌, ℕ, ◌+◌, ◌==◌, ◌&&◌, ◌||◌, Bool, false, is_none, not, List, [], ◌∷◌, length, slice_range, Option, Some, None, unwrap_or}
 use Rattle.std.specs.Borrow.{Bor}
 use Rattle.std.specs.Option.{option_map}
 use Rattle.ip_part.specs.Addresses.{Addresses, Ipv6}

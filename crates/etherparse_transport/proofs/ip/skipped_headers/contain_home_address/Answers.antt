@@ -1,4 +1,4 @@
-use Rattle.std.proofs.Common.{is_some, length, sym, ap, ◌∙◌, rules}
+use Rattle.std.proofs.Common.{is_some, length, sym, ap, rules}
 use Rattle.std.proofs.lemmas.List.{take_rest}
 use Rattle.ip_part.specs.Options.{ipv6_option}
 use Rattle.ip_part.proofs.OptionsLemmas.{found_at, none_at, sought_next}

@@ -1,4 +1,4 @@
-use Rattle.std.proofs.Common.{◌≤◌, length, length-drop, sym, ap, ◌∙◌, arith, rules}
+use Rattle.std.proofs.Common.{arith, rules}
 use Rattle.std.proofs.lemmas.List.{take_rest}
 use Rattle.etherparse_transport.proofs.SkippedHeaderLemmas.{reached_end, reached_first, reached_next}
 use Rattle.etherparse_transport.proofs.ip.skipped_headers.skip_headers.Goals as goal

@@ -1,4 +1,4 @@
-use Rattle.std.proofs.Common.{◌≡◌, ◌+◌, ◌-◌, ◌%◌, List, ℕ, slice_range, unwrap_or, ap, ◌∙◌, subst, arith, rules}
+use Rattle.std.proofs.Common.{◌≡◌, ◌+◌, ◌-◌, List, ℕ, slice_range, unwrap_or, ap, ◌∙◌, subst, arith, rules}
 use Rattle.net_base.specs.IpHeaders.{ipv6_header_of}
 use Rattle.net_base.specs.declared.ipv6_header.Ipv6Header.{Ipv6Header}
 use Rattle.word_sum.specs.Checksum.{folded, total}
