@@ -130,7 +130,8 @@ pub extern "C" fn etherparse_translate_ipv4(
 /// # Errors
 ///
 /// The statuses of `etherparse_translate_ipv4`, except `TRANSLATE_SOURCE_ROUTE`. The call returns `IP_VERSION` for an IPv4 packet. It also
-/// returns `TRANSLATE_PROTOCOL` for an extension header, except for one fragment header directly after the IPv6 header.
+/// returns `TRANSLATE_PROTOCOL` for an extension header that is not skipped: hop-by-hop options, fragment headers, routing headers without
+/// segments left and destination options without a home address are skipped.
 #[unsafe(no_mangle)]
 pub extern "C" fn etherparse_translate_ipv6(
     packet: &mut [u8],
