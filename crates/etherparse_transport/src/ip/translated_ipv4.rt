@@ -51,7 +51,7 @@ use crate::{IpNumber, Ipv4Header, Ipv4HeaderSlice, Proto, ip_number};
 ///   HIP, ICMPv6, UDP-Lite and VRRP.
 /// - `HeaderCutOff` if fewer than 8 bytes of UDP, TCP or ICMP are there.
 /// - `IcmpMessage` for an ICMP message that is no query and no error, and for a redirect, which contains another address.
-/// - `QuotedPacket` if one of the first four cases is true of the packet that an ICMP error is about, except that its total length is not read.
+/// - `QuotedPacket` if one of the first four cases is true of the packet that an ICMP error is about. Its total length is not read.
 pub fn translate_ipv4(packet: &mut [u8], new: &Ipv4Translation) -> Result<(), TranslateError>
     ensures refused { RefusesExactly result (specs.ipv4_refusal new.now packet.old) }
     ensures unchanged { IfErr result (λ _. packet.new ≡ packet.old) }
@@ -252,8 +252,8 @@ fn translate_ipv4_error(
     Ok(())
 }
 
-/// The message of the packet that an ICMP error over IPv4 is about. `None` if it can't be translated. It extends to the end of the quote: hosts
-/// that follow BSD quote a packet with a total length that leaves out the header.
+/// The message of the packet that an ICMP error over IPv4 is about. `None` if the packet can't be translated. The message extends to the end
+/// of the quote: hosts that follow BSD quote a packet with a total length that leaves out the header.
 fn quoted_ipv4_place(quoted: &[u8], new: &Ipv4Translation) -> Option<Place>
     ensures found { MatchOption result
         (specs.ipv4_place_refusal true (has_port new.now.source_port new.now.destination_port) quoted.now ≢ None)

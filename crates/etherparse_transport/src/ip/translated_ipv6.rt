@@ -31,19 +31,19 @@ use crate::{IpNumber, Ipv6Header, Ipv6HeaderSlice, Proto, ip_number};
 /// The checksums are updated by the replaced bytes (RFC 1624), so that a receiver accepts the packet exactly if it accepted it before. ICMP
 /// errors, packets that are cut off, packets that state no length, and partial checksums are treated as by `translate_ipv4`.
 ///
-/// Extension headers that contain no other address of the packet are skipped, and stay: hop-by-hop options, fragment headers, routing headers
-/// without segments left, and destination options without a home address (RFC 8200, section 4; RFC 6275, section 6.3). A first fragment has
-/// ports, and so has an atomic fragment (RFC 6946). In a later fragment only the addresses are replaced. Of other protocols only the
-/// addresses are replaced, if no port is passed.
+/// Extension headers that contain no other address of the packet are skipped, and stay: hop-by-hop options, fragment headers, routing
+/// headers without segments left, and destination options without a home address (RFC 8200, section 4; RFC 6275, section 6.3). A first
+/// fragment has ports, and so has an atomic fragment (RFC 6946). In a later fragment only the addresses are replaced. Of other protocols
+/// only the addresses are replaced, if no port is passed.
 ///
 /// # Errors
 ///
 /// The call checks these cases, in this order, and changes nothing after an error:
 /// - `Ip` if `transport_in_ip_lax` refuses the packet.
 /// - `OtherVersion` for an IPv4 packet.
-/// - `Protocol` if the protocol after these headers is not UDP, TCP or ICMPv6, and a port is passed or the protocol covers the addresses: DCCP,
-///   ICMPv4, OSPF, PIM, UDP-Lite and VRRP. So a packet with another extension header is refused: segments left or a home address would
-///   contain another address that a checksum covers (RFC 8200, section 8.1; RFC 6275, section 6.3).
+/// - `Protocol` if the protocol after these headers is not UDP, TCP or ICMPv6, and a port is passed or the protocol covers the addresses:
+///   DCCP, ICMPv4, OSPF, PIM, UDP-Lite and VRRP. So a packet with another extension header is refused: segments left or a home address
+///   would contain another address that a checksum covers (RFC 8200, section 8.1; RFC 6275, section 6.3).
 /// - `HeaderCutOff` if fewer than 8 bytes of UDP, TCP or ICMP are there.
 /// - `IcmpMessage` for an ICMP message that is no query and no error, or a redirect.
 /// - `QuotedPacket` if one of the first three cases is true of the packet that an ICMP error is about.
