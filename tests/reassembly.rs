@@ -1,11 +1,11 @@
 //! Tests of the crate `reassembly`.
 
-use crate::expect::{expect_at, expect_bytes, expect_equal, expect_ok, expect_some, expect_text};
+use crate::expect::{bytes_to, expect_at, expect_bytes, expect_equal, expect_ok, expect_some, expect_text};
 use ip_part::IpError;
 use net_base::ip_number;
 use reassembly::{
     Fragment, FragmentError, FragmentKey, MAX_FRAGMENTS, Progress, Reassembly, ReassemblyError,
-    whole_ipv4_header,
+    ipv6_fragment_header, whole_ipv4_header,
 };
 use std::process::Abort;
 
@@ -97,6 +97,25 @@ fn a_fragment_over_ipv6_is_found_after_other_headers(rt: HostRuntime) {
 #[test]
 fn an_atomic_fragment_is_whole(rt: HostRuntime) {
     expect_equal(&rt, &Fragment::of(&over_ipv6([0, 0])), &Ok(None));
+}
+
+#[test]
+fn a_fragment_header_over_ipv6_is_found(rt: HostRuntime) {
+    let packet = over_ipv6([0, 0]);
+    let header = [17, 0, 0, 0, 1, 2, 3, 4];
+    expect_equal(&rt, &ipv6_fragment_header(&packet), &Some(header));
+    let headers = bytes_to(&rt, &packet, 56);
+    expect_equal(&rt, &ipv6_fragment_header(headers), &Some(header));
+    // The headers are cut off, there is no fragment header, and the version is 4.
+    let headers = bytes_to(&rt, &packet, 55);
+    expect_equal(&rt, &ipv6_fragment_header(headers), &None);
+    let mut other = packet;
+    other[40] = 17;
+    expect_equal(&rt, &ipv6_fragment_header(&other), &None);
+    other = packet;
+    other[0] = 0x45;
+    expect_equal(&rt, &ipv6_fragment_header(&other), &None);
+    expect_equal(&rt, &ipv6_fragment_header(&[]), &None);
 }
 
 #[test]

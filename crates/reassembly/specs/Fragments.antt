@@ -1,5 +1,5 @@
 -- What a fragment of an IP packet contains (RFC 791, section 3.2; RFC 8200, section 4.5), and which packets are refused.
-use Rattle.std.specs.Prelude.{ℕ, zero, suc, ◌+◌, ◌*◌, ◌/◌, ◌==◌, Bool, false, not, ◌&&◌, nat_lt, if◌then◌else◌, List, [], ◌∷◌, length, take, drop, slice_index, slice_range, Option, Some, None, Ok, Err, Result}
+use Rattle.std.specs.Prelude.{ℕ, zero, suc, ◌+◌, ◌*◌, ◌/◌, ◌==◌, Bool, false, not, ◌&&◌, nat_le, nat_lt, if◌then◌else◌, List, [], ◌∷◌, length, take, drop, slice_index, slice_range, Option, Some, None, Ok, Err, Result}
 use Rattle.std.specs.Option.{option_map}
 use Rattle.net_base.specs.Bytes.{be_number, flag}
 use Rattle.net_base.specs.IpHeaders.{ipv4_fragment_offset, ipv4_header_len, ipv4_is_fragment, version}
@@ -70,6 +70,13 @@ fragment_header_from (suc more) number place packet =
 -- the place of the first fragment header after the IPv6 header; each header has at least one byte, so the limit is never reached
 abbrev pub fragment_header_place : List ℕ → Option ℕ
 fragment_header_place packet = fragment_header_from (suc (length packet)) (slice_index packet 6) 40 packet
+
+-- the first fragment header of an IPv6 packet, if there is one
+abbrev pub fragment_header_in : List ℕ → Option (List ℕ)
+fragment_header_in packet =
+    if version packet == 6 && nat_le 40 (length packet)
+    then option_map (λ place. slice_range packet place (place + 8)) (fragment_header_place packet)
+    else None
 
 -- what all fragments of one packet have in common: source, destination and identification (RFC 8200, section 4.5)
 abbrev pub ipv6_key : List ℕ → List ℕ → FragmentKey

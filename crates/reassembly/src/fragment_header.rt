@@ -1,11 +1,27 @@
 ghost use Rattle.std.specs.Prelude.{◌≡◌, ◌≤◌, ◌+◌, IfSome, length};
 ghost use Rattle.ip_part.specs.ExtensionHeaders as extensions;
-ghost use Rattle.reassembly.specs.Fragments.{fragment_header_place};
+ghost use Rattle.reassembly.specs.Fragments.{fragment_header_in, fragment_header_place};
 
 use net_base::{IpNumber, Ipv6Header, ip_number};
 
 /// The length of a fragment header, and the shortest extension header, in bytes (RFC 8200, sections 4 and 4.5).
 pub(crate) const FRAGMENT_HEADER_LEN: usize = 8;
+
+/// The first fragment header of an IPv6 packet (RFC 8200, section 4.5). `None` if the packet has none, or if an extension header before it
+/// is cut off. Pass the bytes that the IP header counts. An atomic fragment has a fragment header too (RFC 6946).
+///
+/// Bytes 2 and 3 of the header contain the fragment offset, in the high 13 bits, and bytes 4 to 7 the identification.
+pub fn ipv6_fragment_header(packet: &[u8]) -> Option<[u8; FRAGMENT_HEADER_LEN]>
+    ensures { result ≡ fragment_header_in packet.now }
+{
+    if packet.len() < Ipv6Header::LEN || packet[0] >> 4 != 6 {
+        return None;
+    }
+    let place = fragment_header_at(packet)?;
+    let mut header = [0; FRAGMENT_HEADER_LEN];
+    header.copy_from_slice(&packet[place..place + FRAGMENT_HEADER_LEN]);
+    Some(header)
+}
 
 /// The place of the first fragment header in the counted bytes of an IPv6 packet, in bytes from their start (RFC 8200, section 4.5).
 pub(crate) fn fragment_header_at(counted: &[u8]) -> Option<usize>

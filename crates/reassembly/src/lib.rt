@@ -25,6 +25,7 @@ mod whole_header;
 
 pub use fragment::Fragment;
 pub use fragment_error::FragmentError;
+pub use fragment_header::ipv6_fragment_header;
 pub use fragment_key::FragmentKey;
 pub use reassembly::{MAX_FRAGMENTS, Progress, Reassembly};
 pub use reassembly_error::ReassemblyError;
