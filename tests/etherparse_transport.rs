@@ -4,6 +4,7 @@ mod borrows;
 mod built_packets;
 mod clones;
 mod echo_replies;
+mod flows;
 mod readme;
 mod replies_to_requests;
 mod surface;

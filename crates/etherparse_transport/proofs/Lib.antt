@@ -2,6 +2,7 @@ pub mod BuiltLemmas
 pub mod CanonicalLemmas
 pub mod EchoReplyLemmas
 pub mod EchoRequestLemmas
+pub mod FlowExamples
 pub mod FrontLemmas
 pub mod Ipv4ThereAndBack
 pub mod Ipv6ThereAndBack

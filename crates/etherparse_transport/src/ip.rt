@@ -1,13 +1,15 @@
 //! From an IP packet to its transport (RFC 791, section 3.1; RFC 8200, sections 3 and 4), to its protocol and a typed
-//! slice, and to the verdict on its checksum; and back from a transport header and a payload to a packet. `answer_echo` turns an echo
-//! request into its reply, and `is_reply_to` recognises the reply. `translate_ipv4` and `translate_ipv6` replace addresses and ports.
-//! `write_checksum` writes the right checksum into a packet.
+//! slice, to the ends of its flow, and to the verdict on its checksum; and back from a transport header and a payload to a packet.
+//! `answer_echo` turns an echo request into its reply, and `is_reply_to` recognises the reply. `flow` returns addresses and ports.
+//! `translate_ipv4` and `translate_ipv6` replace them. `write_checksum` writes the right checksum into a packet.
 
 mod echo_reply;
+mod flow_ends;
 mod ip_header;
 mod ipv4_translation;
 mod ipv6_translation;
 mod message_place;
+mod packet_flow;
 mod reply_to;
 mod skipped_headers;
 mod source_route;
@@ -18,12 +20,14 @@ mod write_packet;
 mod written_checksum;
 
 pub use echo_reply::{answer_echo, answer_echo_ipv4, answer_echo_ipv6};
+pub use flow_ends::FlowEnds;
 pub use ip_part::{
     FixedHeader, IpAddresses, IpError, TransportInIp, fixed_header, proto_over, transport_in_ip,
     transport_in_ip_lax,
 };
 pub use ipv4_translation::Ipv4Translation;
 pub use ipv6_translation::Ipv6Translation;
+pub use packet_flow::{PacketFlow, flow};
 pub use reply_to::{is_reply_from_any, is_reply_to};
 pub use translated_ipv4::{translate_ipv4, translate_ipv4_with_quoted};
 pub use translated_ipv6::{translate_ipv6, translate_ipv6_with_quoted};

@@ -11,9 +11,9 @@ use crate::checksum_change::ChecksumChange;
 use crate::{IcmpEchoHeader, Icmpv4Header, Proto, TcpHeader, UdpHeader, icmpv4, icmpv6};
 
 /// The places of the ports, in bytes from the start of a UDP or TCP header (RFC 768; RFC 9293, section 3.1).
-const SOURCE_PORT_AT: usize = UdpHeader::SOURCE_PORT_AT;
+pub(crate) const SOURCE_PORT_AT: usize = UdpHeader::SOURCE_PORT_AT;
 
-const DESTINATION_PORT_AT: usize = UdpHeader::DESTINATION_PORT_AT;
+pub(crate) const DESTINATION_PORT_AT: usize = UdpHeader::DESTINATION_PORT_AT;
 
 /// The place of the checksum in UDP (RFC 768).
 const UDP_CHECKSUM_AT: usize = UdpHeader::CHECKSUM_AT;
@@ -25,7 +25,7 @@ pub(crate) const TCP_CHECKSUM_AT: usize = TcpHeader::CHECKSUM_AT;
 const ICMP_CHECKSUM_AT: usize = Icmpv4Header::CHECKSUM_AT;
 
 /// The place of the identifier of a query (RFC 792; RFC 950; RFC 4443, section 4).
-const IDENTIFIER_AT: usize = IcmpEchoHeader::ID_AT;
+pub(crate) const IDENTIFIER_AT: usize = IcmpEchoHeader::ID_AT;
 
 /// Translates the message of a packet, as far as it is there: ports or the identifier of a query, and the checksum. The passed
 /// change replaces the addresses in the pseudo header. The returned change replaces the words of the message too.
@@ -111,7 +111,7 @@ pub(crate) fn is_icmpv4_query(message: &[u8]) -> bool
 }
 
 /// Whether a message of this type is a request with an identifier (RFC 792; RFC 950).
-fn is_icmpv4_request(type_u8: u8) -> bool
+pub(crate) fn is_icmpv4_request(type_u8: u8) -> bool
     ensures { result ≡ specs.is_request protos.Icmpv4 type_u8 }
 {
     type_u8 == icmpv4::TYPE_ECHO_REQUEST
