@@ -5,12 +5,12 @@ use etherparse_transport::ChecksumVerdict::{Absent, Right};
 use etherparse_transport::err::ValueTooBigError;
 use etherparse_transport::err::packet::{BuildSliceWriteError, TranslateError};
 use etherparse_transport::ip::{
-    IpAddresses, Ipv4Translation, answer_echo, checksum_verdict, is_reply_to, translate_ipv4,
-    transport_in_ip, transport_in_ip_lax, transport_slice, write_packet_ipv4,
+    IpAddresses, Ipv4Translation, answer_echo, checksum_verdict, flow, is_reply_to, translate_ipv4,
+    transport_in_ip, transport_slice, write_packet_ipv4,
 };
 use etherparse_transport::{
-    Ipv4Header, Proto, TcpHeader, TcpHeaderSlice, TcpOptionElement, TcpOptionWriteError,
-    TransportHeader, TransportSlice, UdpHeader, UdpSlice, ip_number,
+    Ipv4Header, TcpHeader, TcpHeaderSlice, TcpOptionElement, TcpOptionWriteError, TransportHeader,
+    TransportSlice, UdpHeader, UdpSlice, ip_number,
 };
 use std::process::Abort;
 
@@ -212,14 +212,9 @@ fn the_example_of_the_readme_echo(rt: HostRuntime) {
     }
 }
 
-/// The source port of the UDP packet or TCP segment that an ICMP error is about. `None` if the packet is no such error.
+/// The source port of the packet that an ICMP error is about, or the identifier of an echo request. `None` if there is none.
 fn port_in_error(captured: &[u8]) -> Option<u16> {
-    let error = transport_slice(&transport_in_ip(captured).ok()?).ok()??;
-    let quoted = transport_in_ip_lax(error.quoted_packet()?).ok()?;
-    if quoted.is_later_fragment || !matches!(quoted.proto()?, Proto::Udp | Proto::Tcp) {
-        return None;
-    }
-    Some(u16::from_be_bytes([*quoted.payload.first()?, *quoted.payload.get(1)?]))
+    flow(captured).ok()?.quoted?.source_port
 }
 
 /// A time exceeded message from 203.0.113.1 to 192.0.2.1, about the first 8 bytes of a UDP packet from 192.0.2.1, port 49152, to
