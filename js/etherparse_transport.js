@@ -467,6 +467,10 @@ function callOverAddresses({ ipv4, ipv6 }, message, source, destination, ...more
  * @property {boolean} isLengthMissing  whether the IP header states no length and all bytes are counted
  * @property {boolean} isLaterFragment  whether the fragment offset is above 0, so that no transport header begins the payload
  * @property {number} hopLimit  the hops that are left: the time to live of IPv4, or the hop limit of IPv6
+ * @property {number} fragmentOffset  the place of the payload in the payload of the whole packet, in bytes
+ * @property {number} identification  what the fragments of a packet share. It is 0 over IPv6 without a fragment header.
+ * @property {boolean} dontFragment  whether the flag "don't fragment" of IPv4 is set. It is false over IPv6.
+ * @property {number} trafficClass  the type of service of IPv4, or the traffic class of IPv6
  * @property {string} source
  * @property {string | null} destination  `null` if it is not known, as with some IPv6 routing headers
  */
@@ -505,6 +509,10 @@ function transportOf(found) {
         isLengthMissing: found.isLengthMissing !== 0,
         isLaterFragment: found.isLaterFragment !== 0,
         hopLimit: found.hopLimit,
+        fragmentOffset: found.fragmentOffset,
+        identification: found.identification,
+        dontFragment: found.dontFragment !== 0,
+        trafficClass: found.trafficClass,
         source: addressOf(version, found.source),
         destination: found.hasDestination === 0 ? null : addressOf(version, found.destination),
     };
@@ -554,6 +562,54 @@ export function headerAddresses(packet) {
     read("etherparse_ip_header_addresses", packet, "packet");
     const { version, source, destination } = getIpAddresses(base + RESULT_PLACE);
     return { version, source: addressOf(version, source), destination: addressOf(version, destination) };
+}
+
+/**
+ * @typedef {object} FlowEnds  The ends of a flow, as one of its packets names them. The addresses are as in `Transport`. The identifier of an
+ *     ICMP query is `sourcePort` in a request, and `destinationPort` in a reply.
+ * @property {4 | 6} version
+ * @property {number} protocol  `Protocol`, or the number of another protocol in IP
+ * @property {boolean} isFragment  whether the payload is only a part of the packet's payload
+ * @property {boolean} isLaterFragment  whether the fragment offset is above 0, so that no port is known
+ * @property {string} source
+ * @property {string | null} destination  `null` if it is not known
+ * @property {number | null} sourcePort  `null` if the packet does not contain it
+ * @property {number | null} destinationPort  `null` if the packet does not contain it
+ */
+
+/**
+ * @typedef {object} PacketFlow  The flow that a packet belongs to.
+ * @property {FlowEnds} ends  of the packet itself
+ * @property {FlowEnds | null} quoted  of the packet that an ICMP error quotes, which went in the other direction
+ */
+
+/** The ends that a struct describes. */
+function endsOf(found) {
+    const { version, protocol } = found;
+    return {
+        version,
+        protocol,
+        isFragment: found.isFragment !== 0,
+        isLaterFragment: found.isLaterFragment !== 0,
+        source: addressOf(version, found.source),
+        destination: found.hasDestination === 0 ? null : addressOf(version, found.destination),
+        sourcePort: found.hasSourcePort === 0 ? null : found.sourcePort,
+        destinationPort: found.hasDestinationPort === 0 ? null : found.destinationPort,
+    };
+}
+
+/**
+ * Returns the flow that an IP packet belongs to: its addresses, its protocol, and its ports or the identifier of an ICMP query; and the same
+ * of the packet that an ICMP error quotes. The packet may be cut off or state no length. No checksum is tested.
+ *
+ * @param {Uint8Array} packet
+ * @returns {PacketFlow}
+ * @throws {EtherparseError} if the IP headers of the packet are refused
+ */
+export function flow(packet) {
+    read("etherparse_flow", packet, "packet");
+    const { ends, quoted } = getPacketFlow(base + RESULT_PLACE);
+    return { ends: endsOf(ends), quoted: quoted.version === 0 ? null : endsOf(quoted) };
 }
 
 /** The checksum that a call wrote. */

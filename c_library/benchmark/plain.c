@@ -53,7 +53,7 @@ static int has_jumbo_payload(const uint8_t *header, size_t len)
 static etherparse_status ipv6(const uint8_t *bytes, size_t len, etherparse_ip_transport *transport, etherparse_error *error)
 {
     size_t place = 40, counted;
-    uint32_t protocol, is_fragment = 0, is_later_fragment = 0, has_destination = 1;
+    uint32_t protocol, is_fragment = 0, is_later_fragment = 0, has_destination = 1, fragment_offset = 0, identification = 0;
     if (len < 40)
         return refuse(error, 40, len);
     counted = 40 + (size_t)big_endian_16(bytes + 4);
@@ -78,6 +78,8 @@ static etherparse_status ipv6(const uint8_t *bytes, size_t len, etherparse_ip_tr
         if (protocol == 44) {
             uint16_t fragment = big_endian_16(header + 2);
             is_fragment |= (fragment & 0xfff9) != 0;
+            fragment_offset = fragment & 0xfff8;
+            identification = (uint32_t)big_endian_16(header + 4) << 16 | big_endian_16(header + 6);
             if (fragment >> 3 != 0) {
                 is_later_fragment = 1;
                 protocol = header[0];
@@ -98,6 +100,10 @@ static etherparse_status ipv6(const uint8_t *bytes, size_t len, etherparse_ip_tr
     transport->is_length_missing = 0;
     transport->is_later_fragment = is_later_fragment;
     transport->hop_limit = bytes[7];
+    transport->fragment_offset = fragment_offset;
+    transport->identification = identification;
+    transport->dont_fragment = 0;
+    transport->traffic_class = (bytes[0] & 0xfu) << 4 | bytes[1] >> 4;
     memcpy(transport->source, bytes + 8, 16);
     memcpy(transport->destination, bytes + 24, 16);
     return ETHERPARSE_OK;
@@ -126,6 +132,10 @@ etherparse_status plain_transport_in_ip(const uint8_t *bytes, size_t len, etherp
     transport->is_length_missing = 0;
     transport->is_later_fragment = (big_endian_16(bytes + 6) & 0x1fff) != 0;
     transport->hop_limit = bytes[8];
+    transport->fragment_offset = (big_endian_16(bytes + 6) & 0x1fffu) * 8;
+    transport->identification = big_endian_16(bytes + 4);
+    transport->dont_fragment = (bytes[6] & 0x40) != 0;
+    transport->traffic_class = bytes[1];
     memset(transport->source, 0, 16);
     memset(transport->destination, 0, 16);
     memcpy(transport->source, bytes + 12, 4);

@@ -205,6 +205,8 @@ static size_t answer(int row, int is_plain)
     all = mixed(mixed(all, transport.payload_offset), transport.payload_len);
     all = mixed(mixed(mixed(all, transport.is_fragment), transport.is_cut_off), transport.has_destination);
     all = mixed(mixed(mixed(all, transport.is_length_missing), transport.is_later_fragment), transport.hop_limit);
+    all = mixed(mixed(all, transport.fragment_offset), transport.identification);
+    all = mixed(mixed(all, transport.dont_fragment), transport.traffic_class);
     all = mixed_bytes(mixed_bytes(all, transport.source, 16), transport.destination, 16);
     all = mixed(mixed(all, udp_packet.header.source_port), udp_packet.header.checksum);
     all = mixed(mixed(all, udp_packet.payload_len), udp_packet.payload_len_source);

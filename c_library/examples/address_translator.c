@@ -4,12 +4,13 @@
  *
  * An address translator (NAT, RFC 3022) for IPv4 and IPv6 between two TUN devices of Linux. Packets that the system sends to the device
  * INSIDE leave the device OUTSIDE with the source IPV4 or IPV6, and the answers return. Each port inside gets a port outside, which any
- * host outside can send to, and each identifier of an echo request an identifier. An ICMP error finds the flow of the packet that it is
+ * host outside can send to, and each identifier of an ICMP query an identifier. An ICMP error finds the flow of the packet that it is
  * about. The hop limit, which IPv4 calls time to live, is lowered by 1.
  *
  * Fragments, and packets that the library refuses to translate, are dropped. So is a packet whose hop limit would become 0, without an ICMP
- * error. A partial checksum is completed. No flow ends by time: if all ports are in use, the oldest flow loses its port. The program ends at SIGTERM, or when a device is
- * deleted, and then prints how many packets it translated and dropped. As root, with a network namespace as the network outside:
+ * error. A partial checksum is completed. No flow ends by time: if all ports are in use, the oldest flow loses its port. The program ends at
+ * SIGTERM, or when a device is deleted, and then prints how many packets it translated and dropped. As root, with a network namespace as
+ * the network outside:
  *
  *     cc -std=c99 -I include examples/address_translator.c libetherparse_transport.a -o address_translator
  *     ./address_translator tun0 tun1 203.0.113.7 2001:db8:113::7 &
@@ -58,68 +59,24 @@ static const uint8_t *outside_address(uint32_t version)
     return version == 4 ? outside_ipv4 : outside_ipv6;
 }
 
-/* Finds the identifier of an echo message, which belongs to the source of a request and to the destination of a reply. Returns 0 for any
-   other ICMP message. */
-static int find_identifier(const etherparse_ip_transport *ip, const uint8_t *payload, int is_source, uint16_t *identifier)
+/* Finds the source or the destination of a packet, or of an ICMP error the other end of the packet that it is about, which went in the other
+   direction. Returns 0 for a fragment, and if there is no port and no identifier. */
+static int find_end(const uint8_t *packet, size_t len, int is_source, struct end *end, int *is_error)
 {
-    etherparse_icmpv4_packet icmpv4;
-    etherparse_icmpv6_packet icmpv6;
-    if (ip->protocol == ETHERPARSE_PROTOCOL_ICMPV4) {
-        if (etherparse_icmpv4_packet_read(payload, ip->payload_len, &icmpv4, NULL) != ETHERPARSE_OK)
-            return 0;
-        *identifier = icmpv4.header.id;
-        return icmpv4.header.kind == (is_source ? ETHERPARSE_ICMPV4_KIND_ECHO_REQUEST : ETHERPARSE_ICMPV4_KIND_ECHO_REPLY);
+    etherparse_packet_flow flow;
+    const etherparse_flow_ends *ends = &flow.ends;
+    if (etherparse_flow(packet, len, &flow, NULL) != ETHERPARSE_OK || flow.ends.is_fragment)
+        return 0;
+    *is_error = flow.quoted.version != 0;
+    if (*is_error) {
+        ends = &flow.quoted;
+        is_source = !is_source;
     }
-    if (etherparse_icmpv6_packet_read(payload, ip->payload_len, &icmpv6, NULL) != ETHERPARSE_OK)
-        return 0;
-    *identifier = icmpv6.header.id;
-    return icmpv6.header.kind == (is_source ? ETHERPARSE_ICMPV6_KIND_ECHO_REQUEST : ETHERPARSE_ICMPV6_KIND_ECHO_REPLY);
-}
-
-/* Finds the source or the destination of a packet. Returns 0 for a fragment, and if there is no port and no identifier. */
-static int find_end(const uint8_t *packet, size_t len, int is_source, struct end *end)
-{
-    etherparse_ip_transport ip;
-    const uint8_t *payload;
-    if (etherparse_transport_in_ip_lax(packet, len, &ip, NULL) != ETHERPARSE_OK || ip.is_fragment)
-        return 0;
-    payload = packet + ip.payload_offset;
-    end->version = ip.version;
-    end->protocol = ip.protocol;
-    memcpy(end->address, is_source ? ip.source : ip.destination, sizeof end->address);
-    if (ip.protocol == ETHERPARSE_PROTOCOL_ICMPV4 || ip.protocol == ETHERPARSE_PROTOCOL_ICMPV6)
-        return find_identifier(&ip, payload, is_source, &end->port);
-    if ((ip.protocol != ETHERPARSE_PROTOCOL_UDP && ip.protocol != ETHERPARSE_PROTOCOL_TCP) || ip.payload_len < 4)
-        return 0;
-    payload += is_source ? 0 : 2;
-    end->port = (uint16_t)(payload[0] << 8 | payload[1]);
-    return 1;
-}
-
-/* Finds the packet that an ICMP error is about. Returns 0 for any other packet. */
-static int find_quoted_packet(const uint8_t *packet, size_t len, const uint8_t **quoted, size_t *quoted_len)
-{
-    etherparse_ip_transport ip;
-    etherparse_status status = ETHERPARSE_STATUS_NO_ICMP_ERROR;
-    size_t offset = 0;
-    if (etherparse_transport_in_ip(packet, len, &ip, NULL) != ETHERPARSE_OK || ip.is_fragment)
-        return 0;
-    packet += ip.payload_offset;
-    if (ip.protocol == ETHERPARSE_PROTOCOL_ICMPV4)
-        status = etherparse_icmpv4_quoted_packet(packet, ip.payload_len, &offset, quoted_len, NULL);
-    else if (ip.protocol == ETHERPARSE_PROTOCOL_ICMPV6)
-        status = etherparse_icmpv6_quoted_packet(packet, ip.payload_len, &offset, quoted_len, NULL);
-    *quoted = packet + offset;
-    return status == ETHERPARSE_OK;
-}
-
-/* The same as find_end, but of an ICMP error the other end of the packet that it is about, which went in the other direction. */
-static int find_flow_end(const uint8_t *packet, size_t len, int is_source, struct end *end, int *is_error)
-{
-    const uint8_t *quoted;
-    size_t quoted_len;
-    *is_error = find_quoted_packet(packet, len, &quoted, &quoted_len);
-    return *is_error ? find_end(quoted, quoted_len, !is_source, end) : find_end(packet, len, is_source, end);
+    end->version = ends->version;
+    end->protocol = ends->protocol;
+    memcpy(end->address, is_source ? ends->source : ends->destination, sizeof end->address);
+    end->port = is_source ? ends->source_port : ends->destination_port;
+    return !ends->is_fragment && (is_source ? ends->has_source_port : ends->has_destination_port);
 }
 
 /* Returns the index of the flow with this end inside, or flow_count. */
@@ -162,7 +119,7 @@ static int translate_outbound(uint8_t *packet, size_t len)
     struct end inside, outside;
     size_t flow;
     int is_error;
-    if (!find_flow_end(packet, len, 1, &inside, &is_error))
+    if (!find_end(packet, len, 1, &inside, &is_error))
         return 0;
     flow = find_flow(&inside);
     if (flow == flow_count && is_error)
@@ -181,7 +138,7 @@ static int translate_inbound(uint8_t *packet, size_t len)
     struct end outside;
     size_t flow;
     int is_error;
-    if (!find_flow_end(packet, len, 0, &outside, &is_error))
+    if (!find_end(packet, len, 0, &outside, &is_error))
         return 0;
     flow = (size_t)outside.port - FIRST_PORT;
     if (flow >= flow_count || flows[flow].protocol != outside.protocol ||

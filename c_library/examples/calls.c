@@ -116,10 +116,12 @@ static void ip(void)
     EXPECT(memcmp(transport.source, source, 16) == 0 && memcmp(transport.destination, destination, 16) == 0);
     EXPECT(transport.has_destination == 1 && transport.is_length_missing == 0 && error_is_untouched());
     EXPECT(transport.is_later_fragment == 0 && transport.hop_limit == 64);
+    EXPECT(transport.identification == 7 && transport.fragment_offset == 0 && transport.dont_fragment == 0 && transport.traffic_class == 0);
     OK(etherparse_transport_in_ip(over_ipv6, 56, &transport, &error));
     EXPECT(transport.version == 6 && transport.protocol == ETHERPARSE_PROTOCOL_UDP && transport.has_destination == 1);
     EXPECT(transport.payload_offset == 48 && transport.payload_len == 8);
     EXPECT(memcmp(transport.source, source6, 16) == 0 && memcmp(transport.destination, destination6, 16) == 0);
+    EXPECT(transport.identification == 0 && transport.fragment_offset == 0 && transport.dont_fragment == 0 && transport.traffic_class == 0);
     REFUSED(etherparse_transport_in_ip(over_ipv6, 55, &transport, &error), ETHERPARSE_STATUS_IP_PACKET_CUT_OFF);
     EXPECT(error.required_len == 56 && error.len == 55 && transport.payload_len == 8);
     OK(etherparse_transport_in_ip_lax(over_ipv6, 55, &transport, &error));
@@ -133,7 +135,7 @@ static void ip(void)
     memcpy(changed, over_ipv4, 34);
     changed[6] = 0x20;
     OK(etherparse_transport_in_ip(changed, 34, &transport, &error));
-    EXPECT(transport.is_fragment == 1 && transport.is_later_fragment == 0);
+    EXPECT(transport.is_fragment == 1 && transport.is_later_fragment == 0 && transport.fragment_offset == 0);
     changed[7] = 1;
     changed[8] = 3;
     OK(etherparse_transport_in_ip(changed, 34, &transport, &error));
@@ -717,6 +719,73 @@ static void addresses(void)
     EXPECT(error.required_len == 28 && error.len == 27);
     REFUSED(etherparse_ip_header_addresses(routed + 1, 27, &found, &error), ETHERPARSE_STATUS_IP_VERSION);
     EXPECT(error.actual == 0 && found.version == 6 && memcmp(found.source, source6, 16) == 0);
+}
+
+/* The fields of headers that tell fragments apart: of IPv4, and of IPv6 with hop-by-hop options before the fragment header. */
+static void fragments(void)
+{
+    static const uint8_t ipv4[20] = {0x45, 0xb9, 0, 20, 0xab, 0xcd, 0x5f, 0xff, 9, 17, 0, 0, 10, 0, 0, 1, 10, 0, 0, 2};
+    uint8_t ipv6[64] = {0x6b, 0x91, 0x23, 0x45, 0, 24, 0, 64};
+    static const uint8_t extensions[16] = {44, 0, 1, 4, 0, 0, 0, 0, 17, 0, 0, 9, 0xde, 0xad, 0xbe, 0xef};
+    etherparse_ip_transport transport;
+    clear();
+    OK(etherparse_transport_in_ip(ipv4, 20, &transport, &error));
+    EXPECT(transport.traffic_class == 0xb9 && transport.identification == 0xabcd && transport.dont_fragment == 1);
+    EXPECT(transport.fragment_offset == 65528 && transport.is_later_fragment == 1);
+    memcpy(ipv6 + 40, extensions, 16);
+    OK(etherparse_transport_in_ip(ipv6, 64, &transport, &error));
+    EXPECT(transport.traffic_class == 0xb9 && transport.identification == 0xdeadbeef && transport.dont_fragment == 0);
+    EXPECT(transport.fragment_offset == 8 && transport.is_later_fragment == 1 && transport.payload_offset == 56);
+    OK(etherparse_transport_in_ip_lax(ipv6, 56, &transport, &error));
+    EXPECT(transport.fragment_offset == 8 && transport.identification == 0xdeadbeef && transport.is_cut_off == 1);
+    ipv6[51] = 0;
+    OK(etherparse_transport_in_ip(ipv6, 64, &transport, &error));
+    EXPECT(transport.fragment_offset == 0 && transport.identification == 0xdeadbeef && transport.is_fragment == 0);
+    EXPECT(error_is_untouched());
+}
+
+/* Whether the flow of a packet has these ports, each or -1, and is about another packet or not. */
+static int flow_has(const uint8_t *packet, size_t len, int source_port, int destination_port, int is_error)
+{
+    etherparse_packet_flow flow;
+    memset(&flow, 0x77, sizeof flow);
+    return etherparse_flow(packet, len, &flow, &error) == ETHERPARSE_OK && flow.ends.has_source_port == (source_port >= 0) &&
+           flow.ends.has_destination_port == (destination_port >= 0) && flow.ends.source_port == (source_port < 0 ? 0 : source_port) &&
+           flow.ends.destination_port == (destination_port < 0 ? 0 : destination_port) && (flow.quoted.version != 0) == is_error;
+}
+
+static void flows(void)
+{
+    static const uint8_t source[16] = {10, 0, 0, 1}, destination[16] = {10, 0, 0, 2}, nothing[sizeof(etherparse_flow_ends)] = {0};
+    /* A time exceeded message from 10.0.0.1 to 10.0.0.2, with eight bytes of TCP from port 443 of 10.0.0.2 to port 40000 of 10.0.0.1. */
+    static const uint8_t exceeded[56] = {0x45, 0, 0, 56, 0, 0, 0, 0, 64, 1, 0, 0, 10, 0, 0, 1, 10, 0, 0,    2,    11,   0,    0, 0, 0, 0, 0, 0,
+                                         0x45, 0, 0, 60, 0, 0, 0, 0, 1,  6, 0, 0, 10, 0, 0, 2, 10, 0, 0, 1, 1, 0xbb, 0x9c, 0x40, 0, 0, 0, 1};
+    uint8_t query[28] = {0x45, 0, 0, 28, 0, 0, 0, 0, 64, 1, 0, 0, 10, 0, 0, 1, 10, 0, 0, 2, 8, 0, 0, 0, 0xab, 0xcd, 0, 1};
+    etherparse_packet_flow flow;
+    clear();
+    OK(etherparse_flow(exceeded, 56, &flow, &error));
+    EXPECT(flow.ends.version == 4 && flow.ends.protocol == ETHERPARSE_PROTOCOL_ICMPV4 && flow.ends.has_destination == 1);
+    EXPECT(memcmp(flow.ends.source, source, 16) == 0 && memcmp(flow.ends.destination, destination, 16) == 0);
+    EXPECT(flow.ends.is_fragment == 0 && flow.ends.has_source_port == 0 && flow.ends.has_destination_port == 0);
+    EXPECT(flow.quoted.version == 4 && flow.quoted.protocol == ETHERPARSE_PROTOCOL_TCP && flow.quoted.is_fragment == 0);
+    EXPECT(memcmp(flow.quoted.source, destination, 16) == 0 && memcmp(flow.quoted.destination, source, 16) == 0);
+    EXPECT(flow.quoted.has_source_port == 1 && flow.quoted.source_port == 443 && flow.quoted.has_destination_port == 1);
+    EXPECT(flow.quoted.destination_port == 40000 && flow.quoted.has_destination == 1 && flow.quoted.is_later_fragment == 0);
+    OK(etherparse_flow(over_ipv6, 56, &flow, &error));
+    EXPECT(flow.ends.version == 6 && flow.ends.protocol == ETHERPARSE_PROTOCOL_UDP && memcmp(flow.ends.source, source6, 16) == 0);
+    EXPECT(memcmp(flow.ends.destination, destination6, 16) == 0 && memcmp(&flow.quoted, nothing, sizeof nothing) == 0);
+    EXPECT(flow_has(over_ipv6, 56, 21, 1234, 0) && flow_has(over_ipv6, 52, 21, 1234, 0) && flow_has(over_ipv6, 51, -1, -1, 0));
+    EXPECT(flow_has(query, 28, 0xabcd, -1, 0) && flow_has(query, 26, 0xabcd, -1, 0) && flow_has(query, 25, -1, -1, 0));
+    query[20] = 0;
+    EXPECT(flow_has(query, 28, -1, 0xabcd, 0) && flow_has(exceeded, 55, -1, -1, 1) && error_is_untouched());
+    query[6] = 0x20;
+    OK(etherparse_flow(query, 28, &flow, &error));
+    EXPECT(flow.ends.is_fragment == 1 && flow.ends.is_later_fragment == 0 && flow.ends.destination_port == 0xabcd);
+    query[7] = 1;
+    OK(etherparse_flow(query, 28, &flow, &error));
+    EXPECT(flow.ends.is_fragment == 1 && flow.ends.is_later_fragment == 1 && flow.ends.has_destination_port == 0);
+    REFUSED(etherparse_flow(query, 19, &flow, &error), ETHERPARSE_STATUS_IP_HEADER_CUT_OFF);
+    EXPECT(error.required_len == 20 && error.len == 19 && flow.ends.is_later_fragment == 1);
 }
 
 /* The checksum of an IPv4 header with options, 0xf470, which does not cover the two bytes behind the header. */
@@ -1454,6 +1523,7 @@ static void nulls(etherparse_error *told)
     etherparse_ip_transport transport;
     etherparse_ip_addresses addresses_found;
     etherparse_ip_packet packet;
+    etherparse_packet_flow flow;
     etherparse_udp_packet udp_packet;
     etherparse_tcp_packet tcp_packet;
     etherparse_tcp_option option;
@@ -1474,6 +1544,7 @@ static void nulls(etherparse_error *told)
     REFUSED_TO(etherparse_ipv4_header_checksum_test(NULL, 0, told), ETHERPARSE_STATUS_IP_HEADER_CUT_OFF);
     REFUSED_TO(etherparse_packet_verdict(NULL, 0, &packet, told), ETHERPARSE_STATUS_IP_HEADER_CUT_OFF);
     REFUSED_TO(etherparse_packet_verdict_lax(NULL, 0, &packet, told), ETHERPARSE_STATUS_IP_HEADER_CUT_OFF);
+    REFUSED_TO(etherparse_flow(NULL, 0, &flow, told), ETHERPARSE_STATUS_IP_HEADER_CUT_OFF);
     REFUSED_TO(etherparse_udp_packet_read(NULL, 0, &udp_packet, told), ETHERPARSE_STATUS_LENGTH);
     REFUSED_TO(etherparse_udp_packet_read_lax(NULL, 0, &udp_packet, told), ETHERPARSE_STATUS_LENGTH);
     REFUSED_TO(etherparse_udp_header_write(&udp_header, NULL, 0, &written, told), ETHERPARSE_STATUS_BUFFER_TOO_SMALL);
@@ -1539,6 +1610,8 @@ int main(void)
     kinds_of_types();
     quoted();
     addresses();
+    fragments();
+    flows();
     ipv4_header();
     echo();
     echo_refused();

@@ -407,6 +407,10 @@ typedef struct etherparse_ip_transport {
     uint32_t is_length_missing; /* 1 if the IP header states no length and all bytes are counted, otherwise 0 */
     uint32_t is_later_fragment; /* 1 if the fragment offset is above 0, so that no transport header begins the payload, otherwise 0 */
     uint32_t hop_limit;         /* the hops that are left: the time to live of IPv4, or the hop limit of IPv6 */
+    uint32_t fragment_offset;   /* the place of the payload in the payload of the whole packet, in bytes; 0 if it is not a fragment */
+    uint32_t identification;    /* what the fragments of a packet share: 16 bits of IPv4, or 32 bits of a fragment header of IPv6, or 0 */
+    uint32_t dont_fragment;     /* 1 if the flag "don't fragment" of IPv4 is set, otherwise 0, and over IPv6 */
+    uint32_t traffic_class;     /* the type of service of IPv4, or the traffic class of IPv6: DSCP and ECN */
 } etherparse_ip_transport;
 
 /*
@@ -465,6 +469,43 @@ typedef struct etherparse_ip_addresses {
 ETHERPARSE_CHECK_RESULT ETHERPARSE_NOT_NULL(3)
 etherparse_status etherparse_ip_header_addresses(const uint8_t *bytes, size_t len, etherparse_ip_addresses *addresses,
                                                  etherparse_error *error);
+
+/*
+ * The ends of a flow, as one of its packets names them. The identifier of an ICMP query is a port here: of the source in a request, and of
+ * the destination in a reply (RFC 5508, section 3.1), as in etherparse_ipv4_translation.
+ */
+typedef struct etherparse_flow_ends {
+    uint32_t version;              /* 4 or 6 */
+    uint32_t protocol;             /* ETHERPARSE_PROTOCOL_.., or the number of another protocol in IP */
+    uint32_t is_fragment;          /* 1 if the payload is only a part of the packet's payload, otherwise 0 */
+    uint32_t is_later_fragment;    /* 1 if the fragment offset is above 0, so that no port is known, otherwise 0 */
+    uint32_t has_destination;      /* 1 if the destination is known, otherwise 0, as in etherparse_ip_transport */
+    uint32_t has_source_port;      /* 1 if source_port is known, otherwise 0 */
+    uint32_t has_destination_port; /* 1 if destination_port is known, otherwise 0 */
+    uint16_t source_port;          /* of UDP and TCP, or the identifier of a request of ICMP, or 0 */
+    uint16_t destination_port;     /* of UDP and TCP, or the identifier of a reply of ICMP, or 0 */
+    uint8_t source[16];            /* the source that the checksum covers; an IPv4 address is in the first four bytes, followed by zeros */
+    uint8_t destination[16];       /* the destination that the checksum covers, in the same form, or 0 */
+} etherparse_flow_ends;
+
+/* The flow that an IP packet belongs to. */
+typedef struct etherparse_packet_flow {
+    etherparse_flow_ends ends;   /* of the packet itself */
+    etherparse_flow_ends quoted; /* of the packet that an ICMP error quotes, which went in the other direction; without one all fields are 0,
+                                    and so is quoted.version */
+} etherparse_packet_flow;
+
+/*
+ * Finds the flow that the IP packet at the front of the bytes belongs to: its addresses, its protocol, and its ports or the identifier of an
+ * ICMP query; and the same of the packet that an ICMP error quotes. UDP and TCP have their ports in the first four bytes, so a quote of
+ * eight bytes contains them. Queries are echo, timestamp, information and address mask messages of ICMPv4, and echo messages of ICMPv6. The
+ * first fragment has ports, and a later fragment has none. The packet may be cut off or state no length, as for
+ * etherparse_transport_in_ip_lax. No checksum is tested.
+ *
+ * Refused as by etherparse_transport_in_ip_lax; *flow is unchanged. A transport header or a quoted packet that cannot be read is no error.
+ */
+ETHERPARSE_CHECK_RESULT ETHERPARSE_NOT_NULL(3)
+etherparse_status etherparse_flow(const uint8_t *bytes, size_t len, etherparse_packet_flow *flow, etherparse_error *error);
 
 /*
  * Computes the checksum to store in bytes 10 and 11 of the IPv4 header at the front of the bytes, whatever these bytes contain (RFC 791,

@@ -35,17 +35,17 @@ from dataclasses import dataclass, field
 from typing import Any, Collection, Iterable, Iterator, Mapping, Union
 
 __all__ = [
-    "ChecksumChange", "Error", "HeaderAddresses", "Icmpv4Kind", "Icmpv4Packet", "Icmpv4ParameterProblemCode", "Icmpv4RedirectCode",
-    "Icmpv4TimeExceededCode", "Icmpv4Type", "Icmpv4UnreachableCode", "Icmpv6Kind", "Icmpv6Packet", "Icmpv6ParameterProblemCode",
-    "Icmpv6TimeExceededCode", "Icmpv6Type", "Icmpv6UnreachableCode", "Layer", "LenSource", "NeighborFlags", "Protocol", "RouterFlags",
-    "Status", "Sum", "TcpFlags", "TcpOption", "TcpOptionKind", "TcpOptionValues", "TcpPacket", "Transport", "UdpPacket", "ValueType",
-    "Verdict", "VerdictKind", "answer_echo", "canonical_header", "check_icmpv4", "check_icmpv6", "check_ipv4_header", "check_tcp",
-    "check_udp", "header_addresses", "icmpv4_checksum", "icmpv6_checksum", "ipv4_header_checksum", "is_checksum_partial",
-    "is_reply_from_any", "is_reply_to", "library_version", "quoted_by_icmpv4", "quoted_by_icmpv6", "read_icmpv4", "read_icmpv6", "read_tcp",
-    "read_udp", "status_name", "store_checksum", "store_icmpv4_checksum", "store_icmpv6_checksum", "store_ipv4_header_checksum",
-    "store_tcp_checksum", "store_tcp_header", "store_udp_checksum", "tcp_checksum", "tcp_option_values", "tcp_options", "translate",
-    "transport", "udp_checksum", "verdict", "verdict_name", "write_icmpv4_header", "write_icmpv6_header", "write_tcp_header",
-    "write_tcp_options", "write_udp_header",
+    "ChecksumChange", "Error", "Flow", "FlowEnds", "HeaderAddresses", "Icmpv4Kind", "Icmpv4Packet", "Icmpv4ParameterProblemCode",
+    "Icmpv4RedirectCode", "Icmpv4TimeExceededCode", "Icmpv4Type", "Icmpv4UnreachableCode", "Icmpv6Kind", "Icmpv6Packet",
+    "Icmpv6ParameterProblemCode", "Icmpv6TimeExceededCode", "Icmpv6Type", "Icmpv6UnreachableCode", "Layer", "LenSource", "NeighborFlags",
+    "Protocol", "RouterFlags", "Status", "Sum", "TcpFlags", "TcpOption", "TcpOptionKind", "TcpOptionValues", "TcpPacket", "Transport",
+    "UdpPacket", "ValueType", "Verdict", "VerdictKind", "answer_echo", "canonical_header", "check_icmpv4", "check_icmpv6",
+    "check_ipv4_header", "check_tcp", "check_udp", "flow", "header_addresses", "icmpv4_checksum", "icmpv6_checksum", "ipv4_header_checksum",
+    "is_checksum_partial", "is_reply_from_any", "is_reply_to", "library_version", "quoted_by_icmpv4", "quoted_by_icmpv6", "read_icmpv4",
+    "read_icmpv6", "read_tcp", "read_udp", "status_name", "store_checksum", "store_icmpv4_checksum", "store_icmpv6_checksum",
+    "store_ipv4_header_checksum", "store_tcp_checksum", "store_tcp_header", "store_udp_checksum", "tcp_checksum", "tcp_option_values",
+    "tcp_options", "translate", "transport", "udp_checksum", "verdict", "verdict_name", "write_icmpv4_header", "write_icmpv6_header",
+    "write_tcp_header", "write_tcp_options", "write_udp_header",
 ]
 
 Bytes = Union[bytes, bytearray, memoryview]
@@ -409,11 +409,35 @@ class _IpTransport(ctypes.Structure):
         ("is_length_missing", ctypes.c_uint32),
         ("is_later_fragment", ctypes.c_uint32),
         ("hop_limit", ctypes.c_uint32),
+        ("fragment_offset", ctypes.c_uint32),
+        ("identification", ctypes.c_uint32),
+        ("dont_fragment", ctypes.c_uint32),
+        ("traffic_class", ctypes.c_uint32),
     ]
 
 
 class _IpAddresses(ctypes.Structure):
     _fields_ = [("version", ctypes.c_uint32), ("source", ctypes.c_uint8 * 16), ("destination", ctypes.c_uint8 * 16)]
+
+
+class _FlowEnds(ctypes.Structure):
+    _fields_ = [
+        ("version", ctypes.c_uint32),
+        ("protocol", ctypes.c_uint32),
+        ("is_fragment", ctypes.c_uint32),
+        ("is_later_fragment", ctypes.c_uint32),
+        ("has_destination", ctypes.c_uint32),
+        ("has_source_port", ctypes.c_uint32),
+        ("has_destination_port", ctypes.c_uint32),
+        ("source_port", ctypes.c_uint16),
+        ("destination_port", ctypes.c_uint16),
+        ("source", ctypes.c_uint8 * 16),
+        ("destination", ctypes.c_uint8 * 16),
+    ]
+
+
+class _PacketFlow(ctypes.Structure):
+    _fields_ = [("ends", _FlowEnds), ("quoted", _FlowEnds)]
 
 
 class _Ipv4Translation(ctypes.Structure):
@@ -595,6 +619,7 @@ _CALLS = {
     "ipv4_header_checksum_test": (ctypes.c_uint32, *_PACKET, *_ERROR),
     "transport_in_ip": (ctypes.c_uint32, *_reader(_IpTransport)),
     "transport_in_ip_lax": (ctypes.c_uint32, *_reader(_IpTransport)),
+    "flow": (ctypes.c_uint32, *_reader(_PacketFlow)),
     "packet_verdict": (ctypes.c_uint32, *_reader(_IpPacket)),
     "packet_verdict_lax": (ctypes.c_uint32, *_reader(_IpPacket)),
     "udp_packet_read": (ctypes.c_uint32, *_reader(_UdpPacket)),
@@ -816,7 +841,8 @@ class Transport:
     The addresses are the addresses that the checksum covers. A source route or a routing header changes the destination, and a home address
     changes the source, so they can differ from the addresses in the IP header. `destination` is None if it is not known. If the IP header
     states no length, all bytes are counted, and `is_length_missing` is true. In a later fragment no transport header begins the payload.
-    `hop_limit` is the time to live of IPv4.
+    `hop_limit` is the time to live of IPv4, and `traffic_class` its type of service. `fragment_offset` is in bytes. `identification` is what
+    the fragments of a packet share. It is 0 over IPv6 without a fragment header, and `dont_fragment` is always false there.
     """
 
     version: int
@@ -830,6 +856,36 @@ class Transport:
     is_length_missing: bool
     is_later_fragment: bool
     hop_limit: int
+    fragment_offset: int
+    identification: int
+    dont_fragment: bool
+    traffic_class: int
+
+
+@dataclass(frozen=True)
+class FlowEnds:
+    """The ends of a flow, as one of its packets names them.
+
+    The addresses are as in `Transport`. The identifier of an ICMP query is `source_port` in a request, and `destination_port` in a reply. A
+    port is None if the packet does not contain it, as in a later fragment.
+    """
+
+    version: int
+    protocol: Protocol
+    is_fragment: bool
+    is_later_fragment: bool
+    source: Address
+    destination: Address | None
+    source_port: int | None
+    destination_port: int | None
+
+
+@dataclass(frozen=True)
+class Flow:
+    """The flow that a packet belongs to: its ends, and those of the packet that an ICMP error quotes, or None."""
+
+    ends: FlowEnds
+    quoted: FlowEnds | None
 
 
 @dataclass(frozen=True)
@@ -875,6 +931,10 @@ def _transport(data: bytes, found: _IpTransport) -> Transport:
         is_length_missing=bool(found.is_length_missing),
         is_later_fragment=bool(found.is_later_fragment),
         hop_limit=found.hop_limit,
+        fragment_offset=found.fragment_offset,
+        identification=found.identification,
+        dont_fragment=bool(found.dont_fragment),
+        traffic_class=found.traffic_class,
     )
 
 
@@ -887,6 +947,30 @@ def transport(packet: Bytes, *, lax: bool = False) -> Transport:
     """
     data = _bytes_of(packet)
     return _transport(data, _read("transport_in_ip_lax" if lax else "transport_in_ip", data, _IpTransport()))
+
+
+def _ends(found: _FlowEnds) -> FlowEnds:
+    return FlowEnds(
+        version=found.version,
+        protocol=Protocol(found.protocol),
+        is_fragment=bool(found.is_fragment),
+        is_later_fragment=bool(found.is_later_fragment),
+        source=_address(found.version, found.source),
+        destination=_address(found.version, found.destination) if found.has_destination else None,
+        source_port=found.source_port if found.has_source_port else None,
+        destination_port=found.destination_port if found.has_destination_port else None,
+    )
+
+
+def flow(packet: Bytes) -> Flow:
+    """The flow that an IP packet belongs to: addresses, protocol, and ports or the identifier of an ICMP query.
+
+    An ICMP error also has the ends of the packet that it quotes. The packet may be cut off or state no length. No checksum is tested.
+
+    Raises `Error` if the IP headers of the packet are refused.
+    """
+    found = _read("flow", _bytes_of(packet), _PacketFlow())
+    return Flow(_ends(found.ends), _ends(found.quoted) if found.quoted.version else None)
 
 
 def header_addresses(packet: Bytes) -> HeaderAddresses:

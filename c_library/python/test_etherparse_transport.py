@@ -551,6 +551,27 @@ class Calls(unittest.TestCase):
         self.assertEqual((found.hop_limit, found.is_later_fragment, found.is_fragment), (5, True, True))
         self.assertEqual(ept.transport(REQUEST6).hop_limit, REQUEST6[7])
 
+    def test_the_fields_that_tell_fragments_apart(self):
+        found = ept.transport(PACKET[:1] + b"\xb9\x00\x1f\xab\xcd\x5f\xff" + PACKET[8:])
+        self.assertEqual((found.traffic_class, found.identification, found.dont_fragment, found.fragment_offset), (0xB9, 0xABCD, True, 65528))
+        packet = REQUEST6[:5] + b"\x10\x2c" + REQUEST6[7:40] + b"\x3a\x00\x00\x09\xde\xad\xbe\xef" + bytes(8)
+        found = ept.transport(packet)
+        self.assertEqual((found.identification, found.dont_fragment, found.fragment_offset), (0xDEADBEEF, False, 8))
+
+    def test_the_flow_of_a_packet(self):
+        found = ept.flow(PACKET)
+        self.assertEqual((found.ends.source_port, found.ends.destination_port, found.quoted), (21, 1234, None))
+        self.assertEqual((found.ends.version, found.ends.protocol, found.ends.is_fragment), (4, Protocol.UDP, False))
+        transport = ept.transport(PACKET)
+        self.assertEqual((found.ends.source, found.ends.destination), (transport.source, transport.destination))
+        self.assertEqual(ept.flow(REQUEST).ends.source_port, int.from_bytes(REQUEST[24:26], "big"))
+        self.assertIsNone(ept.flow(REQUEST).ends.destination_port)
+        error = PACKET[:2] + b"\x00\x38" + PACKET[4:9] + b"\x01" + PACKET[10:20] + b"\x0b" + bytes(7) + PACKET[:28]
+        about = ept.flow(error)
+        self.assertEqual((about.quoted, about.ends.source_port), (found.ends, None))
+        with self.assertRaises(ept.Error):
+            ept.flow(PACKET[:19])
+
     def test_a_translated_packet_is_the_packet_of_the_other_host(self):
         for inside, outside, server, icmp in (
             ("192.168.1.1", "203.0.113.7", "192.0.2.1", Protocol.ICMPV4),

@@ -381,6 +381,7 @@ static void call_all(void)
     etherparse_ip_transport found;
     etherparse_ip_packet judged;
     etherparse_ip_addresses addresses;
+    etherparse_packet_flow flow;
     uint16_t checksum;
     size_t written;
     const uint8_t *bytes;
@@ -388,6 +389,7 @@ static void call_all(void)
     (void)(etherparse_packet_verdict(packet, len, &judged, &error) == 0);
     (void)(etherparse_packet_verdict_lax(packet, len, &judged, &error) == 0);
     (void)(etherparse_ip_header_addresses(packet, len, &addresses, &error) == 0);
+    (void)(etherparse_flow(packet, len, &flow, &error) == 0);
     (void)(etherparse_ipv4_header_checksum(packet, len, &checksum, &error) == 0);
     (void)(etherparse_ipv4_header_checksum_test(packet, len, &error) == 0);
     call_packet_checksum();

@@ -129,6 +129,28 @@ function ipTransport(found, bytes) {
         is_length_missing: Number(found.isLengthMissing),
         is_later_fragment: Number(found.isLaterFragment),
         hop_limit: found.hopLimit,
+        fragment_offset: found.fragmentOffset,
+        identification: found.identification,
+        dont_fragment: Number(found.dontFragment),
+        traffic_class: found.trafficClass,
+    };
+}
+
+/** The struct of the ends of a flow, which is all 0 if there are none. */
+function flowEnds(found) {
+    const address = (text) => (text === null ? new Array(16).fill(0) : octets(found.version, text));
+    return {
+        version: found?.version ?? 0,
+        protocol: found?.protocol ?? 0,
+        is_fragment: Number(found?.isFragment ?? 0),
+        is_later_fragment: Number(found?.isLaterFragment ?? 0),
+        has_destination: Number((found?.destination ?? null) !== null),
+        has_source_port: Number((found?.sourcePort ?? null) !== null),
+        has_destination_port: Number((found?.destinationPort ?? null) !== null),
+        source_port: found?.sourcePort ?? 0,
+        destination_port: found?.destinationPort ?? 0,
+        source: address(found?.source ?? null),
+        destination: address(found?.destination ?? null),
     };
 }
 
@@ -283,6 +305,10 @@ const CALLS = {
     ip_header_addresses: ({ bytes }) => {
         const { version, source, destination } = library.headerAddresses(bytes);
         return { addresses: { version, source: octets(version, source), destination: octets(version, destination) } };
+    },
+    flow: ({ bytes }) => {
+        const { ends, quoted: about } = library.flow(bytes);
+        return { flow: { ends: flowEnds(ends), quoted: flowEnds(about) } };
     },
     packet_verdict: ({ bytes }) => ipPacket(library.verdict(bytes), bytes),
     packet_verdict_lax: ({ bytes }) => ipPacket(library.verdict(bytes, { lax: true }), bytes),

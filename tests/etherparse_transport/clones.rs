@@ -9,7 +9,9 @@ use etherparse_transport::err::packet::{
 };
 use etherparse_transport::err::tcp::{HeaderError, HeaderSliceError};
 use etherparse_transport::err::{Layer, LenError, TextPart, ValueTooBigError, ValueType};
-use etherparse_transport::ip::{IpError, Ipv4Translation, Ipv6Translation, transport_in_ip};
+use etherparse_transport::ip::{
+    IpError, Ipv4Translation, Ipv6Translation, flow, transport_in_ip,
+};
 use etherparse_transport::{
     ChecksumVerdict, IcmpEchoHeader, Icmpv4Header, Icmpv4Slice, Icmpv4Type, Icmpv6Header,
     Icmpv6Slice, Icmpv6Type, IpNumber, Ipv4Header, Ipv4HeaderSlice, Ipv6Header, Ipv6HeaderSlice,
@@ -170,6 +172,7 @@ fn packets_and_sums_are_cloned(rt: HostRuntime) {
     expect_clone(&rt, &ChecksumVerdict::Untested(Untested::CutOff));
     expect_clone(&rt, &Untested::Fragment);
     expect_clone(&rt, &Ipv4Translation::default());
+    expect_clone(&rt, &expect_ok(&rt, flow(&IPV4_PACKET)));
     expect_clone(&rt, &Ipv6Translation::default());
     let sum = Sum16BitWords::new().add_2bytes([1, 2]);
     let change = ChecksumChange::new().replace_2bytes([1, 2], [3, 4]);

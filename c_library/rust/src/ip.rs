@@ -42,6 +42,14 @@ pub struct Transport<'a> {
     pub is_later_fragment: bool,
     /// The hops that are left: the time to live of IPv4, or the hop limit of IPv6.
     pub hop_limit: u8,
+    /// The place of the payload in the payload of the whole packet, in bytes, or 0 if the packet is not a fragment.
+    pub fragment_offset: u16,
+    /// What the fragments of a packet share: 16 bits of IPv4, or 32 bits of a fragment header of IPv6, or 0.
+    pub identification: u32,
+    /// The flag "don't fragment" of IPv4 is set. It is false over IPv6.
+    pub dont_fragment: bool,
+    /// The type of service of IPv4, or the traffic class of IPv6.
+    pub traffic_class: u8,
 }
 
 /// The first four bytes of an address.
@@ -50,15 +58,19 @@ fn ipv4_address(address: [u8; 16]) -> [u8; 4] {
     [a, b, c, d]
 }
 
+/// The addresses of this version, with a destination if it is known.
+fn addresses(version: u32, source: [u8; 16], destination: [u8; 16], has_destination: u32) -> Addresses {
+    if version == 4 {
+        Addresses::Ipv4 { source: ipv4_address(source), destination: ipv4_address(destination) }
+    } else {
+        Addresses::Ipv6 { source, destination: (has_destination != 0).then_some(destination) }
+    }
+}
+
 /// The transport whose places were found in these bytes.
 fn transport<'a>(bytes: &'a [u8], found: &sys::IpTransport) -> Transport<'a> {
-    let addresses = if found.version == 4 {
-        Addresses::Ipv4 { source: ipv4_address(found.source), destination: ipv4_address(found.destination) }
-    } else {
-        Addresses::Ipv6 { source: found.source, destination: (found.has_destination != 0).then_some(found.destination) }
-    };
     Transport {
-        addresses,
+        addresses: addresses(found.version, found.source, found.destination, found.has_destination),
         protocol: found.protocol,
         payload: &bytes[found.payload_offset..][..found.payload_len],
         is_fragment: found.is_fragment != 0,
@@ -66,6 +78,10 @@ fn transport<'a>(bytes: &'a [u8], found: &sys::IpTransport) -> Transport<'a> {
         is_length_missing: found.is_length_missing != 0,
         is_later_fragment: found.is_later_fragment != 0,
         hop_limit: found.hop_limit as u8,
+        fragment_offset: found.fragment_offset as u16,
+        identification: found.identification,
+        dont_fragment: found.dont_fragment != 0,
+        traffic_class: found.traffic_class as u8,
     }
 }
 
@@ -665,4 +681,62 @@ pub fn translate_ipv6_with_quoted(packet: &mut [u8], new: &Ipv6Translation, quot
     let status =
         unsafe { sys::etherparse_translate_ipv6_with_quoted(packet.as_mut_ptr(), packet.len(), &new, &quoted, &mut error) };
     answer(status, (), error)
+}
+
+/// The ends of a flow, as one of its packets names them.
+#[derive(Clone, Copy, Debug, PartialEq, Eq, Hash)]
+pub struct FlowEnds {
+    /// The addresses, as in a [`Transport`].
+    pub addresses: Addresses,
+    /// The protocol of the payload, by the number that IP has for it.
+    pub protocol: u32,
+    /// The payload is a part of a packet's only.
+    pub is_fragment: bool,
+    /// The offset of the fragment is above 0, so no port is known.
+    pub is_later_fragment: bool,
+    /// The source port of UDP and TCP, or the identifier of an ICMP request, if the packet contains it.
+    pub source_port: Option<u16>,
+    /// The destination port of UDP and TCP, or the identifier of an ICMP reply, if the packet contains it.
+    pub destination_port: Option<u16>,
+}
+
+/// The flow that an IP packet belongs to.
+#[derive(Clone, Copy, Debug, PartialEq, Eq, Hash)]
+pub struct Flow {
+    /// The ends of the packet itself.
+    pub ends: FlowEnds,
+    /// The ends of the packet that an ICMP error quotes, which went in the other direction.
+    pub quoted: Option<FlowEnds>,
+}
+
+/// The ends with these fields.
+fn ends(found: &sys::FlowEnds) -> FlowEnds {
+    FlowEnds {
+        addresses: addresses(found.version, found.source, found.destination, found.has_destination),
+        protocol: found.protocol,
+        is_fragment: found.is_fragment != 0,
+        is_later_fragment: found.is_later_fragment != 0,
+        source_port: (found.has_source_port != 0).then_some(found.source_port),
+        destination_port: (found.has_destination_port != 0).then_some(found.destination_port),
+    }
+}
+
+/// The flow that the IP packet at the front of the bytes belongs to: its addresses, its protocol, and its ports or the identifier of an
+/// ICMP query; and the same of the packet that an ICMP error quotes. The packet may be cut off or state no length. No checksum is tested.
+///
+/// Errors: as [`Transport::read_lax`].
+///
+/// ```
+/// use etherparse_transport_c::ip;
+/// let packet = [0x45, 0, 0, 28, 0, 0, 0, 0, 64, 17, 0, 0, 10, 0, 0, 1, 10, 0, 0, 2, 0x13, 0x88, 0, 53, 0, 8, 0, 0];
+/// let flow = ip::flow(&packet)?;
+/// assert_eq!((flow.ends.source_port, flow.ends.destination_port, flow.quoted), (Some(5000), Some(53), None));
+/// # Ok::<(), etherparse_transport_c::Error>(())
+/// ```
+pub fn flow(bytes: &[u8]) -> Result<Flow, Error> {
+    let (mut found, mut error) = (sys::PacketFlow::default(), sys::Error::default());
+    // SAFETY: each pointer is that of a live reference, and no two overlap.
+    let status = unsafe { sys::etherparse_flow(bytes.as_ptr(), bytes.len(), &mut found, &mut error) };
+    answer(status, (), error)
+        .map(|()| Flow { ends: ends(&found.ends), quoted: (found.quoted.version != 0).then(|| ends(&found.quoted)) })
 }

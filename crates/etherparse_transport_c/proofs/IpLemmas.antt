@@ -1,11 +1,14 @@
 -- Laws of the payload's place in an IP packet.
-use Rattle.std.proofs.Common.{◌≡◌, ℕ, ◌+◌, ◌-◌, ◌≤◌, Bool, List, length, take, drop, length-take, Result, Ok, Err, sym, ap, ◌∙◌, arith}
+use Rattle.std.proofs.Common.{◌≡◌, ℕ, ◌+◌, ◌-◌, ◌≤◌, ◌==◌, Bool, true, false, ◌&&◌, nat_le, if◌then◌else◌, List, length, take, drop, length-take, Option, Some, None, Result, Ok, Err, refl, sym, ap, ◌∙◌, arith}
 use Rattle.std.specs.Prelude.{slice_range}
 use Rattle.std.proofs.lemmas.List.{drop-take, take_min}
+use Rattle.std.proofs.lemmas.Bool.Decides.{nat_tests}
+use Rattle.ip_part.specs.FixedHeaders.{Fixed, fixed_by_value, fixed_ipv4, fixed_ipv6}
 use Rattle.ip_part.specs.Ip.{Carries, counted, counted_len, headers_of}
 use Rattle.ip_part.specs.Headers.{Headers}
 use Rattle.ip_part.specs.declared.ip_error.IpError.{IpError}
 use Rattle.ip_part.specs.declared.transport.TransportInIp.{TransportInIp}
+use Rattle.net_base.specs.IpHeaders.{version}
 use Rattle.etherparse_transport_c.specs.Ip.{HasPayload, found, transport_in}
 use Rattle.etherparse_transport_c.specs.declared.ip.EtherparseIpTransport.{EtherparseIpTransport}
 
@@ -26,6 +29,25 @@ after_front missing packet from len ends =
     ∙ sym (drop-take from len packet)
     ∙ ap (λ n. drop from (take n packet)) ends
     ∙ ap (drop from) (whole_front missing packet)
+
+-- the fixed part of an IP header is complete in one of two cases
+fixed_of : (four short six long : Bool) (a b fixed : Fixed)
+    → (if four && short then Some a else if six && long then Some b else None) ≡ Some fixed → short ≡ false → long ≡ true
+fixed_of true true six long a b fixed is short = absurd (cc short)
+fixed_of true false true true a b fixed is short = refl
+fixed_of true false true false a b fixed is short = absurd (cc is)
+fixed_of true false false long a b fixed is short = absurd (cc is)
+fixed_of false short true true a b fixed is other = refl
+fixed_of false short true false a b fixed is other = absurd (cc is)
+fixed_of false short false long a b fixed is other = absurd (cc is)
+
+-- a packet that is read has at least the bytes of an IPv4 header
+pub is_long : (packet : List ℕ) (carried : TransportInIp) → Carries packet carried → 20 ≤ length packet
+is_long packet carried carries =
+    let long : nat_le 20 (length packet) ≡ false → nat_le 40 (length packet) ≡ true =
+    fixed_of (version packet == 4) (nat_le 20 (length packet)) (version packet == 6) (nat_le 40 (length packet))
+    (fixed_ipv4 packet) (fixed_ipv6 packet) (fixed_by_value carried.fixed_header) carries.fixed_header in
+    grind (arith, nat_tests, long)
 
 -- a success has one value
 value_of : Headers → Result Headers IpError → Headers

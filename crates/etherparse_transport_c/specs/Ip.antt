@@ -1,7 +1,8 @@
 -- The transport in an IP packet, in the interface to C.
-use Rattle.std.specs.Prelude.{◌≡◌, ◌≤◌, ℕ, Bool, true, false, ◌+◌, ◌-◌, List, ◌++◌, length, replicate, slice_range, Option, Some, None, Result, Ok, Err}
+use Rattle.std.specs.Prelude.{◌≡◌, ◌≤◌, ℕ, Bool, true, false, ◌+◌, ◌-◌, ◌*◌, ◌/◌, ◌%◌, ◌==◌, if◌then◌else◌, List, ◌++◌, length, replicate, slice_index, slice_range, Option, Some, None, Result, Ok, Err}
 use Rattle.std.specs.Int.{from_bool}
 use Rattle.std.specs.Option.{option_map}
+use Rattle.ip_part.specs.ExtensionHeaders.{fragment_offset}
 use Rattle.ip_part.specs.Ip as ip
 use Rattle.ip_part.specs.Ip.{Carries, counted, is_cut_off}
 use Rattle.ip_part.specs.FixedHeaders as fixed
@@ -10,9 +11,13 @@ use Rattle.ip_part.specs.Headers.{Headers}
 use Rattle.ip_part.specs.Addresses.{Addresses, Ipv4, Ipv6}
 use Rattle.ip_part.specs.declared.ip_error.IpError.{IpError}
 use Rattle.ip_part.specs.declared.transport.TransportInIp.{TransportInIp}
+use Rattle.net_base.specs.Bytes.{be_number, flag}
+use Rattle.net_base.specs.IpHeaders.{ipv4_fragment_offset, version}
+use Rattle.reassembly.specs.Fragments.{fragment_header_in}
 use Rattle.etherparse_transport_c.specs.Errors.{of_ip}
 use Rattle.etherparse_transport_c.specs.declared.error.EtherparseError.{EtherparseError}
 use Rattle.etherparse_transport_c.specs.declared.ip.EtherparseIpTransport.{EtherparseIpTransport}
+use Rattle.etherparse_transport_c.specs.declared.ip.HeaderFields.{HeaderFields}
 
 -- the refusal of a packet
 abbrev pub refusal : List ℕ → Option EtherparseError
@@ -50,6 +55,34 @@ has_destination (Ipv4 source destination) = true
 has_destination (Ipv6 source (Some destination)) = true
 has_destination (Ipv6 source None) = false
 
+-- ---- fields of the headers
+
+-- The fields of an IPv4 header (RFC 791, section 3.1). The fragment offset of the header counts units of 8 bytes.
+abbrev pub ipv4_fields : List ℕ → HeaderFields
+ipv4_fields packet = record {
+  fragment_offset = ipv4_fragment_offset packet * 8;
+  identification = be_number packet 4 2;
+  dont_fragment = from_bool (flag packet 6 0x40);
+  traffic_class = slice_index packet 1;
+}
+
+-- a number in the fragment header of an IPv6 packet, or 0 if it has no fragment header
+abbrev pub in_fragment_header : (List ℕ → ℕ) → Option (List ℕ) → ℕ
+in_fragment_header number None = 0
+in_fragment_header number (Some header) = number header
+
+-- the fields of an IPv6 header (RFC 8200, section 3), and of the first fragment header after it (RFC 8200, section 4.5)
+abbrev pub ipv6_fields : List ℕ → HeaderFields
+ipv6_fields packet = record {
+  fragment_offset = in_fragment_header (λ header. fragment_offset header * 8) (fragment_header_in packet);
+  identification = in_fragment_header (λ header. be_number header 4 4) (fragment_header_in packet);
+  dont_fragment = 0;
+  traffic_class = be_number packet 0 2 / 16 % 256;
+}
+
+abbrev pub header_fields : List ℕ → HeaderFields
+header_fields packet = if version packet == 4 then ipv4_fields packet else ipv6_fields packet
+
 -- ---- the transport
 
 -- the number of hops that are left, in the fixed part of an IP header; each accepted packet has a fixed part
@@ -74,6 +107,10 @@ transport_in is_length_missing packet headers = record {
   is_length_missing = from_bool is_length_missing;
   is_later_fragment = from_bool headers.is_later_fragment;
   hop_limit = hop_limit_in (fixed_header packet);
+  fragment_offset = (header_fields packet).fragment_offset;
+  identification = (header_fields packet).identification;
+  dont_fragment = (header_fields packet).dont_fragment;
+  traffic_class = (header_fields packet).traffic_class;
 }
 
 -- the result of reading a packet, if its headers can be read; a refused packet leaves the value before

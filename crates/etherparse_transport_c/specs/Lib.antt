@@ -4,6 +4,7 @@ pub mod EchoReplies
 pub mod ErrorMemory
 pub mod ErrorText
 pub mod Errors
+pub mod Flows
 pub mod Icmpv4
 pub mod Icmpv6
 pub mod Ip

@@ -1,4 +1,4 @@
-ghost use Rattle.std.specs.Prelude.{◌≡◌, ℕ, List, None, Some, false, unwrap_or};
+ghost use Rattle.std.specs.Prelude.{◌≡◌, ◌≤◌, None, Some, false, length, unwrap_or};
 ghost use Rattle.ip_part.specs.Addresses.{by_value};
 ghost use Rattle.ip_part.specs.FixedHeaders.{fixed_by_value};
 ghost use Rattle.ip_part.specs.Ip.{Carries, headers_of, lacks_len};
@@ -12,6 +12,7 @@ use crate::error::of_ip;
 use etherparse_transport::ip::{
     FixedHeader, IpAddresses, TransportInIp, transport_in_ip, transport_in_ip_lax,
 };
+use reassembly::ipv6_fragment_header;
 
 /// The transport in an IP packet (RFC 791, section 3.1; RFC 8200, sections 3 and 4).
 #[repr(C)]
@@ -45,10 +46,38 @@ pub struct EtherparseIpTransport {
     pub is_later_fragment: u32,
     /// The number of hops that are left: the time to live of IPv4, or the hop limit of IPv6.
     pub hop_limit: u32,
+    /// The place of the payload in the payload of the whole packet, in bytes, if the packet is a fragment. Otherwise it is 0.
+    pub fragment_offset: u32,
+    /// The identification, which all fragments of one packet share: 16 bits over IPv4, and 32 bits in the fragment header of IPv6. It is 0
+    /// over IPv6 without a fragment header.
+    pub identification: u32,
+    /// 1 if the flag "don't fragment" of IPv4 is set, otherwise 0. It is 0 over IPv6, where no router fragments a packet.
+    pub dont_fragment: u32,
+    /// The type of service of IPv4, or the traffic class of IPv6: six bits of the differentiated services code point, and two bits of
+    /// explicit congestion notification (RFC 2474; RFC 3168).
+    pub traffic_class: u32,
+}
+
+/// Fields of an IP header and its fragment header.
+#[derive(Clone, Copy)]
+struct HeaderFields {
+    fragment_offset: u32,
+    identification: u32,
+    dont_fragment: u32,
+    traffic_class: u32,
 }
 
 /// The first byte of an IPv4 packet without options: version 4, and a header of five words of four bytes (RFC 791, section 3.1).
 const IPV4_WITHOUT_OPTIONS: u8 = 0x45;
+
+/// The bits of the fragment offset in bytes 6 and 7 of an IPv4 header (RFC 791, section 3.1).
+const IPV4_OFFSET_MASK: u16 = 0x1fff;
+
+/// The flag "don't fragment" in byte 6 of an IPv4 header (RFC 791, section 3.1).
+const DONT_FRAGMENT: u8 = 0x40;
+
+/// The unit of a fragment offset, in bytes (RFC 791, section 3.1; RFC 8200, section 4.5).
+const FRAGMENT_UNIT: u32 = 8;
 
 /// Returns an IPv4 address in 16 bytes.
 #[inline(always)]
@@ -61,7 +90,7 @@ pub(crate) fn ipv4_address(address: &[u8; 4]) -> [u8; 16]
 
 /// Returns the version of these addresses.
 #[inline(always)]
-fn version(addresses: IpAddresses<'_>) -> u32
+pub(crate) fn version(addresses: IpAddresses<'_>) -> u32
     ensures { result ≡ version_of (by_value addresses.entry) }
 {
     match addresses {
@@ -72,7 +101,7 @@ fn version(addresses: IpAddresses<'_>) -> u32
 
 /// Returns the source that the checksum covers.
 #[inline(always)]
-fn source(addresses: IpAddresses<'_>) -> [u8; 16]
+pub(crate) fn source(addresses: IpAddresses<'_>) -> [u8; 16]
     ensures { result ≡ source_of (by_value addresses.entry) }
 {
     match addresses {
@@ -83,7 +112,7 @@ fn source(addresses: IpAddresses<'_>) -> [u8; 16]
 
 /// Returns the destination that the checksum covers, and whether it is known.
 #[inline(always)]
-fn destination(addresses: IpAddresses<'_>) -> ([u8; 16], bool)
+pub(crate) fn destination(addresses: IpAddresses<'_>) -> ([u8; 16], bool)
     ensures address { result.0 ≡ destination_of (by_value addresses.entry) }
     ensures known { result.1 ≡ specs.has_destination (by_value addresses.entry) }
 {
@@ -111,13 +140,66 @@ fn hop_limit(header: FixedHeader<'_>) -> u8
     }
 }
 
-/// Returns the transport in the form of the C struct. It is the same for the strict and the lax call.
+/// Returns the fields of the IPv4 header of a packet (RFC 791, section 3.1).
 #[inline(always)]
-pub(crate) fn fields(transport: &TransportInIp<'_>) -> EtherparseIpTransport
-    ensures { (bytes : List ℕ) → Carries bytes transport.now → (before : EtherparseIpTransport) →
-        result ≡ found transport.now.is_length_missing bytes (headers_of transport.now.is_length_missing bytes) before }
+fn ipv4_fields(bytes: &[u8]) -> HeaderFields
+    requires { 20 ≤ length bytes.now }
+    ensures { result ≡ specs.ipv4_fields bytes.now }
+{
+    let place = u16::from_be_bytes([bytes[6], bytes[7]]) & IPV4_OFFSET_MASK;
+    HeaderFields {
+        fragment_offset: u32::from(place) * FRAGMENT_UNIT,
+        identification: u32::from(u16::from_be_bytes([bytes[4], bytes[5]])),
+        dont_fragment: u32::from(bytes[6] & DONT_FRAGMENT != 0),
+        traffic_class: u32::from(bytes[1]),
+    }
+}
+
+/// Returns the fields of the IPv6 header of a packet, and of its fragment header (RFC 8200, sections 3 and 4.5).
+#[inline(always)]
+fn ipv6_fields(bytes: &[u8]) -> HeaderFields
+    requires { 20 ≤ length bytes.now }
+    ensures { result ≡ specs.ipv6_fields bytes.now }
+{
+    let traffic_class = u32::from((bytes[0] & 0xf) * 16 + (bytes[1] >> 4));
+    let Some(header) = ipv6_fragment_header(bytes) else {
+        return HeaderFields {
+            fragment_offset: 0,
+            identification: 0,
+            dont_fragment: 0,
+            traffic_class,
+        };
+    };
+    HeaderFields {
+        fragment_offset: u32::from(u16::from_be_bytes([header[2], header[3]]) / 8) * FRAGMENT_UNIT,
+        identification: u32::from_be_bytes([header[4], header[5], header[6], header[7]]),
+        dont_fragment: 0,
+        traffic_class,
+    }
+}
+
+/// Returns the fields of the IP header of a packet, and of its fragment header.
+#[inline(always)]
+fn header_fields(bytes: &[u8]) -> HeaderFields
+    requires { 20 ≤ length bytes.now }
+    ensures { result ≡ specs.header_fields bytes.now }
+{
+    if bytes[0] >> 4 == 4 {
+        ipv4_fields(bytes)
+    } else {
+        ipv6_fields(bytes)
+    }
+}
+
+/// Returns the transport of a packet in the form of the C struct. It is the same for the strict and the lax call.
+#[inline(always)]
+pub(crate) fn fields(bytes: &[u8], transport: &TransportInIp<'_>) -> EtherparseIpTransport
+    requires { 20 ≤ length bytes.now }
+    ensures { Carries bytes.now transport.now → (before : EtherparseIpTransport) →
+        result ≡ found transport.now.is_length_missing bytes.now (headers_of transport.now.is_length_missing bytes.now) before }
 {
     let (destination, has_destination) = destination(transport.addresses);
+    let header = header_fields(bytes);
     EtherparseIpTransport {
         version: version(transport.addresses),
         protocol: u32::from(transport.protocol.0),
@@ -131,6 +213,10 @@ pub(crate) fn fields(transport: &TransportInIp<'_>) -> EtherparseIpTransport
         is_length_missing: u32::from(transport.is_length_missing),
         is_later_fragment: u32::from(transport.is_later_fragment),
         hop_limit: u32::from(hop_limit(transport.fixed_header)),
+        fragment_offset: header.fragment_offset,
+        identification: header.identification,
+        dont_fragment: header.dont_fragment,
+        traffic_class: header.traffic_class,
     }
 }
 
@@ -145,7 +231,7 @@ fn find(bytes: &[u8], transport: &mut EtherparseIpTransport, error: ErrorPlace) 
 {
     match transport_in_ip(bytes) {
         Ok(carried) => {
-            *transport = fields(&carried);
+            *transport = fields(bytes, &carried);
             accept(error)
         }
         Err(refused) => refuse(error, of_ip(&refused)),
@@ -206,7 +292,7 @@ fn find_lax(bytes: &[u8], transport: &mut EtherparseIpTransport, error: ErrorPla
 {
     match transport_in_ip_lax(bytes) {
         Ok(kept) => {
-            *transport = fields(&kept);
+            *transport = fields(bytes, &kept);
             accept(error)
         }
         Err(refused) => refuse(error, of_ip(&refused)),

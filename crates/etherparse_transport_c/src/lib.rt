@@ -24,6 +24,7 @@ mod ipv4_header;
 mod layer;
 mod len_source;
 mod packet_checksum;
+mod packet_flow;
 mod packet_verdict;
 mod protocol;
 mod quoted_packet;

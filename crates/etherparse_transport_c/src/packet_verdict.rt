@@ -1,4 +1,4 @@
-ghost use Rattle.std.specs.Prelude.{◌≡◌, ℕ, List, None, false, unwrap_or};
+ghost use Rattle.std.specs.Prelude.{◌≡◌, None, false, unwrap_or};
 ghost use Rattle.transport_part.specs.Transports as transports;
 ghost use Rattle.transport_part.specs.Transports.{kept};
 ghost use Rattle.ip_part.specs.Ip.{Carries, lacks_len};
@@ -90,13 +90,18 @@ pub(crate) fn of_transport(place: usize, error: &HeaderSliceError) -> Etherparse
 }
 
 /// Finds the transport of a packet and returns its verdict. It is the same for the strict and the lax call.
-fn judge(carried: &TransportInIp<'_>, packet: &mut EtherparseIpPacket, error: ErrorPlace) -> Answer
-    ensures status { (bytes : List ℕ) → Carries bytes carried.now → result.status ≡ status_of (refusal_of_carried bytes carried.now) }
-    ensures error { (bytes : List ℕ) → Carries bytes carried.now → Leaves error result (unwrap_or (refusal_of_carried bytes carried.now) error.before) }
-    ensures packet { (bytes : List ℕ) → Carries bytes carried.now →
-        Judges (refusal_of_carried bytes carried.now) carried.now.is_length_missing bytes packet.new packet.old }
+fn judge(
+    bytes: &[u8],
+    carried: &TransportInIp<'_>,
+    packet: &mut EtherparseIpPacket,
+    error: ErrorPlace,
+) -> Answer
+    requires { Carries bytes.now carried.now }
+    ensures status { result.status ≡ status_of (refusal_of_carried bytes.now carried.now) }
+    ensures error { Leaves error result (unwrap_or (refusal_of_carried bytes.now carried.now) error.before) }
+    ensures packet { Judges (refusal_of_carried bytes.now carried.now) carried.now.is_length_missing bytes.now packet.new packet.old }
 {
-    let transport = fields(carried);
+    let transport = fields(bytes, carried);
     match checksum_verdict(carried) {
         Ok(verdict) => {
             *packet = EtherparseIpPacket {
@@ -129,7 +134,7 @@ pub extern "C" fn etherparse_packet_verdict(
     ensures packet { Judges (refusal bytes.now) false bytes.now packet.new packet.old }
 {
     match transport_in_ip(bytes) {
-        Ok(carried) => judge(&carried, packet, error),
+        Ok(carried) => judge(bytes, &carried, packet, error),
         Err(refused) => refuse(error, of_ip(&refused)),
     }
 }
@@ -151,7 +156,7 @@ pub extern "C" fn etherparse_packet_verdict_lax(
     ensures packet { Judges (lax_refusal bytes.now) (lacks_len bytes.now) bytes.now packet.new packet.old }
 {
     match transport_in_ip_lax(bytes) {
-        Ok(kept) => judge(&kept, packet, error),
+        Ok(kept) => judge(bytes, &kept, packet, error),
         Err(refused) => refuse(error, of_ip(&refused)),
     }
 }

@@ -431,6 +431,52 @@ pub struct IpTransport {
     pub is_later_fragment: u32,
     /// The hops that are left: the time to live of IPv4, or the hop limit of IPv6.
     pub hop_limit: u32,
+    /// The place of the payload in the payload of the whole packet, in bytes, or 0 if the packet is not a fragment.
+    pub fragment_offset: u32,
+    /// What the fragments of a packet share: 16 bits of IPv4, or 32 bits of a fragment header of IPv6, or 0.
+    pub identification: u32,
+    /// 1 if the flag "don't fragment" of IPv4 is set, otherwise 0, and over IPv6.
+    pub dont_fragment: u32,
+    /// The type of service of IPv4, or the traffic class of IPv6.
+    pub traffic_class: u32,
+}
+
+/// The ends of a flow, as one of its packets names them.
+#[repr(C)]
+#[derive(Clone, Copy, Debug, Default, PartialEq, Eq, Hash)]
+pub struct FlowEnds {
+    /// The version, 4 or 6, or 0 if there is no quoted packet.
+    pub version: u32,
+    /// The protocol of the payload, by the number that IP has for it.
+    pub protocol: u32,
+    /// 1 if the packet is a fragment, otherwise 0.
+    pub is_fragment: u32,
+    /// 1 if the offset of the fragment is above 0, otherwise 0.
+    pub is_later_fragment: u32,
+    /// 1 if the destination is known, otherwise 0.
+    pub has_destination: u32,
+    /// 1 if `source_port` is known, otherwise 0.
+    pub has_source_port: u32,
+    /// 1 if `destination_port` is known, otherwise 0.
+    pub has_destination_port: u32,
+    /// The source port of UDP and TCP, or the identifier of an ICMP request, or 0.
+    pub source_port: u16,
+    /// The destination port of UDP and TCP, or the identifier of an ICMP reply, or 0.
+    pub destination_port: u16,
+    /// The source that the checksum covers. An IPv4 address is in the first four bytes, and the others are 0.
+    pub source: [u8; 16],
+    /// The destination that the checksum covers, in the same form, or 0.
+    pub destination: [u8; 16],
+}
+
+/// The flow that an IP packet belongs to.
+#[repr(C)]
+#[derive(Clone, Copy, Debug, Default, PartialEq, Eq, Hash)]
+pub struct PacketFlow {
+    /// The ends of the packet itself.
+    pub ends: FlowEnds,
+    /// The ends of the packet that an ICMP error quotes. Without one all fields are 0.
+    pub quoted: FlowEnds,
 }
 
 /// An IP packet that was read, and the verdict on its checksum.
@@ -677,6 +723,8 @@ extern "C" {
         reply_len: usize,
         error: *mut Error,
     ) -> u32;
+    /// Finds the flow that an IP packet belongs to.
+    pub fn etherparse_flow(bytes: *const u8, bytes_len: usize, flow: *mut PacketFlow, error: *mut Error) -> u32;
     /// Tests whether the checksum in an IP packet is partial, and writes 1 or 0.
     pub fn etherparse_packet_checksum_is_partial(bytes: *const u8, bytes_len: usize, is_partial: *mut u32, error: *mut Error) -> u32;
     /// Stores the right checksum of UDP, TCP or ICMP in an IP packet, and writes the checksum.

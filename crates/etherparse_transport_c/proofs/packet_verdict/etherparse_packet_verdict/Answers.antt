@@ -7,13 +7,13 @@ use Rattle.etherparse_transport_c.proofs.packet_verdict.etherparse_packet_verdic
 pub returns-in-Ok-clause-status : goal.returns-in-Ok-clause-status
 returns-in-Ok-clause-status c =
     let bytes = c.args.bytes.now in
-    rw c.in-Ok.ensures.refused (c.judge.ensures.status bytes c.in-Ok.ensures.found
+    rw c.in-Ok.ensures.refused (c.judge.ensures.status
     ∙ ap (λ missing. status_of (transport_refusal missing bytes (headers_of missing bytes))) c.in-Ok.ensures.stated)
 
 pub returns-in-Ok-clause-error : goal.returns-in-Ok-clause-error
 returns-in-Ok-clause-error c =
     let bytes = c.args.bytes.now in
-    let left = c.judge.ensures.error bytes c.in-Ok.ensures.found in
+    let left = c.judge.ensures.error in
     rw c.in-Ok.ensures.refused (
       left.0,
       left.1
