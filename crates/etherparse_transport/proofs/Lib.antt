@@ -4,6 +4,7 @@ pub mod EchoReplyLemmas
 pub mod EchoRequestLemmas
 pub mod FlowExamples
 pub mod FrontLemmas
+pub mod HopLimitLemmas
 pub mod Ipv4ThereAndBack
 pub mod Ipv6ThereAndBack
 pub mod PacketLemmas

@@ -6,6 +6,8 @@ use Rattle.etherparse_transport.specs.declared.err.packet.answer_echo_error.Answ
 use Rattle.etherparse_transport.specs.declared.err.packet.answer_echo_error.AnswerEchoError.TheVariants as echo
 use Rattle.etherparse_transport.specs.declared.err.packet.build_slice_write_error.BuildSliceWriteError.{BuildSliceWriteError}
 use Rattle.etherparse_transport.specs.declared.err.packet.build_slice_write_error.BuildSliceWriteError.TheVariants as build
+use Rattle.etherparse_transport.specs.declared.err.packet.lower_hop_limit_error.LowerHopLimitError.{LowerHopLimitError}
+use Rattle.etherparse_transport.specs.declared.err.packet.lower_hop_limit_error.LowerHopLimitError.TheVariants as lower
 use Rattle.etherparse_transport.specs.declared.err.packet.translate_error.TranslateError.{TranslateError}
 use Rattle.etherparse_transport.specs.declared.err.packet.translate_error.TranslateError.TheVariants as translate
 use Rattle.etherparse_transport.specs.declared.err.packet.transport_checksum_error.TransportChecksumError.{TransportChecksumError}
@@ -38,6 +40,11 @@ build_text (build.PayloadLen actual max_allowed) = concat (
 build_text (build.TimestampLen error) = len_text error
 build_text build.Icmpv6InIpv4 = codes "ICMPv6 Error: there is no packet over IPv4."
 build_text build.Icmpv4InIpv6 = codes "ICMPv4 Error: there is no packet over IPv6."
+
+-- a packet whose hop limit is not lowered
+abbrev pub lower_hop_limit_text : LowerHopLimitError → List ℕ
+lower_hop_limit_text (lower.Ip error) = ip_text error
+lower_hop_limit_text (lower.Expired hop_limit) = concat (codes "Hop Limit Error: the hop limit is " ∷ decimal hop_limit ∷ codes "." ∷ [])
 
 -- a packet that is not translated
 abbrev pub translate_text : TranslateError → List ℕ

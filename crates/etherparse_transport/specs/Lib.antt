@@ -25,6 +25,7 @@ pub mod ErrorTexts
 pub mod Flows
 pub mod Formats
 pub mod Headers
+pub mod HopLimits
 pub mod Ipv4Translations
 pub mod Ipv6Translations
 pub mod Packets

@@ -1,10 +1,12 @@
 //! From an IP packet to its transport (RFC 791, section 3.1; RFC 8200, sections 3 and 4), to its protocol and a typed
 //! slice, to the ends of its flow, and to the verdict on its checksum; and back from a transport header and a payload to a packet.
 //! `answer_echo` turns an echo request into its reply, and `is_reply_to` recognises the reply. `flow` returns addresses and ports.
-//! `translate_ipv4` and `translate_ipv6` replace them. `write_checksum` writes the right checksum into a packet.
+//! `translate_ipv4` and `translate_ipv6` replace them. `write_checksum` writes the right checksum into a packet, and `lower_hop_limit`
+//! lowers its hop limit.
 
 mod echo_reply;
 mod flow_ends;
+mod hop_limit;
 mod ip_header;
 mod ipv4_translation;
 mod ipv6_translation;
@@ -21,6 +23,7 @@ mod written_checksum;
 
 pub use echo_reply::{answer_echo, answer_echo_ipv4, answer_echo_ipv6};
 pub use flow_ends::FlowEnds;
+pub use hop_limit::lower_hop_limit;
 pub use ip_part::{
     FixedHeader, IpAddresses, IpError, TransportInIp, fixed_header, proto_over, transport_in_ip,
     transport_in_ip_lax,

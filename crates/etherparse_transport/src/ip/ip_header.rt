@@ -22,6 +22,9 @@ pub(crate) const IPV4_DESTINATION_AT: usize = Ipv4Header::DESTINATION_AT;
 /// The length of an IPv6 header, in bytes (RFC 8200, section 3).
 pub(crate) const IPV6_LEN: usize = Ipv6Header::LEN;
 
+/// The place of the hop limit, in bytes from the start of an IPv6 header (RFC 8200, section 3).
+pub(crate) const IPV6_HOP_LIMIT_AT: usize = 7;
+
 /// An IPv4 header without options, with its checksum (RFC 791, section 3.1). It starts with these eight bytes, which contain version and
 /// lengths, identification, flags and fragment offset.
 pub(crate) fn ipv4_header(
