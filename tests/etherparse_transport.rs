@@ -5,6 +5,7 @@ mod built_packets;
 mod clones;
 mod echo_replies;
 mod flows;
+mod hop_limits;
 mod readme;
 mod replies_to_requests;
 mod surface;
