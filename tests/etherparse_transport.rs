@@ -6,6 +6,7 @@ mod clones;
 mod echo_replies;
 mod flows;
 mod hop_limits;
+mod icmp_errors;
 mod readme;
 mod replies_to_requests;
 mod surface;

@@ -5,6 +5,7 @@ pub mod EchoRequestLemmas
 pub mod FlowExamples
 pub mod FrontLemmas
 pub mod HopLimitLemmas
+pub mod IcmpErrorLemmas
 pub mod Ipv4ThereAndBack
 pub mod Ipv6ThereAndBack
 pub mod PacketLemmas

@@ -11,6 +11,7 @@ use Rattle.net_base.specs.declared.err.tcp.header_error.HeaderError.TheVariants.
 use Rattle.net_base.specs.declared.err.tcp.header_slice_error.HeaderSliceError.TheVariants.{Len, Content}
 use Rattle.word_sum.specs.Checksum.{folded}
 use Rattle.etherparse_transport.specs.EchoReplies.{answer_refusal, reply}
+use Rattle.etherparse_transport.specs.HopLimits.{lower_refusal, lowered}
 use Rattle.etherparse_transport.specs.Ipv4Translations.{ipv4_refusal, ipv4_translated}
 use Rattle.etherparse_transport.specs.Ipv6Translations.{ipv6_refusal, ipv6_translated}
 use Rattle.etherparse_transport.specs.SkippedHeaders.{skip}
@@ -19,6 +20,7 @@ use Rattle.etherparse_transport.specs.declared.err.packet.translate_error.Transl
 use Rattle.etherparse_transport.specs.declared.ip.ipv4_translation.Ipv4Translation.{Ipv4Translation}
 use Rattle.etherparse_transport.specs.declared.ip.ipv6_translation.Ipv6Translation.{Ipv6Translation}
 use Rattle.etherparse_transport.specs.Formats.{canonical, refusal}
+use Rattle.etherparse_transport.specs.declared.err.packet.lower_hop_limit_error.LowerHopLimitError.TheVariants.{Expired}
 use Rattle.transport_part.specs.Layouts.{layout_of}
 
 udp_of_seven_bytes : refusal Udp (replicate 7 0)
@@ -228,3 +230,12 @@ behind_home_address =
 home_address_refused : ipv6_refusal other_ipv6_source behind_home_address ≡ Some (Protocol (record { 0 = 60 }))
 unfolding headers_to_transport options_within skip
 home_address_refused = refl
+
+-- a router lowers the time to live from 64 to 63, and the checksum of the header changes from F77D to F87D
+lowered_time_to_live : lowered (0x45 ∷ 0 ∷ 0 ∷ 28 ∷ 0 ∷ 0 ∷ 0 ∷ 0 ∷ 64 ∷ 17 ∷ 0xF7 ∷ 0x7D ∷ 192 ∷ 168 ∷ 1 ∷ 1 ∷ 192 ∷ 168 ∷ 1 ∷ 2 ∷ [])
+    ≡ 0x45 ∷ 0 ∷ 0 ∷ 28 ∷ 0 ∷ 0 ∷ 0 ∷ 0 ∷ 63 ∷ 17 ∷ 0xF8 ∷ 0x7D ∷ 192 ∷ 168 ∷ 1 ∷ 1 ∷ 192 ∷ 168 ∷ 1 ∷ 2 ∷ []
+unfolding folded
+lowered_time_to_live = refl
+
+expired_time_to_live : lower_refusal (0x45 ∷ 0 ∷ 0 ∷ 20 ∷ 0 ∷ 0 ∷ 0 ∷ 0 ∷ 1 ∷ replicate 11 0) ≡ Some (Expired 1)
+expired_time_to_live = refl

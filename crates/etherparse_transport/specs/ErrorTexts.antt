@@ -6,6 +6,8 @@ use Rattle.etherparse_transport.specs.declared.err.packet.answer_echo_error.Answ
 use Rattle.etherparse_transport.specs.declared.err.packet.answer_echo_error.AnswerEchoError.TheVariants as echo
 use Rattle.etherparse_transport.specs.declared.err.packet.build_slice_write_error.BuildSliceWriteError.{BuildSliceWriteError}
 use Rattle.etherparse_transport.specs.declared.err.packet.build_slice_write_error.BuildSliceWriteError.TheVariants as build
+use Rattle.etherparse_transport.specs.declared.err.packet.error_about_error.ErrorAboutError.{ErrorAboutError}
+use Rattle.etherparse_transport.specs.declared.err.packet.error_about_error.ErrorAboutError.TheVariants as about
 use Rattle.etherparse_transport.specs.declared.err.packet.lower_hop_limit_error.LowerHopLimitError.{LowerHopLimitError}
 use Rattle.etherparse_transport.specs.declared.err.packet.lower_hop_limit_error.LowerHopLimitError.TheVariants as lower
 use Rattle.etherparse_transport.specs.declared.err.packet.translate_error.TranslateError.{TranslateError}
@@ -40,6 +42,19 @@ build_text (build.PayloadLen actual max_allowed) = concat (
 build_text (build.TimestampLen error) = len_text error
 build_text build.Icmpv6InIpv4 = codes "ICMPv6 Error: there is no packet over IPv4."
 build_text build.Icmpv4InIpv6 = codes "ICMPv4 Error: there is no packet over IPv6."
+
+-- a packet about which no ICMP error is written
+abbrev pub error_about_text : ErrorAboutError → List ℕ
+error_about_text about.NoErrorType = codes "ICMP Error: the message is no error."
+error_about_text (about.Ip error) = ip_text error
+error_about_text about.OtherVersion = codes "ICMP Error: the packet has the other IP version."
+error_about_text about.LaterFragment = codes "ICMP Error: the packet is a later fragment."
+error_about_text about.IcmpError = codes "ICMP Error: the packet may be an ICMP error."
+error_about_text about.GroupDestination = codes "ICMP Error: the destination of the packet is an address of several hosts."
+error_about_text about.PacketSource = codes "ICMP Error: the source of the packet is not the address of a host."
+error_about_text about.ErrorSource = codes "ICMP Error: the source of the error is not the address of a host."
+error_about_text (about.Space required_len len) = concat (
+    codes "Space Error: " ∷ decimal required_len ∷ codes " bytes are needed, and there is room for " ∷ decimal len ∷ codes "." ∷ [])
 
 -- a packet whose hop limit is not lowered
 abbrev pub lower_hop_limit_text : LowerHopLimitError → List ℕ

@@ -26,6 +26,7 @@ pub mod Flows
 pub mod Formats
 pub mod Headers
 pub mod HopLimits
+pub mod IcmpErrors
 pub mod Ipv4Translations
 pub mod Ipv6Translations
 pub mod Packets

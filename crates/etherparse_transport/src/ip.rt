@@ -2,11 +2,12 @@
 //! slice, to the ends of its flow, and to the verdict on its checksum; and back from a transport header and a payload to a packet.
 //! `answer_echo` turns an echo request into its reply, and `is_reply_to` recognises the reply. `flow` returns addresses and ports.
 //! `translate_ipv4` and `translate_ipv6` replace them. `write_checksum` writes the right checksum into a packet, and `lower_hop_limit`
-//! lowers its hop limit.
+//! lowers its hop limit. `icmpv4_error_about` and `icmpv6_error_about` write an ICMP error about a packet.
 
 mod echo_reply;
 mod flow_ends;
 mod hop_limit;
+mod icmp_error;
 mod ip_header;
 mod ipv4_translation;
 mod ipv6_translation;
@@ -24,6 +25,7 @@ mod written_checksum;
 pub use echo_reply::{answer_echo, answer_echo_ipv4, answer_echo_ipv6};
 pub use flow_ends::FlowEnds;
 pub use hop_limit::lower_hop_limit;
+pub use icmp_error::{icmpv4_error_about, icmpv6_error_about};
 pub use ip_part::{
     FixedHeader, IpAddresses, IpError, TransportInIp, fixed_header, proto_over, transport_in_ip,
     transport_in_ip_lax,

@@ -2,6 +2,7 @@
 
 mod answer_echo_error;
 mod build_slice_write_error;
+mod error_about_error;
 mod lower_hop_limit_error;
 mod translate_error;
 mod transport_checksum_error;
@@ -9,6 +10,7 @@ mod write_checksum_error;
 
 pub use answer_echo_error::AnswerEchoError;
 pub use build_slice_write_error::BuildSliceWriteError;
+pub use error_about_error::ErrorAboutError;
 pub use lower_hop_limit_error::LowerHopLimitError;
 pub use translate_error::TranslateError;
 pub use transport_checksum_error::TransportChecksumError;

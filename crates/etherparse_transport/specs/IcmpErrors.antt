@@ -1,0 +1,190 @@
+-- An ICMP error about a packet (RFC 792; RFC 1122, section 3.2.2; RFC 4443, section 2.4): about which packets there is none, how much of the
+-- packet the error quotes, and the bytes.
+use Rattle.std.specs.Prelude.{⊤, ◌≡◌, ℕ, ◌+◌, ◌-◌, ◌==◌, ◌&&◌, ◌||◌, not, nat_lt, is_some, Bool, true, false, List, [], ◌∷◌, length, take, drop, slice_index, slice_range, Option, Some, None, Result, Ok, Err}
+use Rattle.std.specs.Option.{option_map}
+use Rattle.icmp_part.specs.Icmpv6Format.{parameter_problem_code}
+use Rattle.icmp_part.specs.QuotedPackets.{is_icmpv6_error, quoted_by_icmpv4}
+use Rattle.icmp_part.specs.declared.icmpv4_type.Icmpv4Type.{Icmpv4Type}
+use Rattle.icmp_part.specs.declared.icmpv4_type.Icmpv4Type.TheVariants as v4
+use Rattle.icmp_part.specs.declared.icmpv6_type.Icmpv6Type.{Icmpv6Type}
+use Rattle.icmp_part.specs.declared.icmpv6_type.Icmpv6Type.TheVariants as v6
+use Rattle.ip_part.specs.FixedHeaders.{Fixed, Ipv4, Ipv6, fixed_header}
+use Rattle.ip_part.specs.Headers.{Headers}
+use Rattle.ip_part.specs.Ip as ip
+use Rattle.ip_part.specs.declared.ip_error.IpError.{IpError}
+use Rattle.net_base.specs.IpNumbers.{icmpv4_number, icmpv6_number}
+use Rattle.net_base.specs.Refusals.{first_of, refused_if}
+use Rattle.etherparse_transport.specs.EchoReplies.{is_group_ipv4, is_group_ipv6, is_host_ipv4, is_host_ipv6}
+use Rattle.etherparse_transport.specs.Packets.{ipv4_packet, ipv6_packet}
+use Rattle.etherparse_transport.specs.declared.err.packet.error_about_error.ErrorAboutError.{ErrorAboutError}
+use Rattle.etherparse_transport.specs.declared.err.packet.error_about_error.ErrorAboutError.TheVariants.{ErrorSource, GroupDestination, IcmpError, Ip, LaterFragment, NoErrorType, OtherVersion, PacketSource, Space}
+use Rattle.etherparse_transport.specs.declared.transport_header.TransportHeader.{TransportHeader}
+use Rattle.etherparse_transport.specs.declared.transport_header.TransportHeader.TheVariants as headers
+
+-- ---- the message
+
+-- the messages of errors: destination unreachable, redirect to the address of one host, time exceeded and parameter problem (RFC 1122, section
+-- 3.2.2)
+abbrev pub is_icmpv4_error_type : Icmpv4Type → Bool
+is_icmpv4_error_type (v4.Unknown type code bytes) = false
+is_icmpv4_error_type (v4.EchoReply echo) = false
+is_icmpv4_error_type (v4.DestinationUnreachable code) = true
+is_icmpv4_error_type (v4.Redirect redirect) = is_host_ipv4 redirect.gateway_internet_address
+is_icmpv4_error_type (v4.EchoRequest echo) = false
+is_icmpv4_error_type (v4.TimeExceeded code) = true
+is_icmpv4_error_type (v4.ParameterProblem problem) = true
+is_icmpv4_error_type (v4.TimestampRequest message) = false
+is_icmpv4_error_type (v4.TimestampReply message) = false
+
+-- the gateway of a redirect is an address of four bytes
+abbrev pub HasGateway : Icmpv4Type → Type 0
+HasGateway (v4.Unknown type code bytes) = ⊤
+HasGateway (v4.EchoReply echo) = ⊤
+HasGateway (v4.DestinationUnreachable code) = ⊤
+HasGateway (v4.Redirect redirect) = length redirect.gateway_internet_address ≡ 4
+HasGateway (v4.EchoRequest echo) = ⊤
+HasGateway (v4.TimeExceeded code) = ⊤
+HasGateway (v4.ParameterProblem problem) = ⊤
+HasGateway (v4.TimestampRequest message) = ⊤
+HasGateway (v4.TimestampReply message) = ⊤
+
+-- the messages of errors: destination unreachable, packet too big, time exceeded and parameter problem (RFC 4443, section 3)
+abbrev pub is_icmpv6_error_type : Icmpv6Type → Bool
+is_icmpv6_error_type (v6.Unknown type code bytes) = false
+is_icmpv6_error_type (v6.DestinationUnreachable code) = true
+is_icmpv6_error_type (v6.PacketTooBig mtu) = true
+is_icmpv6_error_type (v6.TimeExceeded code) = true
+is_icmpv6_error_type (v6.ParameterProblem problem) = true
+is_icmpv6_error_type (v6.EchoRequest echo) = false
+is_icmpv6_error_type (v6.EchoReply echo) = false
+is_icmpv6_error_type v6.RouterSolicitation = false
+is_icmpv6_error_type (v6.RouterAdvertisement header) = false
+is_icmpv6_error_type v6.NeighborSolicitation = false
+is_icmpv6_error_type (v6.NeighborAdvertisement header) = false
+is_icmpv6_error_type v6.Redirect = false
+
+-- the errors that are also sent about a packet to a multicast address: packet too big, and a parameter problem of code 2, an unrecognized
+-- option (RFC 4443, section 2.4, rule e.3)
+abbrev pub may_be_about_group : Icmpv6Type → Bool
+may_be_about_group (v6.PacketTooBig mtu) = true
+may_be_about_group (v6.ParameterProblem problem) = parameter_problem_code problem.code == 2
+may_be_about_group other = false
+
+-- ---- the packet
+
+-- A message that is an error, or whose type is missing. About an error there is no error.
+abbrev pub may_be_icmpv4_error : List ℕ → Bool
+may_be_icmpv4_error message = length message == 0 || is_some (quoted_by_icmpv4 message)
+
+-- the same over IPv6, where a redirect (137; RFC 4861, section 4.5) has no error either (RFC 4443, section 2.4, rules e.1 and e.2)
+abbrev pub may_be_icmpv6_error : List ℕ → Bool
+may_be_icmpv6_error message = length message == 0 || (is_icmpv6_error (slice_index message 0) || slice_index message 0 == 137)
+
+-- The rules for a packet with this IP header. In this order they concern the version, a fragment offset above 0, the message after the
+-- headers, the destination and the source (RFC 1122, section 3.2.2; RFC 1812, section 4.3.2.7).
+abbrev pub ipv4_rules : Fixed → Bool → ℕ → List ℕ → Option ErrorAboutError
+ipv4_rules (Ipv4 source destination time_to_live protocol) is_later_fragment number message = first_of (
+    refused_if is_later_fragment LaterFragment
+    ∷ refused_if (number == icmpv4_number && may_be_icmpv4_error message) IcmpError
+    ∷ refused_if (is_group_ipv4 destination) GroupDestination
+    ∷ refused_if (not (is_host_ipv4 source)) PacketSource
+    ∷ [])
+ipv4_rules (Ipv6 source destination hop_limit next_header) is_later_fragment number message = Some OtherVersion
+
+-- The same over IPv6 (RFC 4443, section 2.4, rules e.1 to e.6). The first argument is true for the errors that are also sent about a packet
+-- to a multicast address.
+abbrev pub ipv6_rules : Bool → Fixed → Bool → ℕ → List ℕ → Option ErrorAboutError
+ipv6_rules about_group (Ipv4 source destination time_to_live protocol) is_later_fragment number message = Some OtherVersion
+ipv6_rules about_group (Ipv6 source destination hop_limit next_header) is_later_fragment number message = first_of (
+    refused_if is_later_fragment LaterFragment
+    ∷ refused_if (number == icmpv6_number && may_be_icmpv6_error message) IcmpError
+    ∷ refused_if (not about_group && is_group_ipv6 destination) GroupDestination
+    ∷ refused_if (not (is_host_ipv6 source)) PacketSource
+    ∷ [])
+
+-- the source in this fixed part of an IPv4 header
+abbrev pub IsFromIpv4 : List ℕ → Fixed → Type 0
+IsFromIpv4 source (Ipv4 from destination time_to_live protocol) = source ≡ from
+IsFromIpv4 source (Ipv6 from destination hop_limit next_header) = ⊥
+
+-- the source in this fixed part of an IPv6 header
+abbrev pub IsFromIpv6 : List ℕ → Fixed → Type 0
+IsFromIpv6 source (Ipv4 from destination time_to_live protocol) = ⊥
+IsFromIpv6 source (Ipv6 from destination hop_limit next_header) = source ≡ from
+
+-- the bytes of a packet that its IP header counts, as far as they are there, or all bytes if the header states no length
+abbrev pub counted : List ℕ → List ℕ
+counted packet = ip.counted (ip.lacks_len packet) packet
+
+-- the error by these rules for the parts of a packet: the fixed part of its IP header, the counted bytes, and the contents of its headers
+abbrev pub by_parts : (Fixed → Bool → ℕ → List ℕ → Option ErrorAboutError) → Option Fixed → List ℕ → Result Headers IpError → Option ErrorAboutError
+by_parts rules (Some fixed) bytes (Ok headers) = rules fixed headers.is_later_fragment headers.protocol.0 (drop headers.len bytes)
+by_parts rules fixed bytes headers = None
+
+-- the error for a packet that `transport_in_ip_lax` refuses, and then the error by these rules
+abbrev pub about_refusal : (Fixed → Bool → ℕ → List ℕ → Option ErrorAboutError) → List ℕ → Option ErrorAboutError
+about_refusal rules packet = first_of (
+    option_map Ip (ip.lax_refusal packet)
+    ∷ by_parts rules (fixed_header packet) (counted packet) (ip.headers_of (ip.lacks_len packet) packet)
+    ∷ [])
+
+-- ---- the quote
+
+-- the length of the IP header and the ICMP header in front of the quote
+abbrev pub ipv4_front_len : ℕ
+ipv4_front_len = 28
+
+abbrev pub ipv6_front_len : ℕ
+ipv6_front_len = 48
+
+-- the greatest length of an error over IPv4 (RFC 1812, section 4.3.2.3), and the minimum MTU of IPv6 (RFC 4443, section 2.4, rule c)
+abbrev pub max_error_len_ipv4 : ℕ
+max_error_len_ipv4 = 576
+
+abbrev pub max_error_len_ipv6 : ℕ
+max_error_len_ipv6 = 1280
+
+-- the beginning of a packet that an error quotes: as many of the counted bytes as there is room for
+abbrev pub ipv4_quote : List ℕ → List ℕ
+ipv4_quote packet = take (max_error_len_ipv4 - ipv4_front_len) (counted packet)
+
+abbrev pub ipv6_quote : List ℕ → List ℕ
+ipv6_quote packet = take (max_error_len_ipv6 - ipv6_front_len) (counted packet)
+
+-- ---- errors
+
+-- All errors, in this order: a message that is no error, the errors of the packet, a source of the error that is not the address of one
+-- host, and a slice of this length that is too short.
+abbrev pub icmpv4_refusal : Icmpv4Type → List ℕ → List ℕ → ℕ → Option ErrorAboutError
+icmpv4_refusal icmp_type source packet room = first_of (
+    refused_if (not (is_icmpv4_error_type icmp_type)) NoErrorType
+    ∷ about_refusal ipv4_rules packet
+    ∷ refused_if (not (is_host_ipv4 source)) ErrorSource
+    ∷ refused_if (nat_lt room (ipv4_front_len + length (ipv4_quote packet))) (Space (ipv4_front_len + length (ipv4_quote packet)) room)
+    ∷ [])
+
+abbrev pub icmpv6_refusal : Icmpv6Type → List ℕ → List ℕ → ℕ → Option ErrorAboutError
+icmpv6_refusal icmp_type source packet room = first_of (
+    refused_if (not (is_icmpv6_error_type icmp_type)) NoErrorType
+    ∷ about_refusal (ipv6_rules (may_be_about_group icmp_type)) packet
+    ∷ refused_if (not (is_host_ipv6 source)) ErrorSource
+    ∷ refused_if (nat_lt room (ipv6_front_len + length (ipv6_quote packet))) (Space (ipv6_front_len + length (ipv6_quote packet)) room)
+    ∷ [])
+
+-- ---- the error
+
+-- the header of the error, whose checksum is computed when it is written
+abbrev pub icmpv4_header : Icmpv4Type → TransportHeader
+icmpv4_header icmp_type = headers.Icmpv4 (record { icmp_type = icmp_type; checksum = 0 })
+
+abbrev pub icmpv6_header : Icmpv6Type → TransportHeader
+icmpv6_header icmp_type = headers.Icmpv6 (record { icmp_type = icmp_type; checksum = 0 })
+
+-- the error from this source to the source of the packet
+abbrev pub icmpv4_error : Icmpv4Type → List ℕ → ℕ → List ℕ → List ℕ
+icmpv4_error icmp_type source time_to_live packet =
+    ipv4_packet source (slice_range packet 12 16) time_to_live (icmpv4_header icmp_type) (ipv4_quote packet)
+
+abbrev pub icmpv6_error : Icmpv6Type → List ℕ → ℕ → List ℕ → List ℕ
+icmpv6_error icmp_type source hop_limit packet =
+    ipv6_packet source (slice_range packet 8 24) hop_limit (icmpv6_header icmp_type) (ipv6_quote packet)
