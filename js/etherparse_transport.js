@@ -612,6 +612,41 @@ export function flow(packet) {
     return { ends: endsOf(ends), quoted: quoted.version === 0 ? null : endsOf(quoted) };
 }
 
+/** The longest IP header that a call writes, that of IPv6, in bytes. */
+const IP_HEADER_LEN = 40;
+
+/**
+ * @typedef {object} PacketOptions  What an IP header has that its message does not determine. The addresses are of one version of IP.
+ * @property {string | Uint8Array} source
+ * @property {string | Uint8Array} destination
+ * @property {Protocol} protocol  of the message
+ * @property {number} [hopLimit]  which is the time to live of IPv4. By default it is 64.
+ */
+
+/**
+ * Returns the IP packet with a message, which is a transport header and its payload. The checksums, the lengths of the IP header, and the
+ * length field of UDP are computed, whatever the message contains there.
+ *
+ * @param {Uint8Array} message
+ * @param {PacketOptions} options
+ * @returns {Uint8Array}
+ * @throws {EtherparseError} if the header of the message is refused, if the packet is too long, or if the version of IP does not have the
+ *     protocol
+ */
+export function writePacket(message, { source, destination, protocol, hopLimit = DEFAULT_HOP_LIMIT }) {
+    const [from, to] = [source, destination].map(addressBytes);
+    if (from.length !== to.length) throw new TypeError("the addresses are not of one version of IP");
+    const isIpv4 = from.length === IPV4_LEN;
+    const length = setInput(message, "message");
+    const room = message.length + IP_HEADER_LEN;
+    makeRoom(message.length + room);
+    if (isIpv4) setIpv4Header(base + STRUCT_PLACE, { source: from, destination: to, timeToLive: hopLimit, protocol });
+    else setIpv6Header(base + STRUCT_PLACE, { source: from, destination: to, hopLimit, nextHeader: protocol });
+    const call = isIpv4 ? calls.etherparse_write_packet_ipv4 : calls.etherparse_write_packet_ipv6;
+    check(call(struct, input, length, input + length, BigInt(room), result, error));
+    return inputPart(message.length, getSize(base + RESULT_PLACE));
+}
+
 /** The checksum that a call wrote. */
 function takeChecksum() {
     return view.getUint16(base + RESULT_PLACE, true);

@@ -788,6 +788,56 @@ static void flows(void)
     EXPECT(error.required_len == 20 && error.len == 19 && flow.ends.is_later_fragment == 1);
 }
 
+/* A UDP message of three bytes of payload, with a wrong length field and checksum, and packets with it. */
+static void written_packets(void)
+{
+    static const uint8_t message[11] = {0, 21, 4, 210, 0xff, 0xff, 0xff, 0xff, 'a', 'b', 'c'};
+    static const uint8_t expected4[31] = {0x45, 0,   0, 31, 0, 0,   0x40, 0, 64, 17,   0xb7, 0x7a, 192, 168, 1,  1,
+                                          192,  168, 1, 2,  0, 21,  4, 210, 0, 11, 0xb3, 0x3a, 'a', 'b', 'c'};
+    static const uint8_t echo[8] = {128, 0, 0, 0, 0, 7, 0, 1};
+    etherparse_ipv4_header header4 = {{192, 168, 1, 1}, {192, 168, 1, 2}, 64, ETHERPARSE_PROTOCOL_UDP};
+    etherparse_ipv6_header header6 = {{0}, {0}, 5, ETHERPARSE_PROTOCOL_ICMPV6};
+    etherparse_ip_packet packet;
+    static uint8_t long_message[65516];
+    clear();
+    OK(etherparse_write_packet_ipv4(&header4, message, 11, buffer, sizeof buffer, &written, &error));
+    EXPECT(holds(expected4, 31, 31) && error_is_untouched());
+    OK(etherparse_packet_verdict(buffer, sizeof buffer, &packet, &error));
+    EXPECT(packet.verdict == ETHERPARSE_VERDICT_RIGHT && packet.transport.payload_len == 11 && packet.transport.dont_fragment == 1);
+    OK(etherparse_ipv4_header_checksum_test(buffer, sizeof buffer, &error));
+    clear();
+    memcpy(header6.source, source6, 16);
+    memcpy(header6.destination, destination6, 16);
+    OK(etherparse_write_packet_ipv6(&header6, echo, 8, buffer, 48, &written, &error));
+    EXPECT(written == 48 && buffer[48] == 0xee);
+    OK(etherparse_packet_verdict(buffer, 48, &packet, &error));
+    EXPECT(packet.verdict == ETHERPARSE_VERDICT_RIGHT && packet.header_protocol == ETHERPARSE_PROTOCOL_ICMPV6);
+    EXPECT(packet.transport.hop_limit == 5 && memcmp(packet.transport.destination, destination6, 16) == 0);
+    clear();
+    REFUSED(etherparse_write_packet_ipv4(&header4, message, 11, buffer, 30, &written, &error), ETHERPARSE_STATUS_BUFFER_TOO_SMALL);
+    EXPECT(error.required_len == 31 && error.len == 30 && holds(none, 0, 77));
+    REFUSED(etherparse_write_packet_ipv4(&header4, message, 7, buffer, 64, &written, &error), ETHERPARSE_STATUS_LENGTH);
+    EXPECT(error.layer == ETHERPARSE_LAYER_UDP_HEADER && error.required_len == 8 && error.len == 7);
+    REFUSED(etherparse_write_packet_ipv4(&header4, long_message, 65516, buffer, 64, &written, &error), ETHERPARSE_STATUS_VALUE_TOO_BIG);
+    EXPECT(error.value_type == ETHERPARSE_VALUE_IP_PAYLOAD_LENGTH && error.actual == 65508 && error.max_allowed == 65507);
+    EXPECT(error_has_text("Payload Error: a payload of 65508 bytes is above 65507."));
+    header4.protocol = ETHERPARSE_PROTOCOL_ICMPV6;
+    REFUSED(etherparse_write_packet_ipv4(&header4, echo, 8, buffer, 64, &written, &error), ETHERPARSE_STATUS_PROTOCOL_UNKNOWN);
+    EXPECT(error.actual == 58 && error_has_text("Protocol Error: the call does not accept the protocol 58."));
+    header4.protocol = ETHERPARSE_PROTOCOL_TCP;
+    REFUSED(etherparse_write_packet_ipv4(&header4, long_message, 20, buffer, 64, &written, &error), ETHERPARSE_STATUS_DATA_OFFSET);
+    header4.protocol = ETHERPARSE_PROTOCOL_ICMPV4;
+    long_message[0] = 13;
+    REFUSED(etherparse_write_packet_ipv4(&header4, long_message, 21, buffer, 64, &written, &error), ETHERPARSE_STATUS_LENGTH);
+    EXPECT(error.layer == ETHERPARSE_LAYER_ICMPV4_TIMESTAMP && error.required_len == 20 && error.len == 21);
+    header6.next_header = ETHERPARSE_PROTOCOL_ICMPV4;
+    REFUSED(etherparse_write_packet_ipv6(&header6, echo, 8, buffer, 64, &written, &error), ETHERPARSE_STATUS_PROTOCOL_UNKNOWN);
+    EXPECT(error.actual == 1);
+    header6.next_header = ETHERPARSE_PROTOCOL_UDP;
+    REFUSED(etherparse_write_packet_ipv6(&header6, message, 11, buffer, 50, &written, &error), ETHERPARSE_STATUS_BUFFER_TOO_SMALL);
+    EXPECT(error.required_len == 51 && error.len == 50 && holds(none, 0, 77));
+}
+
 /* The checksum of an IPv4 header with options, 0xf470, which does not cover the two bytes behind the header. */
 static void ipv4_header(void)
 {
@@ -1518,6 +1568,8 @@ static void nulls(etherparse_error *told)
 {
     static const etherparse_udp_header udp_header;
     static const etherparse_tcp_header tcp_header;
+    static const etherparse_ipv4_header ipv4_udp = {{0}, {0}, 64, ETHERPARSE_PROTOCOL_UDP};
+    static const etherparse_ipv6_header ipv6_udp = {{0}, {0}, 64, ETHERPARSE_PROTOCOL_UDP};
     static const etherparse_icmpv4_header echo4 = {ETHERPARSE_ICMPV4_KIND_ECHO_REPLY, 0, 0, 0, 0, 0, 0, 0, 0, 0, 0, {0, 0, 0, 0}};
     static const etherparse_icmpv6_header echo6 = {ETHERPARSE_ICMPV6_KIND_ECHO_REPLY, 0, 0, 0, 0, 0, 0, 0, 0, 0, 0, {0, 0, 0, 0}};
     etherparse_ip_transport transport;
@@ -1545,6 +1597,9 @@ static void nulls(etherparse_error *told)
     REFUSED_TO(etherparse_packet_verdict(NULL, 0, &packet, told), ETHERPARSE_STATUS_IP_HEADER_CUT_OFF);
     REFUSED_TO(etherparse_packet_verdict_lax(NULL, 0, &packet, told), ETHERPARSE_STATUS_IP_HEADER_CUT_OFF);
     REFUSED_TO(etherparse_flow(NULL, 0, &flow, told), ETHERPARSE_STATUS_IP_HEADER_CUT_OFF);
+    REFUSED_TO(etherparse_write_packet_ipv4(&ipv4_udp, NULL, 0, NULL, 0, &written, told), ETHERPARSE_STATUS_LENGTH);
+    REFUSED_TO(etherparse_write_packet_ipv4(&ipv4_udp, over_ipv4, 8, NULL, 0, &written, told), ETHERPARSE_STATUS_BUFFER_TOO_SMALL);
+    REFUSED_TO(etherparse_write_packet_ipv6(&ipv6_udp, NULL, 0, NULL, 0, &written, told), ETHERPARSE_STATUS_LENGTH);
     REFUSED_TO(etherparse_udp_packet_read(NULL, 0, &udp_packet, told), ETHERPARSE_STATUS_LENGTH);
     REFUSED_TO(etherparse_udp_packet_read_lax(NULL, 0, &udp_packet, told), ETHERPARSE_STATUS_LENGTH);
     REFUSED_TO(etherparse_udp_header_write(&udp_header, NULL, 0, &written, told), ETHERPARSE_STATUS_BUFFER_TOO_SMALL);
@@ -1612,6 +1667,7 @@ int main(void)
     addresses();
     fragments();
     flows();
+    written_packets();
     ipv4_header();
     echo();
     echo_refused();

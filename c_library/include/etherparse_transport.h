@@ -221,7 +221,7 @@ enum etherparse_status_number {
 #define ETHERPARSE_STATUS_OPTIONS_TOO_LONG 7
 /* Flags of a TCP header above ETHERPARSE_TCP_FLAGS: actual, max_allowed. */
 #define ETHERPARSE_STATUS_FLAGS_UNKNOWN 8
-/* A protocol other than UDP, TCP, ICMPv4 and ICMPv6: actual. */
+/* A protocol that the call does not accept: none of UDP, TCP, ICMPv4 and ICMPv6, or ICMP of the other IP version: actual. */
 #define ETHERPARSE_STATUS_PROTOCOL_UNKNOWN 9
 /* No TCP option is left: no other field. */
 #define ETHERPARSE_STATUS_OPTIONS_END 10
@@ -326,7 +326,8 @@ enum {
     ETHERPARSE_VALUE_UDP_PAYLOAD_LENGTH_IPV6 = 2,
     ETHERPARSE_VALUE_TCP_PAYLOAD_LENGTH_IPV4 = 3,
     ETHERPARSE_VALUE_TCP_PAYLOAD_LENGTH_IPV6 = 4,
-    ETHERPARSE_VALUE_ICMPV6_PAYLOAD_LENGTH = 5
+    ETHERPARSE_VALUE_ICMPV6_PAYLOAD_LENGTH = 5,
+    ETHERPARSE_VALUE_IP_PAYLOAD_LENGTH = 6 /* the payload after the transport header in a packet that is written */
 };
 
 /* Why a call refused its input. A field that the status does not use is 0. */
@@ -506,6 +507,42 @@ typedef struct etherparse_packet_flow {
  */
 ETHERPARSE_CHECK_RESULT ETHERPARSE_NOT_NULL(3)
 etherparse_status etherparse_flow(const uint8_t *bytes, size_t len, etherparse_packet_flow *flow, etherparse_error *error);
+
+/* The fields of an IPv4 header that a caller chooses. */
+typedef struct etherparse_ipv4_header {
+    uint8_t source[4];
+    uint8_t destination[4];
+    uint8_t time_to_live; /* the hops that are left */
+    uint8_t protocol;     /* ETHERPARSE_PROTOCOL_UDP, ETHERPARSE_PROTOCOL_TCP or ETHERPARSE_PROTOCOL_ICMPV4 */
+} etherparse_ipv4_header;
+
+/* The fields of an IPv6 header that a caller chooses. */
+typedef struct etherparse_ipv6_header {
+    uint8_t source[16];
+    uint8_t destination[16];
+    uint8_t hop_limit;   /* the hops that are left */
+    uint8_t next_header; /* ETHERPARSE_PROTOCOL_UDP, ETHERPARSE_PROTOCOL_TCP or ETHERPARSE_PROTOCOL_ICMPV6 */
+} etherparse_ipv6_header;
+
+/*
+ * Writes a packet to the front of the buffer, and its length in bytes to *written: an IP header without options and extension headers, and
+ * the message after it. The message is a transport header, as etherparse_udp_header_write and so on write it, and its payload. The call
+ * computes the checksums, the lengths in the IP header, and the length field of UDP, whatever the message contains there, and clears the
+ * reserved bits of the transport header. Over IPv4 the flag "don't fragment" is set, and identification and type of service are 0. Over
+ * IPv6 traffic class and flow label are 0. The bytes of the buffer after the packet are unchanged. The packet's verdict is
+ * ETHERPARSE_VERDICT_RIGHT, and it is read back as the same addresses, the same header and the same payload.
+ *
+ * In this order: ETHERPARSE_STATUS_PROTOCOL_UNKNOWN: none of the three protocols of the field's comment. ETHERPARSE_STATUS_LENGTH or
+ * ETHERPARSE_STATUS_DATA_OFFSET: the message ends within its header, or as by etherparse_tcp_packet_read and so on; the length field of UDP
+ * is not checked. ETHERPARSE_STATUS_VALUE_TOO_BIG: the packet would be longer than 65,535 bytes over IPv4, or the message is longer than that
+ * over IPv6; `actual` and `max_allowed` are lengths of the payload. ETHERPARSE_STATUS_BUFFER_TOO_SMALL.
+ */
+ETHERPARSE_CHECK_RESULT ETHERPARSE_NOT_NULL(1, 6)
+etherparse_status etherparse_write_packet_ipv4(const etherparse_ipv4_header *header, const uint8_t *message, size_t message_len,
+                                               uint8_t *buffer, size_t buffer_len, size_t *written, etherparse_error *error);
+ETHERPARSE_CHECK_RESULT ETHERPARSE_NOT_NULL(1, 6)
+etherparse_status etherparse_write_packet_ipv6(const etherparse_ipv6_header *header, const uint8_t *message, size_t message_len,
+                                               uint8_t *buffer, size_t buffer_len, size_t *written, etherparse_error *error);
 
 /*
  * Computes the checksum to store in bytes 10 and 11 of the IPv4 header at the front of the bytes, whatever these bytes contain (RFC 791,

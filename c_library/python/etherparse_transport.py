@@ -45,7 +45,7 @@ __all__ = [
     "read_icmpv6", "read_tcp", "read_udp", "status_name", "store_checksum", "store_icmpv4_checksum", "store_icmpv6_checksum",
     "store_ipv4_header_checksum", "store_tcp_checksum", "store_tcp_header", "store_udp_checksum", "tcp_checksum", "tcp_option_values",
     "tcp_options", "translate", "transport", "udp_checksum", "verdict", "verdict_name", "write_icmpv4_header", "write_icmpv6_header",
-    "write_tcp_header", "write_tcp_options", "write_udp_header",
+    "write_packet", "write_tcp_header", "write_tcp_options", "write_udp_header",
 ]
 
 Bytes = Union[bytes, bytearray, memoryview]
@@ -153,6 +153,7 @@ class ValueType(_Number):
     TCP_PAYLOAD_LENGTH_IPV4 = 3
     TCP_PAYLOAD_LENGTH_IPV6 = 4
     ICMPV6_PAYLOAD_LENGTH = 5
+    IP_PAYLOAD_LENGTH = 6
 
 
 class Protocol(_Number):
@@ -440,6 +441,24 @@ class _PacketFlow(ctypes.Structure):
     _fields_ = [("ends", _FlowEnds), ("quoted", _FlowEnds)]
 
 
+class _Ipv4Header(ctypes.Structure):
+    _fields_ = [
+        ("source", ctypes.c_uint8 * 4),
+        ("destination", ctypes.c_uint8 * 4),
+        ("time_to_live", ctypes.c_uint8),
+        ("protocol", ctypes.c_uint8),
+    ]
+
+
+class _Ipv6Header(ctypes.Structure):
+    _fields_ = [
+        ("source", ctypes.c_uint8 * 16),
+        ("destination", ctypes.c_uint8 * 16),
+        ("hop_limit", ctypes.c_uint8),
+        ("next_header", ctypes.c_uint8),
+    ]
+
+
 class _Ipv4Translation(ctypes.Structure):
     _fields_ = [
         ("source", ctypes.c_uint8 * 4),
@@ -620,6 +639,8 @@ _CALLS = {
     "transport_in_ip": (ctypes.c_uint32, *_reader(_IpTransport)),
     "transport_in_ip_lax": (ctypes.c_uint32, *_reader(_IpTransport)),
     "flow": (ctypes.c_uint32, *_reader(_PacketFlow)),
+    "write_packet_ipv4": (ctypes.c_uint32, ctypes.POINTER(_Ipv4Header), *_PACKET, *_PACKET, *_REPLY),
+    "write_packet_ipv6": (ctypes.c_uint32, ctypes.POINTER(_Ipv6Header), *_PACKET, *_PACKET, *_REPLY),
     "packet_verdict": (ctypes.c_uint32, *_reader(_IpPacket)),
     "packet_verdict_lax": (ctypes.c_uint32, *_reader(_IpPacket)),
     "udp_packet_read": (ctypes.c_uint32, *_reader(_UdpPacket)),
@@ -684,6 +705,8 @@ _ERROR_TEXT_MAX_LEN = 256
 _STATUS_TEXT_MAX_LEN = 127
 # The longest header that a call writes is that of TCP with all its options.
 _HEADER_MAX_LEN = 60
+# The longest IP header that a call writes is that of IPv6.
+_IP_HEADER_MAX_LEN = 40
 
 
 def _version_text(number: int) -> str:
@@ -971,6 +994,27 @@ def flow(packet: Bytes) -> Flow:
     """
     found = _read("flow", _bytes_of(packet), _PacketFlow())
     return Flow(_ends(found.ends), _ends(found.quoted) if found.quoted.version else None)
+
+
+def write_packet(message: Bytes, protocol: Protocol, source: Any, destination: Any, hop_limit: int = 64) -> bytes:
+    """The IP packet with this message, which is a transport header and its payload, between these addresses of one IP version.
+
+    The checksums, the lengths of the IP header, and the length field of UDP are computed, whatever the message contains there.
+
+    Raises `Error` if the header of the message is refused, if the packet is too long, or if the IP version does not have the protocol.
+    """
+    data = _bytes_of(message)
+    ends = ipaddress.ip_address(source), ipaddress.ip_address(destination)
+    if ends[0].version != ends[1].version:
+        raise ValueError("the addresses are of different IP versions")
+    packed = {"source": ends[0].packed, "destination": ends[1].packed}
+    if ends[0].version == 4:
+        name, header = "write_packet_ipv4", _filled(_Ipv4Header(), **packed, time_to_live=hop_limit, protocol=protocol)
+    else:
+        name, header = "write_packet_ipv6", _filled(_Ipv6Header(), **packed, hop_limit=hop_limit, next_header=protocol)
+    buffer, written = ctypes.create_string_buffer(_IP_HEADER_MAX_LEN + len(data)), ctypes.c_size_t()
+    _call(name, ctypes.byref(header), data, len(data), buffer, len(buffer), ctypes.byref(written))
+    return buffer.raw[: written.value]
 
 
 def header_addresses(packet: Bytes) -> HeaderAddresses:

@@ -572,6 +572,22 @@ class Calls(unittest.TestCase):
         with self.assertRaises(ept.Error):
             ept.flow(PACKET[:19])
 
+    def test_a_written_packet_is_read_back(self):
+        message = PACKET[20:24] + bytes(4) + PACKET[28:]
+        packet = ept.write_packet(message, Protocol.UDP, "192.168.1.1", "192.168.1.2")
+        self.assertEqual((packet[20:], ept.verdict(packet).kind, ept.check_ipv4_header(packet)), (PACKET[20:], *[ept.VerdictKind.RIGHT] * 2))
+        packet = ept.write_packet(message, Protocol.UDP, "2001:db8::1", "2001:db8::2", hop_limit=3)
+        self.assertEqual((ept.verdict(packet).kind, ept.transport(packet).hop_limit), (ept.VerdictKind.RIGHT, 3))
+        with self.assertRaises(ept.Error) as caught:
+            ept.write_packet(message, Protocol.ICMPV6, "192.168.1.1", "192.168.1.2")
+        self.assertEqual((caught.exception.status, caught.exception.actual), (Status.PROTOCOL_UNKNOWN, 58))
+        with self.assertRaises(ept.Error) as caught:
+            ept.write_packet(bytes(65516), Protocol.UDP, "192.168.1.1", "192.168.1.2")
+        self.assertEqual((caught.exception.value_type, caught.exception.max_allowed), (ept.ValueType.IP_PAYLOAD_LENGTH, 65507))
+        for arguments in (("::1", "192.168.1.2"), ("192.168.1.1", "192.168.1.2", 256)):
+            with self.assertRaises(ValueError):
+                ept.write_packet(message, Protocol.UDP, *arguments)
+
     def test_a_translated_packet_is_the_packet_of_the_other_host(self):
         for inside, outside, server, icmp in (
             ("192.168.1.1", "203.0.113.7", "192.0.2.1", Protocol.ICMPV4),

@@ -117,6 +117,22 @@ export const TESTS = {
         expect([hopLimit, isLaterFragment], [64, false]);
     },
 
+    /** A packet is written of its message, and its flow is read. */
+    writtenPacket() {
+        const message = PACKET.slice(20);
+        message.set([0, 0, 0, 0], 4);
+        const ends = { source: "192.168.1.1", destination: Uint8Array.of(192, 168, 1, 2), protocol: library.Protocol.UDP };
+        const packet = library.writePacket(message, ends);
+        expect([packet.subarray(20), library.verdict(packet).kind], [PACKET.subarray(20), VerdictKind.RIGHT]);
+        const { ends: { source, sourcePort, destinationPort }, quoted } = library.flow(packet);
+        expect([source, sourcePort, destinationPort, quoted], ["192.168.1.1", 21, 1234, null]);
+        const other = { ...ends, protocol: library.Protocol.ICMPV6 };
+        const { status, actual } = thrown(() => library.writePacket(message, other), library.EtherparseError);
+        expect([status, actual], [Status.PROTOCOL_UNKNOWN, 58]);
+        thrown(() => library.writePacket(message, { ...ends, destination: "::1" }), TypeError);
+        thrown(() => library.writePacket(message, { ...ends, hopLimit: 256 }), RangeError);
+    },
+
     /** The memory grows with its input, from call to call. */
     growth() {
         for (const length of [0, 60000, 65536, 65528, 1000000, 3, 5000001]) {

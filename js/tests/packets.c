@@ -364,6 +364,22 @@ static void call_packet_checksum(void)
     (void)(etherparse_packet_checksum_store(copy, len, &checksum, &error) == 0);
 }
 
+/* Writes a packet with this message between these addresses. */
+static void call_write_packet(const etherparse_ip_transport *found, const uint8_t *message)
+{
+    etherparse_ipv4_header header4 = {{0}, {0}, (uint8_t)below(256), (uint8_t)found->protocol};
+    etherparse_ipv6_header header6 = {{0}, {0}, (uint8_t)below(256), (uint8_t)found->protocol};
+    size_t written;
+    memcpy(header4.source, found->source, 4);
+    memcpy(header4.destination, found->destination, 4);
+    memcpy(header6.source, found->source, 16);
+    memcpy(header6.destination, found->destination, 16);
+    if (found->version == 6)
+        (void)(etherparse_write_packet_ipv6(&header6, message, found->payload_len, copy, ROOM, &written, &error) == 0);
+    else
+        (void)(etherparse_write_packet_ipv4(&header4, message, found->payload_len, copy, ROOM, &written, &error) == 0);
+}
+
 /* The sum of the packet in two parts, and the change of its checksum if the parts change places. */
 static void call_sums(void)
 {
@@ -397,6 +413,7 @@ static void call_all(void)
     if (etherparse_transport_in_ip_lax(packet, len, &found, &error) != ETHERPARSE_OK)
         return;
     bytes = packet + found.payload_offset;
+    call_write_packet(&found, bytes);
     (void)(etherparse_canonical_header(found.protocol, bytes, found.payload_len, copy, ROOM, &written, &error) == 0);
     if (found.protocol == ETHERPARSE_PROTOCOL_UDP)
         call_udp(bytes, found.payload_len, found.version == 6, found.source, found.destination);

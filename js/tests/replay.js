@@ -154,6 +154,13 @@ function flowEnds(found) {
     };
 }
 
+/** An IP packet that is written. The field of the header that IPv4 calls time to live is the hop limit of IPv6. */
+function writtenPacket({ header, message }) {
+    const { source, destination, time_to_live: timeToLive, protocol, hop_limit: hopLimit, next_header: nextHeader } = header;
+    const ends = { source: Uint8Array.from(source), destination: library.addressText(Uint8Array.from(destination)) };
+    return { buffer: library.writePacket(message, { ...ends, protocol: protocol ?? nextHeader, hopLimit: timeToLive ?? hopLimit }) };
+}
+
 function requirePart(part, bytes, offset) {
     require(isEqual(part, bytes.subarray(offset, offset + part.length)), "a part is not the bytes at its place");
     require(part.buffer !== bytes.buffer, "a result shares memory with an argument");
@@ -310,6 +317,8 @@ const CALLS = {
         const { ends, quoted: about } = library.flow(bytes);
         return { flow: { ends: flowEnds(ends), quoted: flowEnds(about) } };
     },
+    write_packet_ipv4: writtenPacket,
+    write_packet_ipv6: writtenPacket,
     packet_verdict: ({ bytes }) => ipPacket(library.verdict(bytes), bytes),
     packet_verdict_lax: ({ bytes }) => ipPacket(library.verdict(bytes, { lax: true }), bytes),
     ...checksumCalls("ipv4_header_checksum*", ipv4HeaderChecksum, storeIpv4HeaderChecksum, checkIpv4Header),

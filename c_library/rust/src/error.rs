@@ -74,6 +74,11 @@ pub enum ErrorKind {
         /// The flags.
         flags: usize,
     },
+    /// The call does not accept the protocol, such as ICMPv6 over IPv4.
+    ProtocolUnknown {
+        /// The number of the protocol.
+        protocol: usize,
+    },
     /// Fewer bytes are left than the TCP option needs.
     OptionCutOff {
         /// The kind of the option.
@@ -257,6 +262,8 @@ pub enum ValueType {
     TcpPayloadLengthIpv6,
     /// The length of an ICMPv6 payload.
     Icmpv6PayloadLength,
+    /// The length of the payload after a transport header in a packet that is written.
+    IpPayloadLength,
     /// A value that this crate does not know, by its number.
     Other(u32),
 }
@@ -294,6 +301,7 @@ impl ValueType {
             sys::VALUE_TCP_PAYLOAD_LENGTH_IPV4 => ValueType::TcpPayloadLengthIpv4,
             sys::VALUE_TCP_PAYLOAD_LENGTH_IPV6 => ValueType::TcpPayloadLengthIpv6,
             sys::VALUE_ICMPV6_PAYLOAD_LENGTH => ValueType::Icmpv6PayloadLength,
+            sys::VALUE_IP_PAYLOAD_LENGTH => ValueType::IpPayloadLength,
             number => ValueType::Other(number),
         }
     }
@@ -321,6 +329,7 @@ impl Error {
             sys::STATUS_BUFFER_TOO_SMALL => ErrorKind::BufferTooSmall { required_len, len },
             sys::STATUS_OPTIONS_TOO_LONG => ErrorKind::OptionsTooLong { len },
             sys::STATUS_FLAGS_UNKNOWN => ErrorKind::FlagsUnknown { flags: error.actual },
+            sys::STATUS_PROTOCOL_UNKNOWN => ErrorKind::ProtocolUnknown { protocol: error.actual },
             sys::STATUS_OPTION_CUT_OFF => ErrorKind::OptionCutOff { kind, required_len, len },
             sys::STATUS_OPTION_SIZE => ErrorKind::OptionSize { kind, size: error.option_size },
             sys::STATUS_OPTION_UNKNOWN => ErrorKind::OptionUnknown { kind },

@@ -4,6 +4,11 @@
 use crate::canonical::Protocol;
 use crate::{Error, Text, Verdict, answer, sys, verdict};
 
+/// The fields of an IPv4 header that a caller chooses, for [`write_packet_ipv4`].
+pub use crate::sys::Ipv4Header;
+/// The fields of an IPv6 header that a caller chooses, for [`write_packet_ipv6`].
+pub use crate::sys::Ipv6Header;
+
 /// The addresses that a checksum is taken of, or those of the IP header itself.
 #[derive(Clone, Copy, Debug, PartialEq, Eq, Hash)]
 pub enum Addresses {
@@ -739,4 +744,47 @@ pub fn flow(bytes: &[u8]) -> Result<Flow, Error> {
     let status = unsafe { sys::etherparse_flow(bytes.as_ptr(), bytes.len(), &mut found, &mut error) };
     answer(status, (), error)
         .map(|()| Flow { ends: ends(&found.ends), quoted: (found.quoted.version != 0).then(|| ends(&found.quoted)) })
+}
+
+/// Writes an IPv4 packet to the front of a buffer, and returns its length: an IP header without options, and the message after it, which is
+/// a transport header and its payload. The checksums, the total length, and the length field of UDP are computed.
+///
+/// Errors: `ProtocolUnknown` if the protocol is none of UDP, TCP and ICMPv4; `Length` and `DataOffset` of the header; `ValueTooBig` if the
+/// packet is longer than 65,535 bytes; `BufferTooSmall`. The buffer is as it was.
+///
+/// ```
+/// use etherparse_transport_c::ip::{self, ChecksumVerdict, Ipv4Header};
+/// let header = Ipv4Header { source: [192, 168, 1, 1], destination: [192, 168, 1, 2], time_to_live: 64, protocol: 17 };
+/// let mut buffer = [0; 40];
+/// let len = ip::write_packet_ipv4(&header, &[0, 21, 4, 210, 0, 0, 0, 0, b'a', b'b', b'c'], &mut buffer)?;
+/// assert_eq!((len, &buffer[20..31]), (31, [0, 21, 4, 210, 0, 11, 0xB3, 0x3A, b'a', b'b', b'c'].as_slice()));
+/// assert_eq!(ip::Packet::read(&buffer[..len])?.verdict, ChecksumVerdict::Right);
+/// # Ok::<(), etherparse_transport_c::Error>(())
+/// ```
+pub fn write_packet_ipv4(header: &Ipv4Header, message: &[u8], buffer: &mut [u8]) -> Result<usize, Error> {
+    let (mut written, mut error) = (0, sys::Error::default());
+    let (from, from_len, to, to_len) = (message.as_ptr(), message.len(), buffer.as_mut_ptr(), buffer.len());
+    // SAFETY: each pointer is that of a live reference, and no two overlap.
+    let status = unsafe { sys::etherparse_write_packet_ipv4(header, from, from_len, to, to_len, &mut written, &mut error) };
+    answer(status, written, error)
+}
+
+/// The same as [`write_packet_ipv4`] for an IPv6 packet without extension headers.
+///
+/// Errors: as [`write_packet_ipv4`], with ICMPv6 instead of ICMPv4. `ValueTooBig` if the message is longer than 65,535 bytes.
+///
+/// ```
+/// use etherparse_transport_c::ip::{self, ChecksumVerdict, Ipv6Header};
+/// let header = Ipv6Header { source: [1; 16], destination: [2; 16], hop_limit: 64, next_header: 58 };
+/// let mut buffer = [0; 48];
+/// let len = ip::write_packet_ipv6(&header, &[128, 0, 0, 0, 0, 7, 0, 1], &mut buffer)?;
+/// assert_eq!((len, ip::Packet::read(&buffer)?.verdict), (48, ChecksumVerdict::Right));
+/// # Ok::<(), etherparse_transport_c::Error>(())
+/// ```
+pub fn write_packet_ipv6(header: &Ipv6Header, message: &[u8], buffer: &mut [u8]) -> Result<usize, Error> {
+    let (mut written, mut error) = (0, sys::Error::default());
+    let (from, from_len, to, to_len) = (message.as_ptr(), message.len(), buffer.as_mut_ptr(), buffer.len());
+    // SAFETY: as above.
+    let status = unsafe { sys::etherparse_write_packet_ipv6(header, from, from_len, to, to_len, &mut written, &mut error) };
+    answer(status, written, error)
 }

@@ -16,3 +16,4 @@ pub mod TcpOptionLengthLemmas
 pub mod TcpRawOptionLemmas
 pub mod TextLemmas
 pub mod UdpLemmas
+pub mod WritePacketLemmas

@@ -3,9 +3,11 @@ use Rattle.std.specs.Prelude.{ℕ, ◌==◌, ◌&&◌, nat_lt, nat_le, if◌then
 use Rattle.std.specs.Fmt.{decimal}
 use Rattle.std.specs.List.{concat}
 use Rattle.std.specs.Option.{option_map}
-use Rattle.etherparse_transport.specs.ErrorTexts.{answer_echo_text, translate_text, untested_text}
+use Rattle.etherparse_transport.specs.ErrorTexts.{answer_echo_text, build_text, translate_text, untested_text}
 use Rattle.etherparse_transport.specs.declared.err.packet.answer_echo_error.AnswerEchoError.{AnswerEchoError}
 use Rattle.etherparse_transport.specs.declared.err.packet.answer_echo_error.AnswerEchoError.TheVariants as echo
+use Rattle.etherparse_transport.specs.declared.err.packet.build_slice_write_error.BuildSliceWriteError.{BuildSliceWriteError}
+use Rattle.etherparse_transport.specs.declared.err.packet.build_slice_write_error.BuildSliceWriteError.TheVariants as build
 use Rattle.etherparse_transport.specs.declared.err.packet.translate_error.TranslateError.{TranslateError}
 use Rattle.etherparse_transport.specs.declared.err.packet.translate_error.TranslateError.TheVariants as translate
 use Rattle.ip_part.specs.ErrorTexts.{ip_text}
@@ -46,6 +48,22 @@ echo_text_in_c error = answer_echo_text error
 abbrev pub translate_text_in_c : ℕ → TranslateError → List ℕ
 translate_text_in_c other_version translate.OtherVersion = ip_text (ip.Version other_version)
 translate_text_in_c other_version error = translate_text error
+
+-- the text of a buffer that is too small
+abbrev pub buffer_text : ℕ → ℕ → List ℕ
+buffer_text required_len len = concat (
+    codes "Buffer Error: " ∷ decimal required_len ∷ codes " bytes are needed, the buffer has " ∷ decimal len ∷ codes "." ∷ [])
+
+-- the text of a protocol that the call does not accept
+abbrev pub protocol_text : ℕ → List ℕ
+protocol_text number = concat (codes "Protocol Error: the call does not accept the protocol " ∷ decimal number ∷ codes "." ∷ [])
+
+-- The text of a packet that is not written. A buffer and a protocol have the texts of all calls, since they have the same statuses.
+abbrev pub build_text_in_c : BuildSliceWriteError → List ℕ
+build_text_in_c (build.Space required_len len) = buffer_text required_len len
+build_text_in_c build.Icmpv6InIpv4 = protocol_text numbers.protocol_icmpv6
+build_text_in_c build.Icmpv4InIpv6 = protocol_text numbers.protocol_icmpv4
+build_text_in_c error = build_text error
 
 -- ---- the library's error that an error of C contains, or `None` for numbers that no call returns
 
@@ -180,14 +198,12 @@ untested_text_at number = text_or (codes "Unknown error.") untested_text (untest
 abbrev pub own_text : EtherparseError → List ℕ
 own_text error =
     if error.status == numbers.status_ok then codes "No error."
-    else if error.status == numbers.status_buffer_too_small then concat (
-    codes "Buffer Error: " ∷ decimal error.required_len ∷ codes " bytes are needed, the buffer has " ∷ decimal error.len ∷ codes "." ∷ [])
+    else if error.status == numbers.status_buffer_too_small then buffer_text error.required_len error.len
     else if error.status == numbers.status_checksum_wrong then wrong_checksum_text
     else if error.status == numbers.status_checksum_absent then codes "Checksum Error: there is no checksum."
     else if error.status == numbers.status_flags_unknown then concat (
     codes "Flags Error: " ∷ decimal error.actual ∷ codes " is above " ∷ decimal error.max_allowed ∷ codes ", which are all flags." ∷ [])
-    else if error.status == numbers.status_protocol_unknown then concat (
-    codes "Protocol Error: " ∷ decimal error.actual ∷ codes " is none of 1, 6, 17 and 58." ∷ [])
+    else if error.status == numbers.status_protocol_unknown then protocol_text error.actual
     else if error.status == numbers.status_options_end then codes "Option Error: no option is left."
     else if error.status == numbers.status_message_unknown then codes "Message Error: the kind of the message or its code is not known."
     else if error.status == numbers.status_option_unknown then concat (
@@ -200,12 +216,18 @@ own_text error =
     else if error.status == numbers.status_checksum_untested then untested_text_at error.actual
     else codes "Unknown error."
 
+-- The text of a value that is too big. The payload of a packet that is written is no kind of value in the library.
+abbrev pub value_text_in : EtherparseError → List ℕ
+value_text_in error =
+    if error.value_type == numbers.value_ip_payload_length then build_text (build.PayloadLen error.actual error.max_allowed)
+    else text_or (own_text error) value_text (value_error_in error)
+
 -- the text of any error
 abbrev pub text_of : EtherparseError → List ℕ
 text_of error =
     if error.status == numbers.status_length then text_or (own_text error) len_text (len_error_in error)
     else if error.status == numbers.status_data_offset then text_or (own_text error) header_text (header_error_in error)
-    else if error.status == numbers.status_value_too_big then text_or (own_text error) value_text (value_error_in error)
+    else if error.status == numbers.status_value_too_big then value_text_in error
     else if error.status == numbers.status_options_too_long then options_text (NotEnoughSpace error.len)
     else if nat_le numbers.status_option_cut_off error.status && nat_le error.status numbers.status_option_unknown
     then text_or (own_text error) option_text (option_error_in error)

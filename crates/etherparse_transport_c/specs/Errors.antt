@@ -2,6 +2,8 @@
 use Rattle.std.specs.Prelude.{◌≡◌, ◌⊎◌, ℕ, Bool, true, false, if◌then◌else◌, ◌==◌, nat_lt, List, ◌++◌, length, drop, Option, None, Some}
 use Rattle.etherparse_transport.specs.declared.err.packet.answer_echo_error.AnswerEchoError.{AnswerEchoError}
 use Rattle.etherparse_transport.specs.declared.err.packet.answer_echo_error.AnswerEchoError.TheVariants as echo
+use Rattle.etherparse_transport.specs.declared.err.packet.build_slice_write_error.BuildSliceWriteError.{BuildSliceWriteError}
+use Rattle.etherparse_transport.specs.declared.err.packet.build_slice_write_error.BuildSliceWriteError.TheVariants as build
 use Rattle.etherparse_transport.specs.declared.err.packet.translate_error.TranslateError.{TranslateError}
 use Rattle.etherparse_transport.specs.declared.err.packet.translate_error.TranslateError.TheVariants as translate
 use Rattle.etherparse_transport.specs.declared.err.packet.write_checksum_error.WriteChecksumError.{WriteChecksumError}
@@ -120,7 +122,7 @@ of_buffer required_len len = record nothing { status = numbers.status_buffer_too
 abbrev pub of_flags : ℕ → EtherparseError
 of_flags flags = record nothing { status = numbers.status_flags_unknown; actual = flags; max_allowed = numbers.tcp_flags }
 
--- a protocol that is none of the four
+-- a protocol that the call does not accept
 abbrev pub of_protocol : ℕ → EtherparseError
 of_protocol number = record nothing { status = numbers.status_protocol_unknown; actual = number }
 
@@ -203,6 +205,19 @@ abbrev pub of_write_checksum : WriteChecksumError → EtherparseError
 of_write_checksum (write.Ip error) = of_ip error
 of_write_checksum (write.Transport error) = of_header_slice error
 of_write_checksum (write.Untested why) = record nothing { status = numbers.status_checksum_untested; actual = untested_number why }
+
+-- a packet that is not written; ICMP of the other IP version is a protocol that the call does not accept
+abbrev pub of_build : BuildSliceWriteError → EtherparseError
+of_build (build.Space required_len len) = of_buffer required_len len
+of_build (build.PayloadLen actual max_allowed) = record nothing {
+  status = numbers.status_value_too_big;
+  value_type = numbers.value_ip_payload_length;
+  actual = actual;
+  max_allowed = max_allowed;
+}
+of_build (build.TimestampLen error) = of_len error
+of_build build.Icmpv6InIpv4 = of_protocol numbers.protocol_icmpv6
+of_build build.Icmpv4InIpv6 = of_protocol numbers.protocol_icmpv4
 
 -- ---- results of calls
 

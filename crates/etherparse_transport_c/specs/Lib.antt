@@ -24,3 +24,4 @@ pub mod Translations
 pub mod Udp
 pub mod VerdictName
 pub mod Version
+pub mod WrittenPackets

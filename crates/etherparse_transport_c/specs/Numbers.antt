@@ -190,6 +190,10 @@ value_tcp_payload_length_ipv6 = 4
 abbrev pub value_icmpv6_payload_length : ℕ
 value_icmpv6_payload_length = 5
 
+-- the payload after a transport header in a packet that is written
+abbrev pub value_ip_payload_length : ℕ
+value_ip_payload_length = 6
+
 -- ---- flags of a TCP header (RFC 9293, section 3.1; RFC 3168, section 6.1; RFC 3540, section 9): eight flags have their bits in byte 13.
 -- NS, which is bit 0 of byte 12, has the next higher bit.
 

@@ -8,7 +8,9 @@ use crate::error::EtherparseError;
 use crate::text::{Char, cut, put_string};
 use crate::{layer, len_source, status, value_type, verdict_kind};
 use etherparse_transport::err::TextPart::{Number, Words};
-use etherparse_transport::err::packet::{AnswerEchoError, TranslateError, WriteChecksumError};
+use etherparse_transport::err::packet::{
+    AnswerEchoError, BuildSliceWriteError, TranslateError, WriteChecksumError,
+};
 use etherparse_transport::err::tcp::HeaderError;
 use etherparse_transport::err::{ErrorText, Layer, LenError, ValueTooBigError, ValueType};
 use etherparse_transport::ip::IpError;
@@ -256,9 +258,9 @@ fn own_text(error: &EtherparseError) -> ErrorText
             Words(", which are all flags."),
         ]),
         status::PROTOCOL_UNKNOWN => ErrorText::from_parts(&[
-            Words("Protocol Error: "),
+            Words("Protocol Error: the call does not accept the protocol "),
             Number(error.actual),
-            Words(" is none of 1, 6, 17 and 58."),
+            Words("."),
         ]),
         status::OPTIONS_END => ErrorText::from_words("Option Error: no option is left."),
         status::MESSAGE_UNKNOWN => {
@@ -286,6 +288,23 @@ fn own_text(error: &EtherparseError) -> ErrorText
     }
 }
 
+/// Returns the text of a value that is too big.
+fn value_text(error: &EtherparseError) -> ErrorText
+    ensures { reads_as result ≡ specs.value_text_in error.now }
+{
+    if error.value_type == value_type::IP_PAYLOAD_LENGTH {
+        let told = BuildSliceWriteError::PayloadLen {
+            actual: error.actual,
+            max_allowed: error.max_allowed,
+        };
+        return told.text();
+    }
+    match value_error(error) {
+        Some(told) => told.text(),
+        None => own_text(error),
+    }
+}
+
 /// Returns the text of an error. If the Rattle library has the same error, both have the same text.
 fn text(error: &EtherparseError) -> ErrorText
     ensures { reads_as result ≡ text_of error.now }
@@ -299,10 +318,7 @@ fn text(error: &EtherparseError) -> ErrorText
             Some(told) => told.text(),
             None => own_text(error),
         },
-        status::VALUE_TOO_BIG => match value_error(error) {
-            Some(told) => told.text(),
-            None => own_text(error),
-        },
+        status::VALUE_TOO_BIG => value_text(error),
         status::OPTIONS_TOO_LONG => TcpOptionWriteError::NotEnoughSpace(error.len).text(),
         status::OPTION_CUT_OFF | status::OPTION_SIZE | status::OPTION_UNKNOWN => {
             match option_error(error) {

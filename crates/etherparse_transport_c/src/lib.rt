@@ -46,3 +46,4 @@ mod verdict_kind;
 mod verdict_name;
 mod version;
 mod write;
+mod write_packet;

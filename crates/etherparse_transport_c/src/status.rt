@@ -27,7 +27,7 @@ pub const OPTIONS_TOO_LONG: u32 = 7;
 /// The flags of a TCP header contain a bit that is none of the nine flags.
 pub const FLAGS_UNKNOWN: u32 = 8;
 
-/// The protocol is none of the four.
+/// The call does not accept the protocol: it is none of the four, or ICMP of the other IP version.
 pub const PROTOCOL_UNKNOWN: u32 = 9;
 
 /// No option is left. The list or the bytes are at their end.

@@ -14,3 +14,6 @@ pub const TCP_PAYLOAD_LENGTH_IPV6: u32 = 4;
 
 /// The length of an ICMPv6 payload.
 pub const ICMPV6_PAYLOAD_LENGTH: u32 = 5;
+
+/// The length of the payload after a transport header in a packet that is written.
+pub const IP_PAYLOAD_LENGTH: u32 = 6;

@@ -80,6 +80,7 @@ pub const VALUE_UDP_PAYLOAD_LENGTH_IPV6: u32 = 2;
 pub const VALUE_TCP_PAYLOAD_LENGTH_IPV4: u32 = 3;
 pub const VALUE_TCP_PAYLOAD_LENGTH_IPV6: u32 = 4;
 pub const VALUE_ICMPV6_PAYLOAD_LENGTH: u32 = 5;
+pub const VALUE_IP_PAYLOAD_LENGTH: u32 = 6;
 
 // ---- The flags of a TCP header: those of byte 13 at their bits there, and NS, which is bit 0 of byte 12, above them (RFC 9293,
 // section 3.1; RFC 3168, section 6.1; RFC 3540, section 9).
@@ -479,6 +480,34 @@ pub struct PacketFlow {
     pub quoted: FlowEnds,
 }
 
+/// The fields of an IPv4 header that a caller chooses.
+#[repr(C)]
+#[derive(Clone, Copy, Debug, Default, PartialEq, Eq, Hash)]
+pub struct Ipv4Header {
+    /// The source.
+    pub source: [u8; 4],
+    /// The destination.
+    pub destination: [u8; 4],
+    /// The hops that are left.
+    pub time_to_live: u8,
+    /// The protocol of the message: UDP, TCP or ICMPv4.
+    pub protocol: u8,
+}
+
+/// The fields of an IPv6 header that a caller chooses.
+#[repr(C)]
+#[derive(Clone, Copy, Debug, Default, PartialEq, Eq, Hash)]
+pub struct Ipv6Header {
+    /// The source.
+    pub source: [u8; 16],
+    /// The destination.
+    pub destination: [u8; 16],
+    /// The hops that are left.
+    pub hop_limit: u8,
+    /// The protocol of the message: UDP, TCP or ICMPv6.
+    pub next_header: u8,
+}
+
 /// An IP packet that was read, and the verdict on its checksum.
 #[repr(C)]
 #[derive(Clone, Copy, Debug, Default, PartialEq, Eq, Hash)]
@@ -725,6 +754,26 @@ extern "C" {
     ) -> u32;
     /// Finds the flow that an IP packet belongs to.
     pub fn etherparse_flow(bytes: *const u8, bytes_len: usize, flow: *mut PacketFlow, error: *mut Error) -> u32;
+    /// Writes an IPv4 packet with this message, which is a transport header and its payload.
+    pub fn etherparse_write_packet_ipv4(
+        header: *const Ipv4Header,
+        message: *const u8,
+        message_len: usize,
+        buffer: *mut u8,
+        buffer_len: usize,
+        written: *mut usize,
+        error: *mut Error,
+    ) -> u32;
+    /// Writes an IPv6 packet with this message, which is a transport header and its payload.
+    pub fn etherparse_write_packet_ipv6(
+        header: *const Ipv6Header,
+        message: *const u8,
+        message_len: usize,
+        buffer: *mut u8,
+        buffer_len: usize,
+        written: *mut usize,
+        error: *mut Error,
+    ) -> u32;
     /// Tests whether the checksum in an IP packet is partial, and writes 1 or 0.
     pub fn etherparse_packet_checksum_is_partial(bytes: *const u8, bytes_len: usize, is_partial: *mut u32, error: *mut Error) -> u32;
     /// Stores the right checksum of UDP, TCP or ICMP in an IP packet, and writes the checksum.
