@@ -1492,7 +1492,7 @@ static void meanings(void)
     MEANS(ETHERPARSE_STATUS_CHECKSUM_ABSENT, "the UDP packet has no checksum");
     MEANS(ETHERPARSE_STATUS_OPTIONS_TOO_LONG, "more than 40 bytes of TCP options");
     MEANS(ETHERPARSE_STATUS_FLAGS_UNKNOWN, "the TCP flags are above 0x1ff");
-    MEANS(ETHERPARSE_STATUS_PROTOCOL_UNKNOWN, "the protocol is none of UDP, TCP, ICMPv4 and ICMPv6");
+    MEANS(ETHERPARSE_STATUS_PROTOCOL_UNKNOWN, "the call does not accept the protocol");
     MEANS(ETHERPARSE_STATUS_OPTIONS_END, "no TCP option is left");
     MEANS(ETHERPARSE_STATUS_OPTION_CUT_OFF, "the bytes end within a TCP option");
     MEANS(ETHERPARSE_STATUS_OPTION_SIZE, "the length byte of a TCP option is wrong");

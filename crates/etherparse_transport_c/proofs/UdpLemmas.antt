@@ -1,8 +1,11 @@
 -- Laws of the checksum in the bytes of a UDP packet.
-use Rattle.std.proofs.Common.{◌≡◌, ◌≢◌, ℕ, Bool, true, false, None, refl, subst, ◌+◌, ◌<◌, ◌≤◌, List, [], ◌∷◌, ◌++◌, length, length-take, take, drop, inr, sym, ap, ◌∙◌, arith}
+use Rattle.std.proofs.Common.{◌≡◌, ◌≢◌, ℕ, Bool, true, false, None, Some, refl, subst, ◌+◌, ◌-◌, ◌<◌, ◌≤◌, List, [], ◌∷◌, ◌++◌, length, length-drop, length-take, take, drop, inr, sym, ap, ◌∙◌, arith}
 use Rattle.std.proofs.lemmas.Bool.Decides.{nat_tests}
+use Rattle.std.specs.Option.{option_map}
 use Rattle.net_base.specs.Bytes.{IsBytes}
 use Rattle.net_base.specs.PseudoHeader.{ipv4_pseudo_header, ipv6_pseudo_header, max_len_over_ipv4, max_len_over_ipv6}
+use Rattle.net_base.specs.Refusals.{too_big}
+use Rattle.net_base.specs.declared.err.value_too_big_error.ValueTooBigError.{ValueTooBigError}
 use Rattle.net_base.specs.declared.err.value_type.ValueType.{ValueType}
 use Rattle.net_base.specs.declared.err.value_type.ValueType.TheVariants.{UdpPayloadLengthIpv4, UdpPayloadLengthIpv6}
 use Rattle.word_sum.specs.Checksum.{folded, total, udp_checksum_of}
@@ -12,7 +15,7 @@ use Rattle.udp_part.specs.UdpFormat.{DecodesAs, header_of, max_payload_len, max_
 use Rattle.udp_part.specs.UdpSlice.{cut, length_counts, length_field, strict_refusal}
 use Rattle.udp_part.specs.UdpValidity.{IsValidUdpIpv4, IsValidUdpIpv6, checksum_field}
 use Rattle.etherparse_transport_c.specs.Checksums.{with_checksum}
-use Rattle.etherparse_transport_c.specs.Errors.{Answers, at_front}
+use Rattle.etherparse_transport_c.specs.Errors.{Answers, at_front, first_refusal, of_len, of_value}
 use Rattle.etherparse_transport_c.specs.Numbers as numbers
 use Rattle.etherparse_transport_c.specs.Udp.{TestTellsIpv4, TestTellsIpv6, checksum_refusal, checksummed_ipv4, checksummed_ipv6, fields_of, has_no_checksum, header_in}
 use Rattle.etherparse_transport_c.specs.declared.udp.EtherparseUdpHeader.{EtherparseUdpHeader}
@@ -195,3 +198,16 @@ pub reads_back : (fields : EtherparseUdpHeader) (buffer : List ℕ) → DecodesA
     → fields_of (header_of (at_front (wire (header_in fields)) buffer)) ≡ fields
 unfolding at_front
 reads_back fields buffer decodes = ap fields_of (sym decodes.fields)
+
+-- ---- packets that are refused
+
+-- a packet whose payload is too long for the pseudo header is refused with the error of its length
+pub long_refused : (value_type : ValueType) (limit : ℕ) (bytes packet payload : List ℕ) (error : ValueTooBigError ℕ)
+    → strict_refusal bytes ≡ None → packet ≡ cut bytes → payload ≡ drop 8 packet
+    → too_big value_type limit (length payload) ≡ Some error → checksum_refusal value_type limit bytes ≡ Some (of_value error)
+long_refused value_type limit bytes packet payload error accepted packet_is payload_is refused =
+    let len_is : length (cut bytes) - 8 ≡ length payload =
+    sym (ap length payload_is ∙ length-drop 8 packet ∙ ap (λ whole. length whole - 8) packet_is) in
+    ap (λ first. first_refusal (option_map of_len first) (option_map of_value (too_big value_type limit (length (cut bytes) - 8)))) accepted
+    ∙ ap (λ len. option_map of_value (too_big value_type limit len)) len_is
+    ∙ ap (option_map of_value) refused

@@ -18,7 +18,7 @@ status_text status =
     else if status == numbers.status_checksum_absent then codes "the UDP packet has no checksum"
     else if status == numbers.status_options_too_long then codes "more than 40 bytes of TCP options"
     else if status == numbers.status_flags_unknown then codes "the TCP flags are above 0x1ff"
-    else if status == numbers.status_protocol_unknown then codes "the protocol is none of UDP, TCP, ICMPv4 and ICMPv6"
+    else if status == numbers.status_protocol_unknown then codes "the call does not accept the protocol"
     else if status == numbers.status_options_end then codes "no TCP option is left"
     else if status == numbers.status_option_cut_off then codes "the bytes end within a TCP option"
     else if status == numbers.status_option_size then codes "the length byte of a TCP option is wrong"

@@ -20,7 +20,7 @@ fn meaning(status: u32) -> &'static str
         status::CHECKSUM_ABSENT => "the UDP packet has no checksum",
         status::OPTIONS_TOO_LONG => "more than 40 bytes of TCP options",
         status::FLAGS_UNKNOWN => "the TCP flags are above 0x1ff",
-        status::PROTOCOL_UNKNOWN => "the protocol is none of UDP, TCP, ICMPv4 and ICMPv6",
+        status::PROTOCOL_UNKNOWN => "the call does not accept the protocol",
         status::OPTIONS_END => "no TCP option is left",
         status::OPTION_CUT_OFF => "the bytes end within a TCP option",
         status::OPTION_SIZE => "the length byte of a TCP option is wrong",
