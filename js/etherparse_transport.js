@@ -50,7 +50,7 @@ const SOURCE_PLACE = 512;
 const DESTINATION_PLACE = 528;
 const TEXT_PLACE = 576;
 const BUFFER_PLACE = 896;
-const INPUT_PLACE = 1024;
+const INPUT_PLACE = 2176;
 const TEXT_LEN = BigInt(BUFFER_PLACE - TEXT_PLACE);
 const BUFFER_LEN = BigInt(INPUT_PLACE - BUFFER_PLACE);
 
@@ -681,6 +681,19 @@ export function storeChecksum(packet) {
     return takeChecksum();
 }
 
+/**
+ * Lowers the time to live or hop limit of an IP packet by one, as a router does. The checksum of an IPv4 header is updated: a right checksum
+ * stays right, and a wrong checksum stays wrong. No other byte changes.
+ *
+ * @param {Uint8Array} packet  changes, unless it is refused
+ * @throws {EtherparseError} if the IP header is refused, or if the hop limit is 0 or 1 (`HOP_LIMIT_EXPIRED`)
+ */
+export function lowerHopLimit(packet) {
+    const length = setInput(packet, "packet");
+    check(calls.etherparse_hop_limit_lower(input, length, error));
+    putBack(packet);
+}
+
 /** What the test of a checksum found. Every other status is a refusal. */
 function tested(status) {
     switch (status) {
@@ -1092,6 +1105,51 @@ export function writeIcmpv4Header(header) {
     setIcmpv4Header(base + STRUCT_PLACE, header);
     check(calls.etherparse_icmpv4_header_write(struct, bufferAddress, BUFFER_LEN, result, error));
     return takeWritten();
+}
+
+/** An ICMP error about a packet, by a call whose header is already set. */
+function errorAbout(call, packet, source, hopLimit) {
+    const limit = integer(hopLimit, 255, "hopLimit");
+    bytes.set(source, base + SOURCE_PLACE);
+    check(calls[call](input, BigInt(packet.length), struct, sourceAddress, limit, bufferAddress, BUFFER_LEN, result, error));
+    return takeWritten();
+}
+
+/**
+ * Returns the ICMPv4 error about a packet: an IPv4 packet from a source to the source of the packet, of at most 576 bytes. It quotes the
+ * packet from its first byte on.
+ *
+ * @param {Uint8Array} packet
+ * @param {Icmpv4Header} header  its checksum is not used
+ * @param {string} source
+ * @param {{hopLimit?: number}} [options]
+ * @returns {Uint8Array}
+ * @throws {EtherparseError} if the header is no error, or if there is no error about the packet, for example about a later fragment
+ */
+export function icmpv4ErrorAbout(packet, header, source, { hopLimit = DEFAULT_HOP_LIMIT } = {}) {
+    const from = addressBytes(source);
+    if (from.length !== IPV4_LEN) throw new TypeError("the source is no IPv4 address");
+    setInput(packet, "packet");
+    setIcmpv4Header(base + STRUCT_PLACE, header);
+    return errorAbout("etherparse_icmpv4_error_about", packet, from, hopLimit);
+}
+
+/**
+ * Returns the ICMPv6 error about a packet, as `icmpv4ErrorAbout`, of at most 1280 bytes.
+ *
+ * @param {Uint8Array} packet
+ * @param {Icmpv6Header} header  its checksum is not used
+ * @param {string} source
+ * @param {{hopLimit?: number}} [options]
+ * @returns {Uint8Array}
+ * @throws {EtherparseError} if the header is no error, or if there is no error about the packet
+ */
+export function icmpv6ErrorAbout(packet, header, source, { hopLimit = DEFAULT_HOP_LIMIT } = {}) {
+    const from = addressBytes(source);
+    if (from.length === IPV4_LEN) throw new TypeError("the source is no IPv6 address");
+    setInput(packet, "packet");
+    setIcmpv6Header(base + STRUCT_PLACE, header);
+    return errorAbout("etherparse_icmpv6_error_about", packet, from, hopLimit);
 }
 
 /**

@@ -983,6 +983,71 @@ static void echo_replies(void)
     EXPECT(etherparse_error_text(&error, text, sizeof text) == sizeof expected - 1 && strcmp(text, expected) == 0);
 }
 
+/* Errors about echo requests, which quote them; and refusals. */
+static void icmp_errors(void)
+{
+    static const uint8_t no_host[4] = {127, 0, 0, 1};
+    uint8_t packet[54];
+    etherparse_icmpv4_header expired;
+    etherparse_icmpv6_header too_big;
+    etherparse_ip_packet found;
+    clear();
+    memset(&expired, 0, sizeof expired);
+    memset(&too_big, 0, sizeof too_big);
+    expired.kind = ETHERPARSE_ICMPV4_KIND_TIME_EXCEEDED;
+    too_big.kind = ETHERPARSE_ICMPV6_KIND_PACKET_TOO_BIG;
+    too_big.mtu = 1280;
+    memcpy(packet, request_ipv4, 34);
+    OK(etherparse_icmpv4_error_about(packet, 34, &expired, destination4, 64, buffer, sizeof buffer, &written, &error));
+    EXPECT(written == 28 + (size_t)(packet[2] * 256 + packet[3]) && memcmp(buffer + 28, packet, written - 28) == 0 && buffer[20] == 11);
+    OK(etherparse_packet_verdict(buffer, written, &found, &error));
+    EXPECT(found.verdict == ETHERPARSE_VERDICT_RIGHT);
+    REFUSED(etherparse_icmpv4_error_about(buffer, written, &expired, destination4, 64, packet, sizeof packet, &written, &error),
+            ETHERPARSE_STATUS_ICMP_ERROR_ABOUT_ERROR);
+    REFUSED(etherparse_icmpv4_error_about(packet, 34, &expired, destination4, 64, buffer, 20, &written, &error), ETHERPARSE_STATUS_BUFFER_TOO_SMALL);
+    REFUSED(etherparse_icmpv4_error_about(packet, 34, &expired, no_host, 64, buffer, sizeof buffer, &written, &error),
+            ETHERPARSE_STATUS_ICMP_ERROR_SOURCE);
+    packet[16] = 224;
+    REFUSED(etherparse_icmpv4_error_about(packet, 34, &expired, destination4, 64, buffer, sizeof buffer, &written, &error),
+            ETHERPARSE_STATUS_ICMP_ERROR_ABOUT_GROUP);
+    packet[7] = 1;
+    REFUSED(etherparse_icmpv4_error_about(packet, 34, &expired, destination4, 64, buffer, sizeof buffer, &written, &error),
+            ETHERPARSE_STATUS_ICMP_ERROR_LATER_FRAGMENT);
+    expired.kind = ETHERPARSE_ICMPV4_KIND_ECHO_REPLY;
+    REFUSED(etherparse_icmpv4_error_about(packet, 34, &expired, destination4, 64, buffer, sizeof buffer, &written, &error),
+            ETHERPARSE_STATUS_NO_ICMP_ERROR);
+    memcpy(packet, request_ipv6, 54);
+    OK(etherparse_icmpv6_error_about(packet, 54, &too_big, destination6, 64, buffer, sizeof buffer, &written, &error));
+    EXPECT(memcmp(buffer + 48, packet, written - 48) == 0 && buffer[40] == 2);
+    OK(etherparse_packet_verdict(buffer, written, &found, &error));
+    EXPECT(found.verdict == ETHERPARSE_VERDICT_RIGHT);
+}
+
+/* The time to live 64 of a request becomes 63, and the checksum of its header stays right. A hop limit of 1 stays. */
+static void hop_limits(void)
+{
+    uint8_t packet[54];
+    clear();
+    memcpy(packet, request_ipv4, 34);
+    packet[8] = 2;
+    OK(etherparse_ipv4_header_checksum_store(packet, 34, &error));
+    OK(etherparse_hop_limit_lower(packet, 34, &error));
+    EXPECT(packet[8] == 1 && memcmp(packet + 12, request_ipv4 + 12, 22) == 0);
+    OK(etherparse_ipv4_header_checksum_test(packet, 34, &error));
+    EXPECT(error_is_untouched());
+    REFUSED(etherparse_hop_limit_lower(packet, 34, &error), ETHERPARSE_STATUS_HOP_LIMIT_EXPIRED);
+    EXPECT(error.actual == 1 && packet[8] == 1);
+    REFUSED(etherparse_hop_limit_lower(packet, 19, &error), ETHERPARSE_STATUS_IP_HEADER_CUT_OFF);
+    packet[0] = 0x44;
+    REFUSED(etherparse_hop_limit_lower(packet, 34, &error), ETHERPARSE_STATUS_IP_HEADER_LENGTH);
+    packet[0] = 0x55;
+    REFUSED(etherparse_hop_limit_lower(packet, 34, &error), ETHERPARSE_STATUS_IP_VERSION);
+    memcpy(packet, request_ipv6, 54);
+    packet[7] = 64;
+    OK(etherparse_hop_limit_lower(packet, 40, &error));
+    EXPECT(packet[7] == 63 && memcmp(packet, request_ipv6, 7) == 0 && memcmp(packet + 8, request_ipv6 + 8, 46) == 0);
+}
+
 /* The reply from another host, which only the second test accepts; and a reply with another sequence number. */
 static void echo_replies_from_any(void)
 {
@@ -1629,6 +1694,9 @@ static void nulls(etherparse_error *told)
     FILLED_TO(etherparse_echo_is_reply_from_any(NULL, 0, NULL, 0, told), ETHERPARSE_STATUS_ECHO_NO_REPLY);
     REFUSED_TO(etherparse_packet_checksum_is_partial(NULL, 0, &is_partial, told), ETHERPARSE_STATUS_IP_HEADER_CUT_OFF);
     REFUSED_TO(etherparse_packet_checksum_store(NULL, 0, &checksum, told), ETHERPARSE_STATUS_IP_HEADER_CUT_OFF);
+    REFUSED_TO(etherparse_hop_limit_lower(NULL, 0, told), ETHERPARSE_STATUS_IP_HEADER_CUT_OFF);
+    REFUSED_TO(etherparse_icmpv4_error_about(NULL, 0, &echo4, source4, 64, NULL, 0, &written, told), ETHERPARSE_STATUS_NO_ICMP_ERROR);
+    REFUSED_TO(etherparse_icmpv6_error_about(NULL, 0, &echo6, source6, 64, NULL, 0, &written, told), ETHERPARSE_STATUS_NO_ICMP_ERROR);
     REFUSED_TO(etherparse_translate_ipv4(NULL, 0, &to_outside, told), ETHERPARSE_STATUS_IP_HEADER_CUT_OFF);
     REFUSED_TO(etherparse_translate_ipv6(NULL, 0, &new_parts, told), ETHERPARSE_STATUS_IP_HEADER_CUT_OFF);
     REFUSED_TO(etherparse_translate_ipv4_with_quoted(NULL, 0, &to_outside, &to_inside, told), ETHERPARSE_STATUS_IP_HEADER_CUT_OFF);
@@ -1672,6 +1740,8 @@ int main(void)
     echo();
     echo_refused();
     echo_replies();
+    hop_limits();
+    icmp_errors();
     echo_replies_from_any();
     translations();
     translations_refused();

@@ -195,7 +195,13 @@ enum etherparse_status_number {
     ETHERPARSE_STATUS_TRANSLATE_QUOTED_PACKET = 43,
     ETHERPARSE_STATUS_ECHO_NO_REPLY = 44,
     ETHERPARSE_STATUS_TRANSLATE_SOURCE_ROUTE = 45,
-    ETHERPARSE_STATUS_CHECKSUM_UNTESTED = 46
+    ETHERPARSE_STATUS_CHECKSUM_UNTESTED = 46,
+    ETHERPARSE_STATUS_HOP_LIMIT_EXPIRED = 47,
+    ETHERPARSE_STATUS_ICMP_ERROR_LATER_FRAGMENT = 48,
+    ETHERPARSE_STATUS_ICMP_ERROR_ABOUT_ERROR = 49,
+    ETHERPARSE_STATUS_ICMP_ERROR_ABOUT_GROUP = 50,
+    ETHERPARSE_STATUS_ICMP_ERROR_PACKET_SOURCE = 51,
+    ETHERPARSE_STATUS_ICMP_ERROR_SOURCE = 52
 };
 
 /*
@@ -302,6 +308,18 @@ enum etherparse_status_number {
 #define ETHERPARSE_STATUS_TRANSLATE_SOURCE_ROUTE 45
 /* No checksum is stored, because the packet's checksum can't be tested: actual, which is the verdict, ETHERPARSE_VERDICT_UNTESTED_.. */
 #define ETHERPARSE_STATUS_CHECKSUM_UNTESTED 46
+/* The hop limit is 0 or 1, so it is not lowered: actual, which is the hop limit. */
+#define ETHERPARSE_STATUS_HOP_LIMIT_EXPIRED 47
+/* The packet is a later fragment, about which there is no ICMP error: no other field. */
+#define ETHERPARSE_STATUS_ICMP_ERROR_LATER_FRAGMENT 48
+/* The packet may be an ICMP error, about which there is no ICMP error: no other field. */
+#define ETHERPARSE_STATUS_ICMP_ERROR_ABOUT_ERROR 49
+/* The destination of the packet is an address of several hosts, so there is no ICMP error about it: no other field. */
+#define ETHERPARSE_STATUS_ICMP_ERROR_ABOUT_GROUP 50
+/* The source of the packet is not the address of one host, so there is no ICMP error about it: no other field. */
+#define ETHERPARSE_STATUS_ICMP_ERROR_PACKET_SOURCE 51
+/* The source of the ICMP error is not the address of one host: no other field. */
+#define ETHERPARSE_STATUS_ICMP_ERROR_SOURCE 52
 
 /* The layer whose length was wrong. 0 means no layer. The numbers from 8 on are reserved for IP headers. */
 enum {
@@ -654,6 +672,19 @@ etherparse_status etherparse_packet_checksum_is_partial(const uint8_t *bytes, si
  */
 ETHERPARSE_CHECK_RESULT ETHERPARSE_NOT_NULL(3)
 etherparse_status etherparse_packet_checksum_store(uint8_t *packet, size_t packet_len, uint16_t *checksum, etherparse_error *error);
+
+/*
+ * Lowers the time to live of an IPv4 packet or the hop limit of an IPv6 packet by one, as a router does before it forwards the packet (RFC
+ * 1812, section 5.3.1; RFC 8200, section 3). The checksum of an IPv4 header is updated by the changed byte (RFC 1624): a right checksum
+ * stays right, and a wrong checksum stays wrong. No other byte changes. Only the IP header is read, not the lengths that it states.
+ *
+ * In this order: ETHERPARSE_STATUS_IP_HEADER_CUT_OFF: there are no bytes; ETHERPARSE_STATUS_IP_VERSION: the version is neither 4 nor 6;
+ * ETHERPARSE_STATUS_IP_HEADER_CUT_OFF: fewer than 20 bytes of IPv4, or 40 of IPv6; ETHERPARSE_STATUS_IP_HEADER_LENGTH: an IPv4 header
+ * states a length below 20 bytes; ETHERPARSE_STATUS_IP_HEADER_CUT_OFF: fewer bytes than that length;
+ * ETHERPARSE_STATUS_HOP_LIMIT_EXPIRED: the hop limit is 0 or 1. The bytes are unchanged.
+ */
+ETHERPARSE_CHECK_RESULT
+etherparse_status etherparse_hop_limit_lower(uint8_t *packet, size_t packet_len, etherparse_error *error);
 
 /*
  * Writes the name of a verdict in this file, such as ETHERPARSE_VERDICT_RIGHT, and returns its length, both as etherparse_error_text
@@ -1315,6 +1346,33 @@ ETHERPARSE_CHECK_RESULT ETHERPARSE_NOT_NULL(3, 4)
 etherparse_status etherparse_icmpv6_quoted_packet(const uint8_t *bytes, size_t bytes_len, size_t *offset, size_t *len,
                                                   etherparse_error *error);
 
+/*
+ * Writes an ICMP error about the packet at the front of the bytes into the buffer, and its length to *written. The error is an IP packet of
+ * the same version from source to the source of the packet, with right checksums (RFC 1122, section 3.2.2; RFC 4443, section 2.4). It quotes
+ * the packet from its first byte on, so that it has at most 576 bytes over IPv4 (RFC 1812, section 4.3.2.3) and 1280 bytes over IPv6. Pass the
+ * packet as it was received. message is the header of the error, such as ETHERPARSE_ICMPV4_KIND_TIME_EXCEEDED; its checksum is not used.
+ *
+ * The call knows neither the link layer nor the network: send no error about a packet that came as a broadcast or multicast of the link
+ * layer, or to the broadcast address of a network. Limit the rate of errors.
+ *
+ * In this order: ETHERPARSE_STATUS_MESSAGE_UNKNOWN: no message has this kind and this code; ETHERPARSE_STATUS_NO_ICMP_ERROR: the message is
+ * no error, or a redirect to a gateway that is not the address of one host; refused as by etherparse_transport_in_ip_lax;
+ * ETHERPARSE_STATUS_IP_VERSION: the other version; ETHERPARSE_STATUS_ICMP_ERROR_LATER_FRAGMENT: a fragment with an offset above 0;
+ * ETHERPARSE_STATUS_ICMP_ERROR_ABOUT_ERROR: the packet is an ICMP error or an ICMPv6 redirect, or its type is cut off;
+ * ETHERPARSE_STATUS_ICMP_ERROR_ABOUT_GROUP: the destination in the IP header is 255.255.255.255 or a multicast address, and the message is
+ * neither packet too big of ICMPv6 nor parameter problem of ICMPv6 with code 2; ETHERPARSE_STATUS_ICMP_ERROR_PACKET_SOURCE: the source in
+ * the IP header is not the address of one host; ETHERPARSE_STATUS_ICMP_ERROR_SOURCE: source is not;
+ * ETHERPARSE_STATUS_BUFFER_TOO_SMALL. The buffer and *written are unchanged.
+ */
+ETHERPARSE_CHECK_RESULT ETHERPARSE_NOT_NULL(3, 4, 8)
+etherparse_status etherparse_icmpv4_error_about(const uint8_t *packet, size_t packet_len, const etherparse_icmpv4_header *message,
+                                                const uint8_t source[4], uint8_t time_to_live, uint8_t *buffer, size_t buffer_len,
+                                                size_t *written, etherparse_error *error);
+ETHERPARSE_CHECK_RESULT ETHERPARSE_NOT_NULL(3, 4, 8)
+etherparse_status etherparse_icmpv6_error_about(const uint8_t *packet, size_t packet_len, const etherparse_icmpv6_header *message,
+                                                const uint8_t source[16], uint8_t hop_limit, uint8_t *buffer, size_t buffer_len,
+                                                size_t *written, etherparse_error *error);
+
 /* ---- the translation of addresses (RFC 3022; RFC 5508) ---------------------------------------------------------------------- */
 
 /*
@@ -1536,6 +1594,12 @@ static inline const char *etherparse_name_of_status(etherparse_status status)
     ETHERPARSE_CASE(ETHERPARSE_STATUS_ECHO_NO_REPLY)
     ETHERPARSE_CASE(ETHERPARSE_STATUS_TRANSLATE_SOURCE_ROUTE)
     ETHERPARSE_CASE(ETHERPARSE_STATUS_CHECKSUM_UNTESTED)
+    ETHERPARSE_CASE(ETHERPARSE_STATUS_HOP_LIMIT_EXPIRED)
+    ETHERPARSE_CASE(ETHERPARSE_STATUS_ICMP_ERROR_LATER_FRAGMENT)
+    ETHERPARSE_CASE(ETHERPARSE_STATUS_ICMP_ERROR_ABOUT_ERROR)
+    ETHERPARSE_CASE(ETHERPARSE_STATUS_ICMP_ERROR_ABOUT_GROUP)
+    ETHERPARSE_CASE(ETHERPARSE_STATUS_ICMP_ERROR_PACKET_SOURCE)
+    ETHERPARSE_CASE(ETHERPARSE_STATUS_ICMP_ERROR_SOURCE)
     default: return "unknown status";
     }
 }

@@ -40,12 +40,13 @@ __all__ = [
     "Icmpv6ParameterProblemCode", "Icmpv6TimeExceededCode", "Icmpv6Type", "Icmpv6UnreachableCode", "Layer", "LenSource", "NeighborFlags",
     "Protocol", "RouterFlags", "Status", "Sum", "TcpFlags", "TcpOption", "TcpOptionKind", "TcpOptionValues", "TcpPacket", "Transport",
     "UdpPacket", "ValueType", "Verdict", "VerdictKind", "answer_echo", "canonical_header", "check_icmpv4", "check_icmpv6",
-    "check_ipv4_header", "check_tcp", "check_udp", "flow", "header_addresses", "icmpv4_checksum", "icmpv6_checksum", "ipv4_header_checksum",
-    "is_checksum_partial", "is_reply_from_any", "is_reply_to", "library_version", "quoted_by_icmpv4", "quoted_by_icmpv6", "read_icmpv4",
-    "read_icmpv6", "read_tcp", "read_udp", "status_name", "store_checksum", "store_icmpv4_checksum", "store_icmpv6_checksum",
-    "store_ipv4_header_checksum", "store_tcp_checksum", "store_tcp_header", "store_udp_checksum", "tcp_checksum", "tcp_option_values",
-    "tcp_options", "translate", "transport", "udp_checksum", "verdict", "verdict_name", "write_icmpv4_header", "write_icmpv6_header",
-    "write_packet", "write_tcp_header", "write_tcp_options", "write_udp_header",
+    "check_ipv4_header", "check_tcp", "check_udp", "flow", "header_addresses", "icmpv4_checksum", "icmpv4_error_about", "icmpv6_checksum",
+    "icmpv6_error_about", "ipv4_header_checksum", "is_checksum_partial", "is_reply_from_any", "is_reply_to", "library_version",
+    "lower_hop_limit", "quoted_by_icmpv4", "quoted_by_icmpv6", "read_icmpv4", "read_icmpv6", "read_tcp", "read_udp", "status_name",
+    "store_checksum", "store_icmpv4_checksum", "store_icmpv6_checksum", "store_ipv4_header_checksum", "store_tcp_checksum",
+    "store_tcp_header", "store_udp_checksum", "tcp_checksum", "tcp_option_values", "tcp_options", "translate", "transport", "udp_checksum",
+    "verdict", "verdict_name", "write_icmpv4_header", "write_icmpv6_header", "write_packet", "write_tcp_header", "write_tcp_options",
+    "write_udp_header",
 ]
 
 Bytes = Union[bytes, bytearray, memoryview]
@@ -119,6 +120,12 @@ class Status(_Number):
     ECHO_NO_REPLY = 44
     TRANSLATE_SOURCE_ROUTE = 45
     CHECKSUM_UNTESTED = 46
+    HOP_LIMIT_EXPIRED = 47
+    ICMP_ERROR_LATER_FRAGMENT = 48
+    ICMP_ERROR_ABOUT_ERROR = 49
+    ICMP_ERROR_ABOUT_GROUP = 50
+    ICMP_ERROR_PACKET_SOURCE = 51
+    ICMP_ERROR_SOURCE = 52
 
     @property
     def text(self) -> str:
@@ -683,6 +690,13 @@ _CALLS = {
     "echo_is_reply_from_any": (ctypes.c_uint32, *_PACKET, *_PACKET, *_ERROR),
     "packet_checksum_is_partial": (ctypes.c_uint32, *_reader(ctypes.c_uint32)),
     "packet_checksum_store": (ctypes.c_uint32, *_PACKET, *_CHECKSUM),
+    "hop_limit_lower": (ctypes.c_uint32, *_PACKET, *_ERROR),
+    "icmpv4_error_about": (
+        ctypes.c_uint32, *_PACKET, ctypes.POINTER(_Icmpv4Header), ctypes.c_char_p, ctypes.c_uint8, *_PACKET, *_REPLY,
+    ),
+    "icmpv6_error_about": (
+        ctypes.c_uint32, *_PACKET, ctypes.POINTER(_Icmpv6Header), ctypes.c_char_p, ctypes.c_uint8, *_PACKET, *_REPLY,
+    ),
     "translate_ipv4": (ctypes.c_uint32, *_reader(_Ipv4Translation)),
     "translate_ipv6": (ctypes.c_uint32, *_reader(_Ipv6Translation)),
     "translate_ipv4_with_quoted": (ctypes.c_uint32, *_PACKET, *[ctypes.POINTER(_Ipv4Translation)] * 2, *_ERROR),
@@ -707,6 +721,9 @@ _STATUS_TEXT_MAX_LEN = 127
 _HEADER_MAX_LEN = 60
 # The longest IP header that a call writes is that of IPv6.
 _IP_HEADER_MAX_LEN = 40
+
+# The longest ICMP error about a packet, in bytes (RFC 4443, section 2.4).
+_ERROR_MAX_LEN = 1280
 
 
 def _version_text(number: int) -> str:
@@ -1093,6 +1110,16 @@ def store_checksum(packet: bytearray | memoryview) -> int:
     return found.value
 
 
+def lower_hop_limit(packet: bytearray | memoryview) -> None:
+    """Lowers the time to live or hop limit of an IP packet by one, in place, as a router does.
+
+    The checksum of an IPv4 header is updated: a right checksum stays right, and a wrong checksum stays wrong. No other byte changes.
+
+    Raises `Error` if the IP header is refused, or if the hop limit is 0 or 1 (`HOP_LIMIT_EXPIRED`). The packet is then unchanged.
+    """
+    _changed("hop_limit_lower", packet)
+
+
 def _packed(address: AnyAddress) -> bytes:
     """An address in network order, 4 or 16 bytes. `ip_address` would make 0.0.0.5 of the number 5."""
     if isinstance(address, int):
@@ -1447,6 +1474,40 @@ def write_icmpv4_header(
         next_hop_mtu=next_hop_mtu, pointer=pointer, bytes4to7=bytes4to7,
     )
     return _written("icmpv4_header_write", header)
+
+
+def _error_about(name: str, packet: Bytes, header: Any, source: AnyAddress, length: int, hop_limit: int) -> bytes:
+    """The ICMP error about a packet, from a source whose address has this length."""
+    if not 0 <= hop_limit <= 255:
+        raise ValueError("a hop limit is a byte")
+    data, packed = _bytes_of(packet), _packed(source)
+    if len(packed) != length:
+        raise ValueError("the source has the other version of IP")
+    buffer, written = ctypes.create_string_buffer(_ERROR_MAX_LEN), ctypes.c_size_t()
+    _call(name, data, len(data), header, packed, hop_limit, buffer, len(buffer), ctypes.byref(written))
+    return buffer.raw[: written.value]
+
+
+def icmpv4_error_about(
+    packet: Bytes, kind: Icmpv4Kind, source: AnyAddress, *, code: int = 0, next_hop_mtu: int = 0, pointer: int = 0,
+    bytes4to7: Bytes = bytes(4), hop_limit: int = 64,
+) -> bytes:
+    """The ICMPv4 error about a packet: an IPv4 packet from `source` to the source of the packet, of at most 576 bytes.
+
+    It quotes the packet from its first byte on. The other arguments are those of `write_icmpv4_header`.
+
+    Raises `Error` if the kind is no error, or if there is no error about the packet, for example about a later fragment.
+    """
+    header = _filled(_Icmpv4Header(), kind=kind, code=code, next_hop_mtu=next_hop_mtu, pointer=pointer, bytes4to7=bytes4to7)
+    return _error_about("icmpv4_error_about", packet, header, source, 4, hop_limit)
+
+
+def icmpv6_error_about(
+    packet: Bytes, kind: Icmpv6Kind, source: AnyAddress, *, code: int = 0, mtu: int = 0, pointer: int = 0, hop_limit: int = 64,
+) -> bytes:
+    """The ICMPv6 error about a packet, as `icmpv4_error_about`, of at most 1280 bytes."""
+    header = _filled(_Icmpv6Header(), kind=kind, code=code, mtu=mtu, pointer=pointer)
+    return _error_about("icmpv6_error_about", packet, header, source, 16, hop_limit)
 
 
 def icmpv4_checksum(message: Bytes) -> int:

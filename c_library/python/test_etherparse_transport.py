@@ -527,6 +527,32 @@ class Calls(unittest.TestCase):
             self.assertIs(ept.is_reply_to(request, reply), False)
             self.assertIs(ept.is_reply_from_any(reply, request), False)
 
+    def test_errors_about_packets(self):
+        error = ept.icmpv4_error_about(PACKET, ept.Icmpv4Kind.TIME_EXCEEDED, "192.0.2.254")
+        self.assertEqual((error[20], error[28:]), (11, PACKET))
+        self.assertEqual(ept.verdict(error).kind, ept.VerdictKind.RIGHT)
+        with self.assertRaises(ept.Error) as caught:
+            ept.icmpv4_error_about(error, ept.Icmpv4Kind.TIME_EXCEEDED, "192.0.2.254")
+        self.assertEqual(caught.exception.status, Status.ICMP_ERROR_ABOUT_ERROR)
+        with self.assertRaises(ValueError):
+            ept.icmpv4_error_about(PACKET, ept.Icmpv4Kind.TIME_EXCEEDED, "2001:db8::1")
+        error = ept.icmpv6_error_about(REQUEST6, ept.Icmpv6Kind.PACKET_TOO_BIG, "2001:db8::fe", mtu=1280)
+        self.assertEqual((error[40], error[48:]), (2, REQUEST6))
+        self.assertEqual(ept.verdict(error).kind, ept.VerdictKind.RIGHT)
+
+    def test_a_hop_limit_is_lowered(self):
+        packet = bytearray(PACKET)
+        packet[8] = 2
+        ept.store_ipv4_header_checksum(packet)
+        ept.lower_hop_limit(packet)
+        self.assertEqual((packet[8], packet[12:]), (1, PACKET[12:]))
+        self.assertEqual(ept.check_ipv4_header(packet), ept.VerdictKind.RIGHT)
+        before = bytes(packet)
+        with self.assertRaises(ept.Error) as caught:
+            ept.lower_hop_limit(packet)
+        self.assertEqual((caught.exception.status, caught.exception.actual, packet), (Status.HOP_LIMIT_EXPIRED, 1, before))
+        self.assertEqual(str(caught.exception), "Hop Limit Error: the hop limit is 1.")
+
     def test_a_partial_checksum_is_completed(self):
         packet = bytearray(PACKET)
         self.assertIs(ept.is_checksum_partial(packet), False)

@@ -133,6 +133,24 @@ export const TESTS = {
         thrown(() => library.writePacket(message, { ...ends, hopLimit: 256 }), RangeError);
     },
 
+    errorAboutAPacket() {
+        const kind = Icmpv4Kind.TIME_EXCEEDED;
+        const error = library.icmpv4ErrorAbout(PACKET, { kind }, "192.0.2.254");
+        expect([error[20], library.verdict(error).kind, error.subarray(28)], [11, VerdictKind.RIGHT, PACKET]);
+        const { status } = thrown(() => library.icmpv4ErrorAbout(error, { kind }, "192.0.2.254"), library.EtherparseError);
+        expect(status, Status.ICMP_ERROR_ABOUT_ERROR);
+    },
+
+    hopLimitOfAPacket() {
+        const packet = Uint8Array.from(PACKET);
+        packet[8] = 2;
+        library.storeIpv4HeaderChecksum(packet);
+        library.lowerHopLimit(packet);
+        expect([packet[8], library.checkIpv4Header(packet)], [1, VerdictKind.RIGHT]);
+        const { status, actual, message } = thrown(() => library.lowerHopLimit(packet), library.EtherparseError);
+        expect([status, actual, message], [Status.HOP_LIMIT_EXPIRED, 1, "Hop Limit Error: the hop limit is 1."]);
+    },
+
     /** The memory grows with its input, from call to call. */
     growth() {
         for (const length of [0, 60000, 65536, 65528, 1000000, 3, 5000001]) {

@@ -354,7 +354,24 @@ static void call_translate(int is_ipv6)
         (void)(etherparse_translate_ipv4_with_quoted(copy, len, &to4, &quoted4, &error) == 0);
 }
 
-/* Tests whether the checksum is partial, and stores the right checksum. */
+/* ICMP errors about the packet, and messages about which the library knows that they are no errors. */
+static void call_icmp_errors(void)
+{
+    static const uint8_t router4[4] = {192, 0, 2, 254}, router6[16] = {0x20, 1, 0xd, 0xb8, [15] = 0xfe};
+    static uint8_t room[1280];
+    etherparse_icmpv4_header header4;
+    etherparse_icmpv6_header header6;
+    size_t written;
+    memset(&header4, 0, sizeof header4);
+    memset(&header6, 0, sizeof header6);
+    header4.kind = (uint32_t)below(10);
+    header6.kind = (uint32_t)below(13);
+    header4.code = header6.code = (uint8_t)below(4);
+    (void)(etherparse_icmpv4_error_about(packet, len, &header4, router4, 64, room, sizeof room, &written, &error) == 0);
+    (void)(etherparse_icmpv6_error_about(packet, len, &header6, router6, 64, room, sizeof room, &written, &error) == 0);
+}
+
+/* Tests whether the checksum is partial, stores the right checksum, and lowers the hop limit. */
 static void call_packet_checksum(void)
 {
     uint32_t is_partial;
@@ -362,6 +379,8 @@ static void call_packet_checksum(void)
     (void)(etherparse_packet_checksum_is_partial(packet, len, &is_partial, &error) == 0);
     memcpy(copy, packet, len);
     (void)(etherparse_packet_checksum_store(copy, len, &checksum, &error) == 0);
+    memcpy(copy, packet, len);
+    (void)(etherparse_hop_limit_lower(copy, len, &error) == 0);
 }
 
 /* Writes a packet with this message between these addresses. */
@@ -409,6 +428,7 @@ static void call_all(void)
     (void)(etherparse_ipv4_header_checksum(packet, len, &checksum, &error) == 0);
     (void)(etherparse_ipv4_header_checksum_test(packet, len, &error) == 0);
     call_packet_checksum();
+    call_icmp_errors();
     call_sums();
     if (etherparse_transport_in_ip_lax(packet, len, &found, &error) != ETHERPARSE_OK)
         return;

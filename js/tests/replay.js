@@ -354,6 +354,11 @@ const CALLS = {
         let checksum;
         return { packet: changed(packet, (copy) => void (checksum = library.storeChecksum(copy))), checksum };
     },
+    hop_limit_lower: ({ packet }) => ({ packet: changed(packet, (copy) => library.lowerHopLimit(copy)) }),
+    icmpv4_error_about: ({ packet, message, source, time_to_live: hopLimit }) =>
+        ({ buffer: library.icmpv4ErrorAbout(packet, headerOf(message), source, { hopLimit }) }),
+    icmpv6_error_about: ({ packet, message, source, hop_limit: hopLimit }) =>
+        ({ buffer: library.icmpv6ErrorAbout(packet, headerOf(message), library.addressText(source), { hopLimit }) }),
     icmpv4_quoted_packet: ({ bytes }, expected) => quoted(library.quotedByIcmpv4(bytes), bytes, expected),
     icmpv6_quoted_packet: ({ bytes }, expected) => quoted(library.quotedByIcmpv6(bytes), bytes, expected),
     translate_ipv4: translated,

@@ -207,6 +207,21 @@ pub enum ErrorKind {
         /// Why it is not tested.
         reason: Untested,
     },
+    /// The hop limit of the packet is 0 or 1, so it is not lowered.
+    HopLimitExpired {
+        /// The hop limit.
+        hop_limit: usize,
+    },
+    /// The packet is a later fragment, about which there is no ICMP error.
+    IcmpErrorLaterFragment,
+    /// The packet may be an ICMP error, about which there is no ICMP error.
+    IcmpErrorAboutError,
+    /// The destination of the packet is an address of several hosts, so there is no ICMP error about it.
+    IcmpErrorAboutGroup,
+    /// The source of the packet is not the address of one host, so there is no ICMP error about it.
+    IcmpErrorPacketSource,
+    /// The source of the ICMP error is not the address of one host.
+    IcmpErrorSource,
     /// A status that this crate does not know.
     Other {
         /// The status.
@@ -366,6 +381,12 @@ impl Error {
             sys::STATUS_TRANSLATE_ICMP_MESSAGE => ErrorKind::TranslateIcmpMessage,
             sys::STATUS_TRANSLATE_QUOTED_PACKET => ErrorKind::TranslateQuotedPacket,
             sys::STATUS_CHECKSUM_UNTESTED => ErrorKind::ChecksumUntested { reason: Untested::from_number(error.actual as u32) },
+            sys::STATUS_HOP_LIMIT_EXPIRED => ErrorKind::HopLimitExpired { hop_limit: error.actual },
+            sys::STATUS_ICMP_ERROR_LATER_FRAGMENT => ErrorKind::IcmpErrorLaterFragment,
+            sys::STATUS_ICMP_ERROR_ABOUT_ERROR => ErrorKind::IcmpErrorAboutError,
+            sys::STATUS_ICMP_ERROR_ABOUT_GROUP => ErrorKind::IcmpErrorAboutGroup,
+            sys::STATUS_ICMP_ERROR_PACKET_SOURCE => ErrorKind::IcmpErrorPacketSource,
+            sys::STATUS_ICMP_ERROR_SOURCE => ErrorKind::IcmpErrorSource,
             status => ErrorKind::Other { status },
         }
     }

@@ -58,6 +58,34 @@ pub fn write_header(header: &Header, buffer: &mut [u8]) -> Result<usize, Error> 
     answer(status, written, error)
 }
 
+/// Writes an ICMPv4 error about a packet into the buffer, and returns its length. The error is an IPv4 packet from this source to the source
+/// of the packet, with right checksums, and quotes the packet from its first byte on. It has at most 576 bytes. The checksum of the header is
+/// not used.
+///
+/// Errors: `MessageUnknown`, `NoIcmpError`, the errors of the IP header, `IcmpErrorLaterFragment`, `IcmpErrorAboutError`,
+/// `IcmpErrorAboutGroup`, `IcmpErrorPacketSource`, `IcmpErrorSource`, `BufferTooSmall`; the buffer is as it was.
+///
+/// ```
+/// use etherparse_transport_c::{icmpv4, ip, sys};
+/// let packet = [0x45, 0, 0, 20, 0, 0, 0, 0, 1, 17, 0, 0, 192, 168, 1, 1, 198, 51, 100, 7];
+/// let expired = icmpv4::Header { kind: sys::ICMPV4_KIND_TIME_EXCEEDED, ..Default::default() };
+/// let mut buffer = [0; 576];
+/// let len = icmpv4::error_about(&packet, &expired, [192, 168, 1, 254], 64, &mut buffer)?;
+/// assert_eq!((len, buffer[20], &buffer[28..len]), (48, 11, &packet[..]));
+/// assert_eq!(ip::Packet::read(&buffer[..len])?.verdict, ip::ChecksumVerdict::Right);
+/// # Ok::<(), etherparse_transport_c::Error>(())
+/// ```
+pub fn error_about(packet: &[u8], header: &Header, source: [u8; 4], time_to_live: u8, buffer: &mut [u8]) -> Result<usize, Error> {
+    let (mut written, mut error) = (0, sys::Error::default());
+    let (start, len) = (packet.as_ptr(), packet.len());
+    let (room, room_len) = (buffer.as_mut_ptr(), buffer.len());
+    // SAFETY: each pointer is that of a live reference, and no two overlap.
+    let status = unsafe {
+        sys::etherparse_icmpv4_error_about(start, len, header, &source, time_to_live, room, room_len, &mut written, &mut error)
+    };
+    answer(status, written, error)
+}
+
 /// The packet that an error is about, as far as the message contains it. The error is destination unreachable, source quench, redirect,
 /// time exceeded or parameter problem. The length field of RFC 4884 ends the packet if it counts at least 128 bytes.
 ///

@@ -58,6 +58,37 @@ pub fn write_header(header: &Header, buffer: &mut [u8]) -> Result<usize, Error> 
     answer(status, written, error)
 }
 
+/// Writes an ICMPv6 error about a packet into the buffer, and returns its length. The error is an IPv6 packet from this source to the source
+/// of the packet, with a right checksum, and quotes the packet from its first byte on. It has at most 1280 bytes. The checksum of the header is
+/// not used.
+///
+/// Errors: `MessageUnknown`, `NoIcmpError`, the errors of the IP header, `IcmpErrorLaterFragment`, `IcmpErrorAboutError`,
+/// `IcmpErrorAboutGroup`, `IcmpErrorPacketSource`, `IcmpErrorSource`, `BufferTooSmall`; the buffer is as it was.
+///
+/// ```
+/// use etherparse_transport_c::{icmpv6, ip, sys};
+/// let mut packet = [0; 41];
+/// packet[..8].copy_from_slice(&[0x60, 0, 0, 0, 0, 1, 17, 64]);
+/// (packet[8], packet[24]) = (0x20, 0x20);
+/// let too_big = icmpv6::Header { kind: sys::ICMPV6_KIND_PACKET_TOO_BIG, mtu: 1280, ..Default::default() };
+/// let (mut router, mut buffer) = ([0; 16], [0; 1280]);
+/// router[0] = 0x20;
+/// let len = icmpv6::error_about(&packet, &too_big, router, 64, &mut buffer)?;
+/// assert_eq!((len, buffer[40], &buffer[48..len]), (89, 2, &packet[..]));
+/// assert_eq!(ip::Packet::read(&buffer[..len])?.verdict, ip::ChecksumVerdict::Right);
+/// # Ok::<(), etherparse_transport_c::Error>(())
+/// ```
+pub fn error_about(packet: &[u8], header: &Header, source: [u8; 16], hop_limit: u8, buffer: &mut [u8]) -> Result<usize, Error> {
+    let (mut written, mut error) = (0, sys::Error::default());
+    let (start, len) = (packet.as_ptr(), packet.len());
+    let (room, room_len) = (buffer.as_mut_ptr(), buffer.len());
+    // SAFETY: each pointer is that of a live reference, and no two overlap.
+    let status = unsafe {
+        sys::etherparse_icmpv6_error_about(start, len, header, &source, hop_limit, room, room_len, &mut written, &mut error)
+    };
+    answer(status, written, error)
+}
+
 /// The packet that an error is about, as far as the message contains it. Each type below 128 is an error. The length field of RFC 4884 ends
 /// the packet if it counts at least 128 bytes.
 ///

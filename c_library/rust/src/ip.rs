@@ -525,6 +525,29 @@ pub fn store_checksum(packet: &mut [u8]) -> Result<u16, Error> {
     answer(status, (), error).map(|()| checksum)
 }
 
+/// Lowers the time to live of an IPv4 packet or the hop limit of an IPv6 packet by one, as a router does. The checksum of an IPv4 header is
+/// updated: a right checksum stays right, and a wrong checksum stays wrong. No other byte changes. Only the IP header is read.
+///
+/// Errors: `IpHeaderCutOff`, `IpVersion` and `IpHeaderLength` of the IP header, and `HopLimitExpired` if the hop limit is 0 or 1. The bytes
+/// are as they were.
+///
+/// ```
+/// use etherparse_transport_c::{ErrorKind, ip};
+/// let mut packet = [0x45, 0, 0, 20, 0, 0, 0, 0, 2, 17, 0x35, 0x86, 192, 168, 1, 1, 192, 168, 1, 2];
+/// ip::lower_hop_limit(&mut packet)?;
+/// assert_eq!((packet[8], packet[10], packet[11]), (1, 0x36, 0x86));
+/// let error = ip::lower_hop_limit(&mut packet).unwrap_err();
+/// assert_eq!(error.kind(), ErrorKind::HopLimitExpired { hop_limit: 1 });
+/// assert_eq!(error.to_string(), "Hop Limit Error: the hop limit is 1.");
+/// # Ok::<(), etherparse_transport_c::Error>(())
+/// ```
+pub fn lower_hop_limit(packet: &mut [u8]) -> Result<(), Error> {
+    let mut error = sys::Error::default();
+    // SAFETY: as above.
+    let status = unsafe { sys::etherparse_hop_limit_lower(packet.as_mut_ptr(), packet.len(), &mut error) };
+    answer(status, (), error)
+}
+
 /// What [`translate_ipv4`] replaces. `None` keeps what the packet contains.
 #[derive(Clone, Copy, Debug, Default, PartialEq, Eq, Hash)]
 pub struct Ipv4Translation {

@@ -3,11 +3,13 @@ use Rattle.std.specs.Prelude.{ℕ, ◌==◌, ◌&&◌, nat_lt, nat_le, if◌then
 use Rattle.std.specs.Fmt.{decimal}
 use Rattle.std.specs.List.{concat}
 use Rattle.std.specs.Option.{option_map}
-use Rattle.etherparse_transport.specs.ErrorTexts.{answer_echo_text, build_text, translate_text, untested_text}
-use Rattle.etherparse_transport.specs.declared.err.packet.answer_echo_error.AnswerEchoError.{AnswerEchoError}
+use Rattle.etherparse_transport.specs.ErrorTexts.{answer_echo_text, build_text, error_about_text, lower_hop_limit_text, translate_text, untested_text}
 use Rattle.etherparse_transport.specs.declared.err.packet.answer_echo_error.AnswerEchoError.TheVariants as echo
-use Rattle.etherparse_transport.specs.declared.err.packet.build_slice_write_error.BuildSliceWriteError.{BuildSliceWriteError}
+use Rattle.etherparse_transport.specs.declared.err.packet.answer_echo_error.AnswerEchoError.{AnswerEchoError}
 use Rattle.etherparse_transport.specs.declared.err.packet.build_slice_write_error.BuildSliceWriteError.TheVariants as build
+use Rattle.etherparse_transport.specs.declared.err.packet.build_slice_write_error.BuildSliceWriteError.{BuildSliceWriteError}
+use Rattle.etherparse_transport.specs.declared.err.packet.error_about_error.ErrorAboutError.TheVariants as about
+use Rattle.etherparse_transport.specs.declared.err.packet.lower_hop_limit_error.LowerHopLimitError.TheVariants as lower
 use Rattle.etherparse_transport.specs.declared.err.packet.translate_error.TranslateError.{TranslateError}
 use Rattle.etherparse_transport.specs.declared.err.packet.translate_error.TranslateError.TheVariants as translate
 use Rattle.ip_part.specs.ErrorTexts.{ip_text}
@@ -214,6 +216,12 @@ own_text error =
     else if error.status == numbers.status_echo_no_reply then codes "Echo Error: the packet is not the reply to the request."
     else if error.status == numbers.status_translate_source_route then translate_text translate.SourceRoute
     else if error.status == numbers.status_checksum_untested then untested_text_at error.actual
+    else if error.status == numbers.status_hop_limit_expired then lower_hop_limit_text (lower.Expired error.actual)
+    else if error.status == numbers.status_icmp_error_later_fragment then error_about_text about.LaterFragment
+    else if error.status == numbers.status_icmp_error_about_error then error_about_text about.IcmpError
+    else if error.status == numbers.status_icmp_error_about_group then error_about_text about.GroupDestination
+    else if error.status == numbers.status_icmp_error_packet_source then error_about_text about.PacketSource
+    else if error.status == numbers.status_icmp_error_source then error_about_text about.ErrorSource
     else codes "Unknown error."
 
 -- The text of a value that is too big. The payload of a packet that is written is no kind of value in the library.

@@ -5,6 +5,8 @@ pub mod ErrorMemory
 pub mod ErrorText
 pub mod Errors
 pub mod Flows
+pub mod HopLimit
+pub mod IcmpErrors
 pub mod Icmpv4
 pub mod Icmpv6
 pub mod Ip

@@ -142,6 +142,26 @@ status_translate_source_route = 45
 abbrev pub status_checksum_untested : ℕ
 status_checksum_untested = 46
 
+-- a packet whose hop limit is 0 or 1, so that it is not lowered
+abbrev pub status_hop_limit_expired : ℕ
+status_hop_limit_expired = 47
+
+-- packets about which no ICMP error is written, and a source of an error that is not the address of one host
+abbrev pub status_icmp_error_later_fragment : ℕ
+status_icmp_error_later_fragment = 48
+
+abbrev pub status_icmp_error_about_error : ℕ
+status_icmp_error_about_error = 49
+
+abbrev pub status_icmp_error_about_group : ℕ
+status_icmp_error_about_group = 50
+
+abbrev pub status_icmp_error_packet_source : ℕ
+status_icmp_error_packet_source = 51
+
+abbrev pub status_icmp_error_source : ℕ
+status_icmp_error_source = 52
+
 -- ---- layers whose length can be wrong; 8 and above are reserved for headers of IP
 
 abbrev pub layer_udp_header : ℕ

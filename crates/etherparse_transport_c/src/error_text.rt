@@ -9,7 +9,7 @@ use crate::text::{Char, cut, put_string};
 use crate::{layer, len_source, status, value_type, verdict_kind};
 use etherparse_transport::err::TextPart::{Number, Words};
 use etherparse_transport::err::packet::{
-    AnswerEchoError, BuildSliceWriteError, TranslateError, WriteChecksumError,
+    AnswerEchoError, BuildSliceWriteError, ErrorAboutError, TranslateError, WriteChecksumError,
 };
 use etherparse_transport::err::tcp::HeaderError;
 use etherparse_transport::err::{ErrorText, Layer, LenError, ValueTooBigError, ValueType};
@@ -284,6 +284,16 @@ fn own_text(error: &EtherparseError) -> ErrorText
         ),
         status::TRANSLATE_SOURCE_ROUTE => TranslateError::SourceRoute.text(),
         status::CHECKSUM_UNTESTED => untested_text(error.actual),
+        status::HOP_LIMIT_EXPIRED => ErrorText::from_parts(&[
+            Words("Hop Limit Error: the hop limit is "),
+            Number(error.actual),
+            Words("."),
+        ]),
+        status::ICMP_ERROR_LATER_FRAGMENT => ErrorAboutError::LaterFragment.text(),
+        status::ICMP_ERROR_ABOUT_ERROR => ErrorAboutError::IcmpError.text(),
+        status::ICMP_ERROR_ABOUT_GROUP => ErrorAboutError::GroupDestination.text(),
+        status::ICMP_ERROR_PACKET_SOURCE => ErrorAboutError::PacketSource.text(),
+        status::ICMP_ERROR_SOURCE => ErrorAboutError::ErrorSource.text(),
         _ => ErrorText::from_words("Unknown error."),
     }
 }

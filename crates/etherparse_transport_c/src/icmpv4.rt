@@ -224,7 +224,7 @@ fn timestamp_of(fields: &EtherparseIcmpv4Header) -> TimestampMessage
 }
 
 /// Returns the message with these fields. It is `None` if the kind is unknown, or if the code is unknown for this kind.
-fn message_of(fields: &EtherparseIcmpv4Header) -> Option<Icmpv4Type>
+pub(crate) fn message_of(fields: &EtherparseIcmpv4Header) -> Option<Icmpv4Type>
     ensures { result ≡ message_in fields.now }
 {
     match fields.kind {

@@ -202,7 +202,7 @@ fn has(flags: u8, bit: u8) -> bool
 }
 
 /// Returns the message with these fields. It is `None` if the kind is unknown, or if the code is unknown for this kind.
-fn message_of(fields: &EtherparseIcmpv6Header) -> Option<Icmpv6Type>
+pub(crate) fn message_of(fields: &EtherparseIcmpv6Header) -> Option<Icmpv6Type>
     ensures { result ≡ message_in fields.now }
 {
     match fields.kind {

@@ -13,6 +13,8 @@ mod checksum_change;
 mod echo_reply;
 mod error;
 mod error_text;
+mod hop_limit;
+mod icmp_error;
 mod icmpv4;
 mod icmpv4_kind;
 mod icmpv6;

@@ -123,3 +123,21 @@ pub const TRANSLATE_SOURCE_ROUTE: u32 = 45;
 
 /// The checksum of the packet is not tested, so no checksum is stored in it.
 pub const CHECKSUM_UNTESTED: u32 = 46;
+
+/// The hop limit of the packet is 0 or 1, so it is not lowered.
+pub const HOP_LIMIT_EXPIRED: u32 = 47;
+
+/// The packet is a later fragment, about which there is no ICMP error.
+pub const ICMP_ERROR_LATER_FRAGMENT: u32 = 48;
+
+/// The packet may be an ICMP error, about which there is no ICMP error.
+pub const ICMP_ERROR_ABOUT_ERROR: u32 = 49;
+
+/// The destination of the packet is an address of several hosts, so there is no ICMP error about it.
+pub const ICMP_ERROR_ABOUT_GROUP: u32 = 50;
+
+/// The source of the packet is not the address of one host, so there is no ICMP error about it.
+pub const ICMP_ERROR_PACKET_SOURCE: u32 = 51;
+
+/// The source of the ICMP error is not the address of one host.
+pub const ICMP_ERROR_SOURCE: u32 = 52;

@@ -66,6 +66,16 @@ fn meaning(status: u32) -> &'static str
         status::ECHO_NO_REPLY => "the packet is not the reply to the echo request",
         status::TRANSLATE_SOURCE_ROUTE => "the packet has a source route, and is not translated",
         status::CHECKSUM_UNTESTED => "the checksum of the packet is not tested",
+        status::HOP_LIMIT_EXPIRED => "the hop limit of the packet is 0 or 1",
+        status::ICMP_ERROR_LATER_FRAGMENT =>
+            "the packet is a later fragment, about which there is no ICMP error",
+        status::ICMP_ERROR_ABOUT_ERROR =>
+            "the packet may be an ICMP error, about which there is none",
+        status::ICMP_ERROR_ABOUT_GROUP =>
+            "the destination of the packet is an address of several hosts",
+        status::ICMP_ERROR_PACKET_SOURCE =>
+            "the source of the packet is not the address of one host",
+        status::ICMP_ERROR_SOURCE => "the source of the ICMP error is not the address of one host",
         _ => "unknown status",
     }
 }

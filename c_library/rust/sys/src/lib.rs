@@ -57,6 +57,12 @@ pub const STATUS_TRANSLATE_QUOTED_PACKET: u32 = 43;
 pub const STATUS_ECHO_NO_REPLY: u32 = 44;
 pub const STATUS_TRANSLATE_SOURCE_ROUTE: u32 = 45;
 pub const STATUS_CHECKSUM_UNTESTED: u32 = 46;
+pub const STATUS_HOP_LIMIT_EXPIRED: u32 = 47;
+pub const STATUS_ICMP_ERROR_LATER_FRAGMENT: u32 = 48;
+pub const STATUS_ICMP_ERROR_ABOUT_ERROR: u32 = 49;
+pub const STATUS_ICMP_ERROR_ABOUT_GROUP: u32 = 50;
+pub const STATUS_ICMP_ERROR_PACKET_SOURCE: u32 = 51;
+pub const STATUS_ICMP_ERROR_SOURCE: u32 = 52;
 
 // ---- Layers: which length was wrong. 8 and up are kept for the headers of IP.
 
@@ -778,6 +784,8 @@ extern "C" {
     pub fn etherparse_packet_checksum_is_partial(bytes: *const u8, bytes_len: usize, is_partial: *mut u32, error: *mut Error) -> u32;
     /// Stores the right checksum of UDP, TCP or ICMP in an IP packet, and writes the checksum.
     pub fn etherparse_packet_checksum_store(packet: *mut u8, packet_len: usize, checksum: *mut u16, error: *mut Error) -> u32;
+    /// Lowers the hop limit of an IP packet by one, and updates the checksum of an IPv4 header.
+    pub fn etherparse_hop_limit_lower(packet: *mut u8, packet_len: usize, error: *mut Error) -> u32;
     /// Writes where the packet that an ICMPv4 error is about lies in the message.
     pub fn etherparse_icmpv4_quoted_packet(
         bytes: *const u8,
@@ -841,6 +849,18 @@ extern "C" {
         written: *mut usize,
         error: *mut Error,
     ) -> u32;
+    /// Writes an ICMP error about a packet, and its length.
+    pub fn etherparse_icmpv4_error_about(
+        packet: *const u8,
+        packet_len: usize,
+        message: *const Icmpv4Header,
+        source: *const [u8; 4],
+        time_to_live: u8,
+        buffer: *mut u8,
+        buffer_len: usize,
+        written: *mut usize,
+        error: *mut Error,
+    ) -> u32;
     /// What to store as the checksum of the packet that these bytes are (RFC 792), whatever its checksum field holds.
     pub fn etherparse_icmpv4_checksum(bytes: *const u8, bytes_len: usize, checksum: *mut u16, error: *mut Error) -> u32;
     /// Stores the checksum of the packet that these bytes are in bytes 2 and 3, and changes no other byte.
@@ -852,6 +872,18 @@ extern "C" {
     /// Writes a header. Of a kind other than 0 the type is that of the kind.
     pub fn etherparse_icmpv6_header_write(
         fields: *const Icmpv6Header,
+        buffer: *mut u8,
+        buffer_len: usize,
+        written: *mut usize,
+        error: *mut Error,
+    ) -> u32;
+    /// Writes an ICMP error about a packet, and its length.
+    pub fn etherparse_icmpv6_error_about(
+        packet: *const u8,
+        packet_len: usize,
+        message: *const Icmpv6Header,
+        source: *const [u8; 16],
+        hop_limit: u8,
         buffer: *mut u8,
         buffer_len: usize,
         written: *mut usize,
