@@ -1,6 +1,6 @@
 -- An ICMP error about a packet (RFC 792; RFC 1122, section 3.2.2; RFC 4443, section 2.4): about which packets there is none, how much of the
 -- packet the error quotes, and the bytes.
-use Rattle.std.specs.Prelude.{⊤, ◌≡◌, ℕ, ◌+◌, ◌-◌, ◌==◌, ◌&&◌, ◌||◌, not, nat_lt, is_some, Bool, true, false, List, [], ◌∷◌, length, take, drop, slice_index, slice_range, Option, Some, None, Result, Ok, Err}
+use Rattle.std.specs.Prelude.{⊤, ◌≡◌, ℕ, ◌+◌, ◌-◌, ◌==◌, ◌&&◌, ◌||◌, not, nat_lt, is_some, Bool, true, false, List, [], ◌∷◌, length, take, drop, slice_index, slice_range, Option, Some, None, Result, Ok}
 use Rattle.std.specs.Option.{option_map}
 use Rattle.icmp_part.specs.Icmpv6Format.{parameter_problem_code}
 use Rattle.icmp_part.specs.QuotedPackets.{is_icmpv6_error, quoted_by_icmpv4}

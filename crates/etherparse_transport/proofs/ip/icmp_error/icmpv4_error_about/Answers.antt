@@ -1,9 +1,9 @@
-use Rattle.std.proofs.Common.{◌≡◌, ◌≤◌, ◌+◌, ◌++◌, List, Some, ℕ, true, ap, arith, drop, length, rules, slice_range, subst, sym, ◌∙◌}
+use Rattle.std.proofs.Common.{◌≡◌, ◌≤◌, ◌+◌, ◌++◌, List, ℕ, true, ap, arith, drop, length, rules, slice_range, subst, sym, ◌∙◌}
 use Rattle.std.specs.Prelude.{IsOk}
 use Rattle.std.proofs.lemmas.List.{length-take}
 use Rattle.icmp_part.specs.QuotedPackets.{quoted_by_icmpv4}
 use Rattle.ip_part.specs.Addresses as addresses
-use Rattle.etherparse_transport.specs.IcmpErrors.{counted, icmpv4_error, icmpv4_header, ipv4_quote, is_icmpv4_error_type}
+use Rattle.etherparse_transport.specs.IcmpErrors.{counted, icmpv4_header, ipv4_quote, is_icmpv4_error_type}
 use Rattle.etherparse_transport.specs.Packets.{IsReadAs, ipv4_packet, sent_over_ipv4}
 use Rattle.etherparse_transport.proofs.IcmpErrorLemmas.{at_ok, icmpv4_error_len, icmpv4_quoted, icmpv4_written, ok_of, written_by}
 use Rattle.etherparse_transport.proofs.ip.icmp_error.icmpv4_error_about.Goals as goal

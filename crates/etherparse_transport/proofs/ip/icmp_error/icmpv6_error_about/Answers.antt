@@ -3,7 +3,7 @@ use Rattle.std.specs.Prelude.{IsOk}
 use Rattle.std.proofs.lemmas.List.{length-take}
 use Rattle.icmp_part.specs.QuotedPackets.{quoted_by_icmpv6}
 use Rattle.ip_part.specs.Addresses as addresses
-use Rattle.etherparse_transport.specs.IcmpErrors.{counted, icmpv6_error, icmpv6_header, ipv6_quote, is_icmpv6_error_type}
+use Rattle.etherparse_transport.specs.IcmpErrors.{counted, icmpv6_header, ipv6_quote, is_icmpv6_error_type}
 use Rattle.etherparse_transport.specs.Packets.{IsReadAs, ipv6_packet, sent_over_ipv6}
 use Rattle.etherparse_transport.proofs.IcmpErrorLemmas.{at_ok, icmpv6_error_len, icmpv6_quoted, icmpv6_written, ok_of, written_by}
 use Rattle.etherparse_transport.proofs.ip.icmp_error.icmpv6_error_about.Goals as goal
