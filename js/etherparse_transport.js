@@ -565,8 +565,8 @@ export function headerAddresses(packet) {
 }
 
 /**
- * @typedef {object} FlowEnds  The ends of a flow, as one of its packets names them. The addresses are as in `Transport`. The identifier of an
- *     ICMP query is `sourcePort` in a request, and `destinationPort` in a reply.
+ * @typedef {object} FlowEnds  The ends of a flow, as one of its packets names them. The addresses are as in `Transport`. The identifier of
+ *     an ICMP query is `sourcePort` in a request, and `destinationPort` in a reply.
  * @property {4 | 6} version
  * @property {number} protocol  `Protocol`, or the number of another protocol in IP
  * @property {boolean} isFragment  whether the payload is only a part of the packet's payload
@@ -599,8 +599,8 @@ function endsOf(found) {
 }
 
 /**
- * Returns the flow that an IP packet belongs to: its addresses, its protocol, and its ports or the identifier of an ICMP query; and the same
- * of the packet that an ICMP error quotes. The packet may be cut off or state no length. No checksum is tested.
+ * Returns the flow that an IP packet belongs to: its addresses, its protocol, and its ports or the identifier of an ICMP query; and the
+ * same of the packet that an ICMP error quotes. The packet may be cut off or state no length. No checksum is tested.
  *
  * @param {Uint8Array} packet
  * @returns {PacketFlow}

@@ -8,8 +8,8 @@
  * about. The hop limit, which IPv4 calls time to live, is lowered by 1.
  *
  * Fragments, and packets that the library refuses to translate, are dropped. So is a packet whose hop limit would become 0, without an ICMP
- * error. A partial checksum is completed. No flow ends by time: if all ports are in use, the oldest flow loses its port. The program ends at
- * SIGTERM, or when a device is deleted, and then prints how many packets it translated and dropped. As root, with a network namespace as
+ * error. A partial checksum is completed. No flow ends by time: if all ports are in use, the oldest flow loses its port. The program ends
+ * at SIGTERM, or when a device is deleted, and then prints how many packets it translated and dropped. As root, with a network namespace as
  * the network outside:
  *
  *     cc -std=c99 -I include examples/address_translator.c libetherparse_transport.a -o address_translator
@@ -59,8 +59,8 @@ static const uint8_t *outside_address(uint32_t version)
     return version == 4 ? outside_ipv4 : outside_ipv6;
 }
 
-/* Finds the source or the destination of a packet, or of an ICMP error the other end of the packet that it is about, which went in the other
-   direction. Returns 0 for a fragment, and if there is no port and no identifier. */
+/* Finds the source or the destination of a packet, or of an ICMP error the other end of the packet that it is about, which went in the
+   other direction. Returns 0 for a fragment, and if there is no port and no identifier. */
 static int find_end(const uint8_t *packet, size_t len, int is_source, struct end *end, int *is_error)
 {
     etherparse_packet_flow flow;

@@ -758,8 +758,10 @@ static void flows(void)
 {
     static const uint8_t source[16] = {10, 0, 0, 1}, destination[16] = {10, 0, 0, 2}, nothing[sizeof(etherparse_flow_ends)] = {0};
     /* A time exceeded message from 10.0.0.1 to 10.0.0.2, with eight bytes of TCP from port 443 of 10.0.0.2 to port 40000 of 10.0.0.1. */
-    static const uint8_t exceeded[56] = {0x45, 0, 0, 56, 0, 0, 0, 0, 64, 1, 0, 0, 10, 0, 0, 1, 10, 0, 0,    2,    11,   0,    0, 0, 0, 0, 0, 0,
-                                         0x45, 0, 0, 60, 0, 0, 0, 0, 1,  6, 0, 0, 10, 0, 0, 2, 10, 0, 0, 1, 1, 0xbb, 0x9c, 0x40, 0, 0, 0, 1};
+    static const uint8_t exceeded[56] = {0x45, 0, 0, 56, 0, 0, 0, 0, 64, 1, 0, 0, 10, 0, 0, 1, 10, 0, 0, 2, /* IPv4 */
+                                         11, 0, 0, 0, 0, 0, 0, 0, /* ICMPv4 */
+                                         0x45, 0, 0, 60, 0, 0, 0, 0, 1, 6, 0, 0, 10, 0, 0, 2, 10, 0, 0, 1, /* the quoted packet */
+                                         1, 0xbb, 0x9c, 0x40, 0, 0, 0, 1};
     uint8_t query[28] = {0x45, 0, 0, 28, 0, 0, 0, 0, 64, 1, 0, 0, 10, 0, 0, 1, 10, 0, 0, 2, 8, 0, 0, 0, 0xab, 0xcd, 0, 1};
     etherparse_packet_flow flow;
     clear();

@@ -510,15 +510,15 @@ typedef struct etherparse_flow_ends {
 /* The flow that an IP packet belongs to. */
 typedef struct etherparse_packet_flow {
     etherparse_flow_ends ends;   /* of the packet itself */
-    etherparse_flow_ends quoted; /* of the packet that an ICMP error quotes, which went in the other direction; without one all fields are 0,
-                                    and so is quoted.version */
+    etherparse_flow_ends quoted; /* of the packet that an ICMP error quotes, which went in the other direction; without one all fields
+                                    are 0, and so is quoted.version */
 } etherparse_packet_flow;
 
 /*
- * Finds the flow that the IP packet at the front of the bytes belongs to: its addresses, its protocol, and its ports or the identifier of an
- * ICMP query; and the same of the packet that an ICMP error quotes. UDP and TCP have their ports in the first four bytes, so a quote of
- * eight bytes contains them. Queries are echo, timestamp, information and address mask messages of ICMPv4, and echo messages of ICMPv6. The
- * first fragment has ports, and a later fragment has none. The packet may be cut off or state no length, as for
+ * Finds the flow that the IP packet at the front of the bytes belongs to: its addresses, its protocol, and its ports or the identifier of
+ * an ICMP query; and the same of the packet that an ICMP error quotes. UDP and TCP have their ports in the first four bytes, so a quote of
+ * eight bytes contains them. Queries are echo, timestamp, information and address mask messages of ICMPv4, and echo messages of ICMPv6.
+ * The first fragment has ports, and a later fragment has none. The packet may be cut off or state no length, as for
  * etherparse_transport_in_ip_lax. No checksum is tested.
  *
  * Refused as by etherparse_transport_in_ip_lax; *flow is unchanged. A transport header or a quoted packet that cannot be read is no error.
@@ -552,8 +552,8 @@ typedef struct etherparse_ipv6_header {
  *
  * In this order: ETHERPARSE_STATUS_PROTOCOL_UNKNOWN: none of the three protocols of the field's comment. ETHERPARSE_STATUS_LENGTH or
  * ETHERPARSE_STATUS_DATA_OFFSET: the message ends within its header, or as by etherparse_tcp_packet_read and so on; the length field of UDP
- * is not checked. ETHERPARSE_STATUS_VALUE_TOO_BIG: the packet would be longer than 65,535 bytes over IPv4, or the message is longer than that
- * over IPv6; `actual` and `max_allowed` are lengths of the payload. ETHERPARSE_STATUS_BUFFER_TOO_SMALL.
+ * is not checked. ETHERPARSE_STATUS_VALUE_TOO_BIG: the packet would be longer than 65,535 bytes over IPv4, or the message is longer than
+ * that over IPv6; `actual` and `max_allowed` are lengths of the payload. ETHERPARSE_STATUS_BUFFER_TOO_SMALL.
  */
 ETHERPARSE_CHECK_RESULT ETHERPARSE_NOT_NULL(1, 6)
 etherparse_status etherparse_write_packet_ipv4(const etherparse_ipv4_header *header, const uint8_t *message, size_t message_len,

@@ -881,8 +881,8 @@ class Transport:
     The addresses are the addresses that the checksum covers. A source route or a routing header changes the destination, and a home address
     changes the source, so they can differ from the addresses in the IP header. `destination` is None if it is not known. If the IP header
     states no length, all bytes are counted, and `is_length_missing` is true. In a later fragment no transport header begins the payload.
-    `hop_limit` is the time to live of IPv4, and `traffic_class` its type of service. `fragment_offset` is in bytes. `identification` is what
-    the fragments of a packet share. It is 0 over IPv6 without a fragment header, and `dont_fragment` is always false there.
+    `hop_limit` is the time to live of IPv4, and `traffic_class` its type of service. `fragment_offset` is in bytes. `identification` is
+    what the fragments of a packet share. It is 0 over IPv6 without a fragment header, and `dont_fragment` is always false there.
     """
 
     version: int

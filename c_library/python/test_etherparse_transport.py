@@ -579,7 +579,8 @@ class Calls(unittest.TestCase):
 
     def test_the_fields_that_tell_fragments_apart(self):
         found = ept.transport(PACKET[:1] + b"\xb9\x00\x1f\xab\xcd\x5f\xff" + PACKET[8:])
-        self.assertEqual((found.traffic_class, found.identification, found.dont_fragment, found.fragment_offset), (0xB9, 0xABCD, True, 65528))
+        self.assertEqual((found.traffic_class, found.identification), (0xB9, 0xABCD))
+        self.assertEqual((found.dont_fragment, found.fragment_offset), (True, 65528))
         packet = REQUEST6[:5] + b"\x10\x2c" + REQUEST6[7:40] + b"\x3a\x00\x00\x09\xde\xad\xbe\xef" + bytes(8)
         found = ept.transport(packet)
         self.assertEqual((found.identification, found.dont_fragment, found.fragment_offset), (0xDEADBEEF, False, 8))
@@ -601,7 +602,8 @@ class Calls(unittest.TestCase):
     def test_a_written_packet_is_read_back(self):
         message = PACKET[20:24] + bytes(4) + PACKET[28:]
         packet = ept.write_packet(message, Protocol.UDP, "192.168.1.1", "192.168.1.2")
-        self.assertEqual((packet[20:], ept.verdict(packet).kind, ept.check_ipv4_header(packet)), (PACKET[20:], *[ept.VerdictKind.RIGHT] * 2))
+        self.assertEqual(packet[20:], PACKET[20:])
+        self.assertEqual((ept.verdict(packet).kind, ept.check_ipv4_header(packet)), (ept.VerdictKind.RIGHT, ept.VerdictKind.RIGHT))
         packet = ept.write_packet(message, Protocol.UDP, "2001:db8::1", "2001:db8::2", hop_limit=3)
         self.assertEqual((ept.verdict(packet).kind, ept.transport(packet).hop_limit), (ept.VerdictKind.RIGHT, 3))
         with self.assertRaises(ept.Error) as caught:
