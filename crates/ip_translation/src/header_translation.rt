@@ -1,6 +1,7 @@
-ghost use Rattle.std.specs.Prelude.{◌≡◌, ◌-◌, ◌+◌, ◌<◌, ℕ, IfOk, slice_index};
+ghost use Rattle.std.specs.Prelude.{◌≡◌, ◌≤◌, ◌-◌, ◌+◌, ℕ, IfOk, slice_index};
 ghost use Rattle.net_base.specs.Bytes.{be_number};
 ghost use Rattle.net_base.specs.IpHeaders.{ipv4_header_len};
+ghost use Rattle.net_base.specs.PseudoHeader.{max_len_over_ipv4};
 ghost use Rattle.net_base.specs.Refusals.{RefusesExactly};
 ghost use Rattle.word_sum.specs.Checksum.{total};
 ghost use Rattle.word_sum.specs.ChecksumChange.{TurnsInto};
@@ -69,7 +70,7 @@ pub fn header_to_ipv6(
 /// checksum to update, and IPv6 requires one. ICMPv4 has no pseudo header.
 pub fn pseudo_header_change(header: &Ipv4HeaderSlice<'_>, prefixes: &Prefixes) -> ChecksumChange
     // So `ChecksumChange` states what a receiver accepts.
-    ensures turns { (protocol len rest : ℕ) → len < 65536 → TurnsInto result
+    ensures turns { (protocol len rest : ℕ) → len ≤ max_len_over_ipv4 → TurnsInto result
         (total (specs.old_pseudo_header header.now protocol len) + rest)
         (total (specs.new_pseudo_header prefixes.now header.now protocol len) + rest) }
 {
