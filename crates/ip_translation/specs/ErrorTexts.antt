@@ -4,6 +4,8 @@ use Rattle.std.specs.Fmt.{decimal}
 use Rattle.std.specs.List.{concat}
 use Rattle.ip_translation.specs.declared.address_error.AddressError.{AddressError}
 use Rattle.ip_translation.specs.declared.address_error.AddressError.TheVariants.{NotEmbedded, NotGlobal}
+use Rattle.ip_translation.specs.declared.packet_translation_error.PacketTranslationError.{PacketTranslationError}
+use Rattle.ip_translation.specs.declared.packet_translation_error.PacketTranslationError.TheVariants.{CutOff, Header, Icmp, NoIpv4Header, Space, TransportHeader, UdpLength}
 use Rattle.ip_translation.specs.declared.prefix64_error.Prefix64Error.{Prefix64Error}
 use Rattle.ip_translation.specs.declared.prefix64_error.Prefix64Error.TheVariants.{Len, ReservedOctet, SuffixBits}
 use Rattle.ip_translation.specs.declared.translation_error.TranslationError.{TranslationError}
@@ -33,3 +35,17 @@ translation_text IllegalSource = codes "Translation Error: the source is no addr
 translation_text IllegalDestination = codes "Translation Error: the destination is no address of a host."
 translation_text (Source error) = address_text error
 translation_text (Destination error) = address_text error
+
+-- a packet that is not translated
+abbrev pub packet_text : PacketTranslationError → List ℕ
+packet_text NoIpv4Header = codes "Translation Error: the bytes do not begin with an IPv4 header."
+packet_text (Header error) = translation_text error
+packet_text (CutOff total_len len) = concat (
+    codes "Translation Error: the total length is " ∷ decimal total_len ∷ codes ", and there are " ∷ decimal len ∷ codes " bytes." ∷ [])
+packet_text Icmp = codes "Translation Error: the packet contains ICMP."
+packet_text (TransportHeader required_len len) = concat (
+    codes "Translation Error: the transport header has " ∷ decimal required_len ∷ codes " bytes, and there are " ∷ decimal len ∷ codes "." ∷ [])
+packet_text (UdpLength length len) = concat (
+    codes "Translation Error: a UDP packet of " ∷ decimal len ∷ codes " bytes without a checksum has the length field " ∷ decimal length ∷ codes "." ∷ [])
+packet_text (Space required_len len) = concat (
+    codes "Space Error: " ∷ decimal required_len ∷ codes " bytes are needed, and there is room for " ∷ decimal len ∷ codes "." ∷ [])

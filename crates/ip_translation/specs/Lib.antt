@@ -1,4 +1,5 @@
 pub use Rattle.net_base.specs.Refusals
 pub mod ErrorTexts
 pub mod HeadersToIpv6
+pub mod PacketsToIpv6
 pub mod Prefixes

@@ -1,11 +1,11 @@
-ghost use Rattle.std.specs.Prelude.{◌≡◌, ◌≤◌, ◌-◌, ◌+◌, ℕ, IfOk, slice_index};
-ghost use Rattle.net_base.specs.Bytes.{be_number};
+ghost use Rattle.std.specs.Prelude.{◌≡◌, ◌≤◌, ◌<◌, ◌-◌, ◌+◌, ℕ, IfOk, length, slice_index};
 ghost use Rattle.net_base.specs.IpHeaders.{ipv4_header_len};
 ghost use Rattle.net_base.specs.PseudoHeader.{max_len_over_ipv4};
 ghost use Rattle.net_base.specs.Refusals.{RefusesExactly};
 ghost use Rattle.word_sum.specs.Checksum.{total};
-ghost use Rattle.word_sum.specs.ChecksumChange.{TurnsInto};
+ghost use Rattle.word_sum.specs.ChecksumChange.{TurnsInto, added_value, removed_value};
 ghost use Rattle.ip_translation.specs.HeadersToIpv6 as specs;
+ghost use Rattle.ip_translation.specs.PacketsToIpv6.{added_addresses, removed_addresses};
 
 use crate::{Prefixes, TranslationError};
 use arrayvec::ArrayVec;
@@ -41,6 +41,8 @@ pub fn header_to_ipv6(
 ) -> Result<ArrayVec<u8, 40>, TranslationError>
     ensures refused { RefusesExactly result (specs.header_refusal prefixes.now header.now) }
     ensures written { IfOk result (λ translated. translated.items ≡ specs.translated_header prefixes.now header.now) }
+    ensures len { IfOk result (λ translated. length translated.items ≡ 40) }
+    ensures total_len { IfOk result (λ _. ipv4_header_len header.now ≤ specs.total_len header.now) }
 {
     let payload_len = check_header(header)?;
     let source = match prefixes.source.to_ipv6(header.source()) {
@@ -69,6 +71,11 @@ pub fn header_to_ipv6(
 /// `ChecksumChange::apply_udp` and `apply` update the checksum of a UDP packet and of a TCP segment. A UDP packet with checksum 0 has no
 /// checksum to update, and IPv6 requires one. ICMPv4 has no pseudo header.
 pub fn pseudo_header_change(header: &Ipv4HeaderSlice<'_>, prefixes: &Prefixes) -> ChecksumChange
+    ensures removed { removed_value result ≡ removed_addresses header.now }
+    ensures added { added_value result ≡ added_addresses prefixes.now header.now }
+    // Neither pseudo header sums up to 0.
+    ensures some { (protocol len : ℕ) → 0 < protocol → (0 < total (specs.old_pseudo_header header.now protocol len))
+        × (0 < total (specs.new_pseudo_header prefixes.now header.now protocol len)) }
     // So `ChecksumChange` states what a receiver accepts.
     ensures turns { (protocol len rest : ℕ) → len ≤ max_len_over_ipv4 → TurnsInto result
         (total (specs.old_pseudo_header header.now protocol len) + rest)
@@ -99,7 +106,8 @@ fn byte_at(bytes: &[u8], place: usize) -> u8
 /// Refuses a header with any error but those of its prefixes, and returns the length of the payload.
 fn check_header(header: &Ipv4HeaderSlice<'_>) -> Result<u16, TranslationError>
     ensures refused { RefusesExactly result (specs.field_refusal header.now) }
-    ensures payload_len { IfOk result (λ len. len ≡ be_number header.now 2 2 - ipv4_header_len header.now) }
+    ensures payload_len { IfOk result (λ len. len ≡ specs.total_len header.now - ipv4_header_len header.now) }
+    ensures total_len { IfOk result (λ _. ipv4_header_len header.now ≤ specs.total_len header.now) }
 {
     let total_len = header.total_len();
     let header_len = u16::from(header.ihl()) * 4;
@@ -164,7 +172,8 @@ fn ipv6_header(
     source: [u8; 16],
     destination: [u8; 16],
 ) -> ArrayVec<u8, 40>
-    ensures { result.items ≡ specs.ipv6_header traffic_class payload_len next source destination }
+    ensures bytes { result.items ≡ specs.ipv6_header traffic_class payload_len next source destination }
+    ensures len { length result.items ≡ 40 }
 {
     let mut header = ArrayVec::new();
     header

@@ -1,14 +1,20 @@
 //! Translation between IPv4 and IPv6 (RFC 7915) with addresses by RFC 6052.
 //!
-//! A `Prefix64` embeds IPv4 addresses in IPv6 addresses, and extracts them again. No call allocates or has a precondition.
+//! A `Prefix64` embeds IPv4 addresses in IPv6 addresses, and extracts them again. `ipv4_to_ipv6` translates packets. No call allocates or
+//! has a precondition.
 //!
 //! ```
-//! let address = Prefix64::WELL_KNOWN.embed([198, 51, 100, 7]);
+//! let prefix = Prefix64::Bits32([0x20, 0x01, 0x0d, 0xb8]);
+//! let prefixes = Prefixes { source: prefix, destination: Prefix64::WELL_KNOWN };
+//! let len = ipv4_to_ipv6(packet, &prefixes, buffer)?;
 //! ```
 #![tactic(auto)]
 
 mod address_error;
 mod header_translation;
+mod message_translation;
+mod packet_translation;
+mod packet_translation_error;
 mod prefix64;
 mod prefix64_error;
 mod prefixes;
@@ -16,6 +22,8 @@ mod translation_error;
 
 pub use address_error::AddressError;
 pub use header_translation::{header_to_ipv6, pseudo_header_change};
+pub use packet_translation::ipv4_to_ipv6;
+pub use packet_translation_error::PacketTranslationError;
 pub use prefix64::Prefix64;
 pub use prefix64_error::Prefix64Error;
 pub use prefixes::Prefixes;

@@ -1,22 +1,52 @@
-use Rattle.std.proofs.Common.{◌+◌, rules, subst₂}
+use Rattle.std.proofs.Common.{◌≡◌, ◌+◌, ◌<◌, ℕ, rules, ap, ap₂, ◌∙◌, subst₂, arith}
 use Rattle.ip_translation.specs.Prefixes.{embedded}
 use Rattle.net_base.specs.PseudoHeader.{ipv4_pseudo_header, ipv6_pseudo_header}
-use Rattle.word_sum.specs.Checksum.{total}
+use Rattle.net_base.proofs.PseudoHeaderLemmas.{ipv4_pseudo_header_some, ipv6_pseudo_header_some}
+use Rattle.word_sum.specs.Checksum.{folded, total}
 use Rattle.word_sum.specs.ChecksumChange.{TurnsInto}
+use Rattle.word_sum.proofs.ChecksumLemmas.{folded_twice}
 use Rattle.ip_translation.proofs.PseudoHeaderLemmas.{turns}
 use Rattle.ip_translation.proofs.header_translation.pseudo_header_change.Goals as goal
 
-pub returns : goal.returns
-returns c = record {
-  turns = λ protocol len rest short.
-      subst₂ (λ source destination. TurnsInto c.replace_slice-2.result (total (ipv4_pseudo_header source destination protocol len) + rest)
-      (total (ipv6_pseudo_header (embedded c.args.prefixes.now.source source) (embedded c.args.prefixes.now.destination destination) protocol len) + rest))
-      c.source-source.ensures c.destination-destination.ensures
-      (subst₂ (λ source destination. TurnsInto c.replace_slice-2.result
-      (total (ipv4_pseudo_header c.source-source.result c.destination-destination.result protocol len) + rest)
-      (total (ipv6_pseudo_header source destination protocol len) + rest))
-      c.embed-new_source.ensures.embedded c.embed-new_destination.ensures.embedded
-      (turns c.new.result c.replace_slice.result c.replace_slice-2.result _ _ _ _ protocol len rest
-      (search rules) (search rules) (search rules) (search rules) short
-      c.new.ensures.unchanged c.replace_slice.ensures.extends c.replace_slice-2.ensures.extends));
-}
+pub returns-clause-removed : goal.returns-clause-removed
+returns-clause-removed c =
+    let first : ℕ = total c.source-source.result in
+    let second : ℕ = total c.destination-destination.result in
+    c.replace_slice-2.ensures.removed
+    ∙ ap (λ n. folded (n + second)) (c.replace_slice.ensures.removed ∙ ap (λ n. folded (n + first)) c.new.ensures.removed)
+    ∙ folded_twice 0 first second ∙ ap folded (omega arith)
+    ∙ ap₂ (λ source destination. folded (total source + total destination)) c.source-source.ensures c.destination-destination.ensures
+
+pub returns-clause-added : goal.returns-clause-added
+returns-clause-added c =
+    let first : ℕ = total c.embed-new_source.result in
+    let second : ℕ = total c.embed-new_destination.result in
+    c.replace_slice-2.ensures.added
+    ∙ ap (λ n. folded (n + second)) (c.replace_slice.ensures.added ∙ ap (λ n. folded (n + first)) c.new.ensures.added)
+    ∙ folded_twice 0 first second ∙ ap folded (omega arith)
+    ∙ ap₂ (λ source destination. folded (total source + total destination))
+    (c.embed-new_source.ensures.embedded ∙ ap (embedded c.args.prefixes.now.source) c.source-source.ensures)
+    (c.embed-new_destination.ensures.embedded ∙ ap (embedded c.args.prefixes.now.destination) c.destination-destination.ensures)
+
+pub returns-clause-some : goal.returns-clause-some
+returns-clause-some c = λ protocol len some. (
+  subst₂ (λ source destination. 0 < total (ipv4_pseudo_header source destination protocol len)) c.source-source.ensures c.destination-destination.ensures
+      (ipv4_pseudo_header_some c.source-source.result c.destination-destination.result protocol len (search rules) (search rules) some),
+  subst₂ (λ source destination. 0 < total (ipv6_pseudo_header source destination protocol len))
+      (c.embed-new_source.ensures.embedded ∙ ap (embedded c.args.prefixes.now.source) c.source-source.ensures)
+      (c.embed-new_destination.ensures.embedded ∙ ap (embedded c.args.prefixes.now.destination) c.destination-destination.ensures)
+      (ipv6_pseudo_header_some c.embed-new_source.result c.embed-new_destination.result protocol len (search rules) (search rules) some),
+)
+
+pub returns-clause-turns : goal.returns-clause-turns
+returns-clause-turns c = λ protocol len rest short.
+    subst₂ (λ source destination. TurnsInto c.replace_slice-2.result (total (ipv4_pseudo_header source destination protocol len) + rest)
+    (total (ipv6_pseudo_header (embedded c.args.prefixes.now.source source) (embedded c.args.prefixes.now.destination destination) protocol len) + rest))
+    c.source-source.ensures c.destination-destination.ensures
+    (subst₂ (λ source destination. TurnsInto c.replace_slice-2.result
+    (total (ipv4_pseudo_header c.source-source.result c.destination-destination.result protocol len) + rest)
+    (total (ipv6_pseudo_header source destination protocol len) + rest))
+    c.embed-new_source.ensures.embedded c.embed-new_destination.ensures.embedded
+    (turns c.new.result c.replace_slice.result c.replace_slice-2.result _ _ _ _ protocol len rest
+    (search rules) (search rules) (search rules) (search rules) short
+    c.new.ensures.unchanged c.replace_slice.ensures.extends c.replace_slice-2.ensures.extends))

@@ -1,0 +1,21 @@
+-- Laws of the rules of a packet.
+use Rattle.std.proofs.Common.{◌≡◌, ◌≤◌, ◌+◌, ℕ, false, nat_lt, List, [], ◌∷◌, length, Option, Some, None, refl, ap, arith}
+use Rattle.std.proofs.lemmas.Bool.Decides.{nat_tests}
+use Rattle.net_base.specs.Refusals.{first_of, refused_if}
+use Rattle.ip_translation.specs.PacketsToIpv6.{space_refusal}
+use Rattle.ip_translation.specs.declared.packet_translation_error.PacketTranslationError.TheVariants.{Space}
+
+-- the first three rules do not refuse
+pub last_of_four : {E : Type 0} (first second third last : Option E) → first ≡ None → second ≡ None → third ≡ None
+    → first_of (first ∷ (second ∷ (third ∷ (last ∷ [])))) ≡ last
+last_of_four None None None None a b c = refl
+last_of_four None None None (Some error) a b c = refl
+last_of_four (Some error) second third last a b c = absurd (grind arith)
+last_of_four None (Some error) third last a b c = absurd (grind arith)
+last_of_four None None (Some error) last a b c = absurd (grind arith)
+
+-- a buffer that is long enough
+pub enough_room : (message : List ℕ) (room : ℕ) → 40 + length message ≤ room → space_refusal message room ≡ None
+enough_room message room enough =
+    let test : nat_lt room (40 + length message) ≡ false = grind (arith, nat_tests) in
+    ap (λ short. refused_if short (Space (40 + length message) room)) test

@@ -1,0 +1,160 @@
+-- The IPv6 packet for an IPv4 packet (RFC 7915, section 4), and the packets that have none.
+use Rattle.std.specs.Prelude.{◌≡◌, ◌≢◌, ◌≤◌, ◌↔◌, ℕ, ◌+◌, ◌==◌, Bool, ◌&&◌, ◌||◌, not, nat_le, nat_lt, if◌then◌else◌, List, [], ◌∷◌, ◌++◌, length, slice_range, take, Option, Some, None}
+use Rattle.std.specs.Option.{option_map}
+use Rattle.ip_part.specs.Ip.{ipv4_header}
+use Rattle.net_base.specs.Bytes.{be_number}
+use Rattle.net_base.specs.IpHeaders.{ipv4_header_len, version}
+use Rattle.net_base.specs.IpNumbers.{icmpv4_number, tcp_number, udp_number}
+use Rattle.net_base.specs.PseudoHeader.{max_len_over_ipv4}
+use Rattle.net_base.specs.Refusals.{first_of, refused_if}
+use Rattle.net_base.specs.StoredChecksum.{tcp_checksum_place, udp_checksum_place, with_checksum}
+use Rattle.word_sum.specs.Checksum.{Verifies, folded, total, udp_checksum_of}
+use Rattle.word_sum.specs.UpdatedChecksum.{updated_checksum_of, updated_udp_checksum_of}
+use Rattle.ip_translation.specs.HeadersToIpv6.{destination, header_refusal, new_pseudo_header, old_pseudo_header, protocol, source, total_len, translated_header}
+use Rattle.ip_translation.specs.Prefixes.{embedded}
+use Rattle.ip_translation.specs.declared.packet_translation_error.PacketTranslationError.{PacketTranslationError}
+use Rattle.ip_translation.specs.declared.packet_translation_error.PacketTranslationError.TheVariants.{CutOff, Header, Icmp, NoIpv4Header, Space, TransportHeader, UdpLength}
+use Rattle.ip_translation.specs.declared.prefixes.Prefixes.{Prefixes}
+
+-- ---- the parts of a packet
+
+-- the bytes begin with a whole IPv4 header of at least five words (RFC 791, section 3.1)
+abbrev pub begins_with_header : List ℕ → Bool
+begins_with_header packet =
+    nat_le 20 (length packet)
+    && (version packet == 4
+    && (nat_le 20 (ipv4_header_len packet)
+    && nat_le (ipv4_header_len packet) (length packet)))
+
+-- the bytes after the header, up to the total length; bytes after it are padding
+abbrev pub message_after : List ℕ → List ℕ → List ℕ
+message_after header packet = slice_range packet (ipv4_header_len header) (total_len header)
+
+abbrev pub message_of : List ℕ → List ℕ
+message_of packet = message_after (ipv4_header packet) packet
+
+-- the fields of UDP and TCP (RFC 768; RFC 9293, section 3.1)
+abbrev pub udp_length : List ℕ → ℕ
+udp_length packet = be_number packet 4 2
+
+abbrev pub udp_checksum : List ℕ → ℕ
+udp_checksum packet = be_number packet udp_checksum_place 2
+
+abbrev pub tcp_checksum : List ℕ → ℕ
+tcp_checksum segment = be_number segment tcp_checksum_place 2
+
+-- ---- errors
+
+-- a packet of this many bytes that ends before its total length
+abbrev pub cut_off_refusal : List ℕ → ℕ → Option PacketTranslationError
+cut_off_refusal header len = refused_if (nat_lt len (total_len header)) (CutOff (total_len header) len)
+
+-- a message that is shorter than its transport header
+abbrev pub header_len_refusal : ℕ → List ℕ → Option PacketTranslationError
+header_len_refusal required_len message = refused_if (nat_lt (length message) required_len) (TransportHeader required_len (length message))
+
+-- a UDP packet without a checksum, whose length field counts no header, or bytes after the message
+abbrev pub has_no_sum : List ℕ → Bool
+has_no_sum packet = udp_checksum packet == 0 && (nat_lt (udp_length packet) 8 || nat_lt (length packet) (udp_length packet))
+
+abbrev pub udp_refusal : List ℕ → Option PacketTranslationError
+udp_refusal packet = first_of (
+    header_len_refusal 8 packet
+    ∷ refused_if (has_no_sum packet) (UdpLength (udp_length packet) (length packet))
+    ∷ [])
+
+-- a UDP packet without these errors: it contains its header, and its length field counts the header if there is no checksum
+pub record IsWholeUdp (packet : List ℕ) : Type 0 where
+  pub there : 8 ≤ length packet
+  pub counted : udp_checksum packet ≡ 0 → 8 ≤ udp_length packet
+
+-- of a message of this protocol
+abbrev pub message_refusal : ℕ → List ℕ → Option PacketTranslationError
+message_refusal protocol message =
+    if protocol == icmpv4_number then Some Icmp
+    else if protocol == udp_number then udp_refusal message
+    else if protocol == tcp_number then header_len_refusal 20 message
+    else None
+
+-- a buffer that is shorter than the translated packet
+abbrev pub space_refusal : List ℕ → ℕ → Option PacketTranslationError
+space_refusal message room = refused_if (nat_lt room (40 + length message)) (Space (40 + length message) room)
+
+-- of a packet with this header, in this order
+abbrev pub refusal_after : List ℕ → Prefixes → List ℕ → ℕ → Option PacketTranslationError
+refusal_after header prefixes packet room = first_of (
+    option_map Header (header_refusal prefixes header)
+    ∷ cut_off_refusal header (length packet)
+    ∷ message_refusal (protocol header) (message_after header packet)
+    ∷ space_refusal (message_after header packet) room
+    ∷ [])
+
+-- no header, and then these errors
+abbrev pub packet_refusal : Prefixes → List ℕ → ℕ → Option PacketTranslationError
+packet_refusal prefixes packet room = first_of (
+    refused_if (not (begins_with_header packet)) NoIpv4Header
+    ∷ refusal_after (ipv4_header packet) prefixes packet room
+    ∷ [])
+
+-- ---- the translated message
+
+-- the one's complement sums of both addresses, before and after
+abbrev pub removed_addresses : List ℕ → ℕ
+removed_addresses header = folded (total (source header) + total (destination header))
+
+abbrev pub added_addresses : Prefixes → List ℕ → ℕ
+added_addresses prefixes header =
+    folded (total (embedded prefixes.source (source header)) + total (embedded prefixes.destination (destination header)))
+
+-- The checksum of UDP, updated by the addresses. A packet without a checksum gets one (RFC 7915, section 4.5). It covers the pseudo header and
+-- the bytes that the length field counts.
+abbrev pub new_udp_checksum : Prefixes → List ℕ → List ℕ → ℕ
+new_udp_checksum prefixes header packet =
+    if udp_checksum packet == 0
+    then udp_checksum_of (total (new_pseudo_header prefixes header udp_number (udp_length packet)) + total (take (udp_length packet) packet))
+    else updated_udp_checksum_of (udp_checksum packet) (removed_addresses header) (added_addresses prefixes header)
+
+-- the checksum of TCP, updated by the addresses
+abbrev pub new_tcp_checksum : Prefixes → List ℕ → List ℕ → ℕ
+new_tcp_checksum prefixes header segment =
+    updated_checksum_of (tcp_checksum segment) (removed_addresses header) (added_addresses prefixes header)
+
+abbrev pub translated_udp : Prefixes → List ℕ → List ℕ → List ℕ
+translated_udp prefixes header packet = with_checksum udp_checksum_place packet (new_udp_checksum prefixes header packet)
+
+abbrev pub translated_tcp : Prefixes → List ℕ → List ℕ → List ℕ
+translated_tcp prefixes header segment = with_checksum tcp_checksum_place segment (new_tcp_checksum prefixes header segment)
+
+-- the message with its new checksum; no other protocol is changed
+abbrev pub translated_message : Prefixes → List ℕ → List ℕ → List ℕ
+translated_message prefixes header message =
+    if protocol header == udp_number then translated_udp prefixes header message
+    else if protocol header == tcp_number then translated_tcp prefixes header message
+    else message
+
+-- ---- the translated packet
+
+-- of a packet with this header
+abbrev pub translated_after : List ℕ → Prefixes → List ℕ → List ℕ
+translated_after header prefixes packet =
+    translated_header prefixes header ++ translated_message prefixes header (message_after header packet)
+
+abbrev pub translated_packet : Prefixes → List ℕ → List ℕ
+translated_packet prefixes packet = translated_after (ipv4_header packet) prefixes packet
+
+-- ---- a receiver's check
+
+-- A receiver accepts the translated message exactly if it accepts the message, with the new and the old pseudo header for any length. This
+-- holds also if the receiver sums only the first bytes, since the length field of UDP ends the packet there.
+abbrev pub VerifiesAlike : ℕ → (ℕ → List ℕ) → (ℕ → List ℕ) → List ℕ → List ℕ → Type 0
+VerifiesAlike least old new message translated = (len count : ℕ) (missing : List ℕ) → len ≤ max_len_over_ipv4 → least ≤ count
+    → (Verifies (new len) (take count translated ++ missing)) ↔ (Verifies (old len) (take count message ++ missing))
+
+-- A UDP packet with a checksum and a TCP segment are accepted alike. A UDP packet without a checksum is accepted.
+pub record IsAcceptedAlike (prefixes : Prefixes) (header message translated : List ℕ) : Type 0 where
+  pub udp : protocol header ≡ udp_number → udp_checksum message ≢ 0
+      → VerifiesAlike 8 (old_pseudo_header header udp_number) (new_pseudo_header prefixes header udp_number) message translated
+  pub computed : protocol header ≡ udp_number → udp_checksum message ≡ 0
+      → Verifies (new_pseudo_header prefixes header udp_number (udp_length message)) (take (udp_length message) translated)
+  pub tcp : protocol header ≡ tcp_number
+      → VerifiesAlike 18 (old_pseudo_header header tcp_number) (new_pseudo_header prefixes header tcp_number) message translated

@@ -1,0 +1,200 @@
+ghost use Rattle.std.specs.Prelude.{◌≡◌, ◌≢◌, ◌≤◌, ◌+◌, ◌↔◌, ℕ, IfOk, length, take};
+ghost use Rattle.net_base.specs.Bytes.{be_number};
+ghost use Rattle.net_base.specs.IpNumbers.{tcp_number, udp_number};
+ghost use Rattle.net_base.specs.PseudoHeader.{max_len_over_ipv4};
+ghost use Rattle.net_base.specs.Refusals.{RefusesExactly};
+ghost use Rattle.net_base.specs.StoredChecksum.{with_checksum};
+ghost use Rattle.word_sum.specs.Checksum.{IsAllOnes, Verifies, total, udp_checksum_of};
+ghost use Rattle.ip_translation.specs.HeadersToIpv6 as headers;
+ghost use Rattle.ip_translation.specs.PacketsToIpv6 as specs;
+
+use crate::{PacketTranslationError, Prefixes, pseudo_header_change};
+use net_base::{IpNumber, Ipv4HeaderSlice, ip_number, pseudo_header_ipv6};
+
+/// The length of a UDP header, in bytes (RFC 768).
+const UDP_LEN: usize = 8;
+
+/// The place of the length in a UDP header, in bytes.
+const UDP_LENGTH_AT: usize = 4;
+
+/// The place of the checksum in a UDP header, in bytes.
+const UDP_CHECKSUM_AT: usize = 6;
+
+/// The length of a TCP header without options, in bytes (RFC 9293, section 3.1).
+const TCP_LEN: usize = 20;
+
+/// The place of the checksum in a TCP header, in bytes.
+const TCP_CHECKSUM_AT: usize = 16;
+
+/// Refuses a message of this protocol that has no translation.
+pub(crate) fn check_message(
+    protocol: IpNumber,
+    message: &[u8],
+) -> Result<(), PacketTranslationError>
+    ensures refused { RefusesExactly result (specs.message_refusal protocol.0 message.now) }
+    ensures udp { IfOk result (λ _. protocol.0 ≡ udp_number → specs.IsWholeUdp message.now) }
+    ensures tcp { IfOk result (λ _. protocol.0 ≡ tcp_number → 20 ≤ length message.now) }
+{
+    if protocol.0 == ip_number::ICMP.0 {
+        return Err(PacketTranslationError::Icmp);
+    }
+    if protocol.0 == ip_number::UDP.0 {
+        return check_udp(message);
+    }
+    if protocol.0 == ip_number::TCP.0 {
+        return check_header_len(message, TCP_LEN);
+    }
+    Ok(())
+}
+
+/// Refuses a UDP packet that is cut off, or whose checksum is missing and can't be computed.
+fn check_udp(packet: &[u8]) -> Result<(), PacketTranslationError>
+    ensures refused { RefusesExactly result (specs.udp_refusal packet.now) }
+    ensures whole { IfOk result (λ _. specs.IsWholeUdp packet.now) }
+{
+    check_header_len(packet, UDP_LEN)?;
+    let length = usize::from(number(packet, UDP_LENGTH_AT));
+    let has_no_sum = length < UDP_LEN || packet.len() < length;
+    if number(packet, UDP_CHECKSUM_AT) == 0 && has_no_sum {
+        return Err(PacketTranslationError::UdpLength {
+            length,
+            len: packet.len(),
+        });
+    }
+    Ok(())
+}
+
+/// Refuses a message that is shorter than its header.
+fn check_header_len(message: &[u8], required_len: usize) -> Result<(), PacketTranslationError>
+    ensures refused { RefusesExactly result (specs.header_len_refusal required_len message.now) }
+    ensures there { IfOk result (λ _. required_len ≤ length message.now) }
+{
+    if message.len() < required_len {
+        return Err(PacketTranslationError::TransportHeader {
+            required_len,
+            len: message.len(),
+        });
+    }
+    Ok(())
+}
+
+/// Writes the translation of a message: the same bytes, with a new checksum for UDP and TCP.
+pub(crate) fn write_message(
+    translated: &mut [u8],
+    message: &[u8],
+    header: &Ipv4HeaderSlice<'_>,
+    prefixes: &Prefixes,
+)
+    requires room { length translated.old ≡ length message.now }
+    requires udp { headers.protocol header.now ≡ udp_number → specs.IsWholeUdp message.now }
+    requires tcp { headers.protocol header.now ≡ tcp_number → 20 ≤ length message.now }
+    ensures written { translated.new ≡ specs.translated_message prefixes.now header.now message.now }
+    ensures alike { specs.IsAcceptedAlike prefixes.now header.now message.now translated.new }
+{
+    if header.protocol().0 == ip_number::UDP.0 {
+        write_udp(translated, message, header, prefixes);
+        return;
+    }
+    if header.protocol().0 == ip_number::TCP.0 {
+        write_tcp(translated, message, header, prefixes);
+        return;
+    }
+    translated.copy_from_slice(message);
+}
+
+/// Writes a UDP packet with its new checksum.
+fn write_udp(
+    translated: &mut [u8],
+    packet: &[u8],
+    header: &Ipv4HeaderSlice<'_>,
+    prefixes: &Prefixes,
+)
+    requires room { length translated.old ≡ length packet.now }
+    requires whole { specs.IsWholeUdp packet.now }
+    ensures written { translated.new ≡ specs.translated_udp prefixes.now header.now packet.now }
+    ensures alike { specs.udp_checksum packet.now ≢ 0 → specs.VerifiesAlike 8 (headers.old_pseudo_header header.now udp_number)
+        (headers.new_pseudo_header prefixes.now header.now udp_number) packet.now translated.new }
+    ensures computed { specs.udp_checksum packet.now ≡ 0 → Verifies
+        (headers.new_pseudo_header prefixes.now header.now udp_number (specs.udp_length packet.now)) (take (specs.udp_length packet.now) translated.new) }
+{
+    let checksum = udp_checksum(packet, header, prefixes);
+    translated.copy_from_slice(packet);
+    store_checksum(translated, UDP_CHECKSUM_AT, checksum);
+}
+
+/// Writes a TCP segment with its new checksum.
+fn write_tcp(
+    translated: &mut [u8],
+    segment: &[u8],
+    header: &Ipv4HeaderSlice<'_>,
+    prefixes: &Prefixes,
+)
+    requires room { length translated.old ≡ length segment.now }
+    requires there { 20 ≤ length segment.now }
+    ensures written { translated.new ≡ specs.translated_tcp prefixes.now header.now segment.now }
+    ensures alike { specs.VerifiesAlike 18 (headers.old_pseudo_header header.now tcp_number)
+        (headers.new_pseudo_header prefixes.now header.now tcp_number) segment.now translated.new }
+{
+    let checksum = tcp_checksum(segment, header, prefixes);
+    translated.copy_from_slice(segment);
+    store_checksum(translated, TCP_CHECKSUM_AT, checksum);
+}
+
+/// The checksum of a translated UDP packet.
+fn udp_checksum(packet: &[u8], header: &Ipv4HeaderSlice<'_>, prefixes: &Prefixes) -> u16
+    requires there { 8 ≤ length packet.now }
+    ensures checksum { result ≡ specs.new_udp_checksum prefixes.now header.now packet.now }
+    // A receiver accepts the packet exactly if it accepted the packet with the old addresses.
+    ensures verifies { specs.udp_checksum packet.now ≢ 0 → (len rest : ℕ) → len ≤ max_len_over_ipv4 →
+        (IsAllOnes (total (headers.new_pseudo_header prefixes.now header.now udp_number len) + rest + result))
+        ↔ (IsAllOnes (total (headers.old_pseudo_header header.now udp_number len) + rest + specs.udp_checksum packet.now)) }
+{
+    let checksum = number(packet, UDP_CHECKSUM_AT);
+    if checksum == 0 {
+        return computed_udp_checksum(packet, header, prefixes);
+    }
+    pseudo_header_change(header, prefixes).apply_udp(checksum)
+}
+
+/// The checksum of a translated UDP packet, over the bytes that its length field counts.
+fn computed_udp_checksum(packet: &[u8], header: &Ipv4HeaderSlice<'_>, prefixes: &Prefixes) -> u16
+    requires there { 8 ≤ length packet.now }
+    ensures { result ≡ udp_checksum_of (total (headers.new_pseudo_header prefixes.now header.now udp_number (specs.udp_length packet.now))
+        + total (take (specs.udp_length packet.now) packet.now)) }
+{
+    let length = number(packet, UDP_LENGTH_AT);
+    let source = prefixes.source.embed(header.source());
+    let destination = prefixes.destination.embed(header.destination());
+    let counted = &packet[..usize::from(length).min(packet.len())];
+    pseudo_header_ipv6(source, destination, ip_number::UDP, u32::from(length))
+        .add_slice(counted)
+        .to_ones_complement_with_no_zero()
+}
+
+/// The checksum of a translated TCP segment.
+fn tcp_checksum(segment: &[u8], header: &Ipv4HeaderSlice<'_>, prefixes: &Prefixes) -> u16
+    requires there { 20 ≤ length segment.now }
+    ensures checksum { result ≡ specs.new_tcp_checksum prefixes.now header.now segment.now }
+    // A receiver accepts the segment exactly if it accepted the segment with the old addresses.
+    ensures verifies { (len rest : ℕ) → len ≤ max_len_over_ipv4 →
+        (IsAllOnes (total (headers.new_pseudo_header prefixes.now header.now tcp_number len) + rest + result))
+        ↔ (IsAllOnes (total (headers.old_pseudo_header header.now tcp_number len) + rest + specs.tcp_checksum segment.now)) }
+{
+    pseudo_header_change(header, prefixes).apply(number(segment, TCP_CHECKSUM_AT))
+}
+
+/// The number in the two bytes at this place.
+fn number(message: &[u8], place: usize) -> u16
+    requires there { place + 2 ≤ length message.now }
+    ensures { result ≡ be_number message.now place 2 }
+{
+    u16::from_be_bytes([message[place], message[place + 1]])
+}
+
+/// Writes a checksum to the two bytes at this place.
+fn store_checksum(message: &mut [u8], place: usize, checksum: u16)
+    requires there { place + 2 ≤ length message.old }
+    ensures { message.new ≡ with_checksum place message.old checksum }
+{
+    message[place..place + 2].copy_from_slice(&checksum.to_be_bytes());
+}

@@ -1,0 +1,97 @@
+ghost use Rattle.std.specs.Prelude.{◌≡◌};
+ghost use Rattle.ip_translation.specs.ErrorTexts.{packet_text};
+ghost use Rattle.net_base.specs.TextParts.{reads_as};
+
+use crate::TranslationError;
+use net_base::err::ErrorText;
+use net_base::err::TextPart::{Number, Words};
+use thiserror::Error;
+
+/// Why a packet was not translated between IPv4 and IPv6.
+#[derive(Clone, Debug, PartialEq, Eq, Drop, Error)]
+#[error("{}", self.text())]
+pub enum PacketTranslationError {
+    /// The bytes do not begin with an IPv4 header.
+    NoIpv4Header,
+    /// The IP header has no translation.
+    Header(TranslationError),
+    /// The packet ends before its total length.
+    CutOff {
+        /// The total length, in bytes.
+        total_len: usize,
+        /// The number of bytes.
+        len: usize,
+    },
+    /// The packet contains ICMP.
+    Icmp,
+    /// The message ends before its transport header.
+    TransportHeader {
+        /// The length of the transport header without options, in bytes.
+        required_len: usize,
+        /// The length of the message, in bytes.
+        len: usize,
+    },
+    /// A UDP packet has no checksum, and its length field does not allow to compute one: it is below 8, or above the length of the message.
+    UdpLength {
+        /// The length field.
+        length: usize,
+        /// The length of the message, in bytes.
+        len: usize,
+    },
+    /// The buffer is shorter than the translated packet.
+    Space {
+        /// The length of the translated packet, in bytes.
+        required_len: usize,
+        /// The length of the buffer, in bytes.
+        len: usize,
+    },
+}
+
+impl PacketTranslationError {
+    /// The text that `Display` writes.
+    pub fn text(&self) -> ErrorText
+        ensures { reads_as result ≡ packet_text self.now }
+    {
+        match self {
+            PacketTranslationError::NoIpv4Header => {
+                ErrorText::from_words(
+                    "Translation Error: the bytes do not begin with an IPv4 header.",
+                )
+            }
+            PacketTranslationError::Header(error) => error.text(),
+            PacketTranslationError::CutOff { total_len, len } => ErrorText::from_parts(&[
+                Words("Translation Error: the total length is "),
+                Number(*total_len),
+                Words(", and there are "),
+                Number(*len),
+                Words(" bytes."),
+            ]),
+            PacketTranslationError::Icmp => {
+                ErrorText::from_words("Translation Error: the packet contains ICMP.")
+            }
+            PacketTranslationError::TransportHeader { required_len, len } => {
+                ErrorText::from_parts(&[
+                    Words("Translation Error: the transport header has "),
+                    Number(*required_len),
+                    Words(" bytes, and there are "),
+                    Number(*len),
+                    Words("."),
+                ])
+            }
+            PacketTranslationError::UdpLength { length, len } => ErrorText::from_parts(&[
+                Words("Translation Error: a UDP packet of "),
+                Number(*len),
+                Words(" bytes without a checksum has the length field "),
+                Number(*length),
+                Words("."),
+            ]),
+            PacketTranslationError::Space { required_len, len } => ErrorText::from_parts(&[
+                Words("Space Error: "),
+                Number(*required_len),
+                Words(" bytes are needed, and there is room for "),
+                Number(*len),
+                Words("."),
+            ]),
+        }
+    }
+}
