@@ -1,4 +1,6 @@
 pub mod EmbeddedLemmas
+pub mod Ipv4HeaderLemmas
+pub mod Ipv4PacketExamples
 pub mod ListedLemmas
 pub mod MessageLemmas
 pub mod PacketExamples

@@ -2,6 +2,7 @@
 use Rattle.std.proofs.Common.{◌≡◌, ◌≤◌, ◌+◌, ℕ, false, nat_lt, List, [], ◌∷◌, length, Option, Some, None, refl, ap, arith}
 use Rattle.std.proofs.lemmas.Bool.Decides.{nat_tests}
 use Rattle.net_base.specs.Refusals.{first_of, refused_if}
+use Rattle.ip_translation.specs.PacketsToIpv4 as ipv4
 use Rattle.ip_translation.specs.PacketsToIpv6.{space_refusal}
 use Rattle.ip_translation.specs.declared.packet_translation_error.PacketTranslationError.TheVariants.{Space}
 
@@ -14,8 +15,19 @@ last_of_four (Some error) second third last a b c = absurd (grind arith)
 last_of_four None (Some error) third last a b c = absurd (grind arith)
 last_of_four None None (Some error) last a b c = absurd (grind arith)
 
+-- the first rule does not refuse
+pub last_of_two : {E : Type 0} (first last : Option E) → first ≡ None → first_of (first ∷ (last ∷ [])) ≡ last
+last_of_two None None a = refl
+last_of_two None (Some error) a = refl
+last_of_two (Some error) last a = absurd (grind arith)
+
 -- a buffer that is long enough
 pub enough_room : (message : List ℕ) (room : ℕ) → 40 + length message ≤ room → space_refusal message room ≡ None
 enough_room message room enough =
     let test : nat_lt room (40 + length message) ≡ false = grind (arith, nat_tests) in
     ap (λ short. refused_if short (Space (40 + length message) room)) test
+
+pub enough_room_ipv4 : (message : List ℕ) (room : ℕ) → 20 + length message ≤ room → ipv4.space_refusal message room ≡ None
+enough_room_ipv4 message room enough =
+    let test : nat_lt room (20 + length message) ≡ false = grind (arith, nat_tests) in
+    ap (λ short. refused_if short (Space (20 + length message) room)) test

@@ -5,11 +5,11 @@ use Rattle.std.specs.List.{concat}
 use Rattle.ip_translation.specs.declared.address_error.AddressError.{AddressError}
 use Rattle.ip_translation.specs.declared.address_error.AddressError.TheVariants.{NotEmbedded, NotGlobal}
 use Rattle.ip_translation.specs.declared.packet_translation_error.PacketTranslationError.{PacketTranslationError}
-use Rattle.ip_translation.specs.declared.packet_translation_error.PacketTranslationError.TheVariants.{CutOff, Header, Icmp, NoIpv4Header, Space, TransportHeader, UdpLength}
+use Rattle.ip_translation.specs.declared.packet_translation_error.PacketTranslationError.TheVariants.{CutOff, Header, Icmp, NoIpv4Header, NoIpv6Header, NoUdpChecksum, Space, TransportHeader, UdpLength}
 use Rattle.ip_translation.specs.declared.prefix64_error.Prefix64Error.{Prefix64Error}
 use Rattle.ip_translation.specs.declared.prefix64_error.Prefix64Error.TheVariants.{Len, ReservedOctet, SuffixBits}
 use Rattle.ip_translation.specs.declared.translation_error.TranslationError.{TranslationError}
-use Rattle.ip_translation.specs.declared.translation_error.TranslationError.TheVariants.{Destination, Fragment, HeaderChecksum, IllegalDestination, IllegalSource, Source, SourceRoute, TimeExceeded, TotalLength}
+use Rattle.ip_translation.specs.declared.translation_error.TranslationError.TheVariants.{Destination, ExtensionHeader, Fragment, HeaderChecksum, IllegalDestination, IllegalSource, PayloadLength, Source, SourceRoute, TimeExceeded, TotalLength}
 
 -- an address without a translation
 abbrev pub address_text : AddressError → List ℕ
@@ -30,6 +30,10 @@ translation_text (TotalLength total_len header_len) = concat (
 translation_text HeaderChecksum = codes "Translation Error: the checksum of the IPv4 header is wrong."
 translation_text Fragment = codes "Translation Error: the packet is a fragment."
 translation_text SourceRoute = codes "Translation Error: the IPv4 options contain a source route."
+translation_text (ExtensionHeader number) = concat (
+    codes "Translation Error: the IPv6 extension header " ∷ decimal number ∷ codes " is not translated." ∷ [])
+translation_text (PayloadLength payload_len) = concat (
+    codes "Translation Error: the payload length " ∷ decimal payload_len ∷ codes " is above 65515." ∷ [])
 translation_text TimeExceeded = codes "Translation Error: the time to live is exceeded."
 translation_text IllegalSource = codes "Translation Error: the source is no address of a host."
 translation_text IllegalDestination = codes "Translation Error: the destination is no address of a host."
@@ -39,6 +43,7 @@ translation_text (Destination error) = address_text error
 -- a packet that is not translated
 abbrev pub packet_text : PacketTranslationError → List ℕ
 packet_text NoIpv4Header = codes "Translation Error: the bytes do not begin with an IPv4 header."
+packet_text NoIpv6Header = codes "Translation Error: the bytes do not begin with an IPv6 header."
 packet_text (Header error) = translation_text error
 packet_text (CutOff total_len len) = concat (
     codes "Translation Error: the total length is " ∷ decimal total_len ∷ codes ", and there are " ∷ decimal len ∷ codes " bytes." ∷ [])
@@ -47,5 +52,6 @@ packet_text (TransportHeader required_len len) = concat (
     codes "Translation Error: the transport header has " ∷ decimal required_len ∷ codes " bytes, and there are " ∷ decimal len ∷ codes "." ∷ [])
 packet_text (UdpLength length len) = concat (
     codes "Translation Error: a UDP packet of " ∷ decimal len ∷ codes " bytes without a checksum has the length field " ∷ decimal length ∷ codes "." ∷ [])
+packet_text NoUdpChecksum = codes "Translation Error: a UDP packet over IPv6 has no checksum."
 packet_text (Space required_len len) = concat (
     codes "Space Error: " ∷ decimal required_len ∷ codes " bytes are needed, and there is room for " ∷ decimal len ∷ codes "." ∷ [])

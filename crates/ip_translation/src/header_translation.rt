@@ -147,7 +147,7 @@ fn check_addresses(header: &Ipv4HeaderSlice<'_>) -> Result<(), TranslationError>
 }
 
 /// Whether this is no address of a host: an address of network 0 or 127, a multicast address, or a reserved address.
-fn is_illegal(address: [u8; 4]) -> bool
+pub(crate) fn is_illegal(address: [u8; 4]) -> bool
     ensures { result ≡ specs.is_illegal address }
 {
     address[0] == 0 || address[0] == 127 || address[0] > 223

@@ -1,6 +1,6 @@
 //! Translation between IPv4 and IPv6 (RFC 7915) with addresses by RFC 6052.
 //!
-//! A `Prefix64` embeds IPv4 addresses in IPv6 addresses, and extracts them again. `ipv4_to_ipv6` translates packets. No call allocates or
+//! A `Prefix64` embeds IPv4 addresses in IPv6 addresses, and extracts them again. `ipv4_to_ipv6` and `ipv6_to_ipv4` translate packets. No call allocates or
 //! has a precondition.
 //!
 //! ```
@@ -12,16 +12,21 @@
 
 mod address_error;
 mod header_translation;
+mod ipv4_header_translation;
 mod message_translation;
+mod packet_to_ipv4;
 mod packet_translation;
 mod packet_translation_error;
 mod prefix64;
 mod prefix64_error;
 mod prefixes;
 mod translation_error;
+mod updated_message;
 
 pub use address_error::AddressError;
 pub use header_translation::{header_to_ipv6, pseudo_header_change};
+pub use ipv4_header_translation::{header_to_ipv4, pseudo_header_change_to_ipv4};
+pub use packet_to_ipv4::ipv6_to_ipv4;
 pub use packet_translation::ipv4_to_ipv6;
 pub use packet_translation_error::PacketTranslationError;
 pub use prefix64::Prefix64;

@@ -12,19 +12,19 @@ use crate::{PacketTranslationError, Prefixes, pseudo_header_change};
 use net_base::{IpNumber, Ipv4HeaderSlice, ip_number, pseudo_header_ipv6};
 
 /// The length of a UDP header, in bytes (RFC 768).
-const UDP_LEN: usize = 8;
+pub(crate) const UDP_LEN: usize = 8;
 
 /// The place of the length in a UDP header, in bytes.
 const UDP_LENGTH_AT: usize = 4;
 
 /// The place of the checksum in a UDP header, in bytes.
-const UDP_CHECKSUM_AT: usize = 6;
+pub(crate) const UDP_CHECKSUM_AT: usize = 6;
 
 /// The length of a TCP header without options, in bytes (RFC 9293, section 3.1).
-const TCP_LEN: usize = 20;
+pub(crate) const TCP_LEN: usize = 20;
 
 /// The place of the checksum in a TCP header, in bytes.
-const TCP_CHECKSUM_AT: usize = 16;
+pub(crate) const TCP_CHECKSUM_AT: usize = 16;
 
 /// Refuses a message of this protocol that has no translation.
 pub(crate) fn check_message(
@@ -65,7 +65,10 @@ fn check_udp(packet: &[u8]) -> Result<(), PacketTranslationError>
 }
 
 /// Refuses a message that is shorter than its header.
-fn check_header_len(message: &[u8], required_len: usize) -> Result<(), PacketTranslationError>
+pub(crate) fn check_header_len(
+    message: &[u8],
+    required_len: usize,
+) -> Result<(), PacketTranslationError>
     ensures refused { RefusesExactly result (specs.header_len_refusal required_len message.now) }
     ensures there { IfOk result (λ _. required_len ≤ length message.now) }
 {
@@ -184,7 +187,7 @@ fn tcp_checksum(segment: &[u8], header: &Ipv4HeaderSlice<'_>, prefixes: &Prefixe
 }
 
 /// The number in the two bytes at this place.
-fn number(message: &[u8], place: usize) -> u16
+pub(crate) fn number(message: &[u8], place: usize) -> u16
     requires there { place + 2 ≤ length message.now }
     ensures { result ≡ be_number message.now place 2 }
 {
@@ -192,7 +195,7 @@ fn number(message: &[u8], place: usize) -> u16
 }
 
 /// Writes a checksum to the two bytes at this place.
-fn store_checksum(message: &mut [u8], place: usize, checksum: u16)
+pub(crate) fn store_checksum(message: &mut [u8], place: usize, checksum: u16)
     requires there { place + 2 ≤ length message.old }
     ensures { message.new ≡ with_checksum place message.old checksum }
 {

@@ -13,6 +13,8 @@ use thiserror::Error;
 pub enum PacketTranslationError {
     /// The bytes do not begin with an IPv4 header.
     NoIpv4Header,
+    /// The bytes do not begin with an IPv6 header.
+    NoIpv6Header,
     /// The IP header has no translation.
     Header(TranslationError),
     /// The packet ends before its total length.
@@ -38,6 +40,8 @@ pub enum PacketTranslationError {
         /// The length of the message, in bytes.
         len: usize,
     },
+    /// A UDP packet over IPv6 has no checksum, which IPv6 requires (RFC 8200, section 8.1).
+    NoUdpChecksum,
     /// The buffer is shorter than the translated packet.
     Space {
         /// The length of the translated packet, in bytes.
@@ -58,6 +62,9 @@ impl PacketTranslationError {
                     "Translation Error: the bytes do not begin with an IPv4 header.",
                 )
             }
+            PacketTranslationError::NoIpv6Header => ErrorText::from_words(
+                "Translation Error: the bytes do not begin with an IPv6 header.",
+            ),
             PacketTranslationError::Header(error) => error.text(),
             PacketTranslationError::CutOff { total_len, len } => ErrorText::from_parts(&[
                 Words("Translation Error: the total length is "),
@@ -85,6 +92,9 @@ impl PacketTranslationError {
                 Number(*length),
                 Words("."),
             ]),
+            PacketTranslationError::NoUdpChecksum => {
+                ErrorText::from_words("Translation Error: a UDP packet over IPv6 has no checksum.")
+            }
             PacketTranslationError::Space { required_len, len } => ErrorText::from_parts(&[
                 Words("Space Error: "),
                 Number(*required_len),

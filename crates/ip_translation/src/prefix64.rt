@@ -180,7 +180,7 @@ impl Prefix64 {
     }
 
     /// Whether an address begins with the prefix, and the IPv4 address after it.
-    fn front(&self, address: &[u8; 16]) -> (bool, [u8; 4])
+    pub(crate) fn front(&self, address: &[u8; 16]) -> (bool, [u8; 4])
         ensures prefix { result.0 ≡ pointwise nat_eq (take (specs.octet_count self.now) (specs.without_reserved address.now)) (specs.octets self.now) }
         ensures ipv4 { result.1 ≡ specs.extracted self.now address.now }
     {

@@ -24,7 +24,11 @@ pub enum TranslationError {
     Fragment,
     /// The options contain a loose or strict source route.
     SourceRoute,
-    /// The packet may not pass the translator, since the time to live is 0 or 1. Its sender is told (RFC 7915, section 4.1).
+    /// The next header of an IPv6 header is this extension header: hop-by-hop options, routing, fragment or destination options.
+    ExtensionHeader(u8),
+    /// The payload length of an IPv6 header is above 65,515, so that no IPv4 header can count the packet.
+    PayloadLength(u16),
+    /// The packet may not pass the translator, since the time to live or the hop limit is 0 or 1. Its sender is told (RFC 7915, section 4.1).
     TimeExceeded,
     /// The source is no address of a host, and the packet is dropped silently (RFC 7915, section 4.1; RFC 1812, section 5.3.7).
     IllegalSource,
@@ -61,6 +65,16 @@ impl TranslationError {
             TranslationError::SourceRoute => ErrorText::from_words(
                 "Translation Error: the IPv4 options contain a source route.",
             ),
+            TranslationError::ExtensionHeader(number) => ErrorText::from_parts(&[
+                Words("Translation Error: the IPv6 extension header "),
+                Number(usize::from(*number)),
+                Words(" is not translated."),
+            ]),
+            TranslationError::PayloadLength(payload_len) => ErrorText::from_parts(&[
+                Words("Translation Error: the payload length "),
+                Number(usize::from(*payload_len)),
+                Words(" is above 65515."),
+            ]),
             TranslationError::TimeExceeded => ErrorText::from_words(
                 "Translation Error: the time to live is exceeded.",
             ),

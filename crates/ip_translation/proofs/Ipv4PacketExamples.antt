@@ -1,0 +1,71 @@
+-- Worked examples of packets over IPv6. Their checksums were computed by a program in another language.
+use Rattle.std.proofs.Common.{◌≡◌, List, ℕ, [], ◌∷◌, ◌++◌, Some, None, refl}
+use Rattle.word_sum.specs.Checksum.{folded}
+use Rattle.ip_translation.specs.PacketsToIpv4.{packet_refusal, translated_packet}
+use Rattle.ip_translation.specs.declared.packet_translation_error.PacketTranslationError.TheVariants.{Header, NoUdpChecksum, Space}
+use Rattle.ip_translation.specs.declared.prefix64.Prefix64.TheVariants.{Bits32, Bits96}
+use Rattle.ip_translation.specs.declared.prefixes.Prefixes.{Prefixes}
+use Rattle.ip_translation.specs.declared.translation_error.TranslationError.TheVariants.{ExtensionHeader}
+
+-- 2001:db8::/32 for the source, and 2001:db8:122:344::/96 for the destination
+prefixes : Prefixes
+prefixes = record {
+  source = Bits32 (0x20 ∷ 0x01 ∷ 0x0d ∷ 0xb8 ∷ []);
+  destination = Bits96 (0x20 ∷ 0x01 ∷ 0x0d ∷ 0xb8 ∷ 0x01 ∷ 0x22 ∷ 0x03 ∷ 0x44 ∷ 0 ∷ 0 ∷ 0 ∷ []);
+}
+
+-- from port 21 to port 1234: "abc" over UDP, with a traffic class
+udp_packet : List ℕ
+udp_packet =
+    0x6b ∷ 0x90 ∷ 0 ∷ 0 ∷ 0 ∷ 0x0b ∷ 0x11 ∷ 0x3f ∷ 0x20 ∷ 1 ∷ 0x0d ∷ 0xb8 ∷ 0xc0 ∷ 0 ∷ 2 ∷ 0x21
+    ∷ 0 ∷ 0 ∷ 0 ∷ 0 ∷ 0 ∷ 0 ∷ 0 ∷ 0 ∷ 0x20 ∷ 1 ∷ 0x0d ∷ 0xb8 ∷ 1 ∷ 0x22 ∷ 3 ∷ 0x44
+    ∷ 0 ∷ 0 ∷ 0 ∷ 0 ∷ 0xc6 ∷ 0x33 ∷ 0x64 ∷ 7 ∷ 0 ∷ 0x15 ∷ 4 ∷ 0xd2 ∷ 0 ∷ 0x0b ∷ 0xea ∷ 0x59
+    ∷ 0x61 ∷ 0x62 ∷ 0x63 ∷ []
+
+-- the same packet over IPv4, with the identification BEEF
+udp_packet_ipv4 : List ℕ
+udp_packet_ipv4 =
+    0x45 ∷ 0xb9 ∷ 0 ∷ 0x1f ∷ 0xbe ∷ 0xef ∷ 0 ∷ 0 ∷ 0x3e ∷ 0x11 ∷ 0xd0 ∷ 0xc9 ∷ 0xc0 ∷ 0 ∷ 2 ∷ 0x21
+    ∷ 0xc6 ∷ 0x33 ∷ 0x64 ∷ 7 ∷ 0 ∷ 0x15 ∷ 4 ∷ 0xd2 ∷ 0 ∷ 0x0b ∷ 0x4a ∷ 0x32 ∷ 0x61 ∷ 0x62 ∷ 0x63 ∷ []
+
+-- "abc" over TCP
+tcp_segment : List ℕ
+tcp_segment =
+    0x6b ∷ 0x90 ∷ 0 ∷ 0 ∷ 0 ∷ 0x17 ∷ 6 ∷ 0x3f ∷ 0x20 ∷ 1 ∷ 0x0d ∷ 0xb8 ∷ 0xc0 ∷ 0 ∷ 2 ∷ 0x21
+    ∷ 0 ∷ 0 ∷ 0 ∷ 0 ∷ 0 ∷ 0 ∷ 0 ∷ 0 ∷ 0x20 ∷ 1 ∷ 0x0d ∷ 0xb8 ∷ 1 ∷ 0x22 ∷ 3 ∷ 0x44
+    ∷ 0 ∷ 0 ∷ 0 ∷ 0 ∷ 0xc6 ∷ 0x33 ∷ 0x64 ∷ 7 ∷ 0 ∷ 0x15 ∷ 4 ∷ 0xd2 ∷ 1 ∷ 2 ∷ 3 ∷ 4
+    ∷ 5 ∷ 6 ∷ 7 ∷ 8 ∷ 0x50 ∷ 0x18 ∷ 0x20 ∷ 0 ∷ 0x6a ∷ 0x37 ∷ 0 ∷ 0 ∷ 0x61 ∷ 0x62 ∷ 0x63 ∷ []
+
+-- over IPv4
+tcp_segment_ipv4 : List ℕ
+tcp_segment_ipv4 =
+    0x45 ∷ 0xb9 ∷ 0 ∷ 0x2b ∷ 0xbe ∷ 0xef ∷ 0 ∷ 0 ∷ 0x3e ∷ 6 ∷ 0xd0 ∷ 0xc8 ∷ 0xc0 ∷ 0 ∷ 2 ∷ 0x21
+    ∷ 0xc6 ∷ 0x33 ∷ 0x64 ∷ 7 ∷ 0 ∷ 0x15 ∷ 4 ∷ 0xd2 ∷ 1 ∷ 2 ∷ 3 ∷ 4 ∷ 5 ∷ 6 ∷ 7 ∷ 8
+    ∷ 0x50 ∷ 0x18 ∷ 0x20 ∷ 0 ∷ 0xca ∷ 0x0f ∷ 0 ∷ 0 ∷ 0x61 ∷ 0x62 ∷ 0x63 ∷ []
+
+udp_accepted : packet_refusal prefixes udp_packet 31 ≡ None
+unfolding prefixes udp_packet
+udp_accepted = refl
+
+-- two bytes of padding are ignored
+udp_translated : translated_packet prefixes 0xbeef (udp_packet ++ (1 ∷ 2 ∷ [])) ≡ udp_packet_ipv4
+unfolding folded prefixes udp_packet udp_packet_ipv4
+udp_translated = refl
+
+tcp_translated : translated_packet prefixes 0xbeef tcp_segment ≡ tcp_segment_ipv4
+unfolding folded prefixes tcp_segment tcp_segment_ipv4
+tcp_translated = refl
+
+no_space : packet_refusal prefixes udp_packet 30 ≡ Some (Space 31 30)
+unfolding prefixes udp_packet
+no_space = refl
+
+-- the UDP packet without a checksum
+no_checksum : packet_refusal prefixes (0x6b ∷ 0x90 ∷ 0 ∷ 0 ∷ 0 ∷ 0x0b ∷ 0x11 ∷ 0x3f ∷ 0x20 ∷ 1 ∷ 0x0d ∷ 0xb8 ∷ 0xc0 ∷ 0 ∷ 2 ∷ 0x21 ∷ 0 ∷ 0 ∷ 0 ∷ 0 ∷ 0 ∷ 0 ∷ 0 ∷ 0 ∷ 0x20 ∷ 1 ∷ 0x0d ∷ 0xb8 ∷ 1 ∷ 0x22 ∷ 3 ∷ 0x44 ∷ 0 ∷ 0 ∷ 0 ∷ 0 ∷ 0xc6 ∷ 0x33 ∷ 0x64 ∷ 7 ∷ 0 ∷ 0x15 ∷ 4 ∷ 0xd2 ∷ 0 ∷ 0x0b ∷ 0 ∷ 0 ∷ 0x61 ∷ 0x62 ∷ 0x63 ∷ []) 100 ≡ Some NoUdpChecksum
+unfolding prefixes
+no_checksum = refl
+
+-- a fragment header
+fragment : packet_refusal prefixes (0x6b ∷ 0x90 ∷ 0 ∷ 0 ∷ 0 ∷ 0x0b ∷ 0x2c ∷ 0x3f ∷ 0x20 ∷ 1 ∷ 0x0d ∷ 0xb8 ∷ 0xc0 ∷ 0 ∷ 2 ∷ 0x21 ∷ 0 ∷ 0 ∷ 0 ∷ 0 ∷ 0 ∷ 0 ∷ 0 ∷ 0 ∷ 0x20 ∷ 1 ∷ 0x0d ∷ 0xb8 ∷ 1 ∷ 0x22 ∷ 3 ∷ 0x44 ∷ 0 ∷ 0 ∷ 0 ∷ 0 ∷ 0xc6 ∷ 0x33 ∷ 0x64 ∷ 7 ∷ 0 ∷ 0x15 ∷ 4 ∷ 0xd2 ∷ 0 ∷ 0x0b ∷ 0xea ∷ 0x59 ∷ 0x61 ∷ 0x62 ∷ 0x63 ∷ []) 100 ≡ Some (Header (ExtensionHeader 44))
+unfolding prefixes
+fragment = refl

@@ -1,0 +1,11 @@
+use Rattle.std.proofs.Common.{◌≡◌, ◌<◌, List, [], ℕ, rules, sym, ap, subst, ◌∙◌}
+use Rattle.word_sum.specs.Checksum.{Verifies, checksum_of, total}
+use Rattle.ip_translation.specs.HeadersToIpv4.{with_header_checksum}
+use Rattle.ip_translation.proofs.Ipv4HeaderLemmas.{header_verifies}
+use Rattle.ip_translation.proofs.ipv4_header_translation.ipv4_header.Goals as goal
+
+pub returns-clause-verifies : goal.returns-clause-verifies
+returns-clause-verifies c =
+    let right : c.checksum_of-checksum.result ≡ checksum_of (total (with_header_checksum c.args.start 0 c.args.source c.args.destination)) = search rules in
+    subst (λ header. Verifies [] header) (sym c.with_checksum-2.ensures.bytes)
+    (header_verifies c.args.start c.args.source c.args.destination c.checksum_of-checksum.result (search rules) (search rules) right)

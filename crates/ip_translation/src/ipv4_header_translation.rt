@@ -1,0 +1,212 @@
+ghost use Rattle.std.specs.Prelude.{◌≡◌, ◌<◌, ◌+◌, [], ℕ, IfOk, length};
+ghost use Rattle.net_base.specs.Refusals.{RefusesExactly};
+ghost use Rattle.word_sum.specs.Checksum.{Verifies, checksum_of, total};
+ghost use Rattle.word_sum.specs.ChecksumChange.{added_value, removed_value};
+ghost use Rattle.ip_translation.specs.HeadersToIpv4 as specs;
+ghost use Rattle.ip_translation.specs.Prefixes.{extracted};
+ghost use Rattle.ip_translation.specs.PseudoHeaders.{AreTurned};
+
+use crate::header_translation::is_illegal;
+use crate::{Prefixes, TranslationError};
+use arrayvec::ArrayVec;
+use net_base::{IpNumber, Ipv6HeaderSlice, ip_number};
+use word_sum::checksum::Sum16BitWords;
+use word_sum::checksum_change::ChecksumChange;
+
+/// The length of the translated header, in bytes: an IPv4 header without options (RFC 791, section 3.1).
+const IPV4_LEN: u16 = 20;
+
+/// The IPv4 header for the header of an IPv6 packet without extension headers (RFC 7915, section 5.1).
+///
+/// | Field | Value |
+/// |---|---|
+/// | type of service | traffic class |
+/// | total length | payload length and 20 |
+/// | identification | as passed |
+/// | "don't fragment" | set if the total length is above 1260 |
+/// | time to live | hop limit, lowered by 1, since a translator is a router |
+/// | protocol | next header, but ICMP for ICMPv6 |
+/// | checksum | over this header |
+/// | source, destination | the addresses that the prefixes extract, by `Prefix64::to_ipv4` |
+///
+/// More fragments and the fragment offset are 0, and there are no options. A packet with a total length of at most 1260 bytes may be fragmented
+/// on its way, so no two of them with the same addresses and protocol may have the same identification at the same time (RFC 6864).
+///
+/// # Errors
+///
+/// The call checks these cases, in this order:
+/// - `ExtensionHeader` if the next header is an extension header: hop-by-hop options, routing, fragment or destination options.
+/// - `PayloadLength` if the payload length is above 65,515.
+/// - `TimeExceeded` if the hop limit is 0 or 1.
+/// - `Source` and `Destination` if `Prefix64::to_ipv4` refuses the address.
+/// - `IllegalSource` if the first byte of the IPv4 source is 0, 127, or above 223, and `IllegalDestination` for the destination.
+pub fn header_to_ipv4(
+    header: &Ipv6HeaderSlice<'_>,
+    prefixes: &Prefixes,
+    identification: u16,
+) -> Result<ArrayVec<u8, 20>, TranslationError>
+    ensures refused { RefusesExactly result (specs.header_refusal prefixes.now header.now) }
+    ensures written { IfOk result (λ translated. translated.items ≡ specs.translated_header prefixes.now identification header.now) }
+    ensures verifies { IfOk result (λ translated. Verifies [] translated.items) }
+    ensures len { IfOk result (λ translated. length translated.items ≡ 20) }
+{
+    let total_len = check_fields(header)?;
+    let (source, destination) = ipv4_addresses(header, prefixes)?;
+    let [total_high, total_low] = total_len.to_be_bytes();
+    let [high, low] = identification.to_be_bytes();
+    let start = [
+        0x45,
+        header.traffic_class(),
+        total_high,
+        total_low,
+        high,
+        low,
+        flags(total_len),
+        0,
+        header.hop_limit().saturating_sub(1),
+        protocol_of(header.next_header()),
+    ];
+    Ok(ipv4_header(start, source, destination))
+}
+
+/// The change of the pseudo header of UDP and TCP (RFC 7915, section 5.5): the IPv4 addresses that the prefixes extract replace the IPv6
+/// addresses. Protocol and length stay, and so does the rest of the packet.
+pub fn pseudo_header_change_to_ipv4(
+    header: &Ipv6HeaderSlice<'_>,
+    prefixes: &Prefixes,
+) -> ChecksumChange
+    ensures removed { removed_value result ≡ specs.removed_addresses header.now }
+    ensures added { added_value result ≡ specs.added_addresses prefixes.now header.now }
+    // So `ChecksumChange` states what a receiver accepts.
+    ensures turned { (protocol : ℕ) → 0 < protocol →
+        AreTurned result (specs.old_pseudo_header header.now protocol) (specs.new_pseudo_header prefixes.now header.now protocol) }
+{
+    let source = header.source();
+    let destination = header.destination();
+    let (_, new_source) = prefixes.source.front(&source);
+    let (_, new_destination) = prefixes.destination.front(&destination);
+    ChecksumChange::new()
+        .replace_slice(&new_source, &source)
+        .replace_slice(&new_destination, &destination)
+        .reversed()
+}
+
+/// Refuses a header with any error but those of its addresses, and returns the total length of the translated packet.
+fn check_fields(header: &Ipv6HeaderSlice<'_>) -> Result<u16, TranslationError>
+    ensures refused { RefusesExactly result (specs.field_refusal header.now) }
+    ensures total_len { IfOk result (λ len. len ≡ specs.payload_len header.now + 20) }
+{
+    let next_header = header.next_header();
+    if is_extension(next_header) {
+        return Err(TranslationError::ExtensionHeader(next_header.0));
+    }
+    let payload_len = header.payload_length();
+    if u16::MAX - IPV4_LEN < payload_len {
+        return Err(TranslationError::PayloadLength(payload_len));
+    }
+    if header.hop_limit() <= 1 {
+        return Err(TranslationError::TimeExceeded);
+    }
+    Ok(payload_len + IPV4_LEN)
+}
+
+/// Whether this is the number of an extension header that a translator skips or translates.
+fn is_extension(number: IpNumber) -> bool
+    ensures { result ≡ specs.is_extension number.0 }
+{
+    number.0 == ip_number::IPV6_HEADER_HOP_BY_HOP.0
+        || number.0 == ip_number::IPV6_ROUTE_HEADER.0
+        || number.0 == ip_number::IPV6_FRAGMENTATION_HEADER.0
+        || number.0 == ip_number::IPV6_DESTINATION_OPTIONS.0
+}
+
+/// The IPv4 source and destination.
+fn ipv4_addresses(
+    header: &Ipv6HeaderSlice<'_>,
+    prefixes: &Prefixes,
+) -> Result<([u8; 4], [u8; 4]), TranslationError>
+    ensures refused { RefusesExactly result (specs.addresses_refusal prefixes.now header.now) }
+    ensures source { IfOk result (λ addresses. addresses.0 ≡ extracted prefixes.now.source (specs.source header.now)) }
+    ensures destination { IfOk result (λ addresses. addresses.1 ≡ extracted prefixes.now.destination (specs.destination header.now)) }
+{
+    let source = match prefixes.source.to_ipv4(&header.source()) {
+        Ok(source) => source,
+        Err(error) => return Err(TranslationError::Source(error)),
+    };
+    let destination = match prefixes.destination.to_ipv4(&header.destination()) {
+        Ok(destination) => destination,
+        Err(error) => return Err(TranslationError::Destination(error)),
+    };
+    if is_illegal(source) {
+        return Err(TranslationError::IllegalSource);
+    }
+    if is_illegal(destination) {
+        return Err(TranslationError::IllegalDestination);
+    }
+    Ok((source, destination))
+}
+
+/// The greatest total length of a packet that may be fragmented, in bytes (RFC 7915, section 5.1).
+const MAX_FRAGMENTED_LEN: u16 = 1260;
+
+/// The flag "don't fragment".
+const DONT_FRAGMENT: u8 = 0x40;
+
+/// The flags of a packet with this total length.
+fn flags(total_len: u16) -> u8
+    ensures { result ≡ specs.flags total_len }
+{
+    if total_len <= MAX_FRAGMENTED_LEN {
+        0
+    } else {
+        DONT_FRAGMENT
+    }
+}
+
+/// The protocol of the translated packet.
+fn protocol_of(number: IpNumber) -> u8
+    ensures { result ≡ specs.protocol_of number.0 }
+{
+    if number.0 == ip_number::IPV6_ICMP.0 {
+        ip_number::ICMP.0
+    } else {
+        number.0
+    }
+}
+
+/// An IPv4 header with these first ten bytes and these addresses, and with its checksum.
+fn ipv4_header(start: [u8; 10], source: [u8; 4], destination: [u8; 4]) -> ArrayVec<u8, 20>
+    ensures bytes { result.items ≡ specs.ipv4_header start source destination }
+    ensures verifies { Verifies [] result.items }
+    ensures len { length result.items ≡ 20 }
+{
+    let checksum = checksum_of(with_checksum(start, 0, source, destination).as_slice());
+    with_checksum(start, checksum, source, destination)
+}
+
+/// The same header with this checksum.
+fn with_checksum(
+    start: [u8; 10],
+    checksum: u16,
+    source: [u8; 4],
+    destination: [u8; 4],
+) -> ArrayVec<u8, 20>
+    ensures bytes { result.items ≡ specs.with_header_checksum start checksum source destination }
+    ensures len { length result.items ≡ 20 }
+{
+    let mut header = ArrayVec::new();
+    header.try_extend_from_slice(&start).unwrap();
+    header
+        .try_extend_from_slice(&checksum.to_be_bytes())
+        .unwrap();
+    header.try_extend_from_slice(&source).unwrap();
+    header.try_extend_from_slice(&destination).unwrap();
+    header
+}
+
+/// The checksum over these bytes.
+fn checksum_of(bytes: &[u8]) -> u16
+    ensures { result ≡ checksum_of (total bytes.now) }
+{
+    Sum16BitWords::new().add_slice(bytes).ones_complement()
+}

@@ -1,0 +1,205 @@
+ghost use Rattle.std.specs.Prelude.{◌≡◌, ◌≢◌, ◌≤◌, ◌+◌, ◌++◌, IfErr, IfOk, MatchOption, drop, false, length, true};
+ghost use Rattle.std.specs.Option.{option_map};
+ghost use Rattle.ip_part.specs.Ip.{ipv6_header};
+ghost use Rattle.net_base.specs.IpNumbers.{tcp_number, udp_number};
+ghost use Rattle.net_base.specs.Refusals.{RefusesExactly};
+ghost use Rattle.ip_translation.specs.HeadersToIpv4 as headers;
+ghost use Rattle.ip_translation.specs.PacketsToIpv4 as specs;
+ghost use Rattle.ip_translation.specs.PacketsToIpv6.{udp_checksum};
+ghost use Rattle.ip_translation.specs.declared.packet_translation_error.PacketTranslationError.TheVariants.{Header};
+
+use crate::message_translation::{TCP_LEN, UDP_CHECKSUM_AT, UDP_LEN, check_header_len, number};
+use crate::updated_message::{write_updated_tcp, write_updated_udp};
+use crate::{PacketTranslationError, Prefixes, header_to_ipv4, pseudo_header_change_to_ipv4};
+use arrayvec::ArrayVec;
+use net_base::{IpNumber, Ipv6HeaderSlice, ip_number};
+
+/// The length of an IPv4 header without options, in bytes (RFC 791, section 3.1).
+const IPV4_LEN: usize = 20;
+
+/// The length of an IPv6 header, in bytes (RFC 8200, section 3).
+const IPV6_LEN: usize = 40;
+
+/// Writes the IPv4 packet for an IPv6 packet to the front of `buffer`, and returns its length in bytes (RFC 7915, section 5). The rest of the
+/// buffer is unchanged. Bytes after the payload length of the packet are ignored.
+///
+/// `header_to_ipv4` translates the header, with this identification. The message is kept, except for the checksum of UDP and TCP: their
+/// pseudo header contains the addresses. A packet of any other protocol but ICMPv6 keeps its message.
+///
+/// # Errors
+///
+/// The first of these that applies. The buffer is then unchanged:
+/// - `NoIpv6Header` if the bytes do not begin with a whole IPv6 header.
+/// - `Header` if `header_to_ipv4` refuses the header.
+/// - `CutOff` if there are fewer bytes than the header and its payload length.
+/// - `Icmp` if the protocol is ICMPv6.
+/// - `TransportHeader` if a UDP packet is shorter than 8 bytes, or a TCP segment shorter than 20 bytes.
+/// - `NoUdpChecksum` if a UDP packet has no checksum.
+/// - `Space` if the buffer is shorter than the translated packet.
+pub fn ipv6_to_ipv4(
+    packet: &[u8],
+    prefixes: &Prefixes,
+    identification: u16,
+    buffer: &mut [u8],
+) -> Result<usize, PacketTranslationError>
+    ensures refused { RefusesExactly result (specs.packet_refusal prefixes.now packet.now (length buffer.old)) }
+    ensures len { IfOk result (λ len. len ≡ 20 + length (specs.message_of packet.now)) }
+    ensures written { IfOk result (λ len. buffer.new ≡ specs.translated_packet prefixes.now identification packet.now ++ drop len buffer.old) }
+    ensures unchanged { IfErr result (λ _. buffer.new ≡ buffer.old) }
+    // A receiver accepts the message of the translated packet exactly if it accepts the message of the packet.
+    ensures alike { IfOk result (λ _. specs.IsAcceptedAlike prefixes.now (ipv6_header packet.now) (specs.message_of packet.now)
+        (specs.translated_message prefixes.now (ipv6_header packet.now) (specs.message_of packet.now))) }
+{
+    let Some(header) = front_header(packet) else {
+        return Err(PacketTranslationError::NoIpv6Header);
+    };
+    translate_after(&header, packet, prefixes, identification, buffer)
+}
+
+/// The IPv6 header at the front of a packet.
+fn front_header<'a>(packet: &'a [u8]) -> Option<Ipv6HeaderSlice<'a>>
+    ensures found { MatchOption result (specs.begins_with_header packet.now ≡ false)
+        (λ header. (specs.begins_with_header packet.now ≡ true) × (header ≡ ipv6_header packet.now)) }
+{
+    Ipv6HeaderSlice::from_slice(packet)
+}
+
+/// Translates a packet with this header.
+fn translate_after(
+    header: &Ipv6HeaderSlice<'_>,
+    packet: &[u8],
+    prefixes: &Prefixes,
+    identification: u16,
+    buffer: &mut [u8],
+) -> Result<usize, PacketTranslationError>
+    ensures refused { RefusesExactly result (specs.refusal_after header.now prefixes.now packet.now (length buffer.old)) }
+    ensures len { IfOk result (λ len. len ≡ 20 + length (specs.message_after header.now packet.now)) }
+    ensures written { IfOk result (λ len. buffer.new
+        ≡ specs.translated_after header.now prefixes.now identification packet.now ++ drop len buffer.old) }
+    ensures unchanged { IfErr result (λ _. buffer.new ≡ buffer.old) }
+    ensures alike { IfOk result (λ _. specs.IsAcceptedAlike prefixes.now header.now (specs.message_after header.now packet.now)
+        (specs.translated_message prefixes.now header.now (specs.message_after header.now packet.now))) }
+{
+    let ipv4_header = translated_header(header, prefixes, identification)?;
+    let message = message_after(header, packet)?;
+    check_message(header.next_header(), message)?;
+    let len = IPV4_LEN + message.len();
+    if buffer.len() < len {
+        return Err(PacketTranslationError::Space {
+            required_len: len,
+            len: buffer.len(),
+        });
+    }
+    write_parts(buffer, ipv4_header.as_slice(), message, header, prefixes);
+    Ok(len)
+}
+
+/// The IPv4 header for this header.
+fn translated_header(
+    header: &Ipv6HeaderSlice<'_>,
+    prefixes: &Prefixes,
+    identification: u16,
+) -> Result<ArrayVec<u8, IPV4_LEN>, PacketTranslationError>
+    ensures refused { RefusesExactly result (option_map Header (headers.header_refusal prefixes.now header.now)) }
+    ensures written { IfOk result (λ translated. translated.items ≡ headers.translated_header prefixes.now identification header.now) }
+    ensures len { IfOk result (λ translated. length translated.items ≡ 20) }
+{
+    match header_to_ipv4(header, prefixes, identification) {
+        Ok(translated) => Ok(translated),
+        Err(error) => Err(PacketTranslationError::Header(error)),
+    }
+}
+
+/// The bytes after this header, as many as its payload length counts.
+fn message_after<'a>(
+    header: &Ipv6HeaderSlice<'_>,
+    packet: &'a [u8],
+) -> Result<&'a [u8], PacketTranslationError>
+    ensures refused { RefusesExactly result (specs.cut_off_refusal header.now (length packet.now)) }
+    ensures message { IfOk result (λ message. message.now ≡ specs.message_after header.now packet.now) }
+{
+    let total_len = IPV6_LEN + usize::from(header.payload_length());
+    if packet.len() < total_len {
+        return Err(PacketTranslationError::CutOff {
+            total_len,
+            len: packet.len(),
+        });
+    }
+    Ok(&packet[IPV6_LEN..total_len])
+}
+
+/// Refuses a message of this protocol that has no translation.
+fn check_message(protocol: IpNumber, message: &[u8]) -> Result<(), PacketTranslationError>
+    ensures refused { RefusesExactly result (specs.message_refusal protocol.0 message.now) }
+    ensures udp { IfOk result (λ _. protocol.0 ≡ udp_number → 8 ≤ length message.now) }
+    ensures tcp { IfOk result (λ _. protocol.0 ≡ tcp_number → 20 ≤ length message.now) }
+{
+    if protocol.0 == ip_number::IPV6_ICMP.0 {
+        return Err(PacketTranslationError::Icmp);
+    }
+    if protocol.0 == ip_number::UDP.0 {
+        return check_udp(message);
+    }
+    if protocol.0 == ip_number::TCP.0 {
+        return check_header_len(message, TCP_LEN);
+    }
+    Ok(())
+}
+
+/// Refuses a UDP packet that is cut off or has no checksum.
+fn check_udp(packet: &[u8]) -> Result<(), PacketTranslationError>
+    ensures refused { RefusesExactly result (specs.udp_refusal packet.now) }
+    ensures there { IfOk result (λ _. 8 ≤ length packet.now) }
+{
+    check_header_len(packet, UDP_LEN)?;
+    if number(packet, UDP_CHECKSUM_AT) == 0 {
+        return Err(PacketTranslationError::NoUdpChecksum);
+    }
+    Ok(())
+}
+
+/// Writes the translated header and the translated message to the front of the buffer.
+fn write_parts(
+    buffer: &mut [u8],
+    ipv4_header: &[u8],
+    message: &[u8],
+    header: &Ipv6HeaderSlice<'_>,
+    prefixes: &Prefixes,
+)
+    requires room { length ipv4_header.now + length message.now ≤ length buffer.old }
+    requires udp { headers.next_header header.now ≡ udp_number → 8 ≤ length message.now }
+    requires tcp { headers.next_header header.now ≡ tcp_number → 20 ≤ length message.now }
+    ensures written { buffer.new ≡ (ipv4_header.now ++ specs.translated_message prefixes.now header.now message.now)
+        ++ drop (length ipv4_header.now + length message.now) buffer.old }
+    ensures alike { specs.IsAcceptedAlike prefixes.now header.now message.now (specs.translated_message prefixes.now header.now message.now) }
+{
+    let (front, rest) = buffer.split_at_mut(ipv4_header.len());
+    front.copy_from_slice(ipv4_header);
+    write_message(&mut rest[..message.len()], message, header, prefixes);
+}
+
+/// Writes the translation of a message: the same bytes, with an updated checksum for UDP and TCP.
+fn write_message(
+    translated: &mut [u8],
+    message: &[u8],
+    header: &Ipv6HeaderSlice<'_>,
+    prefixes: &Prefixes,
+)
+    requires room { length translated.old ≡ length message.now }
+    requires udp { headers.next_header header.now ≡ udp_number → 8 ≤ length message.now }
+    requires tcp { headers.next_header header.now ≡ tcp_number → 20 ≤ length message.now }
+    ensures written { translated.new ≡ specs.translated_message prefixes.now header.now message.now }
+    ensures alike { specs.IsAcceptedAlike prefixes.now header.now message.now translated.new }
+{
+    if header.next_header().0 == ip_number::UDP.0 {
+        let change = pseudo_header_change_to_ipv4(header, prefixes);
+        write_updated_udp(translated, message, change);
+        return;
+    }
+    if header.next_header().0 == ip_number::TCP.0 {
+        let change = pseudo_header_change_to_ipv4(header, prefixes);
+        write_updated_tcp(translated, message, change);
+        return;
+    }
+    translated.copy_from_slice(message);
+}
