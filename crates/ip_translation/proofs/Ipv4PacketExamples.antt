@@ -56,6 +56,24 @@ tcp_translated : translated_packet prefixes 0xbeef tcp_segment ≡ tcp_segment_i
 unfolding folded prefixes tcp_segment tcp_segment_ipv4
 tcp_translated = refl
 
+-- an echo reply of zeros
+echo_reply : List ℕ
+echo_reply =
+    0x6b ∷ 0x90 ∷ 0 ∷ 0 ∷ 0 ∷ 9 ∷ 0x3a ∷ 0x3f ∷ 0x20 ∷ 1 ∷ 0x0d ∷ 0xb8 ∷ 0xc0 ∷ 0 ∷ 2 ∷ 0x21
+    ∷ 0 ∷ 0 ∷ 0 ∷ 0 ∷ 0 ∷ 0 ∷ 0 ∷ 0 ∷ 0x20 ∷ 1 ∷ 0x0d ∷ 0xb8 ∷ 1 ∷ 0x22 ∷ 3 ∷ 0x44
+    ∷ 0 ∷ 0 ∷ 0 ∷ 0 ∷ 0xc6 ∷ 0x33 ∷ 0x64 ∷ 7 ∷ 0x81 ∷ 0 ∷ 0x32 ∷ 0x87 ∷ 0 ∷ 0 ∷ 0 ∷ 0
+    ∷ 0 ∷ []
+
+-- over IPv4 its checksum is FFFF
+echo_reply_ipv4 : List ℕ
+echo_reply_ipv4 =
+    0x45 ∷ 0xb9 ∷ 0 ∷ 0x1d ∷ 0xbe ∷ 0xef ∷ 0 ∷ 0 ∷ 0x3e ∷ 1 ∷ 0xd0 ∷ 0xdb ∷ 0xc0 ∷ 0 ∷ 2 ∷ 0x21
+    ∷ 0xc6 ∷ 0x33 ∷ 0x64 ∷ 7 ∷ 0 ∷ 0 ∷ 0xff ∷ 0xff ∷ 0 ∷ 0 ∷ 0 ∷ 0 ∷ 0 ∷ []
+
+echo_translated : translated_packet prefixes 0xbeef echo_reply ≡ echo_reply_ipv4
+unfolding folded prefixes echo_reply echo_reply_ipv4
+echo_translated = refl
+
 no_space : packet_refusal prefixes udp_packet 30 ≡ Some (Space 31 30)
 unfolding prefixes udp_packet
 no_space = refl

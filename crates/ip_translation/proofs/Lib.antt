@@ -1,3 +1,4 @@
+pub mod EchoLemmas
 pub mod EmbeddedLemmas
 pub mod Ipv4HeaderLemmas
 pub mod Ipv4PacketExamples

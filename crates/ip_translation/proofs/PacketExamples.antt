@@ -66,6 +66,24 @@ tcp_translated : translated_packet prefixes tcp_segment ≡ tcp_segment_ipv6
 unfolding folded prefixes tcp_segment tcp_segment_ipv6
 tcp_translated = refl
 
+-- an echo request
+echo_request : List ℕ
+echo_request =
+    0x45 ∷ 0xb9 ∷ 0 ∷ 0x20 ∷ 0x12 ∷ 0x34 ∷ 0x40 ∷ 0 ∷ 0x40 ∷ 1 ∷ 0x3b ∷ 0x94 ∷ 0xc0 ∷ 0 ∷ 2 ∷ 0x21
+    ∷ 0xc6 ∷ 0x33 ∷ 0x64 ∷ 7 ∷ 8 ∷ 0 ∷ 6 ∷ 0xf4 ∷ 0x12 ∷ 0x34 ∷ 0 ∷ 7 ∷ 0x70 ∷ 0x69 ∷ 0x6e ∷ 0x67 ∷ []
+
+-- over IPv6
+echo_request_ipv6 : List ℕ
+echo_request_ipv6 =
+    0x6b ∷ 0x90 ∷ 0 ∷ 0 ∷ 0 ∷ 0x0c ∷ 0x3a ∷ 0x3f ∷ 0x20 ∷ 1 ∷ 0x0d ∷ 0xb8 ∷ 0xc0 ∷ 0 ∷ 2 ∷ 0x21
+    ∷ 0 ∷ 0 ∷ 0 ∷ 0 ∷ 0 ∷ 0 ∷ 0 ∷ 0 ∷ 0x20 ∷ 1 ∷ 0x0d ∷ 0xb8 ∷ 1 ∷ 0x22 ∷ 3 ∷ 0x44
+    ∷ 0 ∷ 0 ∷ 0 ∷ 0 ∷ 0xc6 ∷ 0x33 ∷ 0x64 ∷ 7 ∷ 0x80 ∷ 0 ∷ 0x42 ∷ 0x78 ∷ 0x12 ∷ 0x34 ∷ 0 ∷ 7
+    ∷ 0x70 ∷ 0x69 ∷ 0x6e ∷ 0x67 ∷ []
+
+echo_translated : translated_packet prefixes echo_request ≡ echo_request_ipv6
+unfolding folded prefixes echo_request echo_request_ipv6
+echo_translated = refl
+
 no_space : packet_refusal prefixes udp_packet 50 ≡ Some (Space 51 50)
 unfolding folded options_within prefixes udp_packet
 no_space = refl

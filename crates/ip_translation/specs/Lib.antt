@@ -1,4 +1,5 @@
 pub use Rattle.net_base.specs.Refusals
+pub mod EchoMessages
 pub mod ErrorTexts
 pub mod HeadersToIpv4
 pub mod HeadersToIpv6

@@ -1,16 +1,18 @@
 -- The IPv4 packet for an IPv6 packet (RFC 7915, section 5), and the packets that have none.
-use Rattle.std.specs.Prelude.{◌≡◌, ◌≢◌, ℕ, ◌+◌, ◌==◌, Bool, ◌&&◌, not, nat_le, nat_lt, if◌then◌else◌, List, [], ◌∷◌, ◌++◌, length, slice_range, Option, Some, None}
-use Rattle.std.specs.Option.{option_map}
+use Rattle.std.specs.Prelude.{◌≡◌, ◌≢◌, ◌↔◌, ℕ, ◌+◌, ◌==◌, Bool, ◌&&◌, not, nat_le, nat_lt, if◌then◌else◌, List, [], ◌∷◌, ◌++◌, length, slice_index, slice_range, Option, Some, None}
+use Rattle.std.specs.Option.{option_map, unwrap_or}
 use Rattle.ip_part.specs.Ip.{ipv6_header}
 use Rattle.net_base.specs.IpHeaders.{version}
 use Rattle.net_base.specs.IpNumbers.{icmpv6_number, tcp_number, udp_number}
 use Rattle.net_base.specs.Refusals.{first_of, refused_if}
 use Rattle.net_base.specs.StoredChecksum.{tcp_checksum_place, udp_checksum_place, with_checksum}
+use Rattle.word_sum.specs.Checksum.{Verifies}
 use Rattle.word_sum.specs.UpdatedChecksum.{updated_checksum_of, updated_udp_checksum_of}
+use Rattle.ip_translation.specs.EchoMessages.{echo_refusal, translated_echo, type_over_ipv4}
 use Rattle.ip_translation.specs.HeadersToIpv4.{added_addresses, header_refusal, new_pseudo_header, next_header, old_pseudo_header, payload_len, removed_addresses, translated_header}
 use Rattle.ip_translation.specs.PacketsToIpv6.{VerifiesAlike, header_len_refusal, tcp_checksum, udp_checksum}
 use Rattle.ip_translation.specs.declared.packet_translation_error.PacketTranslationError.{PacketTranslationError}
-use Rattle.ip_translation.specs.declared.packet_translation_error.PacketTranslationError.TheVariants.{CutOff, Header, Icmp, NoIpv6Header, NoUdpChecksum, Space}
+use Rattle.ip_translation.specs.declared.packet_translation_error.PacketTranslationError.TheVariants.{CutOff, Header, NoIpv6Header, NoUdpChecksum, Space}
 use Rattle.ip_translation.specs.declared.prefixes.Prefixes.{Prefixes}
 
 -- ---- the parts of a packet
@@ -42,7 +44,7 @@ udp_refusal packet = first_of (
 -- of a message of this protocol
 abbrev pub message_refusal : ℕ → List ℕ → Option PacketTranslationError
 message_refusal protocol message =
-    if protocol == icmpv6_number then Some Icmp
+    if protocol == icmpv6_number then echo_refusal type_over_ipv4 message
     else if protocol == udp_number then udp_refusal message
     else if protocol == tcp_number then header_len_refusal 20 message
     else None
@@ -78,10 +80,17 @@ abbrev pub translated_tcp : Prefixes → List ℕ → List ℕ → List ℕ
 translated_tcp prefixes header segment = with_checksum tcp_checksum_place segment
     (updated_checksum_of (tcp_checksum segment) (removed_addresses header) (added_addresses prefixes header))
 
+-- an echo message of ICMPv6 as one of ICMP, without the pseudo header of the whole message
+abbrev pub translated_icmp : List ℕ → List ℕ → List ℕ
+translated_icmp header message =
+    translated_echo (unwrap_or (type_over_ipv4 (slice_index message 0)) (slice_index message 0))
+    (old_pseudo_header header icmpv6_number (length message)) [] message
+
 -- no other protocol is changed
 abbrev pub translated_message : Prefixes → List ℕ → List ℕ → List ℕ
 translated_message prefixes header message =
-    if next_header header == udp_number then translated_udp prefixes header message
+    if next_header header == icmpv6_number then translated_icmp header message
+    else if next_header header == udp_number then translated_udp prefixes header message
     else if next_header header == tcp_number then translated_tcp prefixes header message
     else message
 
@@ -97,9 +106,11 @@ translated_packet prefixes identification packet = translated_after (ipv6_header
 
 -- ---- a receiver's check
 
--- a UDP packet and a TCP segment are accepted alike
+-- a UDP packet, a TCP segment and an echo message are accepted alike
 pub record IsAcceptedAlike (prefixes : Prefixes) (header message translated : List ℕ) : Type 0 where
   pub udp : next_header header ≡ udp_number → udp_checksum message ≢ 0
       → VerifiesAlike 8 (old_pseudo_header header udp_number) (new_pseudo_header prefixes header udp_number) message translated
   pub tcp : next_header header ≡ tcp_number
       → VerifiesAlike 18 (old_pseudo_header header tcp_number) (new_pseudo_header prefixes header tcp_number) message translated
+  pub echo : next_header header ≡ icmpv6_number
+      → (Verifies [] translated) ↔ (Verifies (old_pseudo_header header icmpv6_number (length message)) message)

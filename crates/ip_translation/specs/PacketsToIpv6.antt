@@ -1,19 +1,20 @@
 -- The IPv6 packet for an IPv4 packet (RFC 7915, section 4), and the packets that have none.
-use Rattle.std.specs.Prelude.{◌≡◌, ◌≢◌, ◌≤◌, ◌↔◌, ℕ, ◌+◌, ◌==◌, Bool, ◌&&◌, ◌||◌, not, nat_le, nat_lt, if◌then◌else◌, List, [], ◌∷◌, ◌++◌, length, slice_range, take, Option, Some, None}
-use Rattle.std.specs.Option.{option_map}
+use Rattle.std.specs.Prelude.{◌≡◌, ◌≢◌, ◌≤◌, ◌↔◌, ℕ, ◌+◌, ◌==◌, Bool, ◌&&◌, ◌||◌, not, nat_le, nat_lt, if◌then◌else◌, List, [], ◌∷◌, ◌++◌, length, slice_index, slice_range, take, Option, Some, None}
+use Rattle.std.specs.Option.{option_map, unwrap_or}
 use Rattle.ip_part.specs.Ip.{ipv4_header}
 use Rattle.net_base.specs.Bytes.{be_number}
 use Rattle.net_base.specs.IpHeaders.{ipv4_header_len, version}
-use Rattle.net_base.specs.IpNumbers.{icmpv4_number, tcp_number, udp_number}
+use Rattle.net_base.specs.IpNumbers.{icmpv4_number, icmpv6_number, tcp_number, udp_number}
 use Rattle.net_base.specs.PseudoHeader.{max_len_over_ipv4}
 use Rattle.net_base.specs.Refusals.{first_of, refused_if}
 use Rattle.net_base.specs.StoredChecksum.{tcp_checksum_place, udp_checksum_place, with_checksum}
 use Rattle.word_sum.specs.Checksum.{Verifies, folded, total, udp_checksum_of}
 use Rattle.word_sum.specs.UpdatedChecksum.{updated_checksum_of, updated_udp_checksum_of}
+use Rattle.ip_translation.specs.EchoMessages.{echo_refusal, translated_echo, type_over_ipv6}
 use Rattle.ip_translation.specs.HeadersToIpv6.{destination, header_refusal, new_pseudo_header, old_pseudo_header, protocol, source, total_len, translated_header}
 use Rattle.ip_translation.specs.Prefixes.{embedded}
 use Rattle.ip_translation.specs.declared.packet_translation_error.PacketTranslationError.{PacketTranslationError}
-use Rattle.ip_translation.specs.declared.packet_translation_error.PacketTranslationError.TheVariants.{CutOff, Header, Icmp, NoIpv4Header, Space, TransportHeader, UdpLength}
+use Rattle.ip_translation.specs.declared.packet_translation_error.PacketTranslationError.TheVariants.{CutOff, Header, NoIpv4Header, Space, TransportHeader, UdpLength}
 use Rattle.ip_translation.specs.declared.prefixes.Prefixes.{Prefixes}
 
 -- ---- the parts of a packet
@@ -71,7 +72,7 @@ pub record IsWholeUdp (packet : List ℕ) : Type 0 where
 -- of a message of this protocol
 abbrev pub message_refusal : ℕ → List ℕ → Option PacketTranslationError
 message_refusal protocol message =
-    if protocol == icmpv4_number then Some Icmp
+    if protocol == icmpv4_number then echo_refusal type_over_ipv6 message
     else if protocol == udp_number then udp_refusal message
     else if protocol == tcp_number then header_len_refusal 20 message
     else None
@@ -125,10 +126,17 @@ translated_udp prefixes header packet = with_checksum udp_checksum_place packet 
 abbrev pub translated_tcp : Prefixes → List ℕ → List ℕ → List ℕ
 translated_tcp prefixes header segment = with_checksum tcp_checksum_place segment (new_tcp_checksum prefixes header segment)
 
+-- an echo message as one of ICMPv6, with the pseudo header of the whole message
+abbrev pub translated_icmp : Prefixes → List ℕ → List ℕ → List ℕ
+translated_icmp prefixes header message =
+    translated_echo (unwrap_or (type_over_ipv6 (slice_index message 0)) (slice_index message 0)) []
+    (new_pseudo_header prefixes header icmpv6_number (length message)) message
+
 -- the message with its new checksum; no other protocol is changed
 abbrev pub translated_message : Prefixes → List ℕ → List ℕ → List ℕ
 translated_message prefixes header message =
-    if protocol header == udp_number then translated_udp prefixes header message
+    if protocol header == icmpv4_number then translated_icmp prefixes header message
+    else if protocol header == udp_number then translated_udp prefixes header message
     else if protocol header == tcp_number then translated_tcp prefixes header message
     else message
 
@@ -150,7 +158,8 @@ abbrev pub VerifiesAlike : ℕ → (ℕ → List ℕ) → (ℕ → List ℕ) →
 VerifiesAlike least old new message translated = (len count : ℕ) (missing : List ℕ) → len ≤ max_len_over_ipv4 → least ≤ count
     → (Verifies (new len) (take count translated ++ missing)) ↔ (Verifies (old len) (take count message ++ missing))
 
--- A UDP packet with a checksum and a TCP segment are accepted alike. A UDP packet without a checksum is accepted.
+-- A UDP packet with a checksum, a TCP segment and an echo message are accepted alike. A UDP packet without a checksum is accepted, and an echo
+-- reply of zeros, the checksum included.
 pub record IsAcceptedAlike (prefixes : Prefixes) (header message translated : List ℕ) : Type 0 where
   pub udp : protocol header ≡ udp_number → udp_checksum message ≢ 0
       → VerifiesAlike 8 (old_pseudo_header header udp_number) (new_pseudo_header prefixes header udp_number) message translated
@@ -158,3 +167,5 @@ pub record IsAcceptedAlike (prefixes : Prefixes) (header message translated : Li
       → Verifies (new_pseudo_header prefixes header udp_number (udp_length message)) (take (udp_length message) translated)
   pub tcp : protocol header ≡ tcp_number
       → VerifiesAlike 18 (old_pseudo_header header tcp_number) (new_pseudo_header prefixes header tcp_number) message translated
+  pub echo : protocol header ≡ icmpv4_number → total message ≢ 0
+      → (Verifies (new_pseudo_header prefixes header icmpv6_number (length message)) translated) ↔ (Verifies [] message)

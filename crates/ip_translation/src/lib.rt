@@ -1,7 +1,7 @@
 //! Translation between IPv4 and IPv6 (RFC 7915) with addresses by RFC 6052.
 //!
-//! A `Prefix64` embeds IPv4 addresses in IPv6 addresses, and extracts them again. `ipv4_to_ipv6` and `ipv6_to_ipv4` translate packets. No call allocates or
-//! has a precondition.
+//! A `Prefix64` embeds IPv4 addresses in IPv6 addresses, and extracts them again. `ipv4_to_ipv6` and `ipv6_to_ipv4` translate
+//! packets. No call allocates or has a precondition.
 //!
 //! ```
 //! let prefix = Prefix64::Bits32([0x20, 0x01, 0x0d, 0xb8]);
@@ -11,6 +11,7 @@
 #![tactic(auto)]
 
 mod address_error;
+mod echo_translation;
 mod header_translation;
 mod ipv4_header_translation;
 mod message_translation;

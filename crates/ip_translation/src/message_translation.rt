@@ -1,6 +1,6 @@
-ghost use Rattle.std.specs.Prelude.{◌≡◌, ◌≢◌, ◌≤◌, ◌+◌, ◌↔◌, ℕ, IfOk, length, take};
+ghost use Rattle.std.specs.Prelude.{◌≡◌, ◌≢◌, ◌≤◌, ◌+◌, ◌↔◌, [], ℕ, IfOk, length, take};
 ghost use Rattle.net_base.specs.Bytes.{be_number};
-ghost use Rattle.net_base.specs.IpNumbers.{tcp_number, udp_number};
+ghost use Rattle.net_base.specs.IpNumbers.{icmpv4_number, icmpv6_number, tcp_number, udp_number};
 ghost use Rattle.net_base.specs.PseudoHeader.{max_len_over_ipv4};
 ghost use Rattle.net_base.specs.Refusals.{RefusesExactly};
 ghost use Rattle.net_base.specs.StoredChecksum.{with_checksum};
@@ -8,6 +8,7 @@ ghost use Rattle.word_sum.specs.Checksum.{IsAllOnes, Verifies, total, udp_checks
 ghost use Rattle.ip_translation.specs.HeadersToIpv6 as headers;
 ghost use Rattle.ip_translation.specs.PacketsToIpv6 as specs;
 
+use crate::echo_translation::{check_echo, icmpv6_pseudo_header, type_over_ipv6, write_echo};
 use crate::{PacketTranslationError, Prefixes, pseudo_header_change};
 use net_base::{IpNumber, Ipv4HeaderSlice, ip_number, pseudo_header_ipv6};
 
@@ -34,9 +35,10 @@ pub(crate) fn check_message(
     ensures refused { RefusesExactly result (specs.message_refusal protocol.0 message.now) }
     ensures udp { IfOk result (λ _. protocol.0 ≡ udp_number → specs.IsWholeUdp message.now) }
     ensures tcp { IfOk result (λ _. protocol.0 ≡ tcp_number → 20 ≤ length message.now) }
+    ensures icmp { IfOk result (λ _. protocol.0 ≡ icmpv4_number → 8 ≤ length message.now) }
 {
     if protocol.0 == ip_number::ICMP.0 {
-        return Err(PacketTranslationError::Icmp);
+        return check_echo(message);
     }
     if protocol.0 == ip_number::UDP.0 {
         return check_udp(message);
@@ -91,9 +93,15 @@ pub(crate) fn write_message(
     requires room { length translated.old ≡ length message.now }
     requires udp { headers.protocol header.now ≡ udp_number → specs.IsWholeUdp message.now }
     requires tcp { headers.protocol header.now ≡ tcp_number → 20 ≤ length message.now }
+    requires icmp { headers.protocol header.now ≡ icmpv4_number → 8 ≤ length message.now }
+    requires counted { length message.now ≤ max_len_over_ipv4 }
     ensures written { translated.new ≡ specs.translated_message prefixes.now header.now message.now }
     ensures alike { specs.IsAcceptedAlike prefixes.now header.now message.now translated.new }
 {
+    if header.protocol().0 == ip_number::ICMP.0 {
+        write_icmp(translated, message, header, prefixes);
+        return;
+    }
     if header.protocol().0 == ip_number::UDP.0 {
         write_udp(translated, message, header, prefixes);
         return;
@@ -103,6 +111,27 @@ pub(crate) fn write_message(
         return;
     }
     translated.copy_from_slice(message);
+}
+
+/// Writes an echo message as one of ICMPv6, whose checksum covers a pseudo header.
+fn write_icmp(
+    translated: &mut [u8],
+    message: &[u8],
+    header: &Ipv4HeaderSlice<'_>,
+    prefixes: &Prefixes,
+)
+    requires room { length translated.old ≡ length message.now }
+    requires there { 8 ≤ length message.now }
+    requires counted { length message.now ≤ max_len_over_ipv4 }
+    ensures written { translated.new ≡ specs.translated_icmp prefixes.now header.now message.now }
+    ensures alike { total message.now ≢ 0 →
+        (Verifies (headers.new_pseudo_header prefixes.now header.now icmpv6_number (length message.now)) translated.new) ↔ (Verifies [] message.now) }
+{
+    let type_u8 = type_over_ipv6(message[0]).unwrap_or(message[0]);
+    let source = prefixes.source.embed(header.source());
+    let destination = prefixes.destination.embed(header.destination());
+    let new = icmpv6_pseudo_header(source, destination, message.len() as u32);
+    write_echo(translated, message, type_u8, &[], new.as_slice());
 }
 
 /// Writes a UDP packet with its new checksum.

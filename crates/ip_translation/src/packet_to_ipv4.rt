@@ -1,13 +1,15 @@
-ghost use Rattle.std.specs.Prelude.{◌≡◌, ◌≢◌, ◌≤◌, ◌+◌, ◌++◌, IfErr, IfOk, MatchOption, drop, false, length, true};
+ghost use Rattle.std.specs.Prelude.{◌≡◌, ◌≢◌, ◌≤◌, ◌+◌, ◌++◌, ◌↔◌, [], IfErr, IfOk, MatchOption, drop, false, length, true};
 ghost use Rattle.std.specs.Option.{option_map};
 ghost use Rattle.ip_part.specs.Ip.{ipv6_header};
-ghost use Rattle.net_base.specs.IpNumbers.{tcp_number, udp_number};
+ghost use Rattle.net_base.specs.IpNumbers.{icmpv6_number, tcp_number, udp_number};
+ghost use Rattle.net_base.specs.PseudoHeader.{max_len_over_ipv4};
 ghost use Rattle.net_base.specs.Refusals.{RefusesExactly};
+ghost use Rattle.word_sum.specs.Checksum.{Verifies};
 ghost use Rattle.ip_translation.specs.HeadersToIpv4 as headers;
 ghost use Rattle.ip_translation.specs.PacketsToIpv4 as specs;
-ghost use Rattle.ip_translation.specs.PacketsToIpv6.{udp_checksum};
 ghost use Rattle.ip_translation.specs.declared.packet_translation_error.PacketTranslationError.TheVariants.{Header};
 
+use crate::echo_translation::{check_ipv6_echo, icmpv6_pseudo_header, type_over_ipv4, write_echo};
 use crate::message_translation::{TCP_LEN, UDP_CHECKSUM_AT, UDP_LEN, check_header_len, number};
 use crate::updated_message::{write_updated_tcp, write_updated_udp};
 use crate::{PacketTranslationError, Prefixes, header_to_ipv4, pseudo_header_change_to_ipv4};
@@ -24,7 +26,8 @@ const IPV6_LEN: usize = 40;
 /// buffer is unchanged. Bytes after the payload length of the packet are ignored.
 ///
 /// `header_to_ipv4` translates the header, with this identification. The message is kept, except for the checksum of UDP and TCP: their
-/// pseudo header contains the addresses. A packet of any other protocol but ICMPv6 keeps its message.
+/// pseudo header contains the addresses. An echo message of ICMPv6 becomes one of ICMP (section 5.2). A packet of any other protocol keeps its
+/// message.
 ///
 /// # Errors
 ///
@@ -32,8 +35,8 @@ const IPV6_LEN: usize = 40;
 /// - `NoIpv6Header` if the bytes do not begin with a whole IPv6 header.
 /// - `Header` if `header_to_ipv4` refuses the header.
 /// - `CutOff` if there are fewer bytes than the header and its payload length.
-/// - `Icmp` if the protocol is ICMPv6.
-/// - `TransportHeader` if a UDP packet is shorter than 8 bytes, or a TCP segment shorter than 20 bytes.
+/// - `TransportHeader` if a UDP packet or an ICMP message is shorter than 8 bytes, or a TCP segment shorter than 20 bytes.
+/// - `IcmpType` if an ICMP message is neither an echo request nor an echo reply.
 /// - `NoUdpChecksum` if a UDP packet has no checksum.
 /// - `Space` if the buffer is shorter than the translated packet.
 pub fn ipv6_to_ipv4(
@@ -117,6 +120,7 @@ fn message_after<'a>(
 ) -> Result<&'a [u8], PacketTranslationError>
     ensures refused { RefusesExactly result (specs.cut_off_refusal header.now (length packet.now)) }
     ensures message { IfOk result (λ message. message.now ≡ specs.message_after header.now packet.now) }
+    ensures counted { IfOk result (λ message. length message.now ≤ max_len_over_ipv4) }
 {
     let total_len = IPV6_LEN + usize::from(header.payload_length());
     if packet.len() < total_len {
@@ -133,9 +137,10 @@ fn check_message(protocol: IpNumber, message: &[u8]) -> Result<(), PacketTransla
     ensures refused { RefusesExactly result (specs.message_refusal protocol.0 message.now) }
     ensures udp { IfOk result (λ _. protocol.0 ≡ udp_number → 8 ≤ length message.now) }
     ensures tcp { IfOk result (λ _. protocol.0 ≡ tcp_number → 20 ≤ length message.now) }
+    ensures icmp { IfOk result (λ _. protocol.0 ≡ icmpv6_number → 8 ≤ length message.now) }
 {
     if protocol.0 == ip_number::IPV6_ICMP.0 {
-        return Err(PacketTranslationError::Icmp);
+        return check_ipv6_echo(message);
     }
     if protocol.0 == ip_number::UDP.0 {
         return check_udp(message);
@@ -169,6 +174,8 @@ fn write_parts(
     requires room { length ipv4_header.now + length message.now ≤ length buffer.old }
     requires udp { headers.next_header header.now ≡ udp_number → 8 ≤ length message.now }
     requires tcp { headers.next_header header.now ≡ tcp_number → 20 ≤ length message.now }
+    requires icmp { headers.next_header header.now ≡ icmpv6_number → 8 ≤ length message.now }
+    requires counted { length message.now ≤ max_len_over_ipv4 }
     ensures written { buffer.new ≡ (ipv4_header.now ++ specs.translated_message prefixes.now header.now message.now)
         ++ drop (length ipv4_header.now + length message.now) buffer.old }
     ensures alike { specs.IsAcceptedAlike prefixes.now header.now message.now (specs.translated_message prefixes.now header.now message.now) }
@@ -188,9 +195,15 @@ fn write_message(
     requires room { length translated.old ≡ length message.now }
     requires udp { headers.next_header header.now ≡ udp_number → 8 ≤ length message.now }
     requires tcp { headers.next_header header.now ≡ tcp_number → 20 ≤ length message.now }
+    requires icmp { headers.next_header header.now ≡ icmpv6_number → 8 ≤ length message.now }
+    requires counted { length message.now ≤ max_len_over_ipv4 }
     ensures written { translated.new ≡ specs.translated_message prefixes.now header.now message.now }
     ensures alike { specs.IsAcceptedAlike prefixes.now header.now message.now translated.new }
 {
+    if header.next_header().0 == ip_number::IPV6_ICMP.0 {
+        write_icmp(translated, message, header);
+        return;
+    }
     if header.next_header().0 == ip_number::UDP.0 {
         let change = pseudo_header_change_to_ipv4(header, prefixes);
         write_updated_udp(translated, message, change);
@@ -202,4 +215,18 @@ fn write_message(
         return;
     }
     translated.copy_from_slice(message);
+}
+
+/// Writes an echo message of ICMPv6 as one of ICMP, whose checksum covers no pseudo header.
+fn write_icmp(translated: &mut [u8], message: &[u8], header: &Ipv6HeaderSlice<'_>)
+    requires room { length translated.old ≡ length message.now }
+    requires there { 8 ≤ length message.now }
+    requires counted { length message.now ≤ max_len_over_ipv4 }
+    ensures written { translated.new ≡ specs.translated_icmp header.now message.now }
+    ensures alike { (Verifies [] translated.new)
+        ↔ (Verifies (headers.old_pseudo_header header.now icmpv6_number (length message.now)) message.now) }
+{
+    let type_u8 = type_over_ipv4(message[0]).unwrap_or(message[0]);
+    let old = icmpv6_pseudo_header(header.source(), header.destination(), message.len() as u32);
+    write_echo(translated, message, type_u8, old.as_slice(), &[]);
 }

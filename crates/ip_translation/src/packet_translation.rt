@@ -2,7 +2,8 @@ ghost use Rattle.std.specs.Prelude.{◌≡◌, ◌≤◌, ◌+◌, ◌++◌, IfE
 ghost use Rattle.std.specs.Option.{option_map};
 ghost use Rattle.ip_part.specs.Ip.{ipv4_header};
 ghost use Rattle.net_base.specs.IpHeaders.{ipv4_header_len};
-ghost use Rattle.net_base.specs.IpNumbers.{tcp_number, udp_number};
+ghost use Rattle.net_base.specs.IpNumbers.{icmpv4_number, tcp_number, udp_number};
+ghost use Rattle.net_base.specs.PseudoHeader.{max_len_over_ipv4};
 ghost use Rattle.net_base.specs.Refusals.{RefusesExactly};
 ghost use Rattle.ip_translation.specs.HeadersToIpv6 as headers;
 ghost use Rattle.ip_translation.specs.PacketsToIpv6 as specs;
@@ -20,7 +21,8 @@ const IPV6_LEN: usize = 40;
 /// the buffer is unchanged. Bytes after the total length of the packet are ignored.
 ///
 /// `header_to_ipv6` translates the header. The message is kept, except for the checksum of UDP and TCP: their pseudo header contains the
-/// addresses. A UDP packet without a checksum gets one (section 4.5). A packet of any other protocol but ICMP keeps its message.
+/// addresses. A UDP packet without a checksum gets one (section 4.5). An echo message of ICMP becomes one of ICMPv6 (section 4.2). A packet of
+/// any other protocol keeps its message.
 ///
 /// # Errors
 ///
@@ -28,8 +30,8 @@ const IPV6_LEN: usize = 40;
 /// - `NoIpv4Header` if the bytes do not begin with a whole IPv4 header.
 /// - `Header` if `header_to_ipv6` refuses the header.
 /// - `CutOff` if there are fewer bytes than the total length.
-/// - `Icmp` if the protocol is ICMP.
-/// - `TransportHeader` if a UDP packet is shorter than 8 bytes, or a TCP segment shorter than 20 bytes.
+/// - `TransportHeader` if a UDP packet or an ICMP message is shorter than 8 bytes, or a TCP segment shorter than 20 bytes.
+/// - `IcmpType` if an ICMP message is neither an echo request nor an echo reply.
 /// - `UdpLength` if a UDP packet has no checksum, and its length field is below 8 or above the length of the message.
 /// - `Space` if the buffer is shorter than the translated packet.
 pub fn ipv4_to_ipv6(
@@ -111,6 +113,7 @@ fn message_after<'a>(
     requires ordered { ipv4_header_len header.now ≤ headers.total_len header.now }
     ensures refused { RefusesExactly result (specs.cut_off_refusal header.now (length packet.now)) }
     ensures message { IfOk result (λ message. message.now ≡ specs.message_after header.now packet.now) }
+    ensures counted { IfOk result (λ message. length message.now ≤ max_len_over_ipv4) }
 {
     let total_len = usize::from(header.total_len());
     if packet.len() < total_len {
@@ -133,6 +136,8 @@ fn write_parts(
     requires room { length ipv6_header.now + length message.now ≤ length buffer.old }
     requires udp { headers.protocol header.now ≡ udp_number → specs.IsWholeUdp message.now }
     requires tcp { headers.protocol header.now ≡ tcp_number → 20 ≤ length message.now }
+    requires icmp { headers.protocol header.now ≡ icmpv4_number → 8 ≤ length message.now }
+    requires counted { length message.now ≤ max_len_over_ipv4 }
     ensures written { buffer.new ≡ (ipv6_header.now ++ specs.translated_message prefixes.now header.now message.now)
         ++ drop (length ipv6_header.now + length message.now) buffer.old }
     ensures alike { specs.IsAcceptedAlike prefixes.now header.now message.now (specs.translated_message prefixes.now header.now message.now) }

@@ -24,8 +24,8 @@ pub enum PacketTranslationError {
         /// The number of bytes.
         len: usize,
     },
-    /// The packet contains ICMP.
-    Icmp,
+    /// The packet contains an ICMP message of this type, which is no echo message.
+    IcmpType(u8),
     /// The message ends before its transport header.
     TransportHeader {
         /// The length of the transport header without options, in bytes.
@@ -73,9 +73,11 @@ impl PacketTranslationError {
                 Number(*len),
                 Words(" bytes."),
             ]),
-            PacketTranslationError::Icmp => {
-                ErrorText::from_words("Translation Error: the packet contains ICMP.")
-            }
+            PacketTranslationError::IcmpType(type_u8) => ErrorText::from_parts(&[
+                Words("Translation Error: an ICMP message of type "),
+                Number(usize::from(*type_u8)),
+                Words(" is not translated."),
+            ]),
             PacketTranslationError::TransportHeader { required_len, len } => {
                 ErrorText::from_parts(&[
                     Words("Translation Error: the transport header has "),

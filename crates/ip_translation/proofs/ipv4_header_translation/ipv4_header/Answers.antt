@@ -1,4 +1,4 @@
-use Rattle.std.proofs.Common.{◌≡◌, ◌<◌, List, [], ℕ, rules, sym, ap, subst, ◌∙◌}
+use Rattle.std.proofs.Common.{◌≡◌, [], rules, sym, subst}
 use Rattle.word_sum.specs.Checksum.{Verifies, checksum_of, total}
 use Rattle.ip_translation.specs.HeadersToIpv4.{with_header_checksum}
 use Rattle.ip_translation.proofs.Ipv4HeaderLemmas.{header_verifies}

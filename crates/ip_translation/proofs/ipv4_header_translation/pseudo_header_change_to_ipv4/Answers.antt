@@ -1,4 +1,4 @@
-use Rattle.std.proofs.Common.{◌≡◌, ◌+◌, ◌<◌, ℕ, rules, ap, ap₂, ◌∙◌, subst₂, arith}
+use Rattle.std.proofs.Common.{◌+◌, ◌<◌, ℕ, rules, ap, ap₂, ◌∙◌, subst₂, arith}
 use Rattle.ip_translation.specs.HeadersToIpv4 as specs
 use Rattle.ip_translation.specs.Prefixes.{extracted}
 use Rattle.net_base.specs.PseudoHeader.{ipv4_pseudo_header, ipv6_pseudo_header}

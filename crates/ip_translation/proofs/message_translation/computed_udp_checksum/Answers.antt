@@ -1,9 +1,8 @@
-use Rattle.std.proofs.Common.{◌≡◌, ◌+◌, min, List, ℕ, length, take, ap, ap₂, ◌∙◌, sym}
+use Rattle.std.proofs.Common.{◌≡◌, ◌+◌, min, List, ℕ, length, take, ap, ap₂, ◌∙◌}
 use Rattle.std.proofs.lemmas.List.{take_min}
 use Rattle.net_base.specs.IpNumbers.{udp_number}
 use Rattle.net_base.specs.PseudoHeader.{ipv6_pseudo_header}
 use Rattle.word_sum.specs.Checksum.{complement, folded, total, zero_as_all_ones}
-use Rattle.word_sum.specs.SumValue.{sum_value}
 use Rattle.word_sum.proofs.ChecksumLemmas.{folded-add}
 use Rattle.ip_translation.specs.HeadersToIpv6.{destination, new_pseudo_header, source}
 use Rattle.ip_translation.specs.PacketsToIpv6.{udp_length}

@@ -1,9 +1,8 @@
-use Rattle.std.proofs.Common.{◌≡◌, ◌++◌, ◌+◌, ◌%◌, ◌<◌, List, ℕ, take, rules, refl, sym, ap, subst, ◌∙◌, arith}
+use Rattle.std.proofs.Common.{◌≡◌, ◌++◌, ◌+◌, List, ℕ, take, rules, refl, sym, subst, ◌∙◌, arith}
 use Rattle.std.specs.Prelude.{◌↔◌}
 use Rattle.net_base.specs.Bytes.{IsBytes}
 use Rattle.net_base.specs.StoredChecksum.{with_checksum}
 use Rattle.word_sum.specs.Checksum.{IsAllOnes, total}
-use Rattle.ip_translation.specs.PacketsToIpv6 as specs
 use Rattle.ip_translation.proofs.MessageLemmas as messages
 use Rattle.ip_translation.proofs.updated_message.write_updated_udp.Goals as goal
 

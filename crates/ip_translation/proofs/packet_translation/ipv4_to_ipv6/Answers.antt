@@ -1,0 +1,20 @@
+use Rattle.std.proofs.Common.{List, ℕ, Option, length, subst, sym, ap, ◌∙◌}
+use Rattle.std.specs.Prelude.{not}
+use Rattle.net_base.specs.Refusals.{RefusesExactly, refused_if}
+use Rattle.ip_translation.specs.PacketsToIpv6 as specs
+use Rattle.ip_translation.specs.declared.packet_translation_error.PacketTranslationError.TheVariants.{NoIpv4Header}
+use Rattle.ip_part.specs.Ip.{ipv4_header}
+use Rattle.ip_translation.proofs.RuleLemmas.{last_of_two}
+use Rattle.ip_translation.proofs.packet_translation.ipv4_to_ipv6.Goals as goal
+
+pub returns-clause-refused : goal.returns-clause-refused
+returns-clause-refused c =
+    let packet : List ℕ = c.args.packet.now in
+    let room : ℕ = length c.args.buffer.now in
+    subst (λ refusal. RefusesExactly c.translate_after.result refusal)
+    (sym (
+    last_of_two (refused_if (not (specs.begins_with_header packet)) NoIpv4Header)
+    (specs.refusal_after (ipv4_header packet) c.args.prefixes.now packet room)
+    (ap (λ begins. refused_if (not begins) NoIpv4Header) c.in-Some.ensures.found.0)
+    ∙ ap (λ header. specs.refusal_after header c.args.prefixes.now packet room) (sym c.in-Some.ensures.found.1)))
+    c.translate_after.ensures.refused

@@ -1,0 +1,144 @@
+ghost use Rattle.std.specs.Prelude.{◌≡◌, ◌≢◌, ◌⊎◌, ◌≤◌, ◌<◌, ◌+◌, ◌*◌, ◌%◌, ◌↔◌, [], ℕ, IfOk, length, slice_index};
+ghost use Rattle.net_base.specs.IpNumbers.{icmpv6_number};
+ghost use Rattle.net_base.specs.PseudoHeader.{ipv6_pseudo_header};
+ghost use Rattle.net_base.specs.Refusals.{RefusesExactly};
+ghost use Rattle.word_sum.specs.Checksum.{Verifies, total};
+ghost use Rattle.ip_translation.specs.EchoMessages as specs;
+
+use crate::PacketTranslationError;
+use crate::message_translation::{check_header_len, number, store_checksum};
+use arrayvec::ArrayVec;
+use net_base::ip_number;
+use word_sum::checksum_change::ChecksumChange;
+
+/// The length of the header of an echo message, in bytes (RFC 792; RFC 4443, section 4).
+const ECHO_LEN: usize = 8;
+
+/// The place of the checksum in ICMP, in bytes (RFC 792; RFC 4443, section 2.1).
+const ICMP_CHECKSUM_AT: usize = 2;
+
+/// The types of echo request and echo reply over IPv4 (RFC 792).
+const ECHO_REQUEST: u8 = 8;
+
+const ECHO_REPLY: u8 = 0;
+
+/// The types of echo request and echo reply over IPv6 (RFC 4443, section 4).
+const IPV6_ECHO_REQUEST: u8 = 128;
+
+const IPV6_ECHO_REPLY: u8 = 129;
+
+/// Refuses an ICMP message that is no echo message.
+pub(crate) fn check_echo(message: &[u8]) -> Result<(), PacketTranslationError>
+    ensures refused { RefusesExactly result (specs.echo_refusal specs.type_over_ipv6 message.now) }
+    ensures there { IfOk result (λ _. 8 ≤ length message.now) }
+{
+    check_header_len(message, ECHO_LEN)?;
+    match type_over_ipv6(message[0]) {
+        Some(_) => Ok(()),
+        None => Err(PacketTranslationError::IcmpType(message[0])),
+    }
+}
+
+/// The type over IPv6 of an echo message over IPv4 (RFC 7915, section 4.2).
+pub(crate) fn type_over_ipv6(type_u8: u8) -> Option<u8>
+    ensures { result ≡ specs.type_over_ipv6 type_u8 }
+{
+    match type_u8 {
+        ECHO_REQUEST => Some(IPV6_ECHO_REQUEST),
+        ECHO_REPLY => Some(IPV6_ECHO_REPLY),
+        _ => None,
+    }
+}
+
+/// Refuses an ICMPv6 message that is no echo message.
+pub(crate) fn check_ipv6_echo(message: &[u8]) -> Result<(), PacketTranslationError>
+    ensures refused { RefusesExactly result (specs.echo_refusal specs.type_over_ipv4 message.now) }
+    ensures there { IfOk result (λ _. 8 ≤ length message.now) }
+{
+    check_header_len(message, ECHO_LEN)?;
+    match type_over_ipv4(message[0]) {
+        Some(_) => Ok(()),
+        None => Err(PacketTranslationError::IcmpType(message[0])),
+    }
+}
+
+/// The type over IPv4 of an echo message over IPv6 (RFC 7915, section 5.2).
+pub(crate) fn type_over_ipv4(type_u8: u8) -> Option<u8>
+    ensures { result ≡ specs.type_over_ipv4 type_u8 }
+{
+    match type_u8 {
+        IPV6_ECHO_REQUEST => Some(ECHO_REQUEST),
+        IPV6_ECHO_REPLY => Some(ECHO_REPLY),
+        _ => None,
+    }
+}
+
+/// The pseudo header of an ICMPv6 message of this length between these addresses (RFC 8200, section 8.1).
+pub(crate) fn icmpv6_pseudo_header(
+    source: [u8; 16],
+    destination: [u8; 16],
+    len: u32,
+) -> ArrayVec<u8, 40>
+    ensures bytes { result.items ≡ ipv6_pseudo_header source destination icmpv6_number len }
+    ensures some { 0 < total result.items }
+{
+    pseudo_header_bytes(source, destination, len)
+}
+
+/// The parts of this pseudo header, one after the other.
+fn pseudo_header_bytes(source: [u8; 16], destination: [u8; 16], len: u32) -> ArrayVec<u8, 40>
+    ensures { result.items ≡ ipv6_pseudo_header source destination icmpv6_number len }
+{
+    let mut bytes = ArrayVec::new();
+    bytes.try_extend_from_slice(&source).unwrap();
+    bytes.try_extend_from_slice(&destination).unwrap();
+    bytes.try_extend_from_slice(&len.to_be_bytes()).unwrap();
+    bytes
+        .try_extend_from_slice(&[0, 0, 0, ip_number::IPV6_ICMP.0])
+        .unwrap();
+    bytes
+}
+
+/// Writes an echo message with this type, and with its checksum updated by the type and by the pseudo header. ICMPv4 has no pseudo header.
+pub(crate) fn write_echo(translated: &mut [u8], message: &[u8], type_u8: u8, old: &[u8], new: &[u8])
+    requires room { length translated.old ≡ length message.now }
+    requires there { 8 ≤ length message.now }
+    requires new { (new.now ≡ []) ⊎ (0 < total new.now) }
+    ensures written { translated.new ≡ specs.translated_echo type_u8 old.now new.now message.now }
+    // A receiver accepts the message exactly if it accepted the old message, unless that consists of zeros.
+    ensures alike { total old.now + total message.now ≢ 0 → (Verifies new.now translated.new) ↔ (Verifies old.now message.now) }
+{
+    let checksum = echo_checksum(message, type_u8, old, new);
+    translated.copy_from_slice(message);
+    translated[0] = type_u8;
+    store_checksum(translated, ICMP_CHECKSUM_AT, checksum);
+}
+
+/// The checksum of an echo message with this type and this pseudo header instead of the old ones.
+fn echo_checksum(message: &[u8], type_u8: u8, old: &[u8], new: &[u8]) -> u16
+    requires there { 8 ≤ length message.now }
+    ensures checksum { result ≡ specs.new_checksum type_u8 old.now new.now message.now }
+    ensures remainder { (rest : ℕ) → (total new.now + (type_u8 * 256 + slice_index message.now 1 + rest + result)) % 65535
+        ≡ (total old.now + (specs.type_and_code message.now + rest + specs.icmp_checksum message.now)) % 65535 }
+    ensures some { new.now ≡ [] → result ≢ 0 }
+{
+    let checksum = updated_checksum(message, type_u8, old, new);
+    if checksum == 0 && new.is_empty() {
+        return u16::MAX;
+    }
+    checksum
+}
+
+/// The checksum, updated by the type and by the pseudo header.
+fn updated_checksum(message: &[u8], type_u8: u8, old: &[u8], new: &[u8]) -> u16
+    requires there { 8 ≤ length message.now }
+    ensures checksum { result ≡ specs.updated_checksum type_u8 old.now new.now message.now }
+    ensures remainder { (rest : ℕ) → (total new.now + (type_u8 * 256 + slice_index message.now 1 + rest + result)) % 65535
+        ≡ (total old.now + (specs.type_and_code message.now + rest + specs.icmp_checksum message.now)) % 65535 }
+{
+    let code = message[1];
+    ChecksumChange::new()
+        .replace_2bytes([message[0], code], [type_u8, code])
+        .replace_slice(old, new)
+        .apply(number(message, ICMP_CHECKSUM_AT))
+}
