@@ -1,3 +1,4 @@
+pub mod BackLemmas
 pub mod EchoLemmas
 pub mod EmbeddedLemmas
 pub mod Ipv4HeaderLemmas

@@ -7,3 +7,4 @@ pub mod PacketsToIpv4
 pub mod PacketsToIpv6
 pub mod Prefixes
 pub mod PseudoHeaders
+pub mod ThereAndBack

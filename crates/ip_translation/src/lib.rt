@@ -14,6 +14,8 @@ mod address_error;
 mod echo_translation;
 mod header_translation;
 mod ipv4_header_translation;
+#[doc(hidden)]
+pub mod laws;
 mod message_translation;
 mod packet_to_ipv4;
 mod packet_translation;
