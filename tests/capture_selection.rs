@@ -7,7 +7,7 @@ use crate::captures::{
 use crate::expect::{expect_at, expect_equal, expect_some, joined};
 use capture_packet::MAX_PACKET_LEN;
 use capture_run::{CaptureError, Choice, ExitStatus, Lines, Parts};
-use capture_selection::{Counts, SelectionError, write_selected};
+use capture_selection::{Copier, Counts, SelectionError, write_selected};
 use capture_summary::MAX_CHOSEN;
 use std::io::{Read, Write};
 use std::process::Abort;
@@ -33,8 +33,9 @@ fn place_in(error: &CaptureError) -> Option<(u64, u64)> {
 fn select<R: Read, W: Write>(input: &mut R, output: &mut W, parts: &Parts) -> Selected {
     let mut buffer = [0; MAX_PACKET_LEN];
     let mut counts = Counts::NONE;
-    let (status, place) = match write_selected(input, output, &mut buffer, parts, &mut counts) {
-        Ok(()) => (Some(ExitStatus::Success), None),
+    let mut copier = Copier::new(input, output, &mut buffer);
+    let (status, place) = match write_selected(&mut copier, parts, &mut counts) {
+        Ok(_) => (Some(ExitStatus::Success), None),
         Err(SelectionError::Capture(error)) => (Some(error.status()), place_in(&error)),
         Err(SelectionError::Write(_)) => (None, None),
     };

@@ -4,7 +4,7 @@ use Rattle.std.proofs.KnownBytes.{Appends-nil, Appends-trans, Consumes-nil, Cons
 use Rattle.std.proofs.lemmas.Grind.{flat_map-append, fold-append}
 use Rattle.std.specs.Io.KnownBytes.{Appends, Consumes}
 use Rattle.std.specs.Option.{option_to_list}
-use Rattle.capture_copy.specs.Passing.{AreParts, EndsBy, Format, Part, Passes, PassesAny, PassesNext, PassesOne, PassesTo, StopsBy, StopsByNumber, counted_if, outcomes_of, read_of, written_of}
+use Rattle.capture_copy.specs.Passing.{AreParts, EndsBy, Format, Part, Passes, PassesAny, PassesGiven, PassesNext, PassesOne, PassesTo, StopsBy, StopsByNumber, counted_if, counts_after, outcomes_of, read_of, written_of}
 
 -- ---- parts
 
@@ -219,7 +219,7 @@ next_to_write_error format result error before after left still_left held now_he
 -- an error after these bytes of a part
 pub next_to_error : {A : Type 0} → (format : Format) (result : Result A format.Error) (error : format.Error) (before after : format.State)
     (left then_left still_left held now_held : Option (List ℕ)) (counts now_counts : format.Counts) (front : Part format.Outcome)
-    → format.IsEnd before counts front error → Consumes left then_left front.read → Appends held now_held front.written
+    → format.IsEnd before front error → Consumes left then_left front.read → Appends held now_held front.written
     → now_counts ≡ counted_if format counts front.outcome → format.LeavesAt error then_left still_left → result ≡ Err error
     → PassesNext format result before after left still_left held now_held counts now_counts
 next_to_error format result error before after left then_left still_left held now_held counts now_counts front end consumed appended counts_are leaves fails =
@@ -232,3 +232,22 @@ next_to_error format result error before after left then_left still_left held no
       counted = counts_are;
       leaves = leaves;
     })) fails
+
+-- ---- calls that return the outcome of a part
+
+-- an error, after which nothing was counted
+pub given_error : (format : Format) (result : Result (Option format.Outcome) format.Error) (error : format.Error) (before after : format.State)
+    (left still_left held now_held : Option (List ℕ)) (counts : format.Counts)
+    → PassesNext format result before after left still_left held now_held counts counts → result ≡ Err error
+    → PassesNext format result before after left still_left held now_held counts (counts_after format counts result)
+given_error format result error before after left still_left held now_held counts passes fails =
+    subst (λ now_counts. PassesNext format result before after left still_left held now_held counts now_counts)
+    (sym (ap (counts_after format counts) fails)) passes
+
+-- the outcome was counted
+pub one_given : (format : Format) (outcome : Option format.Outcome) (before after : format.State) (left still_left held now_held : Option (List ℕ))
+    (counts now_counts : format.Counts)
+    → PassesGiven format (Ok outcome) before after left still_left held now_held → now_counts ≡ counted_if format counts outcome
+    → PassesOne format before after left still_left held now_held counts now_counts
+one_given format outcome before after left still_left held now_held counts now_counts given is =
+    subst (λ now_counts. PassesOne format before after left still_left held now_held counts now_counts) (sym is) (given counts)

@@ -1,10 +1,45 @@
--- The beginning of a capture, which shows its format.
-use Rattle.std.specs.Prelude.{◌≡◌, true, false, List, ℕ, take, Option, IfSome}
+-- The beginning of a capture, which shows its format, and the copy of a classic capture.
+use Rattle.std.specs.Prelude.{◌≡◌, true, false, List, ℕ, take, ⊤, Option, IfSome, Result, Ok, Err}
+use Rattle.std.specs.Io.KnownBytes.{Appends, Consumes}
+use Rattle.capture_file.specs.Opening.{SaysHeader}
 use Rattle.capture_file.specs.Pcapng.{is_section_header}
+use Rattle.capture_file.specs.Reading.{RefusesHeader}
+use Rattle.capture_file.specs.declared.classic.capture_header.CaptureHeader.{CaptureHeader}
+use Rattle.capture_file.specs.declared.classic.capture_header_error.CaptureHeaderError.{CaptureHeaderError}
+use Rattle.capture_texts.specs.Blocks.{min_block_len}
+use Rattle.capture_copy.specs.Passing.{Format, PassesTo}
+use Rattle.capture_copy.specs.declared.copier.CopyError.{CopyError}
+use Rattle.capture_copy.specs.declared.copier.CopyError.TheVariants.{Read, Write}
 
--- whether the first 12 bytes of an input, if they are known, begin with the type of a section header block
+-- The first bytes of an input, if they are known, begin with the type of a section header block. They are as many as the shortest block has.
 abbrev pub IsPcapng : Option (List ℕ) → Type 0
-IsPcapng left = IfSome left (λ all. is_section_header (take 12 all) ≡ true)
+IsPcapng left = IfSome left (λ all. is_section_header (take min_block_len all) ≡ true)
 
 abbrev pub IsNoPcapng : Option (List ℕ) → Type 0
-IsNoPcapng left = IfSome left (λ all. is_section_header (take 12 all) ≡ false)
+IsNoPcapng left = IfSome left (λ all. is_section_header (take min_block_len all) ≡ false)
+
+-- the header of a classic capture was read, and was written as it was read
+pub record CopiesHeader (header : CaptureHeader) (left still_left held now_held : Option (List ℕ)) : Type 0 where
+  pub bytes : List ℕ
+  pub says : SaysHeader bytes (Ok header)
+  pub consumed : Consumes left still_left bytes
+  pub appended : Appends held now_held bytes
+
+-- The header of a classic capture was copied. If it is refused, or reading it failed, nothing was written. If writing it failed, nothing is
+-- known.
+abbrev pub BeginsCapture : Result (Result CaptureHeader CaptureHeaderError) CopyError → Option (List ℕ) → Option (List ℕ) → Option (List ℕ)
+    → Option (List ℕ) → Type 0
+BeginsCapture (Ok (Ok header)) left still_left held now_held = CopiesHeader header left still_left held now_held
+BeginsCapture (Ok (Err error)) left still_left held now_held = RefusesHeader left still_left error × (now_held ≡ held)
+BeginsCapture (Err (Read error)) left still_left held now_held = now_held ≡ held
+BeginsCapture (Err (Write error)) left still_left held now_held = ⊤
+
+-- A classic capture was copied up to this result: its header, and then its records were passed. `first` is the state before the first record.
+pub record PassesCapture (A : Type 0) (format : Format) (first : CaptureHeader → format.State) (result : Result A format.Error)
+    (left still_left held now_held : Option (List ℕ)) (counts now_counts : format.Counts) : Type 0 where
+  pub header : CaptureHeader
+  pub middle : Option (List ℕ)
+  pub then_held : Option (List ℕ)
+  pub copies : CopiesHeader header left middle held then_held
+  pub after : format.State
+  pub passes : PassesTo format result (first header) after middle still_left then_held now_held counts now_counts

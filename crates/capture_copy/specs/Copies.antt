@@ -1,8 +1,8 @@
 -- Bytes that are copied by pieces.
 use Rattle.std.specs.Prelude.{◌≡◌, ◌<◌, ℕ, List, length, ⊤, Option, Result, Ok, Err}
 use Rattle.std.specs.Io.KnownBytes.{Appends, Consumes}
-use Rattle.capture_copy.specs.declared.pieces.CopyError.{CopyError}
-use Rattle.capture_copy.specs.declared.pieces.CopyError.TheVariants.{Read, Write}
+use Rattle.capture_copy.specs.declared.copier.CopyError.{CopyError}
+use Rattle.capture_copy.specs.declared.copier.CopyError.TheVariants.{Read, Write}
 
 -- bytes were read, and the same bytes were written
 pub record Copies (left still_left held now_held : Option (List ℕ)) (len : ℕ) : Type 0 where

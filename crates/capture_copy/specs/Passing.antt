@@ -46,8 +46,8 @@ pub record Format : Type 1 where
   pub counted : Counts → Outcome → Counts
   -- the part is a whole record or block, and what was written for it and its outcome are right
   pub IsPart : State → Part Outcome → State → Type 0
-  -- the first bytes of a part were passed, before which the counts were these, and this error ends the capture within them
-  pub IsEnd : State → Counts → Part Outcome → Error → Type 0
+  -- the first bytes of a part were passed, and this error ends the capture within them
+  pub IsEnd : State → Part Outcome → Error → Type 0
   -- what the input has left at an error, next to what it had left after the bytes that were passed
   pub LeavesAt : Error → Option (List ℕ) → Option (List ℕ) → Type 0
   -- writing failed
@@ -91,7 +91,7 @@ pub record StopsBy (format : Format) (error : format.Error) (state : format.Stat
     (counts now_counts : format.Counts) : Type 0 where
   pub then_left : Option (List ℕ)
   pub front : Part format.Outcome
-  pub is_end : format.IsEnd state counts front error
+  pub is_end : format.IsEnd state front error
   pub consumed : Consumes left then_left front.read
   pub appended : Appends held now_held front.written
   pub counted : now_counts ≡ counted_if format counts front.outcome
@@ -135,7 +135,19 @@ PassesNext format (Ok given) before after left still_left held now_held counts n
 PassesNext format (Err error) before after left still_left held now_held counts now_counts =
     format.IsWriteError error ⊎ StopsBy format error before left still_left held now_held counts now_counts
 
--- the same for a call that returns whether there is a next part; if there is none, nothing was read, written or counted
+-- the counts after a call that returns the outcome of the packet in a part, if the part contains a packet; after an error nothing was counted
+abbrev pub counts_after : (format : Format) → format.Counts → Result (Option format.Outcome) format.Error → format.Counts
+counts_after format counts (Ok outcome) = counted_if format counts outcome
+counts_after format counts (Err error) = counts
+
+-- what a call passed that passes one part, and returns the outcome of the packet in it for its caller to count
+abbrev pub PassesGiven : (format : Format) → Result (Option format.Outcome) format.Error → format.State → format.State → Option (List ℕ)
+    → Option (List ℕ) → Option (List ℕ) → Option (List ℕ) → Type 0
+PassesGiven format result before after left still_left held now_held =
+    (counts : format.Counts)
+    → PassesNext format result before after left still_left held now_held counts (counts_after format counts result)
+
+-- what a call passed that returns whether there is a next part; if there is none, nothing was read, written or counted
 abbrev pub PassesAny : (format : Format) → Result Bool format.Error → format.State → format.State → Option (List ℕ) → Option (List ℕ)
     → Option (List ℕ) → Option (List ℕ) → format.Counts → format.Counts → Type 0
 PassesAny format (Ok true) before after left still_left held now_held counts now_counts =

@@ -4,12 +4,13 @@
 //! A part is a record of a classic capture or a block of a pcapng file. `specs/Passing` states what a copier does with each part.
 //!
 //! ```
-//! let len = copy(&mut input, &mut output, buffer, header.captured_len as usize)?;
+//! let mut copier = Copier::new(input, output, buffer);
+//! let len = copier.copy(header.captured_len as usize)?;
 //! ```
 #![tactic(auto)]
 
 mod begin;
-mod pieces;
+mod copier;
 
-pub use begin::{header_in, is_pcapng};
-pub use pieces::{BUFFER_LEN, Buffer, CopyError, copy};
+pub use begin::is_pcapng;
+pub use copier::{BUFFER_LEN, Buffer, Copier, CopyError};

@@ -19,10 +19,8 @@ pub fn write_line<W: Write>(output: &mut W, mut line: Line) -> Result<(), WriteE
 {
     line.end_object()?;
     let mut bytes = line.into_bytes();
-    match bytes.push(b'\n') {
-        Ok(()) => write_bytes(output, bytes.as_slice()),
-        Err(_) => Err(WriteError::NoMemory),
-    }
+    bytes.push(b'\n')?;
+    write_bytes(output, bytes.as_slice())
 }
 
 /// Writes the part of a line that is in memory.

@@ -3,6 +3,7 @@ use Rattle.std.proofs.Common.{◌++◌, List, ℕ, [], ◌∷◌, None, Some, Ok
 use Rattle.std.specs.Fmt.{digits}
 use Rattle.capture_request.specs.declared.exit_status.ExitStatus.TheVariants.{Success}
 use Rattle.capture_request.specs.declared.parts.Parts.{Parts}
+use Rattle.capture_request.specs.declared.reached.Reached.TheVariants.{End}
 use Rattle.capture_selection.proofs.SelectionExamples.{counts, header, options, other_record, selection, udp_record}
 use Rattle.capture_report.specs.Outputs.{WritesSelection}
 
@@ -15,7 +16,7 @@ written : (others : Parts) → WritesSelection (options others) None (Some (head
     (Ok 0)
 unfolding digits
 written others = record {
-  ended = Ok tt;
+  ended = Ok End;
   counts = counts 2 1 1;
   then_held = Some (header ++ udp_record);
   selects = selection others;

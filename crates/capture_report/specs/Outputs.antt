@@ -8,6 +8,7 @@ use Rattle.capture_request.specs.declared.exit_status.ExitStatus.{ExitStatus}
 use Rattle.capture_request.specs.declared.exit_status.ExitStatus.TheVariants as statuses
 use Rattle.capture_request.specs.ExitStatuses.{exit_number}
 use Rattle.capture_request.specs.declared.parts.Parts.{Parts}
+use Rattle.capture_request.specs.declared.reached.Reached.{Reached}
 use Rattle.capture_selection.specs.Captures.{SelectsCapture}
 use Rattle.capture_selection.specs.declared.counts.Counts.{Counts}
 use Rattle.capture_selection.specs.declared.selection_error.SelectionError.{SelectionError}
@@ -22,25 +23,25 @@ is_same_file file other = false
 -- ---- exit statuses
 
 -- The end of a run that wrote the packets of a capture. It is the exit status that a report of the capture has, or the error of a write.
-abbrev pub written_status : Result (Unit {0}) SelectionError → Result ExitStatus Error
-written_status (Ok done) = Ok statuses.Success
+abbrev pub written_status : Result Reached SelectionError → Result ExitStatus Error
+written_status (Ok reached) = Ok statuses.Success
 written_status (Err (Capture error)) = Ok (exit_status error)
 written_status (Err (Write error)) = Err error
 
 -- if writing a packet failed, the run ends with the error of that write
-abbrev pub FailsFirst : {T : Type 0} → Result (Unit {0}) SelectionError → Result T Error → Type 0
+abbrev pub FailsFirst : {T : Type 0} → Result Reached SelectionError → Result T Error → Type 0
 FailsFirst (Err (Write error)) result = result ≡ Err error
 FailsFirst ended result = Unit {0}
 
 -- the run ends with an exit status that has this number
-abbrev pub IsStatusOf : Result (Unit {0}) SelectionError → ℕ → Type 0
+abbrev pub IsStatusOf : Result Reached SelectionError → ℕ → Type 0
 IsStatusOf ended number = (status : ExitStatus) × (written_status ended ≡ Ok status) × (number ≡ exit_number status)
 
 -- ---- what is written to standard error
 
 -- the lines for the end of a capture with this name; there is one line if the capture could not be read to its end
-abbrev pub AreErrorLines : Option (List ℕ) → Result (Unit {0}) SelectionError → List (List ℕ) → Type 0
-AreErrorLines name (Ok done) lines = AreEndLines name (Ok done) lines
+abbrev pub AreErrorLines : Option (List ℕ) → Result Reached SelectionError → List (List ℕ) → Type 0
+AreErrorLines name (Ok reached) lines = AreEndLines name (Ok reached) lines
 AreErrorLines name (Err (Capture error)) lines = AreEndLines name (Err error) lines
 AreErrorLines name (Err (Write error)) lines = lines ≡ []
 
@@ -50,7 +51,7 @@ counts_line counts =
     codes "capture_report: " ++ (decimal counts.read ++ (codes " packets read, " ++ (decimal counts.written ++ codes " written\n")))
 
 -- the lines for the end of a capture, and then the line with the numbers of packets
-abbrev pub AreSelectionLines : Option (List ℕ) → Result (Unit {0}) SelectionError → Counts → List (List ℕ) → Type 0
+abbrev pub AreSelectionLines : Option (List ℕ) → Result Reached SelectionError → Counts → List (List ℕ) → Type 0
 AreSelectionLines name ended counts lines =
     (errors : List (List ℕ)) × AreErrorLines name ended errors × (lines ≡ errors ++ counts_line counts ∷ [])
 
@@ -65,7 +66,7 @@ no_counts = record { read = 0; chosen = 0; written = 0 }
 -- is the name of the capture in these lines. If the result is an error, it may be the error of writing a packet, and then nothing is stated
 -- of the output.
 pub record WritesSelection (options : Parts) (name left still_left held now_held told now_told : Option (List ℕ)) (result : Result ℕ Error) : Type 0 where
-  pub ended : Result (Unit {0}) SelectionError
+  pub ended : Result Reached SelectionError
   pub counts : Counts
   pub then_held : Option (List ℕ)
   pub selects : SelectsCapture options ended left still_left held then_held no_counts counts

@@ -28,11 +28,11 @@ use capture_arguments::{
     Options, OwnArguments, no_capture, output_is_capture, requested_options, words_of,
 };
 use capture_request::{
-    CaptureError, ExitStatus, Lines, MAX_PACKET_LEN, Parts, STANDARD_INPUT, write_error,
+    ExitStatus, Lines, MAX_PACKET_LEN, Parts, Reached, STANDARD_INPUT, write_error,
     write_open_error,
 };
 use capture_run::{Open, Outputs, Sources, WriteError, run};
-use capture_selection::{Counts, SelectionError, write_selected};
+use capture_selection::{Copier, Counts, SelectionError, write_selected};
 use input::Input;
 use new_file::NewFile;
 use progress::{Progress, is_shown};
@@ -185,20 +185,12 @@ fn write_packets<W: Write + Drop>(
     input: Progress<Input>,
     output: W,
 ) -> io::Result<u8> {
-    let mut input = BufReader::with_capacity(rt.alloc(), BUFFER_LEN, input)?;
-    let mut output = BufWriter::with_capacity(rt.alloc(), BUFFER_LEN, output)?;
+    let input = BufReader::with_capacity(rt.alloc(), BUFFER_LEN, input)?;
+    let output = BufWriter::with_capacity(rt.alloc(), BUFFER_LEN, output)?;
     let mut bytes = new_buffer(rt.alloc(), MAX_PACKET_LEN)?;
     let buffer = bytes.as_mut_slice().as_mut_array().unwrap();
-    let mut errors = rt.stderr();
-    write_selection(
-        rt.alloc(),
-        parts,
-        name,
-        &mut input,
-        &mut output,
-        &mut errors,
-        buffer,
-    )
+    let mut copier = Copier::new(input, output, buffer);
+    write_selection(rt.alloc(), parts, name, &mut copier, &mut rt.stderr())
 }
 
 /// Writes the packets of a capture to the output, and then writes their numbers to `errors`. Returns the exit status. If the capture can't
@@ -211,19 +203,33 @@ fn write_selection<R: Read, W: Write, E: Write>(
     alloc: Global,
     parts: &Parts,
     name: Option<&str>,
-    input: &mut R,
-    output: &mut W,
+    copier: &mut Copier<'_, R, W>,
     errors: &mut E,
-    buffer: &mut [u8; MAX_PACKET_LEN],
 ) -> io::Result<u8>
-    ensures { WritesSelection parts.now (option_map (λ text. shown_name text.now) name.entry) (R.remaining input.old) (R.remaining input.new)
-        (W.contents output.old) (W.contents output.new) (E.contents errors.old) (E.contents errors.new) result }
+    ensures { WritesSelection parts.now (option_map (λ text. shown_name text.now) name.entry) (R.remaining copier.old.input) (R.remaining copier.new.input)
+        (W.contents copier.old.output) (W.contents copier.new.output) (E.contents errors.old) (E.contents errors.new) result }
 {
     let mut counts = Counts::NONE;
-    let ended = write_selected(input, output, buffer, parts, &mut counts);
+    let ended = write_selected(copier, parts, &mut counts);
     // Packets that were written before an error are part of the output.
-    let flushed = output.flush();
-    finished(errors, alloc, name, ended, flushed, &counts)
+    let flushed = copier.output.flush();
+    let written = Written {
+        ended,
+        flushed,
+        counts,
+    };
+    finished(errors, alloc, name, written)
+}
+
+/// How the packets of a capture were written.
+#[derive(Drop)]
+struct Written {
+    /// How far the capture was read, or why it was not read further.
+    ended: Result<Reached, SelectionError>,
+    /// Whether the output was flushed after the last packet.
+    flushed: io::Result<()>,
+    /// The numbers of packets.
+    counts: Counts,
 }
 
 /// Writes the error of a capture if there is one, and then the numbers of packets. Returns the exit status. The numbers are left out if the
@@ -232,19 +238,17 @@ fn finished<E: Write>(
     errors: &mut E,
     alloc: Global,
     name: Option<&str>,
-    ended: Result<(), SelectionError>,
-    flushed: io::Result<()>,
-    counts: &Counts,
+    written: Written,
 ) -> io::Result<u8>
-    ensures status { IfOk result (IsStatusOf ended) }
-    ensures flushed { IfOk result (λ status. IsOk flushed) }
-    ensures failure { FailsFirst ended result }
+    ensures status { IfOk result (IsStatusOf written.ended) }
+    ensures flushed { IfOk result (λ status. IsOk written.flushed) }
+    ensures failure { FailsFirst written.ended result }
     ensures lines { WritesSome (E.contents errors.old) (E.contents errors.new) (IsOk result)
-        (AreSelectionLines (option_map (λ text. shown_name text.now) name.entry) ended counts.now) }
+        (AreSelectionLines (option_map (λ text. shown_name text.now) name.entry) written.ended written.counts) }
 {
-    let status = written_status(errors, alloc, name, ended)?;
-    flushed?;
-    write_counts(errors, alloc, counts)?;
+    let status = written_status(errors, alloc, name, written.ended)?;
+    written.flushed?;
+    write_counts(errors, alloc, &written.counts)?;
     Ok(status.number())
 }
 
@@ -253,7 +257,7 @@ fn written_status<E: Write>(
     errors: &mut E,
     alloc: Global,
     name: Option<&str>,
-    ended: Result<(), SelectionError>,
+    ended: Result<Reached, SelectionError>,
 ) -> io::Result<ExitStatus>
     ensures status { IfOk result (λ status. written_status ended ≡ Ok status) }
     ensures failure { FailsFirst ended result }
@@ -261,7 +265,7 @@ fn written_status<E: Write>(
         (AreErrorLines (option_map (λ text. shown_name text.now) name.entry) ended) }
 {
     match ended {
-        Ok(()) | Err(SelectionError::Capture(CaptureError::Enough)) => Ok(ExitStatus::Success),
+        Ok(_) => Ok(ExitStatus::Success),
         Err(SelectionError::Capture(error)) => {
             write_error(errors, alloc, name, &error)?;
             Ok(error.status())
@@ -274,10 +278,8 @@ fn written_status<E: Write>(
 fn write_counts<E: Write>(errors: &mut E, alloc: Global, counts: &Counts) -> io::Result<()>
     ensures { WritesSome (E.contents errors.old) (E.contents errors.new) (IsOk result) (IsOneLine (λ line. line ≡ counts_line counts.now)) }
 {
-    match counts_line(alloc, counts) {
-        Ok(line) => write_whole(errors, line.as_bytes()),
-        Err(no_memory) => Err(io::Error::from(no_memory)),
-    }
+    let line = counts_line(alloc, counts)?;
+    write_whole(errors, line.as_bytes())
 }
 
 /// The line with the numbers of packets.

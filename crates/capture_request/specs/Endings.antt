@@ -9,7 +9,8 @@ use Rattle.capture_packet.specs.Frames.{max_packet_len}
 use Rattle.capture_request.specs.declared.exit_status.ExitStatus.{ExitStatus}
 use Rattle.capture_request.specs.declared.exit_status.ExitStatus.TheVariants.{Failed, NoCapture, Success, Unfinished}
 use Rattle.capture_request.specs.declared.capture_error.CaptureError.{CaptureError}
-use Rattle.capture_request.specs.declared.capture_error.CaptureError.TheVariants.{Enough, Header, Read, ReadHeader, RecordCutOff, Refused, TooManyPackets}
+use Rattle.capture_request.specs.declared.capture_error.CaptureError.TheVariants.{Header, Read, ReadHeader, RecordCutOff, Refused, TooManyPackets}
+use Rattle.capture_request.specs.declared.reached.Reached.{Reached}
 
 -- the greatest number of packets that can be counted: 2^64 - 2
 abbrev pub max_packets : ℕ
@@ -35,11 +36,10 @@ exit_status (Header (refusals.Pcapng (errors.Interfaces max))) = Unfinished
 exit_status (RecordCutOff number offset required len) = Unfinished
 exit_status (Refused error) = Unfinished
 exit_status TooManyPackets = Unfinished
-exit_status Enough = Success
 exit_status (ReadHeader error) = Failed
 exit_status (Read number offset error) = Failed
 
 -- the exit status of a report that ends with this result
-abbrev pub status_of : Result (Unit {0}) CaptureError → ExitStatus
-status_of (Ok done) = Success
+abbrev pub status_of : Result Reached CaptureError → ExitStatus
+status_of (Ok reached) = Success
 status_of (Err error) = exit_status error

@@ -7,7 +7,7 @@ use Rattle.capture_request.specs.Compressions.{compression_name, compression_of}
 use Rattle.capture_request.specs.Names.{shown_name}
 use Rattle.capture_request.specs.declared.compression.Compression.{Compression}
 use Rattle.capture_request.specs.declared.capture_error.CaptureError.{CaptureError}
-use Rattle.capture_request.specs.declared.capture_error.CaptureError.TheVariants.{Enough}
+use Rattle.capture_request.specs.declared.reached.Reached.{Reached}
 
 -- the text for a compressed capture, which contains the command that reads it
 abbrev pub compressed_text : Compression → List ℕ
@@ -34,9 +34,13 @@ filter_words =
     codes "tcp" ∷ codes "udp" ∷ codes "icmp" ∷ codes "icmp6" ∷ codes "ip" ∷ codes "ip6" ∷ codes "arp" ∷ codes "ether" ∷ codes "host" ∷ codes "net"
     ∷ codes "port" ∷ codes "portrange" ∷ codes "src" ∷ codes "dst" ∷ codes "not" ∷ codes "proto" ∷ []
 
--- the part of a name before its first space, which has the code 32; without a space it is the whole name
+-- the code of a space
+abbrev pub space : ℕ
+space = 32
+
+-- the part of a name before its first space; without a space it is the whole name
 abbrev pub first_word : List ℕ → List ℕ
-first_word name = before_first (λ byte. byte == 32) name
+first_word name = before_first (λ byte. byte == space) name
 
 -- The hint at the options that select packets. It is empty unless the name of the capture begins with a word of a filter, as in `tcp port
 -- 80`.
@@ -60,9 +64,8 @@ IsOpenErrorLine name line = IsLineOf (Some (shown_name name)) (EndsInHint name) 
 
 -- The lines that are written when the report of the capture with this name ends. There is no line if the capture was read to its end, or to
 -- the last requested packet. Otherwise there is one line with the error.
-abbrev pub AreEndLines : Option (List ℕ) → Result (Unit {0}) CaptureError → List (List ℕ) → Type 0
-AreEndLines name (Ok done) lines = lines ≡ []
-AreEndLines name (Err Enough) lines = lines ≡ []
+abbrev pub AreEndLines : Option (List ℕ) → Result Reached CaptureError → List (List ℕ) → Type 0
+AreEndLines name (Ok reached) lines = lines ≡ []
 AreEndLines name (Err error) lines = IsOneLine (IsLineOf name (IsErrorText error)) lines
 
 -- The name that the line of an error within a capture contains. `count` is the number of named captures. If it is 0, standard input is

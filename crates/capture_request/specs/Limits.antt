@@ -5,7 +5,9 @@ use Rattle.capture_request.specs.Report.{CountsEach}
 use Rattle.capture_summary.specs.SummaryTables.{SummaryTables}
 use Rattle.capture_summary.specs.declared.choice.Choice.{Choice}
 use Rattle.capture_request.specs.declared.capture_error.CaptureError.{CaptureError}
-use Rattle.capture_request.specs.declared.capture_error.CaptureError.TheVariants.{Enough, Header, Read, ReadHeader, RecordCutOff, Refused, TooManyPackets}
+use Rattle.capture_request.specs.declared.capture_error.CaptureError.TheVariants.{Header, Read, ReadHeader, RecordCutOff, Refused, TooManyPackets}
+use Rattle.capture_request.specs.declared.reached.Reached.{Reached}
+use Rattle.capture_request.specs.declared.reached.Reached.TheVariants.{End, Limit}
 
 -- the number of counted packets has reached the requested number
 abbrev pub is_full : Option ℕ → ℕ → Bool
@@ -17,11 +19,11 @@ abbrev pub IsWithin : Option ℕ → ℕ → Type 0
 IsWithin None counted = Unit {0}
 IsWithin (Some limit) counted = counted ≤ limit
 
--- If the result is `Enough`, the requested number of packets was counted. If the result is another end of the packets, the requested number
--- was not reached. The other results are a refused beginning and a full counter. For them the statement always holds.
-abbrev pub EndsByLimit : Option ℕ → ℕ → Result (Unit {0}) CaptureError → Type 0
-EndsByLimit limit counted (Ok done) = is_full limit counted ≡ false
-EndsByLimit limit counted (Err Enough) = is_full limit counted ≡ true
+-- If the limit was reached, the requested number of packets was counted. At any other end of the packets, the requested number was not
+-- counted. The other results are a refused beginning and a full counter. For them the statement always holds.
+abbrev pub EndsByLimit : Option ℕ → ℕ → Result Reached CaptureError → Type 0
+EndsByLimit limit counted (Ok End) = is_full limit counted ≡ false
+EndsByLimit limit counted (Ok Limit) = is_full limit counted ≡ true
 EndsByLimit limit counted (Err (RecordCutOff number offset required len)) = is_full limit counted ≡ false
 EndsByLimit limit counted (Err (Refused error)) = is_full limit counted ≡ false
 EndsByLimit limit counted (Err (Read number offset error)) = is_full limit counted ≡ false
@@ -30,8 +32,8 @@ EndsByLimit limit counted (Err (Header error)) = Unit {0}
 EndsByLimit limit counted (Err (ReadHeader error)) = Unit {0}
 
 -- the report of a capture ended for another reason than the requested number of packets
-abbrev pub EndsWithoutLimit : Result (Unit {0}) CaptureError → Type 0
-EndsWithoutLimit (Err Enough) = ⊥
+abbrev pub EndsWithoutLimit : Result Reached CaptureError → Type 0
+EndsWithoutLimit (Ok Limit) = ⊥
 EndsWithoutLimit other = Unit {0}
 
 -- Before the last of these packets, fewer packets were counted than are requested. If there is no packet, the statement always holds.

@@ -25,7 +25,9 @@ use Rattle.capture_file.specs.declared.reader.next_packet.TooLongPacket.{TooLong
 use Rattle.capture_file.specs.declared.packet_time.PacketTime.{PacketTime}
 use Rattle.capture_summary.specs.declared.choice.Choice.{Choice}
 use Rattle.capture_request.specs.declared.capture_error.CaptureError.{CaptureError}
-use Rattle.capture_request.specs.declared.capture_error.CaptureError.TheVariants.{Enough, Read, RecordCutOff, Refused, TooManyPackets}
+use Rattle.capture_request.specs.declared.capture_error.CaptureError.TheVariants.{Read, RecordCutOff, Refused, TooManyPackets}
+use Rattle.capture_request.specs.declared.reached.Reached.{Reached}
+use Rattle.capture_request.specs.declared.reached.Reached.TheVariants.{End, Limit}
 use Rattle.capture_summary.specs.declared.capture_info.CaptureInfo.{CaptureInfo}
 use Rattle.capture_summary.specs.declared.flow.Flow.{Flow}
 
@@ -118,16 +120,16 @@ ReadsWholePackets reader left still_left still_reader =
 -- ---- the end of the packets
 
 -- the packets were read until the input ended, or until a record or block was cut off or refused
-abbrev pub IsReadToEnd : Result (Unit {0}) CaptureError → Type 0
-IsReadToEnd (Ok done) = Unit {0}
+abbrev pub IsReadToEnd : Result Reached CaptureError → Type 0
+IsReadToEnd (Ok End) = Unit {0}
 IsReadToEnd (Err (RecordCutOff number offset required_len len)) = Unit {0}
 IsReadToEnd (Err (Refused error)) = Unit {0}
 IsReadToEnd other = ⊥
 
 -- `ended` is the result for the item after the last packet. The end of the input is no error. If a record or block is cut off, the error
 -- contains the number of the packet, and both lengths. If a block is refused, the error contains the reason.
-abbrev pub IsAnsweredBy : NextPacket → ℕ → Result (Unit {0}) CaptureError → Type 0
-IsAnsweredBy next number (Ok done) = next ≡ packets.End
+abbrev pub IsAnsweredBy : NextPacket → ℕ → Result Reached CaptureError → Type 0
+IsAnsweredBy next number (Ok End) = next ≡ packets.End
 IsAnsweredBy next number (Err (RecordCutOff its_number offset required len)) = (next ≡ packets.CutOff required len) × (its_number ≡ number)
 IsAnsweredBy next number (Err (Refused error)) = next ≡ packets.Refused error
 IsAnsweredBy next number other = ⊥
@@ -140,8 +142,8 @@ ReadsEnd before left next still_left after =
 -- No further packet could be read, and `ended` is the result. Either the next item was read and is not a packet, or reading it failed. An
 -- error within a record or block contains the number of the packet, and the place where the record or block begins. `after` is the reader
 -- at the end.
-abbrev pub EndsAtItem : ℕ → CaptureReader → Option (List ℕ) → Option (List ℕ) → CaptureReader → Result (Unit {0}) CaptureError → Type 0
-EndsAtItem number before left still_left after (Ok done) = ReadsEnd before left packets.End still_left after
+abbrev pub EndsAtItem : ℕ → CaptureReader → Option (List ℕ) → Option (List ℕ) → CaptureReader → Result Reached CaptureError → Type 0
+EndsAtItem number before left still_left after (Ok End) = ReadsEnd before left packets.End still_left after
 EndsAtItem number before left still_left after (Err (RecordCutOff its_number offset required len)) =
     ReadsEnd before left (packets.CutOff required len) still_left after × (its_number ≡ number) × (offset ≡ offset_of after)
 EndsAtItem number before left still_left after (Err (Refused error)) = ReadsEnd before left (packets.Refused error) still_left after
@@ -152,20 +154,20 @@ EndsAtItem number before left still_left after other = ⊥
 -- The report of a capture ended with this result. `count` is the number of packets of this capture and of the captures before it. If the
 -- requested number of packets was counted, or if no further packet can be counted, nothing was read after the last packet. Otherwise the
 -- item after the last packet ended the report. A packet there would have had this number. `after` is the reader at the end.
-abbrev pub HasEnded : ℕ → ℕ → CaptureReader → Option (List ℕ) → Option (List ℕ) → CaptureReader → Result (Unit {0}) CaptureError → Type 0
-HasEnded count number before left still_left after (Err Enough) = (still_left ≡ left) × (after ≡ before)
+abbrev pub HasEnded : ℕ → ℕ → CaptureReader → Option (List ℕ) → Option (List ℕ) → CaptureReader → Result Reached CaptureError → Type 0
+HasEnded count number before left still_left after (Ok Limit) = (still_left ≡ left) × (after ≡ before)
 HasEnded count number before left still_left after (Err TooManyPackets) = (max_packets ≤ count) × (still_left ≡ left) × (after ≡ before)
 HasEnded count number before left still_left after ended = EndsAtItem number before left still_left after ended
 
 -- One of two things happened. The next packet, which has this number, was read, and was counted if it is chosen. Or there is no next
 -- packet, and nothing was counted.
-abbrev pub ReportsNext : Choice → ℕ → CaptureReader → Option (List ℕ) → Option (List ℕ) → CaptureReader → SummaryTables → SummaryTables → Option (Result (Unit {0}) CaptureError) → Type 0
+abbrev pub ReportsNext : Choice → ℕ → CaptureReader → Option (List ℕ) → Option (List ℕ) → CaptureReader → SummaryTables → SummaryTables → Option (Result Reached CaptureError) → Type 0
 ReportsNext choice number reader left still_left still_reader before after None = ReportsOne choice reader left still_left still_reader before after
 ReportsNext choice number reader left still_left still_reader before after (Some ended) =
     (after ≡ before) × EndsAtItem number reader left still_left still_reader ended
 
 -- the bytes after the beginning of a capture contain exactly these packets, and this result reports the item after them
-abbrev pub EndsAfter : CaptureReader → List FilePacket → Result (Unit {0}) CaptureError → List ℕ → Type 0
+abbrev pub EndsAfter : CaptureReader → List FilePacket → Result Reached CaptureError → List ℕ → Type 0
 EndsAfter reader packets ended bytes =
     (next : NextPacket) × HasPackets max_packet_len reader bytes packets next × IsAnsweredBy next (length packets + 1) ended
 
@@ -173,7 +175,7 @@ EndsAfter reader packets ended bytes =
 -- packets, and `last` is the reader at the end. `counted` is the number of packets in the captures before this one. The bytes of the
 -- capture begin with these packets. If the bytes were read to their end, they contain no other packet.
 pub record ReadsUntil (first : CaptureReader) (left still_left : Option (List ℕ)) (packets : List FilePacket) (counted : ℕ) (last : CaptureReader)
-    (ended : Result (Unit {0}) CaptureError) : Type 0 where
+    (ended : Result Reached CaptureError) : Type 0 where
   pub middle : Option (List ℕ)
   pub before : CaptureReader
   pub reads : ReadsPackets max_packet_len first left middle before packets

@@ -5,9 +5,9 @@ ghost use Rattle.capture_request.specs.Endings.{exit_status};
 ghost use Rattle.capture_request.specs.ErrorLines.{AreEndLines, IsErrorText, IsLineOf, IsOneLine, IsOpenErrorLine, WritesSome, first_word, hint_of};
 ghost use Rattle.capture_request.specs.Names.{shown_name};
 
-use crate::ExitStatus;
 use crate::compression::Compression;
 use crate::shown_name::without_mark;
+use crate::{ExitStatus, Reached};
 use capture_facts::ShownText;
 use capture_file::classic::CaptureHeaderError;
 use capture_file::reader::{OpenError, PacketError, PlacedPacketError};
@@ -17,7 +17,7 @@ use std::io::Write;
 use streams::write_whole;
 use thiserror::Error;
 
-/// The reason why the report of a capture ends before the capture does.
+/// The reason why a capture can't be read further.
 #[derive(Debug, Error, Drop)]
 pub enum CaptureError {
     /// The input is not a capture, or it is a capture of another format.
@@ -54,9 +54,6 @@ pub enum CaptureError {
     /// The report has counted 2^64 - 2 packets, which is the limit.
     #[error("2^64 - 2 packets were counted, and no more can be counted.")]
     TooManyPackets,
-    /// The requested number of packets is counted. The rest of the capture is not read, and the report is complete.
-    #[error("The requested number of packets is reached.")]
-    Enough,
 }
 
 impl CaptureError {
@@ -79,7 +76,6 @@ impl CaptureError {
             | CaptureError::Refused(_)
             | CaptureError::TooManyPackets => ExitStatus::Unfinished,
             CaptureError::ReadHeader(_) | CaptureError::Read { .. } => ExitStatus::Failed,
-            CaptureError::Enough => ExitStatus::Success,
         }
     }
 
@@ -101,13 +97,13 @@ pub fn write_end<E: Write>(
     errors: &mut E,
     alloc: Global,
     name: Option<&str>,
-    ended: &Result<(), CaptureError>,
+    ended: &Result<Reached, CaptureError>,
 ) -> io::Result<()>
     ensures { WritesSome (E.contents errors.old) (E.contents errors.new) (IsOk result)
         (AreEndLines (option_map (λ text. shown_name text.now) name.entry) ended.now) }
 {
     match ended {
-        Ok(()) | Err(CaptureError::Enough) => Ok(()),
+        Ok(_) => Ok(()),
         Err(error) => write_error(errors, alloc, name, error),
     }
 }
@@ -126,10 +122,8 @@ pub fn write_error<E: Write>(
     ensures { WritesSome (E.contents errors.old) (E.contents errors.new) (IsOk result)
         (IsOneLine (IsLineOf (option_map (λ text. shown_name text.now) name.entry) (IsErrorText error.now))) }
 {
-    match error_line(alloc, name, error) {
-        Ok(line) => write_whole(errors, line.as_bytes()),
-        Err(no_memory) => Err(io::Error::from(no_memory)),
-    }
+    let line = error_line(alloc, name, error)?;
+    write_whole(errors, line.as_bytes())
 }
 
 /// Returns the line of an error. It contains the name of the program, the name of the capture if there is one, and the text of the error.
@@ -198,10 +192,8 @@ pub fn write_open_error<E: Write>(
 ) -> io::Result<()>
     ensures { WritesSome (E.contents errors.old) (E.contents errors.new) (IsOk result) (IsOneLine (IsOpenErrorLine name.now)) }
 {
-    match open_error_line(alloc, name, error) {
-        Ok(line) => write_whole(errors, line.as_bytes()),
-        Err(no_memory) => Err(io::Error::from(no_memory)),
-    }
+    let line = open_error_line(alloc, name, error)?;
+    write_whole(errors, line.as_bytes())
 }
 
 /// Returns the line of a capture that can't be opened. If the name begins like a filter, the line also lists the options that select

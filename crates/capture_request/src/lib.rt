@@ -1,7 +1,7 @@
 //! What is requested of the report of a capture, what the report counts, and how it ends.
 //!
-//! `Parts` are the options of a report. `packet_in_frame` reads the packet of a record or block. `CaptureError` is the reason why a report
-//! ends before its capture does, and `WriteError` is the reason why a report can't be written. `ExitStatus` is the exit status of the
+//! `Parts` are the options of a report. `packet_in_frame` reads the packet of a record or block. `Reached` and
+//! `CaptureError` state how a report ends, and `WriteError` is the reason why a report can't be written. `ExitStatus` is the exit status of the
 //! program. `capture_run` writes the report. `capture_selection` writes the packets that have a line in the report to another capture.
 //!
 //! ```
@@ -16,6 +16,7 @@ mod captured;
 mod compression;
 mod exit_status;
 mod parts;
+mod reached;
 mod shown_name;
 mod writing_error;
 
@@ -27,5 +28,6 @@ pub use captured::{packet_in_frame, packet_without_room};
 pub use compression::Compression;
 pub use exit_status::ExitStatus;
 pub use parts::{Format, Lines, Parts};
+pub use reached::Reached;
 pub use shown_name::{ESCAPED, STANDARD_INPUT, without_mark};
 pub use writing_error::WriteError;

@@ -8,7 +8,9 @@ use Rattle.capture_file.specs.CapturePackets.{FilePacket}
 use Rattle.capture_summary.specs.SummaryTables.{SummaryTables}
 use Rattle.capture_summary.specs.declared.choice.Choice.{Choice}
 use Rattle.capture_request.specs.declared.capture_error.CaptureError.{CaptureError}
-use Rattle.capture_request.specs.declared.capture_error.CaptureError.TheVariants.{Enough, Header, Read, ReadHeader, RecordCutOff, Refused, TooManyPackets}
+use Rattle.capture_request.specs.declared.capture_error.CaptureError.TheVariants.{Header, Read, ReadHeader, RecordCutOff, Refused, TooManyPackets}
+use Rattle.capture_request.specs.declared.reached.Reached.{Reached}
+use Rattle.capture_request.specs.declared.reached.Reached.TheVariants.{End, Limit}
 
 -- one more packet, before the limit is reached
 within_more : (limit : Option ℕ) (counted now : ℕ) → is_full limit counted ≡ false → now ≤ counted + 1 → IsWithin limit now
@@ -22,10 +24,10 @@ within_step limit choice packet before after more counts =
     within_more limit before.packets after.packets more (counts_at_most choice before (packet ∷ []) after (after, counts, refl))
 
 -- a capture that ended before the limit did not end by the limit
-pub not_by_limit : (limit : Option ℕ) (counted : ℕ) (ended : Result (Unit {0}) CaptureError) → is_full limit counted ≡ false
+pub not_by_limit : (limit : Option ℕ) (counted : ℕ) (ended : Result Reached CaptureError) → is_full limit counted ≡ false
     → EndsWithoutLimit ended → EndsByLimit limit counted ended
-not_by_limit limit counted (Ok done) more without = more
-not_by_limit limit counted (Err Enough) more without = absurd without
+not_by_limit limit counted (Ok End) more without = more
+not_by_limit limit counted (Ok Limit) more without = absurd without
 not_by_limit limit counted (Err (RecordCutOff number offset required len)) more without = more
 not_by_limit limit counted (Err (Refused error)) more without = more
 not_by_limit limit counted (Err (Read number offset error)) more without = more
@@ -42,4 +44,3 @@ limit_at_header limit counted left (RecordCutOff number offset required len) rej
 limit_at_header limit counted left (Refused error) rejects = absurd rejects
 limit_at_header limit counted left (Read number offset error) rejects = absurd rejects
 limit_at_header limit counted left TooManyPackets rejects = absurd rejects
-limit_at_header limit counted left Enough rejects = absurd rejects

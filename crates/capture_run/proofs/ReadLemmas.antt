@@ -9,7 +9,9 @@ use Rattle.capture_file.specs.declared.reader.next_packet.NextPacket.TheVariants
 use Rattle.capture_packet.specs.Frames.{max_packet_len}
 use Rattle.capture_request.specs.Report.{EndsAfter, EndsAtItem, HasEnded, IsAnsweredBy, IsReadToEnd, ReadsEnd}
 use Rattle.capture_request.specs.declared.capture_error.CaptureError.{CaptureError}
-use Rattle.capture_request.specs.declared.capture_error.CaptureError.TheVariants.{Enough, Header, Read, ReadHeader, RecordCutOff, Refused, TooManyPackets}
+use Rattle.capture_request.specs.declared.capture_error.CaptureError.TheVariants.{Header, Read, ReadHeader, RecordCutOff, Refused, TooManyPackets}
+use Rattle.capture_request.specs.declared.reached.Reached.{Reached}
+use Rattle.capture_request.specs.declared.reached.Reached.TheVariants.{End, Limit}
 
 -- an item that is not a packet was read
 pub reads_end : (before after : CaptureReader) (left still_left : Option (List ℕ)) (buffer : List ℕ) (read next : NextPacket)
@@ -29,33 +31,33 @@ reads_end before after left still_left buffer read next room is reads none = (
 )
 
 -- the report ended at the next item
-pub ended_at_item : (count number : ℕ) (before after : CaptureReader) (left still_left : Option (List ℕ)) (ended : Result (Unit {0}) CaptureError)
+pub ended_at_item : (count number : ℕ) (before after : CaptureReader) (left still_left : Option (List ℕ)) (ended : Result Reached CaptureError)
     → EndsAtItem number before left still_left after ended → HasEnded count number before left still_left after ended
-ended_at_item count number before after left still_left (Ok done) ends = ends
+ended_at_item count number before after left still_left (Ok End) ends = ends
 ended_at_item count number before after left still_left (Err (RecordCutOff its_number offset required len)) ends = ends
 ended_at_item count number before after left still_left (Err (Refused error)) ends = ends
 ended_at_item count number before after left still_left (Err (Read its_number offset error)) ends = ends
-ended_at_item count number before after left still_left (Err Enough) ends = absurd ends
+ended_at_item count number before after left still_left (Ok Limit) ends = absurd ends
 ended_at_item count number before after left still_left (Err TooManyPackets) ends = absurd ends
 ended_at_item count number before after left still_left (Err (Header error)) ends = absurd ends
 ended_at_item count number before after left still_left (Err (ReadHeader error)) ends = absurd ends
 
 -- the item at which the packets of the input end; the result reports it
-item_of : (number : ℕ) (before after : CaptureReader) (left still_left : Option (List ℕ)) (ended : Result (Unit {0}) CaptureError)
+item_of : (number : ℕ) (before after : CaptureReader) (left still_left : Option (List ℕ)) (ended : Result Reached CaptureError)
     → EndsAtItem number before left still_left after ended → IsReadToEnd ended
     → (next : NextPacket) × EndsWith max_packet_len before left next × IsAnsweredBy next number ended
-item_of number before after left still_left (Ok done) ends is_end = (packets.End, ends.0, refl)
+item_of number before after left still_left (Ok End) ends is_end = (packets.End, ends.0, refl)
 item_of number before after left still_left (Err (RecordCutOff its_number offset required len)) ends is_end =
     (packets.CutOff required len, ends.0.0, (refl, ends.1))
 item_of number before after left still_left (Err (Refused error)) ends is_end = (packets.Refused error, ends.0, refl)
-item_of number before after left still_left (Err Enough) ends is_end = absurd is_end
+item_of number before after left still_left (Ok Limit) ends is_end = absurd is_end
 item_of number before after left still_left (Err TooManyPackets) ends is_end = absurd is_end
 item_of number before after left still_left (Err (Read its_number offset error)) ends is_end = absurd is_end
 item_of number before after left still_left (Err (Header error)) ends is_end = absurd is_end
 item_of number before after left still_left (Err (ReadHeader error)) ends is_end = absurd is_end
 
 -- if the input was read to its end, the packets that were read are all packets
-ends_after : (reader : CaptureReader) (left : Option (List ℕ)) (packets : List FilePacket) (next : NextPacket) (ended : Result (Unit {0}) CaptureError)
+ends_after : (reader : CaptureReader) (left : Option (List ℕ)) (packets : List FilePacket) (next : NextPacket) (ended : Result Reached CaptureError)
     → IfSome left (λ bytes. HasPackets max_packet_len reader bytes packets next) → IsAnsweredBy next (length packets + 1) ended
     → IfSome left (EndsAfter reader packets ended)
 ends_after reader None packets next ended has answered = tt
@@ -63,7 +65,7 @@ ends_after reader (Some bytes) packets next ended has answered = (next, has, ans
 
 -- if the input was read to its end, the packets that were read are all packets of the input
 pub all_packets : (reader before after : CaptureReader) (left middle still_left : Option (List ℕ)) (packets : List FilePacket)
-    (ended : Result (Unit {0}) CaptureError) → ReadsPackets max_packet_len reader left middle before packets
+    (ended : Result Reached CaptureError) → ReadsPackets max_packet_len reader left middle before packets
     → EndsAtItem (length packets + 1) before middle still_left after ended → IsReadToEnd ended → IfSome left (EndsAfter reader packets ended)
 all_packets reader before after left middle still_left packets ended read ends is_end =
     let (next, is_item, answered) = item_of (length packets + 1) before after middle still_left ended ends is_end in

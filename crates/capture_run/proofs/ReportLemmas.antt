@@ -9,6 +9,7 @@ use Rattle.capture_request.specs.Report.{CountsCaptured, CountsEach, EndsAfter}
 use Rattle.capture_summary.specs.SummaryTables.{SummaryTables}
 use Rattle.capture_summary.specs.declared.choice.Choice.{Choice}
 use Rattle.capture_request.specs.declared.capture_error.CaptureError.{CaptureError}
+use Rattle.capture_request.specs.declared.reached.Reached.{Reached}
 
 -- a packet after others
 pub counts-push : (choice : Choice) (before between after : SummaryTables) (packets : List FilePacket) (packet : FilePacket)
@@ -27,7 +28,7 @@ counts_at_most choice before (packet ∷ packets) after counted =
     grind (arith, counted.1.counts, counts_at_most choice counted.0 packets after counted.2)
 
 -- in a truncated capture the packets before the cut are counted
-pub counts-cut : (choice : Choice) (reader : CaptureReader) (left : Option (List ℕ)) (packets : List FilePacket) (ended : Result (Unit {0}) CaptureError)
+pub counts-cut : (choice : Choice) (reader : CaptureReader) (left : Option (List ℕ)) (packets : List FilePacket) (ended : Result Reached CaptureError)
     (before after : SummaryTables) → IfSome left (EndsAfter reader packets ended) → CountsEach choice before packets after
     → (whole : List ℕ) (all : List FilePacket) (next : NextPacket) (cut : ℕ) → left ≡ Some (take cut whole)
     → HasPackets max_packet_len reader whole all next

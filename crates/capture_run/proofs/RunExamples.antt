@@ -33,6 +33,7 @@ use Rattle.capture_request.specs.declared.exit_status.ExitStatus.TheVariants.{Su
 use Rattle.capture_request.specs.declared.parts.Format.TheVariants as formats
 use Rattle.capture_request.specs.declared.parts.Lines.TheVariants as lines
 use Rattle.capture_request.specs.declared.parts.Parts.{Parts}
+use Rattle.capture_request.specs.declared.reached.Reached.TheVariants.{End}
 use Rattle.capture_run.specs.Captures.{Given, IsRun, Progress, ReportsOpened, at_start}
 use Rattle.capture_run.specs.PacketsText.{IsPacketText, WritesCapture}
 use Rattle.capture_summary.specs.Choice.{every_packet}
@@ -150,7 +151,7 @@ module _ (first second : List ℕ) (first_room : length (section ++ first) ≡ m
   }
 
   -- the report of the file: no packet is counted, and the reader after the packets knows the interface
-  writes : (parts : Parts) → WritesCapture parts (Some (section ++ interface)) (Some []) (Ok tt) empty_tables empty_tables (Pcapng described) []
+  writes : (parts : Parts) → WritesCapture parts (Some (section ++ interface)) (Some []) (Ok End) empty_tables empty_tables (Pcapng described) []
   writes parts = record {
     reader = Pcapng begun;
     after_beginning = Some interface;
@@ -201,7 +202,7 @@ opened shown =
     let (first, first_room) = filled section max_packet_len (omega arith) in
     let (second, second_room) = filled interface max_packet_len (omega arith) in
     record {
-      ended = Ok tt;
+      ended = Ok End;
       still_left = Some [];
       reader = Some (Pcapng described);
       is_report = writes first second first_room second_room summary_alone;
@@ -347,7 +348,7 @@ module _ (rest : List ℕ) (room : length (170 ∷ rest) ≡ max_packet_len) whe
 
   -- the report of the capture: the packet is counted and has this line
   writes_line : (parts : Parts) (line : List ℕ) → parts.choice ≡ every_packet → IsPacketText parts 1 None in_file line
-      → WritesCapture parts (Some (file_header ++ one_byte)) (Some []) (Ok tt) empty_tables counted (Classic after_packet) (line ++ [])
+      → WritesCapture parts (Some (file_header ++ one_byte)) (Some []) (Ok End) empty_tables counted (Classic after_packet) (line ++ [])
   writes_line parts line every is_line = record {
     reader = Classic at_packet;
     after_beginning = Some one_byte;
@@ -391,7 +392,7 @@ reported : (shown : Option (List ℕ)) → ReportsOpened lines_alone shown (Some
 reported shown =
     let (rest, room) = filled (170 ∷ []) max_packet_len (omega arith) in
     record {
-      ended = Ok tt;
+      ended = Ok End;
       still_left = Some [];
       reader = Some (Classic after_packet);
       is_report = writes_line rest room lines_alone line refl is_line;

@@ -21,6 +21,7 @@ use Rattle.capture_request.specs.declared.parts.Lines.{Lines}
 use Rattle.capture_request.specs.declared.parts.Lines.TheVariants as lines
 use Rattle.capture_request.specs.declared.parts.Parts.{Parts}
 use Rattle.capture_request.specs.declared.capture_error.CaptureError.{CaptureError}
+use Rattle.capture_request.specs.declared.reached.Reached.{Reached}
 
 -- ---- one capture
 
@@ -61,7 +62,7 @@ only_capture false before (Some reader) = None
 -- line of its error, if there is one, which contains the name `shown`. `reader` is the reader after the packets. It is kept for the summary
 -- if no other capture has an accepted beginning.
 pub record ReportsOpened (parts : Parts) (shown : Option (List ℕ)) (left : Option (List ℕ)) (before after : Progress) (text : List ℕ) (lines : List (List ℕ)) : Type 0 where
-  pub ended : Result (Unit {0}) CaptureError
+  pub ended : Result Reached CaptureError
   pub still_left : Option (List ℕ)
   pub reader : Option CaptureReader
   pub is_report : IsCaptureReport parts left still_left ended before.summary after.summary reader text

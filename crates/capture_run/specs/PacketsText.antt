@@ -1,5 +1,5 @@
 -- The text of a report: the line of each packet that has one, in the order of the packets, then an empty line, and then the summary.
-use Rattle.std.specs.Prelude.{◌≡◌, ℕ, ◌+◌, if◌then◌else◌, List, [], ◌∷◌, ◌++◌, codes, Option, Some, None, Result, Err}
+use Rattle.std.specs.Prelude.{◌≡◌, ℕ, ◌+◌, if◌then◌else◌, List, [], ◌∷◌, ◌++◌, codes, Option, Some, None, Result, Ok}
 use Rattle.std.specs.Option.{option_or}
 use Rattle.capture_file.specs.CapturePackets.{BeginsInput, FilePacket}
 use Rattle.capture_file.specs.declared.reader.capture_reader.CaptureReader.{CaptureReader}
@@ -19,7 +19,8 @@ use Rattle.capture_request.specs.declared.parts.Lines.{Lines}
 use Rattle.capture_request.specs.declared.parts.Lines.TheVariants as lines
 use Rattle.capture_request.specs.declared.parts.Parts.{Parts}
 use Rattle.capture_request.specs.declared.capture_error.CaptureError.{CaptureError}
-use Rattle.capture_request.specs.declared.capture_error.CaptureError.TheVariants.{Enough}
+use Rattle.capture_request.specs.declared.reached.Reached.{Reached}
+use Rattle.capture_request.specs.declared.reached.Reached.TheVariants.{Limit}
 
 -- the text of a packet of a capture: the line with its number, its time and its length, if it is chosen and has a line
 abbrev pub IsPacketText : Parts → ℕ → Option PacketTime → FilePacket → List ℕ → Type 0
@@ -48,15 +49,15 @@ pub record WritesPacket (parts : Parts) (number : ℕ) (first now_first : Option
 -- packets were counted, and `text` consists of their texts. The first packet has number 1, whether it is chosen or not. If a number of
 -- packets is requested, no packet is read after the last requested packet. `reader` is the reader before the packets, and `last` is the
 -- reader after them.
-pub record WritesPackets (reader last : CaptureReader) (parts : Parts) (first : Option PacketTime) (left still_left : Option (List ℕ)) (ended : Result (Unit {0}) CaptureError) (before after : SummaryTables) (text : List ℕ) : Type 0 where
+pub record WritesPackets (reader last : CaptureReader) (parts : Parts) (first : Option PacketTime) (left still_left : Option (List ℕ)) (ended : Result Reached CaptureError) (before after : SummaryTables) (text : List ℕ) : Type 0 where
   pub packets : List FilePacket
   pub read : ReadsUntil reader left still_left packets before.packets last ended
-  pub requested : ended ≡ Err Enough → EndsWithRequested parts.limit parts.choice before packets
+  pub requested : ended ≡ Ok Limit → EndsWithRequested parts.limit parts.choice before packets
   pub counted : CountsEach parts.choice before packets after
   pub is_text : IsPacketsText parts 1 first packets text
 
 -- the report of a capture with an accepted beginning; times are shown since the first packet of this capture
-pub record WritesCapture (parts : Parts) (left still_left : Option (List ℕ)) (ended : Result (Unit {0}) CaptureError) (before after : SummaryTables) (last : CaptureReader) (text : List ℕ) : Type 0 where
+pub record WritesCapture (parts : Parts) (left still_left : Option (List ℕ)) (ended : Result Reached CaptureError) (before after : SummaryTables) (last : CaptureReader) (text : List ℕ) : Type 0 where
   pub reader : CaptureReader
   pub after_beginning : Option (List ℕ)
   pub begins : BeginsInput max_packet_len reader left after_beginning
@@ -64,7 +65,7 @@ pub record WritesCapture (parts : Parts) (left still_left : Option (List ℕ)) (
 
 -- The report of a capture: the counts after it, the reader after its packets, and its text. If the beginning of the capture is refused,
 -- nothing is counted, there is no reader, and the text is empty.
-abbrev pub IsCaptureReport : Parts → Option (List ℕ) → Option (List ℕ) → Result (Unit {0}) CaptureError → SummaryTables → SummaryTables → Option CaptureReader → List ℕ → Type 0
+abbrev pub IsCaptureReport : Parts → Option (List ℕ) → Option (List ℕ) → Result Reached CaptureError → SummaryTables → SummaryTables → Option CaptureReader → List ℕ → Type 0
 IsCaptureReport parts left still_left ended before after None text = RejectsBeginning left ended × (after ≡ before) × (text ≡ [])
 IsCaptureReport parts left still_left ended before after (Some last) text = WritesCapture parts left still_left ended before after last text
 

@@ -17,7 +17,7 @@ ghost use Rattle.capture_request.specs.declared.parts.Lines.TheVariants as Lines
 
 use crate::packet_report::{PacketReport, is_full};
 use crate::packets::report_packets;
-use crate::{CaptureError, ExitStatus, Format, Lines, MAX_PACKET_LEN, Parts, WriteError};
+use crate::{CaptureError, ExitStatus, Format, Lines, MAX_PACKET_LEN, Parts, Reached, WriteError};
 use capture_facts::write_facts;
 use capture_file::reader::CaptureReader;
 use capture_summary::{ConversationCount, Summary};
@@ -79,7 +79,7 @@ impl CaptureReports {
         buffer: &mut [u8; MAX_PACKET_LEN],
         alloc: Global,
         output: &mut W,
-    ) -> Result<(CaptureReports, Result<(), CaptureError>), WriteError>
+    ) -> Result<(CaptureReports, Result<Reached, CaptureError>), WriteError>
         ensures report { IfOk result (λ given. (reader : Option CaptureReader)
             × (given.0.capture ≡ only_capture self.is_empty self.capture reader)
             × AppendsOne (W.contents output.old) (W.contents output.new)
@@ -285,7 +285,7 @@ fn only_capture(
 }
 
 /// Whether the report ended before the first record.
-fn ends_at_header(ended: &Result<(), CaptureError>) -> bool
+fn ends_at_header(ended: &Result<Reached, CaptureError>) -> bool
     ensures { IsTrue result ↔ EndsAtHeader ended.now }
 {
     matches!(
@@ -295,11 +295,11 @@ fn ends_at_header(ended: &Result<(), CaptureError>) -> bool
 }
 
 /// Returns the exit status of a report that ended with this result.
-fn status_of(ended: &Result<(), CaptureError>) -> ExitStatus
+fn status_of(ended: &Result<Reached, CaptureError>) -> ExitStatus
     ensures { result ≡ status_of ended.now }
 {
     match ended {
-        Ok(()) => ExitStatus::Success,
+        Ok(_) => ExitStatus::Success,
         Err(error) => error.status(),
     }
 }

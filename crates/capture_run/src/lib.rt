@@ -16,7 +16,7 @@ mod sources;
 
 pub use capture_request::{
     CaptureError, Choice, Compression, ESCAPED, ExitStatus, Format, Lines, MAX_PACKET_LEN, Parts,
-    STANDARD_INPUT, Times, WriteError, packet_in_frame, packet_without_room, write_error,
+    Reached, STANDARD_INPUT, Times, WriteError, packet_in_frame, packet_without_room, write_error,
     write_open_error,
 };
 pub use open::Open;

@@ -12,7 +12,7 @@ ghost use Rattle.capture_words.specs.Written.{AppendsOne};
 ghost use Rattle.capture_request.specs.declared.parts.Lines.TheVariants as Lines;
 
 use crate::packet_report::PacketReport;
-use crate::{CaptureError, MAX_PACKET_LEN, WriteError};
+use crate::{CaptureError, MAX_PACKET_LEN, Reached, WriteError};
 use capture_file::reader::{CaptureReader, NextPacket};
 use std::io::{Read, Write};
 
@@ -25,7 +25,7 @@ pub(crate) fn report_packets<R: Read, W: Write>(
     input: &mut R,
     buffer: &mut [u8; MAX_PACKET_LEN],
     output: &mut W,
-) -> Result<Result<(), CaptureError>, WriteError>
+) -> Result<Result<Reached, CaptureError>, WriteError>
     ensures report { IfOk result (λ ended. AppendsOne (W.contents output.old) (W.contents output.new)
         (IsCaptureReport packets.old.parts (R.remaining input.old) (R.remaining input.new) ended packets.old.summary packets.new.summary capture.new)) }
     ensures limit { IfOk result (EndsByLimit packets.old.parts.limit packets.new.summary.packets) }
@@ -57,8 +57,8 @@ fn read_header<R: Read>(input: &mut R, buffer: &mut [u8]) -> Result<CaptureReade
     }
 }
 
-/// Counts each chosen packet, and writes its line if it has one. The inner error is the reason why no further packet can be read. It is
-/// `Enough` if the requested number of packets was counted. After an outer error nothing more can be written or counted.
+/// Counts each chosen packet, and writes its line if it has one. Returns how far the capture was read. The
+/// inner error is the reason why no further packet can be read. After an outer error nothing more can be written or counted.
 ///
 /// If a capture was truncated, exactly the packets whose record or block ends before the cut are counted. This holds for both forms of
 /// captures.
@@ -68,7 +68,7 @@ fn report_each_packet<R: Read, W: Write>(
     input: &mut R,
     buffer: &mut [u8],
     output: &mut W,
-) -> Result<Result<(), CaptureError>, WriteError>
+) -> Result<Result<Reached, CaptureError>, WriteError>
     requires buffer { length buffer.old ≡ MAX_PACKET_LEN }
     ensures report { IfOk result (λ ended. AppendsOne (W.contents output.old) (W.contents output.new)
         (WritesPackets reader.old reader.new packets.old.parts packets.old.first (R.remaining input.old) (R.remaining input.new) ended
@@ -87,7 +87,7 @@ fn report_each_packet<R: Read, W: Write>(
     let room = u64::MAX - packets.summary().packets();
     for number in 1..room {
         if packets.is_full() {
-            return Ok(Err(CaptureError::Enough));
+            return Ok(Ok(Reached::Limit));
         }
         if let Some(ended) = report_next(input, output, buffer, reader, packets, number)? {
             return Ok(ended);
@@ -105,7 +105,7 @@ fn report_next<R: Read, W: Write>(
     reader: &mut CaptureReader,
     packets: &mut PacketReport,
     number: u64,
-) -> Result<Option<Result<(), CaptureError>>, WriteError>
+) -> Result<Option<Result<Reached, CaptureError>>, WriteError>
     requires buffer { length buffer.old ≡ MAX_PACKET_LEN }
     requires room { packets.old.summary.packets < 2 ^ 64 - 1 }
     ensures next { IfOk result (ReportsNext packets.old.parts.choice number reader.old (R.remaining input.old) (R.remaining input.new) reader.new
@@ -131,7 +131,7 @@ fn report_next<R: Read, W: Write>(
             packets.add_too_long(output, number, &packet)?;
             Ok(None)
         }
-        Ok(NextPacket::End) => Ok(Some(Ok(()))),
+        Ok(NextPacket::End) => Ok(Some(Ok(Reached::End))),
         Ok(NextPacket::CutOff { required_len, len }) => Ok(Some(Err(CaptureError::RecordCutOff {
             number,
             offset: reader.offset(),

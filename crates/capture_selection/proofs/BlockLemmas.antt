@@ -53,26 +53,26 @@ refused_block options before after bytes buffer block error has_room is_next ste
 )
 
 -- the end by bytes at the place of a block that are no block
-refused_end : (options : Parts) (state : Blocks) (error : BlockError) (bytes buffer : List ℕ) (counts : Counts)
+refused_end : (options : Parts) (state : Blocks) (error : BlockError) (bytes buffer : List ℕ)
     → length buffer ≡ max_packet_len → (bytes ≢ []) → block_refusal state.reader.section.byte_order bytes ≡ Some error
-    → IsEndBy (block_selection options) state counts bytes (refused_by (block_place state) error)
-refused_end options state (CutOff required len) bytes buffer counts has_room some refused = ((refl, refl), (some, refused))
-refused_end options state (Magic magic) bytes buffer counts has_room some refused = (
+    → IsEndBy (block_selection options) state bytes (refused_by (block_place state) error)
+refused_end options state (CutOff required len) bytes buffer has_room some refused = ((refl, refl), (some, refused))
+refused_end options state (Magic magic) bytes buffer has_room some refused = (
   state.reader,
   buffer,
   record { has_room = has_room; block = blocks.Refused (Magic magic); is_next = (some, refused); is_step = (refl, refl) },
 )
-refused_end options state (TotalLength total_len) bytes buffer counts has_room some refused = (
+refused_end options state (TotalLength total_len) bytes buffer has_room some refused = (
   state.reader,
   buffer,
   record { has_room = has_room; block = blocks.Refused (TotalLength total_len); is_next = (some, refused); is_step = (refl, refl) },
 )
-refused_end options state (SectionLength total_len) bytes buffer counts has_room some refused = (
+refused_end options state (SectionLength total_len) bytes buffer has_room some refused = (
   state.reader,
   buffer,
   record { has_room = has_room; block = blocks.Refused (SectionLength total_len); is_next = (some, refused); is_step = (refl, refl) },
 )
-refused_end options state (LastLength total_len last_len) bytes buffer counts has_room some refused = (
+refused_end options state (LastLength total_len last_len) bytes buffer has_room some refused = (
   state.reader,
   buffer,
   record { has_room = has_room; block = blocks.Refused (LastLength total_len last_len); is_next = (some, refused); is_step = (refl, refl) },
@@ -99,7 +99,7 @@ ends_refused options result state error left still_left held now_held counts byt
     (inr (record {
       then_left = still_left;
       front = ended bytes front;
-      is_end = (refl, is_front, refused_end options state error bytes buffer counts has_room is_next.0 is_next.1);
+      is_end = (refl, is_front, refused_end options state error bytes buffer has_room is_next.0 is_next.1);
       consumed = consumed;
       appended = appended;
       counted = refl;

@@ -13,7 +13,8 @@ use Rattle.capture_file.specs.declared.reader.open_error.OpenError.TheVariants.{
 use Rattle.capture_file.specs.declared.reader.packet_error.PacketError.TheVariants as errors
 use Rattle.capture_file.specs.declared.reader.packet_error.PlacedPacketError.{PlacedPacketError}
 use Rattle.capture_file.specs.declared.reader.pcapng_reader.PcapngReader.{PcapngReader}
-use Rattle.capture_request.specs.declared.capture_error.CaptureError.TheVariants.{Enough, Header, Read, ReadHeader, RecordCutOff, Refused, TooManyPackets}
+use Rattle.capture_request.specs.declared.capture_error.CaptureError.TheVariants.{Header, Read, ReadHeader, RecordCutOff, Refused, TooManyPackets}
+use Rattle.capture_request.specs.declared.reached.Reached.{Reached}
 use Rattle.capture_request.specs.Limits.{is_full}
 use Rattle.capture_request.specs.declared.parts.Parts.{Parts}
 use Rattle.capture_copy.proofs.PassingLemmas.{passes_to_first_error}
@@ -95,7 +96,6 @@ error_past options (Capture (Read number offset error)) state left still_left he
 error_past options (Capture (Header error)) state left still_left held now_held counts now_counts past stops = tt
 error_past options (Capture (ReadHeader error)) state left still_left held now_held counts now_counts past stops = tt
 error_past options (Capture TooManyPackets) state left still_left held now_held counts now_counts past stops = tt
-error_past options (Capture Enough) state left still_left held now_held counts now_counts past stops = tt
 error_past options (Write error) state left still_left held now_held counts now_counts past stops = tt
 
 write_error_past : (error : SelectionError) → IsWriteError error → IsPastFirst {A = Unit {0}} (Err error)
@@ -103,7 +103,7 @@ write_error_past (Write error) failed = tt
 write_error_past (Capture error) failed = absurd failed
 
 -- an error within a block that is not the first one
-pub stops_past : (options : Parts) (result : Result (Unit {0}) SelectionError) (error : SelectionError) (state : Blocks)
+pub stops_past : (options : Parts) (result : Result Reached SelectionError) (error : SelectionError) (state : Blocks)
     (left still_left held now_held : Option (List ℕ)) (counts now_counts : Counts)
     → 1 ≤ state.reader.offset → (IsWriteError error ⊎ StopsBy (blocks_of options) error state left still_left held now_held counts now_counts)
     → result ≡ Err error → IsPastFirst result
@@ -113,7 +113,7 @@ stops_past options result error state left still_left held now_held counts now_c
     subst (λ given. IsPastFirst given) (sym fails) (error_past options error state left still_left held now_held counts now_counts past stops)
 
 -- a file whose first block is not refused
-pub file_passes : (options : Parts) (result : Result (Unit {0}) SelectionError) (start after : Blocks)
+pub file_passes : (options : Parts) (result : Result Reached SelectionError) (start after : Blocks)
     (left still_left held now_held : Option (List ℕ)) (counts now_counts : Counts)
     → PassesTo (blocks_of options) result start after left still_left held now_held counts now_counts → IsPastFirst result
     → PassesFile options result start after left still_left held now_held counts now_counts
@@ -129,7 +129,6 @@ file_passes options (Err (Capture (RecordCutOff number offset required len))) st
     (passes, past)
 file_passes options (Err (Capture (Refused error))) start after left still_left held now_held counts now_counts passes past = (passes, past)
 file_passes options (Err (Capture TooManyPackets)) start after left still_left held now_held counts now_counts passes past = (passes, past)
-file_passes options (Err (Capture Enough)) start after left still_left held now_held counts now_counts passes past = (passes, past)
 
 -- a file whose first block can't be passed
 first_error : (options : Parts) (error : SelectionError) (start after : Blocks) (left still_left held now_held : Option (List ℕ))
@@ -151,11 +150,6 @@ first_error options (Capture (Read number offset error)) start after left still_
   tt,
 )
 first_error options (Capture TooManyPackets) start after left still_left held now_held counts now_counts (inr stops) = absurd stops.is_end.2
-first_error options (Capture Enough) start after left still_left held now_held counts now_counts (inr stops) = (
-  passes_to_first_error {A = Unit {0}} (blocks_of options) (Err (Capture Enough)) _ start after left still_left held now_held
-      counts now_counts (inr stops) refl,
-  tt,
-)
 
 -- the same of a result
 pub file_refused : (options : Parts) (error given : SelectionError) (start after : Blocks) (left still_left held now_held : Option (List ℕ))
@@ -176,7 +170,6 @@ at_beginning_below limit chosen (Capture (Refused error)) ends = tt
 at_beginning_below limit chosen (Capture (Header error)) ends = tt
 at_beginning_below limit chosen (Capture (ReadHeader error)) ends = tt
 at_beginning_below limit chosen (Capture TooManyPackets) ends = tt
-at_beginning_below limit chosen (Capture Enough) ends = ends
 
 -- the error of the first block, before which fewer packets were chosen than requested
 pub first_below : (options : Parts) (error given : SelectionError) (start : Blocks) (left still_left held now_held : Option (List ℕ))
@@ -187,4 +180,4 @@ pub first_below : (options : Parts) (error given : SelectionError) (start : Bloc
 first_below options error given start left still_left held now_held counts now_counts below is ends =
     subst (λ given. EndsAtLimit options.limit now_counts.chosen (Err given)) (sym is)
     (at_beginning_below options.limit now_counts.chosen error
-    (error_below (block_selection options) error start left still_left held now_held counts now_counts below ends))
+    (error_below (block_selection options) options.limit error start left still_left held now_held counts now_counts below ends))

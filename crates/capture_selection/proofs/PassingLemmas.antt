@@ -6,9 +6,9 @@ use Rattle.std.specs.Io.KnownBytes.{Appends, Consumes, IsAtEnd}
 use Rattle.std.specs.Option.{option_to_list}
 use Rattle.std.specs.declared.io.Error.{Error}
 use Rattle.streams.specs.Streams.{Skips}
-use Rattle.capture_copy.proofs.PassingLemmas.{any_to_end, next_to_error, next_to_write_error}
+use Rattle.capture_copy.proofs.PassingLemmas.{any_to_end, given_error, next_to_error, next_to_write_error}
 use Rattle.capture_copy.specs.Copies.{Copies}
-use Rattle.capture_copy.specs.Passing.{EndsBy, Passes, PassesAny, PassesNext, StopsBy}
+use Rattle.capture_copy.specs.Passing.{EndsBy, PassesAny, PassesNext, StopsBy, counts_after}
 use Rattle.capture_file.specs.declared.reader.open_error.OpenError.{OpenError}
 use Rattle.capture_selection.specs.Outcomes.{counted}
 use Rattle.capture_selection.specs.Passing.{CopiesUpTo, EndsAtLimit, IsEndBy, IsFront, IsReadError, IsWriteError, LeavesAt, Part, PassesLong, PassesRest, Selection, format_of, written_by}
@@ -19,7 +19,8 @@ use Rattle.capture_selection.specs.declared.place.Place.{Place}
 use Rattle.capture_request.specs.Limits.{IsWithin, is_full}
 use Rattle.capture_selection.specs.declared.selection_error.SelectionError.{SelectionError}
 use Rattle.capture_selection.specs.declared.selection_error.SelectionError.TheVariants.{Capture, Write}
-use Rattle.capture_request.specs.declared.capture_error.CaptureError.TheVariants.{Enough, Header, Read, ReadHeader, RecordCutOff, Refused, TooManyPackets}
+use Rattle.capture_request.specs.declared.capture_error.CaptureError.TheVariants.{Header, Read, ReadHeader, RecordCutOff, Refused, TooManyPackets}
+use Rattle.capture_request.specs.declared.reached.Reached.{Reached}
 
 -- ---- ends
 
@@ -42,42 +43,20 @@ pub uncounted : (selection : Selection) (error : SelectionError) (state : select
 uncounted selection error state left still_left held now_held counts now_counts stops =
     stops.counted ∙ ap (λ outcome. fold counted counts (option_to_list outcome)) stops.is_end.0
 
--- parts, and then the end by a requested number of packets
-pub ends_by_limit : (selection : Selection) (before after : selection.State) (left still_left held now_held : Option (List ℕ)) (counts now_counts : Counts)
-    → Passes (format_of selection) before after left still_left held now_held counts now_counts → is_full selection.limit now_counts.chosen ≡ true
-    → EndsBy (format_of selection) (Capture Enough) before left still_left held now_held counts now_counts
-ends_by_limit selection before after left still_left held now_held counts now_counts passes full = record {
-  after = after;
-  middle = still_left;
-  then_held = now_held;
-  then_counts = now_counts;
-  passes = passes;
-  stops = inl (record {
-    then_left = still_left;
-    front = ended [] [];
-    is_end = (refl, inl refl, (refl, full));
-    consumed = Consumes-nil still_left;
-    appended = Appends-nil now_held;
-    counted = refl;
-    leaves = refl;
-  });
-}
-
 -- the same place
 pub read_error_at : (place other : Place) (error : SelectionError) → place ≡ other → IsReadError place error → IsReadError other error
 read_error_at place other error same is = subst (λ at. IsReadError at error) same is
 
 -- a read that fails at the place of a part
-pub ends_by_read : (selection : Selection) (error : SelectionError) (state : selection.State) (bytes : List ℕ) (counts : Counts)
-    → IsReadError (selection.place_of state) error → IsEndBy selection state counts bytes error
-ends_by_read selection (Capture (Read number offset error)) state bytes counts is = is
-ends_by_read selection (Capture (Header error)) state bytes counts is = absurd is
-ends_by_read selection (Capture (ReadHeader error)) state bytes counts is = absurd is
-ends_by_read selection (Capture (RecordCutOff number offset required len)) state bytes counts is = absurd is
-ends_by_read selection (Capture (Refused error)) state bytes counts is = absurd is
-ends_by_read selection (Capture TooManyPackets) state bytes counts is = absurd is
-ends_by_read selection (Capture Enough) state bytes counts is = absurd is
-ends_by_read selection (Write error) state bytes counts is = absurd is
+pub ends_by_read : (selection : Selection) (error : SelectionError) (state : selection.State) (bytes : List ℕ)
+    → IsReadError (selection.place_of state) error → IsEndBy selection state bytes error
+ends_by_read selection (Capture (Read number offset error)) state bytes is = is
+ends_by_read selection (Capture (Header error)) state bytes is = absurd is
+ends_by_read selection (Capture (ReadHeader error)) state bytes is = absurd is
+ends_by_read selection (Capture (RecordCutOff number offset required len)) state bytes is = absurd is
+ends_by_read selection (Capture (Refused error)) state bytes is = absurd is
+ends_by_read selection (Capture TooManyPackets) state bytes is = absurd is
+ends_by_read selection (Write error) state bytes is = absurd is
 
 -- what an input has left at a read error is not known
 pub leaves_at_read : (place : Place) (error : SelectionError) (then_left still_left : Option (List ℕ)) → IsReadError place error
@@ -88,13 +67,12 @@ leaves_at_read place (Capture (ReadHeader error)) then_left still_left is = absu
 leaves_at_read place (Capture (RecordCutOff number offset required len)) then_left still_left is = absurd is
 leaves_at_read place (Capture (Refused error)) then_left still_left is = absurd is
 leaves_at_read place (Capture TooManyPackets) then_left still_left is = absurd is
-leaves_at_read place (Capture Enough) then_left still_left is = absurd is
 leaves_at_read place (Write error) then_left still_left is = absurd is
 
 -- an end after the first bytes of a part, of which nothing was written
 pub stops_unwritten : (selection : Selection) (error : SelectionError) (state : selection.State) (left then_left still_left held : Option (List ℕ))
     (counts : Counts) (bytes : List ℕ)
-    → Consumes left then_left bytes → IsEndBy selection state counts bytes error → LeavesAt error then_left still_left
+    → Consumes left then_left bytes → IsEndBy selection state bytes error → LeavesAt error then_left still_left
     → StopsBy (format_of selection) error state left still_left held held counts counts
 stops_unwritten selection error state left then_left still_left held counts bytes consumed ends leaves = record {
   then_left = then_left;
@@ -114,18 +92,20 @@ pub any_to_read_error : (selection : Selection) (result : Result Bool SelectionE
 any_to_read_error selection result error before after left still_left held counts is fails =
     any_to_end (format_of selection) result error before after left still_left held held counts counts
     (inr (stops_unwritten selection error before left left still_left held counts [] (Consumes-nil left)
-    (ends_by_read selection error before [] counts is) (leaves_at_read (selection.place_of before) error left still_left is))) fails
+    (ends_by_read selection error before [] is) (leaves_at_read (selection.place_of before) error left still_left is))) fails
 
 -- reading failed, after these bytes of a part, for which these bytes were written
-pub next_to_read_error : {A : Type 0} → (selection : Selection) (result : Result A SelectionError) (error : SelectionError) (before after : selection.State)
+pub next_to_read_error : (selection : Selection) (result : Result (Option Outcome) SelectionError) (error : SelectionError) (before after : selection.State)
     (left then_left still_left held now_held : Option (List ℕ)) (counts : Counts) (bytes front : List ℕ)
     → IsReadError (selection.place_of before) error → Consumes left then_left bytes → Appends held now_held front
     → ((front ≡ []) ⊎ (selection.IsLong before bytes × IsFront front bytes)) → result ≡ Err error
-    → PassesNext (format_of selection) result before after left still_left held now_held counts counts
+    → PassesNext (format_of selection) result before after left still_left held now_held counts (counts_after (format_of selection) counts result)
 next_to_read_error selection result error before after left then_left still_left held now_held counts bytes front is consumed appended is_front fails =
-    next_to_error (format_of selection) result error before after left then_left still_left held now_held counts counts (ended bytes front)
-    (refl, is_front, ends_by_read selection error before bytes counts is) consumed appended refl
-    (leaves_at_read (selection.place_of before) error then_left still_left is) fails
+    given_error (format_of selection) result error before after left still_left held now_held counts
+    (next_to_error (format_of selection) result error before after left then_left still_left held now_held counts counts (ended bytes front)
+    (refl, is_front, ends_by_read selection error before bytes is) consumed appended refl
+    (leaves_at_read (selection.place_of before) error then_left still_left is) fails)
+    fails
 
 -- the error of a capture that ends within the part at this place
 abbrev pub cut_at : Place → ℕ → ℕ → SelectionError
@@ -224,13 +204,14 @@ front_of (Some Unlisted) bytes Long (inr is) = inl refl
 front_of (Some Excluded) bytes Long (inr is) = inl refl
 
 -- a part for which the buffer has no room, up to an error
-pub next_long_to_error : {A : Type 0} → (selection : Selection) (result : Result A SelectionError) (error : SelectionError) (state after : selection.State)
+pub next_long_to_error : (selection : Selection) (result : Result (Option Outcome) SelectionError) (error : SelectionError) (state after : selection.State)
     (left middle still_left held now_held : Option (List ℕ)) (counts : Counts) (outcome : Option Outcome) (first : List ℕ)
     → ((bytes : List ℕ) → (written_by (first ++ bytes) outcome ≡ []) ⊎ selection.IsLong state (first ++ bytes)) → Consumes left middle first
     → PassesLong (selection.place_of state) outcome (Err error) first middle still_left held now_held → result ≡ Err error
-    → PassesNext (format_of selection) result state after left still_left held now_held counts counts
+    → PassesNext (format_of selection) result state after left still_left held now_held counts (counts_after (format_of selection) counts result)
 next_long_to_error selection result error state after left middle still_left held now_held counts outcome first long consumed (inl failed) fails =
-    next_to_write_error (format_of selection) result error state after left still_left held now_held counts counts failed fails
+    given_error (format_of selection) result error state after left still_left held now_held counts
+    (next_to_write_error (format_of selection) result error state after left still_left held now_held counts counts failed fails) fails
 next_long_to_error selection result error state after left middle still_left held now_held counts outcome first long consumed (inr (is, len, then_left, rest)) fails =
     let bytes = first ++ rest.bytes in
     next_to_read_error selection result error state after left then_left still_left held now_held counts bytes (written_by bytes outcome) is
@@ -238,12 +219,12 @@ next_long_to_error selection result error state after left middle still_left hel
     (front_of outcome bytes (selection.IsLong state bytes) (long rest.bytes)) fails
 
 -- the same at a place that is the place of the part
-pub next_long_at : {A : Type 0} → (selection : Selection) (result : Result A SelectionError) (error : SelectionError) (state after : selection.State)
+pub next_long_at : (selection : Selection) (result : Result (Option Outcome) SelectionError) (error : SelectionError) (state after : selection.State)
     (left middle still_left held now_held : Option (List ℕ)) (counts : Counts) (outcome : Option Outcome) (first : List ℕ) (place : Place)
     → place ≡ selection.place_of state → ((bytes : List ℕ) → (written_by (first ++ bytes) outcome ≡ []) ⊎ selection.IsLong state (first ++ bytes))
     → Consumes left middle first
     → PassesLong place outcome (Err error) first middle still_left held now_held → result ≡ Err error
-    → PassesNext (format_of selection) result state after left still_left held now_held counts counts
+    → PassesNext (format_of selection) result state after left still_left held now_held counts (counts_after (format_of selection) counts result)
 next_long_at selection result error state after left middle still_left held now_held counts outcome first place is_place long consumed passes fails =
     next_long_to_error selection result error state after left middle still_left held now_held counts outcome first long consumed
     (subst (λ given. PassesLong given outcome (Err error) first middle still_left held now_held) is_place passes) fails
@@ -266,45 +247,42 @@ same_below : (limit : Option ℕ) (counts now_counts : Counts) → is_full limit
 same_below limit counts now_counts below same = subst (λ given. is_full limit given.chosen ≡ false) (sym same) below
 
 -- an error in a part before which fewer packets were chosen than requested
-pub error_below : (selection : Selection) (error : SelectionError) (state : selection.State) (left still_left held now_held : Option (List ℕ))
+pub error_below : (selection : Selection) (limit : Option ℕ) (error : SelectionError) (state : selection.State) (left still_left held now_held : Option (List ℕ))
     (counts now_counts : Counts)
-    → is_full selection.limit counts.chosen ≡ false
+    → is_full limit counts.chosen ≡ false
     → (IsWriteError error ⊎ StopsBy (format_of selection) error state left still_left held now_held counts now_counts)
-    → EndsAtLimit selection.limit now_counts.chosen (Err error)
-error_below selection (Write error) state left still_left held now_held counts now_counts below ends = tt
-error_below selection (Capture error) state left still_left held now_held counts now_counts below (inl failed) = absurd failed
-error_below selection (Capture (Read number offset error)) state left still_left held now_held counts now_counts below (inr stops) =
-    same_below selection.limit counts now_counts below (uncounted selection _ state left still_left held now_held counts now_counts stops)
-error_below selection (Capture (RecordCutOff number offset required len)) state left still_left held now_held counts now_counts below (inr stops) =
-    same_below selection.limit counts now_counts below (uncounted selection _ state left still_left held now_held counts now_counts stops)
-error_below selection (Capture (Refused error)) state left still_left held now_held counts now_counts below (inr stops) =
-    same_below selection.limit counts now_counts below (uncounted selection _ state left still_left held now_held counts now_counts stops)
-error_below selection (Capture (Header error)) state left still_left held now_held counts now_counts below (inr stops) = tt
-error_below selection (Capture (ReadHeader error)) state left still_left held now_held counts now_counts below (inr stops) = tt
-error_below selection (Capture TooManyPackets) state left still_left held now_held counts now_counts below (inr stops) = tt
-error_below selection (Capture Enough) state left still_left held now_held counts now_counts below (inr stops) =
-    subst (λ given. is_full selection.limit given.chosen ≡ true) (sym (uncounted selection _ state left still_left held now_held counts now_counts stops))
-    stops.is_end.2.1
+    → EndsAtLimit limit now_counts.chosen (Err error)
+error_below selection limit (Write error) state left still_left held now_held counts now_counts below ends = tt
+error_below selection limit (Capture error) state left still_left held now_held counts now_counts below (inl failed) = absurd failed
+error_below selection limit (Capture (Read number offset error)) state left still_left held now_held counts now_counts below (inr stops) =
+    same_below limit counts now_counts below (uncounted selection _ state left still_left held now_held counts now_counts stops)
+error_below selection limit (Capture (RecordCutOff number offset required len)) state left still_left held now_held counts now_counts below (inr stops) =
+    same_below limit counts now_counts below (uncounted selection _ state left still_left held now_held counts now_counts stops)
+error_below selection limit (Capture (Refused error)) state left still_left held now_held counts now_counts below (inr stops) =
+    same_below limit counts now_counts below (uncounted selection _ state left still_left held now_held counts now_counts stops)
+error_below selection limit (Capture (Header error)) state left still_left held now_held counts now_counts below (inr stops) = tt
+error_below selection limit (Capture (ReadHeader error)) state left still_left held now_held counts now_counts below (inr stops) = tt
+error_below selection limit (Capture TooManyPackets) state left still_left held now_held counts now_counts below (inr stops) = tt
 
 -- the same of a result
-pub ends_below : (selection : Selection) (result : Result (Unit {0}) SelectionError) (error : SelectionError) (state : selection.State)
+pub ends_below : (selection : Selection) (limit : Option ℕ) (result : Result Reached SelectionError) (error : SelectionError) (state : selection.State)
     (left still_left held now_held : Option (List ℕ)) (counts now_counts : Counts)
-    → is_full selection.limit counts.chosen ≡ false
+    → is_full limit counts.chosen ≡ false
     → (IsWriteError error ⊎ StopsBy (format_of selection) error state left still_left held now_held counts now_counts)
-    → result ≡ Err error → EndsAtLimit selection.limit now_counts.chosen result
-ends_below selection result error state left still_left held now_held counts now_counts below ends fails =
-    subst (λ given. EndsAtLimit selection.limit now_counts.chosen given) (sym fails)
-    (error_below selection error state left still_left held now_held counts now_counts below ends)
+    → result ≡ Err error → EndsAtLimit limit now_counts.chosen result
+ends_below selection limit result error state left still_left held now_held counts now_counts below ends fails =
+    subst (λ given. EndsAtLimit limit now_counts.chosen given) (sym fails)
+    (error_below selection limit error state left still_left held now_held counts now_counts below ends)
 
 -- there is no part after the last of fewer packets than requested
-pub none_below : (selection : Selection) (is_any : Bool) (before after : selection.State) (left still_left held now_held : Option (List ℕ))
+pub none_below : (selection : Selection) (limit : Option ℕ) (is_any : Bool) (before after : selection.State) (left still_left held now_held : Option (List ℕ))
     (counts now_counts : Counts)
-    → is_full selection.limit counts.chosen ≡ false
+    → is_full limit counts.chosen ≡ false
     → PassesAny (format_of selection) (Ok is_any) before after left still_left held now_held counts now_counts → is_any ≡ false
-    → is_full selection.limit now_counts.chosen ≡ false
-none_below selection true before after left still_left held now_held counts now_counts below one is = absurd (cc is)
-none_below selection false before after left still_left held now_held counts now_counts below none is =
-    same_below selection.limit counts now_counts below none.3
+    → is_full limit now_counts.chosen ≡ false
+none_below selection limit true before after left still_left held now_held counts now_counts below one is = absurd (cc is)
+none_below selection limit false before after left still_left held now_held counts now_counts below none is =
+    same_below limit counts now_counts below none.3
 
 -- if the limit was reached at first, nothing was counted, and the limit is still reached
 pub still_full : (limit : Option ℕ) (first counts : Counts) → (is_full limit first.chosen ≡ true → counts ≡ first)
@@ -312,9 +290,3 @@ pub still_full : (limit : Option ℕ) (first counts : Counts) → (is_full limit
 still_full limit first counts same below full =
     let still : is_full limit counts.chosen ≡ true = subst (λ given. is_full limit given.chosen ≡ true) (sym (same full)) full in
     cc (sym still ∙ below)
-
--- writing failed
-pub write_error_at_limit : (limit : Option ℕ) (chosen : ℕ) (result : Result (Unit {0}) SelectionError) (error : SelectionError)
-    → IsWriteError error → result ≡ Err error → EndsAtLimit limit chosen result
-write_error_at_limit limit chosen result (Write error) failed fails = subst (EndsAtLimit limit chosen) (sym fails) tt
-write_error_at_limit limit chosen result (Capture error) failed fails = absurd failed

@@ -1,5 +1,5 @@
 -- The records of a classic capture as parts.
-use Rattle.std.proofs.Common.{◌≡◌, ◌≤◌, ◌<◌, ◌++◌, ℕ, List, Some, arith, length, refl, subst, sym}
+use Rattle.std.proofs.Common.{◌≡◌, ◌≤◌, ◌<◌, ◌++◌, ℕ, List, Option, arith, length, subst, sym}
 use Rattle.std.proofs.lemmas.Bool.Decides.{nat_tests}
 use Rattle.std.proofs.lemmas.List.{drop_at}
 use Rattle.capture_copy.proofs.RecordLemmas.{is_record}
@@ -10,10 +10,9 @@ use Rattle.capture_texts.specs.Numbers.{number_at}
 use Rattle.capture_file.specs.Packets.{long_record, packet_of_record}
 use Rattle.capture_file.specs.declared.classic.capture_header.CaptureHeader.{CaptureHeader}
 use Rattle.capture_packet.specs.Frames.{max_packet_len}
-use Rattle.capture_packet.specs.declared.packet.Packet.{Packet}
 use Rattle.capture_request.specs.Report.{IsPacketOf}
 use Rattle.capture_request.specs.declared.parts.Parts.{Parts}
-use Rattle.capture_selection.specs.Outcomes.{IsOutcomeOf}
+use Rattle.capture_selection.specs.Outcomes.{HasOutcome}
 use Rattle.capture_selection.specs.Records.{IsLongRecord, IsRecordPart}
 use Rattle.capture_selection.specs.declared.outcome.Outcome.{Outcome}
 
@@ -30,19 +29,13 @@ record_packet_long room capture first captured has_len beyond =
     grind (arith, nat_tests, record_header_front capture.byte_order first captured (omega (arith, has_len)))
 
 -- a record with this packet
-pub record_part : (options : Parts) (capture : CaptureHeader) (first captured : List ℕ) (file_packet : FilePacket) (packet : Packet) (outcome : Outcome)
+pub record_part : (options : Parts) (capture : CaptureHeader) (first captured : List ℕ) (file_packet : FilePacket) (outcome : Option Outcome)
     → length first ≡ 16 → length captured ≡ number_at capture.byte_order first 8
-    → record_packet max_packet_len capture (first ++ captured) ≡ file_packet → IsPacketOf file_packet packet → IsOutcomeOf options packet outcome
-    → IsRecordPart options capture (first ++ captured) (Some outcome)
-record_part options capture first captured file_packet packet outcome has_len counted is is_packet is_outcome = record {
+    → record_packet max_packet_len capture (first ++ captured) ≡ file_packet → HasOutcome options (IsPacketOf file_packet) outcome
+    → IsRecordPart options capture (first ++ captured) outcome
+record_part options capture first captured file_packet outcome has_len counted is has = record {
   is_record = is_record capture.byte_order first captured has_len counted;
-  has_outcome = record {
-    packet = packet;
-    is_packet = subst (λ given. IsPacketOf given packet) (sym is) is_packet;
-    given = outcome;
-    is_outcome = is_outcome;
-    has = refl;
-  };
+  has_outcome = subst (λ given. HasOutcome options (IsPacketOf given) outcome) (sym is) has;
 }
 
 -- the captured length is in the header of a record

@@ -8,6 +8,7 @@ use Rattle.capture_file.specs.declared.classic.record_header.Resolution.TheVaria
 use Rattle.capture_packet.proofs.PacketExamples.{frame, is_read, is_rejected, packet, rejected}
 use Rattle.capture_request.specs.declared.parts.Lines.TheVariants.{All}
 use Rattle.capture_request.specs.declared.parts.Parts.{Parts}
+use Rattle.capture_request.specs.declared.reached.Reached.TheVariants.{End}
 use Rattle.capture_selection.proofs.PassingLemmas.{part_of}
 use Rattle.capture_selection.specs.Blocks.{block_copy}
 use Rattle.capture_selection.specs.Captures.{SelectsCapture}
@@ -67,16 +68,18 @@ abbrev pub counts : ℕ → ℕ → ℕ → Counts
 counts read chosen written = record { read = read; chosen = chosen; written = written }
 
 -- the header and the record of the UDP packet are written as they were read
-pub selection : (others : Parts) → SelectsCapture (options others) (Ok tt) (Some (header ++ udp_record ++ other_record)) (Some []) (Some []) (Some (header ++ udp_record))
+pub selection : (others : Parts) → SelectsCapture (options others) (Ok End) (Some (header ++ udp_record ++ other_record)) (Some []) (Some []) (Some (header ++ udp_record))
     (counts 0 0 0) (counts 2 1 1)
 selection others = inl (record {
   header = capture;
-  bytes = header;
-  says = (refl, refl, record { resolution = refl; snap_len = refl; link_type = refl });
   middle = Some (udp_record ++ other_record);
   then_held = Some header;
-  consumed = refl;
-  appended = refl;
+  copies = record {
+    bytes = header;
+    says = (refl, refl, record { resolution = refl; snap_len = refl; link_type = refl });
+    consumed = refl;
+    appended = refl;
+  };
   after = records_after (records_after (first_records capture) 45) 17;
   passes = record {
     parts = part_of udp_record (Some Written) ∷ part_of other_record (Some Excluded) ∷ [];

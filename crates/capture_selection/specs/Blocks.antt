@@ -1,10 +1,11 @@
 -- The blocks of a pcapng file as parts (draft-ietf-opsawg-pcapng, section 3.1). The state is the report's reader, which has a section and
 -- an offset, and the number of the next packet.
-use Rattle.std.specs.Prelude.{◌≡◌, ◌≢◌, ◌<◌, ◌≤◌, ℕ, false, if◌then◌else◌, List, [], ◌++◌, drop, length, replicate, take, Option, Some, None, Result, Ok, Err}
+use Rattle.std.specs.Prelude.{◌≡◌, ◌≢◌, ◌<◌, ◌≤◌, ℕ, false, if◌then◌else◌, List, [], ◌+◌, ◌++◌, drop, length, replicate, take, Option, Some, None, Result, Ok, Err}
 use Rattle.capture_file.specs.CapturePackets.{FilePacket, packet_in}
 use Rattle.capture_file.specs.Pcapng.{block_header, block_refusal, is_section_header}
 use Rattle.capture_file.specs.PcapngReading.{IsNextBlock}
 use Rattle.capture_file.specs.PcapngSteps.{IsStep, is_description}
+use Rattle.capture_texts.specs.Blocks.{body_at, section_header_len}
 use Rattle.capture_texts.specs.declared.byte_order.ByteOrder.TheVariants.{BigEndian}
 use Rattle.capture_file.specs.declared.pcapng.errors.BlockError.{BlockError}
 use Rattle.capture_file.specs.declared.pcapng.errors.BlockError.TheVariants.{CutOff}
@@ -20,6 +21,7 @@ use Rattle.capture_packet.specs.Frames.{max_packet_len}
 use Rattle.capture_request.specs.Report.{IsPacketOf}
 use Rattle.capture_request.specs.declared.capture_error.CaptureError.TheVariants.{Header, RecordCutOff, Refused}
 use Rattle.capture_request.specs.declared.parts.Parts.{Parts}
+use Rattle.capture_request.specs.declared.reached.Reached.{Reached}
 use Rattle.capture_copy.specs.Passing.{Format, PassesTo, StopsBy, one_more}
 use Rattle.capture_selection.specs.Outcomes.{HasOutcome}
 use Rattle.capture_selection.specs.Passing.{Selection, format_of}
@@ -76,10 +78,21 @@ number_after number (Some outcome) = one_more number
 abbrev pub block_place : Blocks → Place
 block_place blocks = record { number = blocks.number; offset = blocks.reader.offset }
 
--- What is written for a block. Bytes 16 to 23 of a section header block are the length of its section, which changes if a block is left out.
--- So the copy has the length -1 there, which means that the length is not specified (section 4.1). Every other block is its own copy.
+-- the place of the length of the section in a section header block, and the place of the options after it (section 4.1)
+abbrev pub section_len_at : ℕ
+section_len_at = 16
+
+abbrev pub section_options_at : ℕ
+section_options_at = body_at + section_header_len
+
+-- the length -1 in eight bytes, which means that the length of the section is not specified (section 4.1)
+abbrev pub not_specified : List ℕ
+not_specified = replicate 8 255
+
+-- What is written for a block. The length of a section changes if a block is left out. So the copy of a section header block has a length
+-- that is not specified. Every other block is its own copy.
 abbrev pub block_copy : List ℕ → List ℕ
-block_copy block = if is_section_header block then take 16 block ++ (replicate 8 255 ++ drop 24 block) else block
+block_copy block = if is_section_header block then take section_len_at block ++ (not_specified ++ drop section_options_at block) else block
 
 -- pcapng files, with these options
 abbrev pub block_selection : Parts → Selection
@@ -92,7 +105,6 @@ block_selection options = record {
   IsCut = λ blocks. IsCutBlock blocks.reader;
   IsRefused = λ blocks. IsRefusedBlock blocks.reader;
   copy_of = block_copy;
-  limit = options.limit;
 }
 
 abbrev pub blocks_of : Parts → Format
@@ -128,7 +140,7 @@ IsPastFirst other = Unit {0}
 
 -- What was read and written of a file, from its start up to this result. If its first block is refused, the error is an error of the
 -- header.
-abbrev pub PassesFile : Parts → Result (Unit {0}) SelectionError → Blocks → Blocks → Option (List ℕ) → Option (List ℕ) → Option (List ℕ)
+abbrev pub PassesFile : Parts → Result Reached SelectionError → Blocks → Blocks → Option (List ℕ) → Option (List ℕ) → Option (List ℕ)
     → Option (List ℕ) → Counts → Counts → Type 0
 PassesFile options (Err (Capture (Header (Pcapng error)))) start after left still_left held now_held counts now_counts =
     RefusesFirst options start error left still_left held now_held counts now_counts

@@ -1,35 +1,25 @@
 -- The selection of a whole capture.
 use Rattle.std.specs.Prelude.{◌≡◌, ◌⊎◌, ℕ, true, List, ⊤, Option, Result, Ok, Err}
-use Rattle.std.specs.Io.KnownBytes.{Appends, Consumes}
-use Rattle.capture_copy.specs.Captures.{IsNoPcapng, IsPcapng}
-use Rattle.capture_copy.specs.Passing.{PassesTo}
-use Rattle.capture_file.specs.Opening.{SaysHeader}
+use Rattle.capture_copy.specs.Captures.{IsNoPcapng, IsPcapng, PassesCapture}
 use Rattle.capture_file.specs.Reading.{RefusesHeader}
-use Rattle.capture_file.specs.declared.classic.capture_header.CaptureHeader.{CaptureHeader}
 use Rattle.capture_file.specs.declared.reader.open_error.OpenError.TheVariants.{Classic, Pcapng}
-use Rattle.capture_request.specs.declared.capture_error.CaptureError.TheVariants.{Enough, Header, ReadHeader}
+use Rattle.capture_request.specs.declared.capture_error.CaptureError.TheVariants.{Header, ReadHeader}
+use Rattle.capture_request.specs.declared.reached.Reached.{Reached}
+use Rattle.capture_request.specs.declared.reached.Reached.TheVariants.{Limit}
 use Rattle.capture_request.specs.Limits.{is_full}
 use Rattle.capture_request.specs.declared.parts.Parts.{Parts}
 use Rattle.capture_selection.specs.Blocks.{IsFileStart, PassesFile}
 use Rattle.capture_selection.specs.Records.{first_records, records_of}
 use Rattle.capture_selection.specs.declared.blocks.Blocks.{Blocks}
-use Rattle.capture_selection.specs.declared.records.Records.{Records}
 use Rattle.capture_selection.specs.declared.counts.Counts.{Counts}
 use Rattle.capture_selection.specs.declared.selection_error.SelectionError.{SelectionError}
 use Rattle.capture_selection.specs.declared.selection_error.SelectionError.TheVariants.{Capture, Write}
 
--- The selection of a classic capture. Its header of 24 bytes was written as it was read, and then its records were passed.
-pub record SelectsRecords (options : Parts) (result : Result (Unit {0}) SelectionError) (left still_left held now_held : Option (List ℕ))
-    (counts now_counts : Counts) : Type 0 where
-  pub header : CaptureHeader
-  pub bytes : List ℕ
-  pub says : SaysHeader bytes (Ok header)
-  pub middle : Option (List ℕ)
-  pub then_held : Option (List ℕ)
-  pub consumed : Consumes left middle bytes
-  pub appended : Appends held then_held bytes
-  pub after : Records
-  pub passes : PassesTo (records_of options) result (first_records header) after middle still_left then_held now_held counts now_counts
+-- the selection of a classic capture: its header was written as it was read, and then its records were passed
+abbrev pub SelectsRecords : Parts → Result Reached SelectionError → Option (List ℕ) → Option (List ℕ) → Option (List ℕ) → Option (List ℕ)
+    → Counts → Counts → Type 0
+SelectsRecords options result left still_left held now_held counts now_counts =
+    PassesCapture Reached (records_of options) first_records result left still_left held now_held counts now_counts
 
 -- nothing was written, and no packet was counted
 abbrev pub SelectsNothing : Option (List ℕ) → Option (List ℕ) → Counts → Counts → Type 0
@@ -37,17 +27,17 @@ SelectsNothing held now_held counts now_counts = (now_held ≡ held) × (now_cou
 
 -- The selection of a pcapng file, whose first bytes are the type of a section header block: its blocks were passed. If the requested number
 -- of packets was reached before the file, nothing was written.
-abbrev pub SelectsBlocks : Parts → Result (Unit {0}) SelectionError → Option (List ℕ) → Option (List ℕ) → Option (List ℕ) → Option (List ℕ)
+abbrev pub SelectsBlocks : Parts → Result Reached SelectionError → Option (List ℕ) → Option (List ℕ) → Option (List ℕ) → Option (List ℕ)
     → Counts → Counts → Type 0
 SelectsBlocks options result left still_left held now_held counts now_counts =
     IsPcapng left
     × (((start : Blocks) × (after : Blocks) × IsFileStart start
     × PassesFile options result start after left still_left held now_held counts now_counts)
-    ⊎ ((is_full options.limit counts.chosen ≡ true) × SelectsNothing held now_held counts now_counts × (result ≡ Err (Capture Enough))))
+    ⊎ ((is_full options.limit counts.chosen ≡ true) × SelectsNothing held now_held counts now_counts × (result ≡ Ok Limit)))
 
 -- The selection of a capture. If the header of a classic capture is refused or can't be read, nothing was written. The header of a pcapng
 -- file is not refused as the header of a classic capture. If a write failed, nothing is known.
-abbrev pub SelectsCapture : Parts → Result (Unit {0}) SelectionError → Option (List ℕ) → Option (List ℕ) → Option (List ℕ) → Option (List ℕ)
+abbrev pub SelectsCapture : Parts → Result Reached SelectionError → Option (List ℕ) → Option (List ℕ) → Option (List ℕ) → Option (List ℕ)
     → Counts → Counts → Type 0
 SelectsCapture options (Err (Capture (Header (Classic error)))) left still_left held now_held counts now_counts =
     RefusesHeader left still_left error × IsNoPcapng left

@@ -1,12 +1,13 @@
 -- What is read and written by a selection, part by part. A part is a record of a classic capture or a block of a pcapng file.
-use Rattle.std.specs.Prelude.{◌≡◌, ◌++◌, ◌⊎◌, ℕ, true, List, [], length, ⊤, Option, Some, None, Result, Ok, Err}
+use Rattle.std.specs.Prelude.{◌≡◌, ◌++◌, ◌⊎◌, ℕ, List, [], length, ⊤, Option, Some, None, Result, Ok, Err}
 use Rattle.std.specs.Io.KnownBytes.{Appends, Consumes, IsAtEnd}
 use Rattle.capture_copy.specs.Copies.{Copies}
 use Rattle.capture_copy.specs.Passing as copier
 use Rattle.capture_copy.specs.Passing.{Format}
-use Rattle.capture_request.specs.declared.capture_error.CaptureError.TheVariants.{Enough, Header, Read, ReadHeader, RecordCutOff, Refused, TooManyPackets}
+use Rattle.capture_request.specs.declared.capture_error.CaptureError.TheVariants.{Header, Read, ReadHeader, RecordCutOff, Refused, TooManyPackets}
+use Rattle.capture_request.specs.declared.reached.Reached.{Reached}
 use Rattle.capture_request.specs.Endings.{max_packets}
-use Rattle.capture_request.specs.Limits.{EndsByLimit, is_full}
+use Rattle.capture_request.specs.Limits.{EndsByLimit}
 use Rattle.capture_file.specs.declared.reader.packet_error.PlacedPacketError.{PlacedPacketError}
 use Rattle.capture_selection.specs.Outcomes.{counted}
 use Rattle.capture_selection.specs.declared.counts.Counts.{Counts}
@@ -46,8 +47,6 @@ pub record Selection : Type 1 where
   pub IsRefused : State → List ℕ → PlacedPacketError → Type 0
   -- what is written for the bytes of a part, unless its packet is left out
   pub copy_of : List ℕ → List ℕ
-  -- the requested number of packets
-  pub limit : Option ℕ
 
 -- ---- errors
 
@@ -63,7 +62,6 @@ IsReadError place (Capture (ReadHeader error)) = ⊥
 IsReadError place (Capture (RecordCutOff number offset required len)) = ⊥
 IsReadError place (Capture (Refused error)) = ⊥
 IsReadError place (Capture TooManyPackets) = ⊥
-IsReadError place (Capture Enough) = ⊥
 IsReadError place (Write error) = ⊥
 
 -- writing failed
@@ -71,18 +69,16 @@ abbrev pub IsWriteError : SelectionError → Type 0
 IsWriteError (Write error) = ⊤
 IsWriteError (Capture error) = ⊥
 
--- This error occurred in a part after its first bytes, before which the counts were these. If the error contains a place, it is the place of the
--- part.
-abbrev pub IsEndBy : (selection : Selection) → selection.State → Counts → List ℕ → SelectionError → Type 0
-IsEndBy selection state counts bytes (Capture (RecordCutOff number offset required len)) =
+-- This error occurred in a part after its first bytes. If the error contains a place, it is the place of the part.
+abbrev pub IsEndBy : (selection : Selection) → selection.State → List ℕ → SelectionError → Type 0
+IsEndBy selection state bytes (Capture (RecordCutOff number offset required len)) =
     IsAt (selection.place_of state) number offset × selection.IsCut state bytes required len
-IsEndBy selection state counts bytes (Capture (Refused error)) = selection.IsRefused state bytes error
-IsEndBy selection state counts bytes (Capture (Read number offset error)) = IsAt (selection.place_of state) number offset
-IsEndBy selection state counts bytes (Capture Enough) = (bytes ≡ []) × (is_full selection.limit counts.chosen ≡ true)
-IsEndBy selection state counts bytes (Capture TooManyPackets) = ⊥
-IsEndBy selection state counts bytes (Capture (Header error)) = ⊥
-IsEndBy selection state counts bytes (Capture (ReadHeader error)) = ⊥
-IsEndBy selection state counts bytes (Write error) = ⊥
+IsEndBy selection state bytes (Capture (Refused error)) = selection.IsRefused state bytes error
+IsEndBy selection state bytes (Capture (Read number offset error)) = IsAt (selection.place_of state) number offset
+IsEndBy selection state bytes (Capture TooManyPackets) = ⊥
+IsEndBy selection state bytes (Capture (Header error)) = ⊥
+IsEndBy selection state bytes (Capture (ReadHeader error)) = ⊥
+IsEndBy selection state bytes (Write error) = ⊥
 
 -- `bytes` begins with `front`
 abbrev pub IsFront : List ℕ → List ℕ → Type 0
@@ -90,17 +86,16 @@ IsFront front bytes = (more : List ℕ) × (bytes ≡ front ++ more)
 
 -- An error occurred in a part after its first bytes, and no packet was counted. Nothing was written for this part, unless the buffer has no room
 -- for it. Then some of its first bytes may have been written.
-abbrev pub IsEnd : (selection : Selection) → selection.State → Counts → Part → SelectionError → Type 0
-IsEnd selection state counts part error =
+abbrev pub IsEnd : (selection : Selection) → selection.State → Part → SelectionError → Type 0
+IsEnd selection state part error =
     (part.outcome ≡ None) × ((part.written ≡ []) ⊎ (selection.IsLong state part.read × IsFront part.written part.read))
-    × IsEndBy selection state counts part.read error
+    × IsEndBy selection state part.read error
 
 -- What an input has left at an error, next to what it had left after the first bytes of the part: the same, unless reading failed. A part is cut
 -- off only at the end of the input.
 abbrev pub LeavesAt : SelectionError → Option (List ℕ) → Option (List ℕ) → Type 0
 LeavesAt (Capture (RecordCutOff number offset required len)) then_left still_left = IsAtEnd still_left × (then_left ≡ still_left)
 LeavesAt (Capture (Refused error)) then_left still_left = then_left ≡ still_left
-LeavesAt (Capture Enough) then_left still_left = then_left ≡ still_left
 LeavesAt error then_left still_left = ⊤
 
 -- the format whose parts and ends these are; the copy of a part is written unless its packet is left out
@@ -119,10 +114,10 @@ format_of selection = record {
   max_parts = max_packets;
 }
 
--- A selection ended early exactly if as many packets were chosen as are requested. Nothing is stated of a capture whose beginning is
+-- A selection reached its limit exactly if as many packets were chosen as are requested. Nothing is stated of a capture whose beginning is
 -- refused, of a write that failed, or of too many packets.
-abbrev pub EndsAtLimit : Option ℕ → ℕ → Result (Unit {0}) SelectionError → Type 0
-EndsAtLimit limit chosen (Ok done) = EndsByLimit limit chosen (Ok done)
+abbrev pub EndsAtLimit : Option ℕ → ℕ → Result Reached SelectionError → Type 0
+EndsAtLimit limit chosen (Ok reached) = EndsByLimit limit chosen (Ok reached)
 EndsAtLimit limit chosen (Err (Capture error)) = EndsByLimit limit chosen (Err error)
 EndsAtLimit limit chosen (Err (Write error)) = ⊤
 

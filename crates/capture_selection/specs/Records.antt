@@ -3,8 +3,7 @@ use Rattle.std.specs.Prelude.{◌≡◌, ◌<◌, ◌+◌, ◌-◌, ◌^◌, ℕ
 use Rattle.capture_file.specs.CapturePackets.{record_packet}
 use Rattle.capture_copy.specs.Passing.{Format, one_more}
 use Rattle.capture_copy.specs.Records.{IsCutRecord}
-use Rattle.capture_file.specs.Classic.{IsRecord}
-use Rattle.capture_texts.specs.Numbers.{number_at}
+use Rattle.capture_file.specs.Classic.{IsRecord, capture_header_len, record_header}
 use Rattle.capture_file.specs.declared.classic.capture_header.CaptureHeader.{CaptureHeader}
 use Rattle.capture_packet.specs.Frames.{max_packet_len}
 use Rattle.capture_request.specs.Report.{IsPacketOf}
@@ -22,7 +21,7 @@ pub record IsRecordPart (options : Parts) (capture : CaptureHeader) (bytes : Lis
 
 -- the captured length in the header of the record that begins with these bytes is above the maximum length of a packet that is read
 abbrev pub IsLongRecord : CaptureHeader → List ℕ → Type 0
-IsLongRecord capture bytes = max_packet_len < number_at capture.byte_order bytes 8
+IsLongRecord capture bytes = max_packet_len < (record_header capture.byte_order bytes).captured_len
 
 -- the place after a record with this length: the number of a packet and the number of bytes are at most 2^64 - 1
 abbrev pub place_after : Place → ℕ → Place
@@ -32,9 +31,9 @@ place_after place len = record { number = one_more place.number; offset = min (p
 abbrev pub records_after : Records → ℕ → Records
 records_after records len = record { header = records.header; place = place_after records.place len }
 
--- the capture after its header: its first record begins at byte 24
+-- the capture after its header: its first record begins after the header
 abbrev pub first_records : CaptureHeader → Records
-first_records header = record { header = header; place = record { number = 1; offset = 24 } }
+first_records header = record { header = header; place = record { number = 1; offset = capture_header_len } }
 
 -- classic captures, with these options; no record is refused, and each one is written as it was read
 abbrev pub record_selection : Parts → Selection
@@ -46,7 +45,6 @@ record_selection options = record {
   IsCut = λ records. IsCutRecord records.header.byte_order;
   IsRefused = λ records bytes error. ⊥;
   copy_of = λ bytes. bytes;
-  limit = options.limit;
 }
 
 abbrev pub records_of : Parts → Format

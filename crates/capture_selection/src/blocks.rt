@@ -2,26 +2,28 @@
 
 ghost use Rattle.std.specs.Prelude.{◌≡◌, ◌<◌, ◌≤◌, ◌+◌, ℕ, List, Ok, OnErr, OnOk, Option, Some, false, length, true};
 ghost use Rattle.std.specs.Io.KnownBytes.{Consumes, IsAtEnd};
-ghost use Rattle.capture_copy.specs.Passing.{PassesAny, PassesNext, PassesTo};
+ghost use Rattle.capture_copy.specs.Passing.{PassesAny, PassesGiven, PassesTo};
 ghost use Rattle.capture_file.specs.Pcapng.{is_section_header};
 ghost use Rattle.capture_file.specs.PcapngReading.{AreFirst, BeginsBlock};
 ghost use Rattle.capture_file.specs.declared.pcapng.read.NextBlock.TheVariants.{TooLong, Whole};
 ghost use Rattle.capture_packet.specs.Frames.{max_packet_len};
 ghost use Rattle.capture_selection.specs.Blocks.{IsFileStart, IsPastFirst, PassesFile, StepsTo, block_copy, block_place, blocks_of, number_after};
 ghost use Rattle.capture_request.specs.Limits.{IsWithin, is_full};
+ghost use Rattle.capture_request.specs.declared.reached.Reached.TheVariants.{End};
 ghost use Rattle.capture_selection.specs.Passing.{EndsAtLimit};
 ghost use Rattle.capture_selection.specs.declared.outcome.Outcome.{Outcome};
 ghost use Rattle.capture_selection.specs.declared.outcome.Outcome.TheVariants.{Excluded};
 
+use crate::outcome::{outcome_in_frame, outcome_of};
 use crate::place::Place;
-use crate::transfer::{Buffer, pass_long, read_after, read_into, write_part};
-use crate::{Counts, Outcome, SelectionError, outcome_of};
-use capture_copy::is_pcapng;
+use crate::transfer::{pass_long, read_after, read_into, write_part};
+use crate::{Counts, Outcome, SelectionError};
+use capture_copy::{Copier, is_pcapng};
 use capture_file::ByteOrder;
 use capture_file::pcapng::{Block, BlockError, BlockHeader, MIN_BLOCK_LEN, SECTION_HEADER};
 use capture_file::reader::{PacketError, PcapngReader, PlacedPacketError, Section};
 use capture_packet::MAX_PACKET_LEN;
-use capture_request::{CaptureError, Parts, packet_in_frame, packet_without_room};
+use capture_request::{CaptureError, Parts, Reached, packet_without_room};
 use capture_texts::FileTexts;
 use std::io::{Read, Write};
 
@@ -91,54 +93,53 @@ fn number_after(number: u64, outcome: Option<Outcome>) -> u64
     }
 }
 
-/// Writes the blocks of a pcapng file that begins with these bytes, without the blocks of packets that have no line.
+/// Writes the blocks of a pcapng file that begins with these bytes, without the blocks of packets that have no line. Returns
+/// how far the file was read.
 pub(crate) fn select_blocks<R: Read, W: Write>(
-    input: &mut R,
-    output: &mut W,
-    buffer: &mut Buffer,
+    copier: &mut Copier<'_, R, W>,
     begin: &[u8],
     file: &mut Blocks,
     parts: &Parts,
     counts: &mut Counts,
-) -> Result<(), SelectionError>
-    requires begin { AreFirst begin.now (R.remaining input.old) }
+) -> Result<Reached, SelectionError>
+    requires begin { AreFirst begin.now (R.remaining copier.old.input) }
     requires some { 1 ≤ length begin.now }
     requires below { is_full parts.now.limit counts.old.chosen ≡ false }
-    ensures passes { (left : Option (List ℕ)) → Consumes left (R.remaining input.old) begin.now → PassesFile parts.now result
-        file.old file.new left (R.remaining input.new) (W.contents output.old) (W.contents output.new) counts.old counts.new }
-    ensures ends { OnOk result (IsAtEnd (R.remaining input.new)) }
+    ensures passes { (left : Option (List ℕ)) → Consumes left (R.remaining copier.old.input) begin.now → PassesFile parts.now result
+        file.old file.new left (R.remaining copier.new.input) (W.contents copier.old.output) (W.contents copier.new.output) counts.old counts.new }
+    ensures ends { result ≡ Ok End → IsAtEnd (R.remaining copier.new.input) }
     ensures limit { EndsAtLimit parts.now.limit counts.new.chosen result }
     ensures within { IsWithin parts.now.limit counts.new.chosen }
 {
-    match select_block(input, output, buffer, begin, file, parts, counts) {
-        Ok(()) => select_others(input, output, buffer, file, parts, counts),
-        Err(error) => Err(error.at_beginning()),
-    }
+    let outcome = match select_block(copier, begin, file, parts) {
+        Ok(outcome) => outcome,
+        Err(error) => return Err(error.at_beginning()),
+    };
+    counts.add_if(outcome);
+    select_others(copier, file, parts, counts)
 }
 
 /// Writes the blocks of a pcapng file after its first block, without the blocks of packets that have no line.
 fn select_others<R: Read, W: Write>(
-    input: &mut R,
-    output: &mut W,
-    buffer: &mut Buffer,
+    copier: &mut Copier<'_, R, W>,
     file: &mut Blocks,
     parts: &Parts,
     counts: &mut Counts,
-) -> Result<(), SelectionError>
-    ensures passes { PassesTo (blocks_of parts.now) result file.old file.new (R.remaining input.old) (R.remaining input.new)
-        (W.contents output.old) (W.contents output.new) counts.old counts.new }
-    ensures ends { OnOk result (IsAtEnd (R.remaining input.new)) }
+) -> Result<Reached, SelectionError>
+    ensures passes { PassesTo (blocks_of parts.now) result file.old file.new (R.remaining copier.old.input) (R.remaining copier.new.input)
+        (W.contents copier.old.output) (W.contents copier.new.output) counts.old counts.new }
+    ensures ends { result ≡ Ok End → IsAtEnd (R.remaining copier.new.input) }
     ensures past { 1 ≤ file.old.reader.offset → IsPastFirst result }
     ensures limit { EndsAtLimit parts.now.limit counts.new.chosen result }
     ensures within { IsWithin parts.now.limit counts.old.chosen → IsWithin parts.now.limit counts.new.chosen }
 {
     for _block in 0..u64::MAX {
         if counts.is_full(parts.limit) {
-            return Err(SelectionError::Capture(CaptureError::Enough));
+            return Ok(Reached::Limit);
         }
-        let is_block = select_next(input, output, buffer, file, parts, counts)?;
+        let is_block = select_next(copier, file, parts, counts)?;
         if !is_block {
-            return Ok(());
+            return Ok(Reached::End);
         }
     }
     Err(SelectionError::Capture(CaptureError::TooManyPackets))
@@ -146,76 +147,69 @@ fn select_others<R: Read, W: Write>(
 
 /// Reads the next block, and writes it unless its packet has no line. Returns whether there is a block.
 fn select_next<R: Read, W: Write>(
-    input: &mut R,
-    output: &mut W,
-    buffer: &mut Buffer,
+    copier: &mut Copier<'_, R, W>,
     file: &mut Blocks,
     parts: &Parts,
     counts: &mut Counts,
 ) -> Result<bool, SelectionError>
-    ensures passes { PassesAny (blocks_of parts.now) result file.old file.new (R.remaining input.old) (R.remaining input.new)
-        (W.contents output.old) (W.contents output.new) counts.old counts.new }
-    ensures ends { result ≡ Ok false → IsAtEnd (R.remaining input.new) }
+    ensures passes { PassesAny (blocks_of parts.now) result file.old file.new (R.remaining copier.old.input) (R.remaining copier.new.input)
+        (W.contents copier.old.output) (W.contents copier.new.output) counts.old counts.new }
+    ensures ends { result ≡ Ok false → IsAtEnd (R.remaining copier.new.input) }
     ensures one { counts.new.chosen ≤ counts.old.chosen + 1 }
 {
     let mut first = [0u8; MIN_BLOCK_LEN];
-    let len = read_into(input, &mut first, file.place())?;
+    let len = read_into(&mut copier.input, &mut first, file.place())?;
     if len == 0 {
         return Ok(false);
     }
-    select_block(input, output, buffer, &first[..len], file, parts, counts)?;
+    let outcome = select_block(copier, &first[..len], file, parts)?;
+    counts.add_if(outcome);
     Ok(true)
 }
 
-/// Reads a block after its first bytes, and writes it unless its packet has no line.
+/// Reads a block after its first bytes, and writes it unless its packet has no line. Returns the outcome of the packet, if there is one.
 fn select_block<R: Read, W: Write>(
-    input: &mut R,
-    output: &mut W,
-    buffer: &mut Buffer,
+    copier: &mut Copier<'_, R, W>,
     first: &[u8],
     file: &mut Blocks,
     parts: &Parts,
-    counts: &mut Counts,
-) -> Result<(), SelectionError>
-    requires first { AreFirst first.now (R.remaining input.old) }
+) -> Result<Option<Outcome>, SelectionError>
+    requires first { AreFirst first.now (R.remaining copier.old.input) }
     requires some { 1 ≤ length first.now }
-    ensures passes { (left : Option (List ℕ)) → Consumes left (R.remaining input.old) first.now → PassesNext (blocks_of parts.now) result
-        file.old file.new left (R.remaining input.new) (W.contents output.old) (W.contents output.new) counts.old counts.new }
+    ensures passes { (left : Option (List ℕ)) → Consumes left (R.remaining copier.old.input) first.now → PassesGiven (blocks_of parts.now) result
+        file.old file.new left (R.remaining copier.new.input) (W.contents copier.old.output) (W.contents copier.new.output) }
     ensures begun { OnOk result (1 ≤ file.new.reader.offset) }
-    ensures one { counts.new.chosen ≤ counts.old.chosen + 1 }
 {
     let header = match BlockHeader::from_slice(file.reader.section.byte_order, first) {
         Ok(header) => header,
         Err(error) => return Err(file.place().refused(error)),
     };
     if header.total_len as usize > MAX_PACKET_LEN {
-        select_long_block(input, output, buffer, first, &header, file, parts, counts)
+        select_long_block(copier, first, &header, file, parts)
     } else {
-        select_kept_block(input, output, buffer, first, &header, file, parts, counts)
+        select_kept_block(copier, first, &header, file, parts)
     }
 }
 
 /// Reads the bytes of a block after its first bytes into the buffer, and writes the block unless its packet has no line.
+/// Returns the outcome of the packet, if there is one.
 fn select_kept_block<R: Read, W: Write>(
-    input: &mut R,
-    output: &mut W,
-    buffer: &mut Buffer,
+    copier: &mut Copier<'_, R, W>,
     first: &[u8],
     header: &BlockHeader,
     file: &mut Blocks,
     parts: &Parts,
-    counts: &mut Counts,
-) -> Result<(), SelectionError>
+) -> Result<Option<Outcome>, SelectionError>
     requires header { BeginsBlock file.old.reader.section.byte_order first.now header.now }
     requires room { header.now.total_len ≤ max_packet_len }
-    ensures passes { (left : Option (List ℕ)) → Consumes left (R.remaining input.old) first.now → PassesNext (blocks_of parts.now) result
-        file.old file.new left (R.remaining input.new) (W.contents output.old) (W.contents output.new) counts.old counts.new }
+    ensures passes { (left : Option (List ℕ)) → Consumes left (R.remaining copier.old.input) first.now → PassesGiven (blocks_of parts.now) result
+        file.old file.new left (R.remaining copier.new.input) (W.contents copier.old.output) (W.contents copier.new.output) }
     ensures begun { OnOk result (1 ≤ file.new.reader.offset) }
-    ensures one { counts.new.chosen ≤ counts.old.chosen + 1 }
 {
     let total_len = header.total_len as usize;
     let place = file.place();
-    let len = read_after(input, first, &mut buffer[..total_len], place)?;
+    let buffer = &mut *copier.buffer;
+    let len = read_after(&mut copier.input, first, &mut buffer[..total_len], place)?;
     if let Err(error) = Block::from_slice(file.reader.section.byte_order, &buffer[..len]) {
         return Err(place.refused(error));
     }
@@ -225,10 +219,9 @@ fn select_kept_block<R: Read, W: Write>(
     };
     let block = &mut buffer[..total_len];
     forget_section_len(block);
-    write_part(output, &[], block, outcome)?;
-    counts.add_if(outcome);
+    write_part(&mut copier.output, &[], block, outcome)?;
     file.number = number_after(file.number, outcome);
-    Ok(())
+    Ok(outcome)
 }
 
 /// Sets the section length of a section header block to -1, since blocks of its section may be left out. Every other block stays.
@@ -243,12 +236,13 @@ fn forget_section_len(block: &mut [u8])
 
 /// The outcome of the block with this header at the front of the buffer, or why the block is refused. The file is then after the block.
 fn taken_outcome(
-    buffer: &Buffer,
+    buffer: &[u8],
     header: &BlockHeader,
     file: &mut PcapngReader,
     parts: &Parts,
 ) -> Result<Option<Outcome>, PlacedPacketError>
     requires len { (12 ≤ header.now.total_len) × (header.now.total_len ≤ max_packet_len) }
+    requires buffer { length buffer.now ≡ max_packet_len }
     ensures steps { StepsTo parts.now file.old buffer.now (Whole header.now) file.new result }
 {
     let offset = file.offset;
@@ -261,7 +255,7 @@ fn taken_outcome(
         Ok(None) => Ok(None),
         Ok(Some(packet)) => {
             let frame = &buffer[packet.start..packet.start + packet.captured_len];
-            Ok(Some(outcome_of(parts, &packet_in_frame(&packet, frame))))
+            Ok(Some(outcome_in_frame(parts, &packet, frame)))
         }
         Err(error) => Err(PlacedPacketError { offset, error }),
     }
@@ -305,35 +299,31 @@ fn kept_outcome(stepped: &Result<Option<Outcome>, PlacedPacketError>) -> Option<
 }
 
 /// Reads the bytes of a block after its first bytes, for which the buffer has no room, and writes the block unless its packet has no line.
-/// If the block is refused, its first bytes may have been written.
+/// If the block is refused, its first bytes may have been written. Returns the outcome of the packet, if there is one.
 fn select_long_block<R: Read, W: Write>(
-    input: &mut R,
-    output: &mut W,
-    buffer: &mut Buffer,
+    copier: &mut Copier<'_, R, W>,
     first: &[u8],
     header: &BlockHeader,
     file: &mut Blocks,
     parts: &Parts,
-    counts: &mut Counts,
-) -> Result<(), SelectionError>
+) -> Result<Option<Outcome>, SelectionError>
     requires header { BeginsBlock file.old.reader.section.byte_order first.now header.now }
     requires room { max_packet_len < header.now.total_len }
-    ensures passes { (left : Option (List ℕ)) → Consumes left (R.remaining input.old) first.now → PassesNext (blocks_of parts.now) result
-        file.old file.new left (R.remaining input.new) (W.contents output.old) (W.contents output.new) counts.old counts.new }
+    ensures passes { (left : Option (List ℕ)) → Consumes left (R.remaining copier.old.input) first.now → PassesGiven (blocks_of parts.now) result
+        file.old file.new left (R.remaining copier.new.input) (W.contents copier.old.output) (W.contents copier.new.output) }
     ensures begun { OnOk result (1 ≤ file.new.reader.offset) }
-    ensures one { counts.new.chosen ≤ counts.old.chosen + 1 }
 {
     let place = file.place();
     let stepped = long_outcome(header, &mut file.reader, parts);
     let outcome = kept_outcome(&stepped);
     let required_len = header.total_len as usize;
     let middle_len = required_len - MIN_BLOCK_LEN - LAST_LEN;
-    let len = pass_long(input, output, buffer, first, middle_len, outcome, place)?;
+    let len = pass_long(copier, first, middle_len, outcome, place)?;
     if len < middle_len {
         return Err(place.cut_off(required_len, MIN_BLOCK_LEN + len));
     }
     let mut last = [0u8; LAST_LEN];
-    let len = read_into(input, &mut last, place)?;
+    let len = read_into(&mut copier.input, &mut last, place)?;
     if len < LAST_LEN {
         return Err(place.cut_off(required_len, MIN_BLOCK_LEN + middle_len + len));
     }
@@ -347,8 +337,7 @@ fn select_long_block<R: Read, W: Write>(
     if let Err(error) = stepped {
         return Err(SelectionError::Capture(CaptureError::Refused(error)));
     }
-    write_part(output, &[], &last, outcome)?;
-    counts.add_if(outcome);
+    write_part(&mut copier.output, &[], &last, outcome)?;
     file.number = number_after(file.number, outcome);
-    Ok(())
+    Ok(outcome)
 }

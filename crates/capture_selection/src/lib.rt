@@ -7,7 +7,8 @@
 //! ```
 //! let parts = Parts { lines: Lines::Wrong, ..Parts::from_flags(false, true, true, false) };
 //! let mut counts = Counts::NONE;
-//! let ended = write_selected(&mut input, &mut output, buffer, &parts, &mut counts);
+//! let mut copier = Copier::new(input, output, buffer);
+//! let reached = write_selected(&mut copier, &parts, &mut counts)?;
 //! ```
 #![tactic(auto)]
 
@@ -21,6 +22,7 @@ mod selection_error;
 mod transfer;
 
 pub use capture::write_selected;
+pub use capture_copy::Copier;
 pub use counts::Counts;
 pub use outcome::{Outcome, outcome_of};
 pub use selection_error::SelectionError;

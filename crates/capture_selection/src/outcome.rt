@@ -1,7 +1,11 @@
-ghost use Rattle.capture_selection.specs.Outcomes.{IsOutcomeOf};
+ghost use Rattle.std.specs.Prelude.{Some};
+ghost use Rattle.capture_file.specs.CapturePackets.{kept};
+ghost use Rattle.capture_request.specs.Report.{IsPacketOf};
+ghost use Rattle.capture_selection.specs.Outcomes.{HasOutcome, IsOutcomeOf};
 
+use capture_file::reader::CapturedPacket;
 use capture_packet::Packet;
-use capture_request::Parts;
+use capture_request::{Parts, packet_in_frame};
 
 /// What is done with a packet of a capture.
 #[derive(Clone, Copy, Debug, PartialEq, Eq)]
@@ -26,4 +30,11 @@ pub fn outcome_of(parts: &Parts, packet: &Packet<'_>) -> Outcome
     } else {
         Outcome::Unlisted
     }
+}
+
+/// What is done with the packet in this frame, according to the options of a report.
+pub(crate) fn outcome_in_frame(parts: &Parts, captured: &CapturedPacket, frame: &[u8]) -> Outcome
+    ensures { HasOutcome parts.now (IsPacketOf (kept captured.now frame.now)) (Some result) }
+{
+    outcome_of(parts, &packet_in_frame(captured, frame))
 }

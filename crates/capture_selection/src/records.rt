@@ -2,20 +2,23 @@
 
 ghost use Rattle.std.specs.Prelude.{◌≡◌, ◌<◌, ◌≤◌, ◌+◌, ℕ, List, OnOk, Ok, Option, false, true};
 ghost use Rattle.std.specs.Io.KnownBytes.{Consumes, IsAtEnd};
-ghost use Rattle.capture_copy.specs.Passing.{PassesAny, PassesNext, PassesTo};
+ghost use Rattle.capture_copy.specs.Passing.{PassesAny, PassesGiven, PassesTo};
 ghost use Rattle.capture_file.specs.Classic.{record_header};
 ghost use Rattle.capture_request.specs.Limits.{IsWithin, is_full};
+ghost use Rattle.capture_request.specs.declared.reached.Reached.TheVariants.{End};
 ghost use Rattle.capture_packet.specs.Frames.{max_packet_len};
 ghost use Rattle.capture_selection.specs.Passing.{EndsAtLimit};
 ghost use Rattle.capture_selection.specs.Records.{first_records, records_after, records_of};
 
+use crate::outcome::{outcome_in_frame, outcome_of};
 use crate::place::Place;
-use crate::transfer::{Buffer, pass_long, read_into, write_part};
-use crate::{Counts, SelectionError, outcome_of};
+use crate::transfer::{pass_long, read_into, write_part};
+use crate::{Counts, Outcome, SelectionError};
+use capture_copy::Copier;
 use capture_file::classic::{CaptureHeader, RecordHeader};
 use capture_file::reader::CapturedPacket;
 use capture_packet::MAX_PACKET_LEN;
-use capture_request::{CaptureError, Parts, packet_in_frame, packet_without_room};
+use capture_request::{CaptureError, Parts, Reached, packet_without_room};
 use std::io::{Read, Write};
 
 /// A classic capture after some of its records.
@@ -51,29 +54,27 @@ impl Records {
     }
 }
 
-/// Writes the records of a classic capture whose packets have a line.
+/// Writes the records of a classic capture whose packets have a line. Returns how far the capture was read.
 pub(crate) fn select_records<R: Read, W: Write>(
-    input: &mut R,
-    output: &mut W,
-    buffer: &mut Buffer,
+    copier: &mut Copier<'_, R, W>,
     records: &mut Records,
     parts: &Parts,
     counts: &mut Counts,
-) -> Result<(), SelectionError>
-    ensures passes { PassesTo (records_of parts.now) result records.old records.new (R.remaining input.old) (R.remaining input.new)
-        (W.contents output.old) (W.contents output.new) counts.old counts.new }
-    ensures ends { OnOk result (IsAtEnd (R.remaining input.new)) }
+) -> Result<Reached, SelectionError>
+    ensures passes { PassesTo (records_of parts.now) result records.old records.new (R.remaining copier.old.input) (R.remaining copier.new.input)
+        (W.contents copier.old.output) (W.contents copier.new.output) counts.old counts.new }
+    ensures ends { result ≡ Ok End → IsAtEnd (R.remaining copier.new.input) }
     ensures limit { EndsAtLimit parts.now.limit counts.new.chosen result }
     ensures full { is_full parts.now.limit counts.old.chosen ≡ true → counts.new ≡ counts.old }
     ensures within { IsWithin parts.now.limit counts.old.chosen → IsWithin parts.now.limit counts.new.chosen }
 {
     for _record in 1..u64::MAX {
         if counts.is_full(parts.limit) {
-            return Err(SelectionError::Capture(CaptureError::Enough));
+            return Ok(Reached::Limit);
         }
-        let is_record = select_record(input, output, buffer, records, parts, counts)?;
+        let is_record = select_record(copier, records, parts, counts)?;
         if !is_record {
-            return Ok(());
+            return Ok(Reached::End);
         }
     }
     Err(SelectionError::Capture(CaptureError::TooManyPackets))
@@ -81,121 +82,96 @@ pub(crate) fn select_records<R: Read, W: Write>(
 
 /// Reads the next record, and writes it if its packet has a line. Returns whether there is a record.
 fn select_record<R: Read, W: Write>(
-    input: &mut R,
-    output: &mut W,
-    buffer: &mut Buffer,
+    copier: &mut Copier<'_, R, W>,
     records: &mut Records,
     parts: &Parts,
     counts: &mut Counts,
 ) -> Result<bool, SelectionError>
-    ensures passes { PassesAny (records_of parts.now) result records.old records.new (R.remaining input.old) (R.remaining input.new)
-        (W.contents output.old) (W.contents output.new) counts.old counts.new }
-    ensures ends { result ≡ Ok false → IsAtEnd (R.remaining input.new) }
+    ensures passes { PassesAny (records_of parts.now) result records.old records.new (R.remaining copier.old.input) (R.remaining copier.new.input)
+        (W.contents copier.old.output) (W.contents copier.new.output) counts.old counts.new }
+    ensures ends { result ≡ Ok false → IsAtEnd (R.remaining copier.new.input) }
     ensures one { counts.new.chosen ≤ counts.old.chosen + 1 }
 {
     let mut first = [0u8; RecordHeader::LEN];
-    let len = read_into(input, &mut first, records.place)?;
+    let len = read_into(&mut copier.input, &mut first, records.place)?;
     if len == 0 {
         return Ok(false);
     }
     if len < RecordHeader::LEN {
         return Err(records.place.cut_off(RecordHeader::LEN, len));
     }
-    select_headed(input, output, buffer, records, &first, parts, counts)?;
+    let outcome = select_headed(copier, records, &first, parts)?;
+    counts.add_if(outcome);
     Ok(true)
 }
 
 /// Reads the captured bytes of a record after its header, and writes the record if its packet has a line.
+/// Returns what is done with the packet.
 fn select_headed<R: Read, W: Write>(
-    input: &mut R,
-    output: &mut W,
-    buffer: &mut Buffer,
+    copier: &mut Copier<'_, R, W>,
     records: &mut Records,
     first: &[u8; RecordHeader::LEN],
     parts: &Parts,
-    counts: &mut Counts,
-) -> Result<(), SelectionError>
-    ensures passes { (left : Option (List ℕ)) → Consumes left (R.remaining input.old) first.now → PassesNext (records_of parts.now) result
-        records.old records.new left (R.remaining input.new) (W.contents output.old) (W.contents output.new) counts.old counts.new }
-    ensures one { counts.new.chosen ≤ counts.old.chosen + 1 }
+) -> Result<Option<Outcome>, SelectionError>
+    ensures passes { (left : Option (List ℕ)) → Consumes left (R.remaining copier.old.input) first.now → PassesGiven (records_of parts.now) result
+        records.old records.new left (R.remaining copier.new.input) (W.contents copier.old.output) (W.contents copier.new.output) }
 {
     let header = RecordHeader::from_bytes(records.header.byte_order, first);
     if header.captured_len as usize > MAX_PACKET_LEN {
-        select_long(
-            input, output, buffer, records, first, &header, parts, counts,
-        )
+        select_long(copier, records, first, &header, parts)
     } else {
-        select_kept(
-            input, output, buffer, records, first, &header, parts, counts,
-        )
+        select_kept(copier, records, first, &header, parts)
     }
 }
 
-/// Reads the captured bytes of a record into the buffer, and writes the record if its packet has a line.
+/// Reads the captured bytes of a record into the buffer, and writes the record if its packet has a line. Returns what is done
+/// with the packet.
 fn select_kept<R: Read, W: Write>(
-    input: &mut R,
-    output: &mut W,
-    buffer: &mut Buffer,
+    copier: &mut Copier<'_, R, W>,
     records: &mut Records,
     first: &[u8; RecordHeader::LEN],
     header: &RecordHeader,
     parts: &Parts,
-    counts: &mut Counts,
-) -> Result<(), SelectionError>
+) -> Result<Option<Outcome>, SelectionError>
     requires header { header.now ≡ record_header records.old.header.byte_order first.now }
     requires room { header.now.captured_len ≤ max_packet_len }
-    ensures passes { (left : Option (List ℕ)) → Consumes left (R.remaining input.old) first.now → PassesNext (records_of parts.now) result
-        records.old records.new left (R.remaining input.new) (W.contents output.old) (W.contents output.new) counts.old counts.new }
-    ensures one { counts.new.chosen ≤ counts.old.chosen + 1 }
+    ensures passes { (left : Option (List ℕ)) → Consumes left (R.remaining copier.old.input) first.now → PassesGiven (records_of parts.now) result
+        records.old records.new left (R.remaining copier.new.input) (W.contents copier.old.output) (W.contents copier.new.output) }
 {
-    let frame = &mut buffer[..header.captured_len as usize];
-    let len = read_into(input, frame, records.place)?;
+    let frame = &mut copier.buffer[..header.captured_len as usize];
+    let len = read_into(&mut copier.input, frame, records.place)?;
     if len < frame.len() {
         let required_len = RecordHeader::LEN + frame.len();
         return Err(records.place.cut_off(required_len, RecordHeader::LEN + len));
     }
-    let packet = packet_in_frame(&CapturedPacket::from_record(records.header, *header), frame);
-    let outcome = outcome_of(parts, &packet);
-    write_part(output, first, frame, Some(outcome))?;
-    counts.add(outcome);
+    let captured = CapturedPacket::from_record(records.header, *header);
+    let outcome = Some(outcome_in_frame(parts, &captured, frame));
+    write_part(&mut copier.output, first, frame, outcome)?;
     records.pass(header);
-    Ok(())
+    Ok(outcome)
 }
 
 /// Reads the captured bytes of a record, for which the buffer has no room, and writes the record if its packet has a line. If the capture
-/// ends within the record, the bytes before the end may have been written.
+/// ends within the record, the bytes before the end may have been written. Returns what is done with the packet.
 fn select_long<R: Read, W: Write>(
-    input: &mut R,
-    output: &mut W,
-    buffer: &mut Buffer,
+    copier: &mut Copier<'_, R, W>,
     records: &mut Records,
     first: &[u8; RecordHeader::LEN],
     header: &RecordHeader,
     parts: &Parts,
-    counts: &mut Counts,
-) -> Result<(), SelectionError>
+) -> Result<Option<Outcome>, SelectionError>
     requires header { header.now ≡ record_header records.old.header.byte_order first.now }
     requires room { max_packet_len < header.now.captured_len }
-    ensures passes { (left : Option (List ℕ)) → Consumes left (R.remaining input.old) first.now → PassesNext (records_of parts.now) result
-        records.old records.new left (R.remaining input.new) (W.contents output.old) (W.contents output.new) counts.old counts.new }
-    ensures one { counts.new.chosen ≤ counts.old.chosen + 1 }
+    ensures passes { (left : Option (List ℕ)) → Consumes left (R.remaining copier.old.input) first.now → PassesGiven (records_of parts.now) result
+        records.old records.new left (R.remaining copier.new.input) (W.contents copier.old.output) (W.contents copier.new.output) }
 {
-    let outcome = outcome_of(parts, &packet_without_room(header.captured_len));
+    let outcome = Some(outcome_of(parts, &packet_without_room(header.captured_len)));
     let captured_len = header.captured_len as usize;
-    let len = pass_long(
-        input,
-        output,
-        buffer,
-        first,
-        captured_len,
-        Some(outcome),
-        records.place,
-    )?;
+    let len = pass_long(copier, first, captured_len, outcome, records.place)?;
     if len < captured_len {
         let required_len = RecordHeader::LEN + captured_len;
         return Err(records.place.cut_off(required_len, RecordHeader::LEN + len));
     }
-    counts.add(outcome);
     records.pass(header);
-    Ok(())
+    Ok(outcome)
 }

@@ -13,7 +13,7 @@ use thiserror::Error;
 /// Why a capture is not read to its end.
 #[derive(Debug, Error, Drop)]
 pub enum SelectionError {
-    /// The capture is refused, can't be read further, or contains as many packets as are requested.
+    /// The capture is refused, or can't be read further.
     #[error(transparent)]
     Capture(CaptureError),
     /// Writing failed.

@@ -7,13 +7,9 @@ ghost use Rattle.capture_selection.specs.Passing.{CopiesUpTo, IsReadError, IsWri
 
 use crate::place::Place;
 use crate::{Outcome, SelectionError};
-use capture_copy::CopyError;
-use capture_packet::MAX_PACKET_LEN;
+use capture_copy::{Copier, CopyError};
 use std::io::{Read, Write};
 use streams::{fill, fill_after, skip};
-
-/// Room for the captured bytes of a packet, or for a block of a pcapng file.
-pub(crate) type Buffer = [u8; MAX_PACKET_LEN];
 
 /// Reads into a buffer until it is full or the input ends, and returns the number of bytes read.
 pub(crate) fn read_into<R: Read>(
@@ -51,7 +47,7 @@ pub(crate) fn read_after<R: Read>(
 }
 
 /// Writes these bytes.
-pub(crate) fn write<W: Write>(output: &mut W, bytes: &[u8]) -> Result<(), SelectionError>
+fn write<W: Write>(output: &mut W, bytes: &[u8]) -> Result<(), SelectionError>
     ensures appends { OnOk result (Appends (W.contents output.old) (W.contents output.new) bytes.now) }
     ensures failed { IfErr result IsWriteError }
 {
@@ -74,17 +70,15 @@ fn pass_over<R: Read>(input: &mut R, count: usize, place: Place) -> Result<usize
 
 /// Copies `count` bytes, or all bytes up to the end of input if there are fewer, and returns the number of bytes copied.
 fn copy<R: Read, W: Write>(
-    input: &mut R,
-    output: &mut W,
-    buffer: &mut Buffer,
+    copier: &mut Copier<'_, R, W>,
     count: usize,
     place: Place,
 ) -> Result<usize, SelectionError>
-    ensures copies { CopiesUpTo place result (R.remaining input.old) (R.remaining input.new) (W.contents output.old) (W.contents output.new) }
+    ensures copies { CopiesUpTo place result (R.remaining copier.old.input) (R.remaining copier.new.input) (W.contents copier.old.output) (W.contents copier.new.output) }
     ensures within { IfOk result (λ len. len ≤ count) }
-    ensures end { IfOk result (λ len. len < count → IsAtEnd (R.remaining input.new)) }
+    ensures end { IfOk result (λ len. len < count → IsAtEnd (R.remaining copier.new.input)) }
 {
-    match capture_copy::copy(input, output, buffer, count) {
+    match copier.copy(count) {
         Ok(len) => Ok(len),
         Err(CopyError::Read(error)) => Err(place.read_error(error)),
         Err(CopyError::Write(error)) => Err(SelectionError::Write(error)),
@@ -121,22 +115,20 @@ fn is_written(outcome: Option<Outcome>) -> bool
 /// Reads the bytes of a part after its first bytes, which were read before, and copies the part unless its packet is left out. Returns the
 /// number of bytes read, which are at most `count`.
 pub(crate) fn pass_long<R: Read, W: Write>(
-    input: &mut R,
-    output: &mut W,
-    buffer: &mut Buffer,
+    copier: &mut Copier<'_, R, W>,
     first: &[u8],
     count: usize,
     outcome: Option<Outcome>,
     place: Place,
 ) -> Result<usize, SelectionError>
     ensures within { IfOk result (λ len. len ≤ count) }
-    ensures end { IfOk result (λ len. len < count → IsAtEnd (R.remaining input.new)) }
-    ensures passes { PassesLong place outcome result first.now (R.remaining input.old) (R.remaining input.new)
-        (W.contents output.old) (W.contents output.new) }
+    ensures end { IfOk result (λ len. len < count → IsAtEnd (R.remaining copier.new.input)) }
+    ensures passes { PassesLong place outcome result first.now (R.remaining copier.old.input) (R.remaining copier.new.input)
+        (W.contents copier.old.output) (W.contents copier.new.output) }
 {
     if !is_written(outcome) {
-        return pass_over(input, count, place);
+        return pass_over(&mut copier.input, count, place);
     }
-    write(output, first)?;
-    copy(input, output, buffer, count, place)
+    write(&mut copier.output, first)?;
+    copy(copier, count, place)
 }

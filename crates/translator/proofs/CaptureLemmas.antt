@@ -3,7 +3,7 @@ use Rattle.std.proofs.Common.{◌≡◌, ◌⊎◌, ℕ, List, Option, Result, O
 use Rattle.capture_file.specs.declared.reader.capture_reader.ClassicReader.{ClassicReader}
 use Rattle.capture_copy.specs.Passing.{PassesTo}
 use Rattle.translator.specs.Captures.{TranslatesBlocks, TranslatesCapture, TranslatesRecords}
-use Rattle.translator.specs.Passing.{IsReadError, IsWriteError}
+use Rattle.translator.specs.Passing.{IsReadError}
 use Rattle.translator.specs.Records.{records_of}
 use Rattle.translator.specs.declared.capture_error.CaptureError.{CaptureError}
 use Rattle.translator.specs.declared.capture_error.CaptureError.TheVariants.{Block, Header, Read, RecordCutOff, TooManyParts, Write}
@@ -45,23 +45,6 @@ translates_blocks table (Err TooManyParts) left still_left held now_held counts 
 translates_blocks table (Err (Write error)) left still_left held now_held counts now_counts translates = tt
 
 -- ---- ends before the first record or block
-
-at_write_error : (table : Table) (error : CaptureError) (left still_left held now_held : Option (List ℕ)) (counts now_counts : Counts)
-    → IsWriteError error → TranslatesCapture table (Err error) left still_left held now_held counts now_counts
-at_write_error table (Header error) left still_left held now_held counts now_counts failed = absurd failed
-at_write_error table (RecordCutOff offset required len) left still_left held now_held counts now_counts failed = absurd failed
-at_write_error table (Block error) left still_left held now_held counts now_counts failed = absurd failed
-at_write_error table (Read offset error) left still_left held now_held counts now_counts failed = absurd failed
-at_write_error table TooManyParts left still_left held now_held counts now_counts failed = absurd failed
-at_write_error table (Write error) left still_left held now_held counts now_counts failed = tt
-
--- writing the header failed
-pub to_write_error : (table : Table) (result : Result (Unit {0}) CaptureError) (error : CaptureError)
-    (left still_left held now_held : Option (List ℕ)) (counts now_counts : Counts)
-    → IsWriteError error → result ≡ Err error → TranslatesCapture table result left still_left held now_held counts now_counts
-to_write_error table result error left still_left held now_held counts now_counts failed fails =
-    subst (λ given. TranslatesCapture table given left still_left held now_held counts now_counts) (sym fails)
-    (at_write_error table error left still_left held now_held counts now_counts failed)
 
 at_read_error : (table : Table) (error : CaptureError) (left still_left held : Option (List ℕ)) (counts : Counts)
     → IsReadError 0 error → TranslatesCapture table (Err error) left still_left held held counts counts

@@ -6,6 +6,7 @@ use Rattle.capture_file.specs.Packets.{IsWithin}
 use Rattle.capture_file.specs.Pcapng.{IsBlock, block_header, block_header_refusal, block_len, block_refusal}
 use Rattle.capture_file.specs.PcapngSteps.{offset_after}
 use Rattle.capture_file.specs.Sections.{TakesBlock}
+use Rattle.capture_texts.specs.Blocks.{body_at, trailer_len}
 use Rattle.capture_texts.specs.Numbers.{number_at}
 use Rattle.capture_texts.specs.declared.byte_order.ByteOrder.{ByteOrder}
 use Rattle.capture_texts.specs.declared.byte_order.ByteOrder.TheVariants.{BigEndian}
@@ -55,7 +56,7 @@ HasTaken table total_len (Err error) part = IsBeyond total_len error × IsUnchan
 
 -- the body of a block as far as the buffer has room
 abbrev pub kept_body : BlockHeader → List ℕ → List ℕ
-kept_body header bytes = slice_range bytes 8 (min max_packet_len (header.total_len - 4))
+kept_body header bytes = slice_range bytes body_at (min max_packet_len (header.total_len - trailer_len))
 
 -- the section takes the block that begins with these bytes
 abbrev pub TakesKept : Section → List ℕ → Section → Result (Option CapturedPacket) PacketError → Type 0
@@ -191,8 +192,8 @@ pub record StopsRest (total_len place : ℕ) (error : CaptureError) (left still_
 pub record CopiesToEnd (header : BlockHeader) (last_len : ℕ) (left still_left held now_held : Option (List ℕ)) : Type 0 where
   pub middle : List ℕ
   pub last : List ℕ
-  pub has_len : length middle + 4 ≡ header.total_len - max_packet_len
-  pub four : length last ≡ 4
+  pub has_len : length middle + trailer_len ≡ header.total_len - max_packet_len
+  pub four : length last ≡ trailer_len
   pub is_last : last_len ≡ number_at header.byte_order last 0
   pub consumed : Consumes left still_left (middle ++ last)
   pub appended : Appends held now_held (middle ++ last)

@@ -1,13 +1,9 @@
 -- The translation of a whole capture.
 use Rattle.std.specs.Prelude.{◌≡◌, ◌⊎◌, ℕ, List, ⊤, Option, Result, Ok, Err}
-use Rattle.std.specs.Io.KnownBytes.{Appends, Consumes}
-use Rattle.capture_copy.specs.Captures.{IsNoPcapng, IsPcapng}
+use Rattle.capture_copy.specs.Captures.{IsNoPcapng, IsPcapng, PassesCapture}
 use Rattle.capture_copy.specs.Passing.{PassesTo}
-use Rattle.capture_file.specs.Opening.{SaysHeader}
 use Rattle.capture_file.specs.Packets.{begins_records}
 use Rattle.capture_file.specs.Reading.{RefusesHeader}
-use Rattle.capture_file.specs.declared.classic.capture_header.CaptureHeader.{CaptureHeader}
-use Rattle.capture_file.specs.declared.reader.capture_reader.ClassicReader.{ClassicReader}
 use Rattle.translator.specs.Blocks.{IsFileStart, blocks_of}
 use Rattle.translator.specs.Records.{records_of}
 use Rattle.translator.specs.declared.blocks.Blocks.{Blocks}
@@ -16,18 +12,11 @@ use Rattle.translator.specs.declared.capture_error.CaptureError.TheVariants.{Blo
 use Rattle.translator.specs.declared.counts.Counts.{Counts}
 use Rattle.translator.specs.declared.table.Table.{Table}
 
--- The translation of a classic capture. Its header of 24 bytes was written as it was read, and then its records were passed.
-pub record TranslatesRecords (table : Table) (result : Result (Unit {0}) CaptureError) (left still_left held now_held : Option (List ℕ))
-    (counts now_counts : Counts) : Type 0 where
-  pub header : CaptureHeader
-  pub bytes : List ℕ
-  pub says : SaysHeader bytes (Ok header)
-  pub middle : Option (List ℕ)
-  pub then_held : Option (List ℕ)
-  pub consumed : Consumes left middle bytes
-  pub appended : Appends held then_held bytes
-  pub after : ClassicReader
-  pub passes : PassesTo (records_of table) result (begins_records header) after middle still_left then_held now_held counts now_counts
+-- the translation of a classic capture: its header was written as it was read, and then its records were passed
+abbrev pub TranslatesRecords : Table → Result (Unit {0}) CaptureError → Option (List ℕ) → Option (List ℕ) → Option (List ℕ) → Option (List ℕ)
+    → Counts → Counts → Type 0
+TranslatesRecords table result left still_left held now_held counts now_counts =
+    PassesCapture (Unit {0}) (records_of table) begins_records result left still_left held now_held counts now_counts
 
 -- the translation of a pcapng file, whose blocks were passed
 pub record TranslatesBlocks (table : Table) (result : Result (Unit {0}) CaptureError) (left still_left held now_held : Option (List ℕ))

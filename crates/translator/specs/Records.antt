@@ -1,7 +1,6 @@
 -- The records of a classic capture as parts (draft-ietf-opsawg-pcap, section 5).
 use Rattle.std.specs.Prelude.{◌≡◌, ◌<◌, ◌≤◌, ◌++◌, ◌⊎◌, ℕ, Bool, List, drop, length, take, Some, None, Result, Err}
-use Rattle.capture_file.specs.Classic.{IsRecord, record_header, record_len}
-use Rattle.capture_texts.specs.Numbers.{number_at}
+use Rattle.capture_file.specs.Classic.{IsRecord, record_header, record_header_len, record_len}
 use Rattle.capture_file.specs.Packets.{offset_after_record}
 use Rattle.capture_file.specs.declared.classic.capture_header.CaptureHeader.{CaptureHeader}
 use Rattle.capture_file.specs.declared.classic.record_header.RecordHeader.{RecordHeader}
@@ -19,15 +18,15 @@ use Rattle.translator.specs.declared.table.Table.{Table}
 
 -- the captured length in the header of the record that begins with these bytes
 abbrev pub captured_len : CaptureHeader → List ℕ → ℕ
-captured_len capture bytes = number_at capture.byte_order bytes 8
+captured_len capture bytes = (record_header capture.byte_order bytes).captured_len
 
--- The frame of a record was translated: the captured bytes after the header of 16 bytes, with the link type of the capture. The header was
+-- The frame of a record was translated: the captured bytes after the header, with the link type of the capture. The header was
 -- written as it was read.
 pub record TranslatesRecord (table : Table) (capture : CaptureHeader) (part : Part) : Type 0 where
   pub after : List ℕ
   pub result : Result Bool Reason
-  pub translates : TranslatesCaptured table capture.link_type capture.byte_order (drop 16 part.read) after result
-  pub is_written : part.written ≡ take 16 part.read ++ after
+  pub translates : TranslatesCaptured table capture.link_type capture.byte_order (drop record_header_len part.read) after result
+  pub is_written : part.written ≡ take record_header_len part.read ++ after
   pub outcome : part.outcome ≡ Some result
 
 -- the outcome of a record: its frame was translated, or the record was copied since the buffer has no room for the frame
@@ -52,7 +51,7 @@ records_after records bytes = passed records (record_header records.header.byte_
 -- at most the bytes of one record, which are copied
 abbrev pub IsRecordFront : CaptureHeader → Part → Type 0
 IsRecordFront capture part =
-    IsUnchanged part None × ((length part.read < 16) ⊎ (length part.read ≤ record_len capture.byte_order part.read))
+    IsUnchanged part None × ((length part.read < record_header_len) ⊎ (length part.read ≤ record_len capture.byte_order part.read))
 
 -- this error ends the capture within a record, which is not counted
 abbrev pub IsRecordEnd : ClassicReader → Part → CaptureError → Type 0

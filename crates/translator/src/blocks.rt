@@ -16,7 +16,8 @@ use crate::counts::Counts;
 use crate::packet::translate_captured_frame;
 use crate::reason::Reason;
 use crate::table::Table;
-use crate::transfer::{Buffer, copy, read_after, read_into, write};
+use crate::transfer::{copy, read_after, read_into, write};
+use capture_copy::Copier;
 use capture_file::ByteOrder;
 use capture_file::pcapng::{Block, BlockError, BlockHeader, BodyError, MIN_BLOCK_LEN};
 use capture_file::reader::{CapturedPacket, PacketError, PlacedPacketError, Section};
@@ -44,41 +45,44 @@ impl Blocks {
     }
 }
 
+/// The first bytes of a block, and the header in them.
+#[derive(Drop)]
+struct BlockStart<'a> {
+    bytes: &'a [u8],
+    header: BlockHeader,
+}
+
 /// Translates the packets of a pcapng file that begins with these bytes. `TooManyParts` is returned only after 2^64 - 1 blocks.
 pub(crate) fn translate_blocks<R: Read, W: Write>(
-    input: &mut R,
-    output: &mut W,
-    buffer: &mut Buffer,
+    copier: &mut Copier<'_, R, W>,
     begin: &[u8],
     file: &mut Blocks,
     table: &Table,
     counts: &mut Counts,
 ) -> Result<(), CaptureError>
-    requires begin { AreFirst begin.now (R.remaining input.old) }
+    requires begin { AreFirst begin.now (R.remaining copier.old.input) }
     requires some { 1 ≤ length begin.now }
-    ensures passes { (left : Option (List ℕ)) → Consumes left (R.remaining input.old) begin.now → PassesTo (blocks_of table.now) result
-        file.old file.new left (R.remaining input.new) (W.contents output.old) (W.contents output.new) counts.old counts.new }
-    ensures ends { OnOk result (IsAtEnd (R.remaining input.new)) }
+    ensures passes { (left : Option (List ℕ)) → Consumes left (R.remaining copier.old.input) begin.now → PassesTo (blocks_of table.now) result
+        file.old file.new left (R.remaining copier.new.input) (W.contents copier.old.output) (W.contents copier.new.output) counts.old counts.new }
+    ensures ends { OnOk result (IsAtEnd (R.remaining copier.new.input)) }
 {
-    translate_block(input, output, buffer, begin, file, table, counts)?;
-    translate_others(input, output, buffer, file, table, counts)
+    translate_block(copier, begin, file, table, counts)?;
+    translate_others(copier, file, table, counts)
 }
 
 /// Translates the blocks of a pcapng file after its first block. `TooManyParts` is returned only after 2^64 - 1 blocks.
 fn translate_others<R: Read, W: Write>(
-    input: &mut R,
-    output: &mut W,
-    buffer: &mut Buffer,
+    copier: &mut Copier<'_, R, W>,
     file: &mut Blocks,
     table: &Table,
     counts: &mut Counts,
 ) -> Result<(), CaptureError>
-    ensures passes { PassesTo (blocks_of table.now) result file.old file.new (R.remaining input.old) (R.remaining input.new)
-        (W.contents output.old) (W.contents output.new) counts.old counts.new }
-    ensures ends { OnOk result (IsAtEnd (R.remaining input.new)) }
+    ensures passes { PassesTo (blocks_of table.now) result file.old file.new (R.remaining copier.old.input) (R.remaining copier.new.input)
+        (W.contents copier.old.output) (W.contents copier.new.output) counts.old counts.new }
+    ensures ends { OnOk result (IsAtEnd (R.remaining copier.new.input)) }
 {
     for _block in 0..u64::MAX {
-        let is_block = translate_next(input, output, buffer, file, table, counts)?;
+        let is_block = translate_next(copier, file, table, counts)?;
         if !is_block {
             return Ok(());
         }
@@ -88,86 +92,84 @@ fn translate_others<R: Read, W: Write>(
 
 /// Translates the next block. Returns whether there is a block.
 fn translate_next<R: Read, W: Write>(
-    input: &mut R,
-    output: &mut W,
-    buffer: &mut Buffer,
+    copier: &mut Copier<'_, R, W>,
     file: &mut Blocks,
     table: &Table,
     counts: &mut Counts,
 ) -> Result<bool, CaptureError>
-    ensures passes { PassesAny (blocks_of table.now) result file.old file.new (R.remaining input.old) (R.remaining input.new)
-        (W.contents output.old) (W.contents output.new) counts.old counts.new }
-    ensures ends { result ≡ Ok false → IsAtEnd (R.remaining input.new) }
+    ensures passes { PassesAny (blocks_of table.now) result file.old file.new (R.remaining copier.old.input) (R.remaining copier.new.input)
+        (W.contents copier.old.output) (W.contents copier.new.output) counts.old counts.new }
+    ensures ends { result ≡ Ok false → IsAtEnd (R.remaining copier.new.input) }
 {
     let mut first = [0u8; MIN_BLOCK_LEN];
-    let len = read_into(input, &mut first, file.offset)?;
+    let len = read_into(&mut copier.input, &mut first, file.offset)?;
     if len == 0 {
         return Ok(false);
     }
-    translate_block(input, output, buffer, &first[..len], file, table, counts)?;
+    translate_block(copier, &first[..len], file, table, counts)?;
     Ok(true)
 }
 
 /// Translates a block that begins with these bytes.
 fn translate_block<R: Read, W: Write>(
-    input: &mut R,
-    output: &mut W,
-    buffer: &mut Buffer,
+    copier: &mut Copier<'_, R, W>,
     first: &[u8],
     file: &mut Blocks,
     table: &Table,
     counts: &mut Counts,
 ) -> Result<(), CaptureError>
-    requires first { AreFirst first.now (R.remaining input.old) }
+    requires first { AreFirst first.now (R.remaining copier.old.input) }
     requires some { 1 ≤ length first.now }
-    ensures passes { (left : Option (List ℕ)) → Consumes left (R.remaining input.old) first.now → PassesNext (blocks_of table.now) result
-        file.old file.new left (R.remaining input.new) (W.contents output.old) (W.contents output.new) counts.old counts.new }
+    ensures passes { (left : Option (List ℕ)) → Consumes left (R.remaining copier.old.input) first.now → PassesNext (blocks_of table.now) result
+        file.old file.new left (R.remaining copier.new.input) (W.contents copier.old.output) (W.contents copier.new.output) counts.old counts.new }
 {
     let header = match BlockHeader::from_slice(file.section.byte_order, first) {
         Ok(header) => header,
         Err(error) => {
-            write_rejected(output, file.offset, first)?;
+            write_rejected(&mut copier.output, file.offset, first)?;
             return Err(refused(file.offset, PacketError::Block(error)));
         }
     };
-    translate_headed(input, output, buffer, first, &header, file, table, counts)
+    let start = BlockStart {
+        bytes: first,
+        header,
+    };
+    translate_headed(copier, &start, file, table, counts)
 }
 
-/// Translates a block with this header, which begins with these bytes.
+/// Translates a block whose header was read.
 fn translate_headed<R: Read, W: Write>(
-    input: &mut R,
-    output: &mut W,
-    buffer: &mut Buffer,
-    first: &[u8],
-    header: &BlockHeader,
+    copier: &mut Copier<'_, R, W>,
+    start: &BlockStart<'_>,
     file: &mut Blocks,
     table: &Table,
     counts: &mut Counts,
 ) -> Result<(), CaptureError>
-    requires header { BeginsBlock file.old.section.byte_order first.now header.now }
-    ensures passes { (left : Option (List ℕ)) → Consumes left (R.remaining input.old) first.now → PassesNext (blocks_of table.now) result
-        file.old file.new left (R.remaining input.new) (W.contents output.old) (W.contents output.new) counts.old counts.new }
+    requires header { BeginsBlock file.old.section.byte_order start.now.bytes.now start.now.header }
+    ensures passes { (left : Option (List ℕ)) → Consumes left (R.remaining copier.old.input) start.now.bytes.now → PassesNext (blocks_of table.now) result
+        file.old file.new left (R.remaining copier.new.input) (W.contents copier.old.output) (W.contents copier.new.output) counts.old counts.new }
 {
-    let kept = &mut buffer[..kept_len(header)];
-    let len = read_after(input, first, kept, file.offset)?;
+    let header = &start.header;
+    let kept = &mut copier.buffer[..kept_len(header)];
+    let len = read_after(&mut copier.input, start.bytes, kept, file.offset)?;
     if len < kept.len() {
-        write_rejected(output, file.offset, &kept[..len])?;
+        write_rejected(&mut copier.output, file.offset, &kept[..len])?;
         return Err(cut_off(file.offset, header, len));
     }
     if let Err(error) = check(header, kept, file.section.byte_order) {
-        write_rejected(output, file.offset, kept)?;
+        write_rejected(&mut copier.output, file.offset, kept)?;
         return Err(refused(file.offset, PacketError::Block(error)));
     }
     let outcome = match translate_kept(header, kept, &mut file.section, table) {
         Ok(outcome) => outcome,
         Err(error) => {
-            write_rejected(output, file.offset, kept)?;
+            write_rejected(&mut copier.output, file.offset, kept)?;
             return Err(refused(file.offset, error));
         }
     };
-    write(output, kept)?;
+    write(&mut copier.output, kept)?;
     counts.add_if(outcome);
-    copy_rest(input, output, buffer, header, file.offset)?;
+    copy_rest(copier, header, file.offset)?;
     file.offset = file.offset.saturating_add(u64::from(header.total_len));
     Ok(())
 }
@@ -253,15 +255,13 @@ const LAST_LEN: usize = 4;
 
 /// Copies the bytes of a block for which the buffer has no room, and checks the last total length.
 fn copy_rest<R: Read, W: Write>(
-    input: &mut R,
-    output: &mut W,
-    buffer: &mut Buffer,
+    copier: &mut Copier<'_, R, W>,
     header: &BlockHeader,
     offset: u64,
 ) -> Result<(), CaptureError>
     requires words { header.now.total_len % 4 ≡ 0 }
-    ensures copies { CopiesRest header.now offset result (R.remaining input.old) (R.remaining input.new)
-        (W.contents output.old) (W.contents output.new) }
+    ensures copies { CopiesRest header.now offset result (R.remaining copier.old.input) (R.remaining copier.new.input)
+        (W.contents copier.old.output) (W.contents copier.new.output) }
 {
     let kept_len = kept_len(header);
     let rest_len = header.total_len as usize - kept_len;
@@ -269,13 +269,13 @@ fn copy_rest<R: Read, W: Write>(
         return Ok(());
     }
     let middle_len = rest_len - LAST_LEN;
-    let len = copy(input, output, buffer, middle_len, offset)?;
+    let len = copy(copier, middle_len, offset)?;
     if len < middle_len {
         return Err(cut_off(offset, header, kept_len + len));
     }
     let mut last = [0u8; LAST_LEN];
-    let len = read_into(input, &mut last, offset)?;
-    write(output, &last[..len])?;
+    let len = read_into(&mut copier.input, &mut last, offset)?;
+    write(&mut copier.output, &last[..len])?;
     if len < LAST_LEN {
         return Err(cut_off(offset, header, kept_len + middle_len + len));
     }

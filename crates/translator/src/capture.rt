@@ -11,15 +11,13 @@ use crate::capture_error::CaptureError;
 use crate::counts::Counts;
 use crate::records::translate_records;
 use crate::table::Table;
-use crate::transfer::{Buffer, read_after, read_into, write};
-use capture_copy::{header_in, is_pcapng};
-use capture_file::classic::CaptureHeader;
+use crate::transfer::read_into;
+use capture_copy::{Copier, CopyError, is_pcapng};
 use capture_file::pcapng::MIN_BLOCK_LEN;
 use capture_file::reader::ClassicReader;
 use std::io::{Read, Write};
 
-/// Translates the packets of a capture, and writes the capture. Every byte outside of the translated packets is written as it was read. The
-/// buffer has room for a block of a pcapng file, and for the packet of a record.
+/// Translates the packets of a capture, and writes the capture. Every byte outside of the translated packets is written as it was read.
 ///
 /// # Errors
 ///
@@ -27,50 +25,44 @@ use std::io::{Read, Write};
 /// the capture ends within a record or another block, or another block is refused, all bytes that were read are written. If reading fails,
 /// a front of the capture is written. `TooManyParts` is returned only after 2^64 - 1 records or blocks.
 pub fn translate_capture<R: Read, W: Write>(
-    input: &mut R,
-    output: &mut W,
-    buffer: &mut Buffer,
+    copier: &mut Copier<'_, R, W>,
     table: &Table,
     counts: &mut Counts,
 ) -> Result<(), CaptureError>
-    ensures translates { TranslatesCapture table.now result (R.remaining input.old) (R.remaining input.new)
-        (W.contents output.old) (W.contents output.new) counts.old counts.new }
-    ensures ends { OnOk result (IsAtEnd (R.remaining input.new)) }
+    ensures translates { TranslatesCapture table.now result (R.remaining copier.old.input) (R.remaining copier.new.input)
+        (W.contents copier.old.output) (W.contents copier.new.output) counts.old counts.new }
+    ensures ends { OnOk result (IsAtEnd (R.remaining copier.new.input)) }
 {
     let mut begin = [0u8; MIN_BLOCK_LEN];
-    let len = read_into(input, &mut begin, 0)?;
+    let len = read_into(&mut copier.input, &mut begin, 0)?;
     let begin = &begin[..len];
     if is_pcapng(begin) {
         let mut file = Blocks::start();
-        translate_blocks(input, output, buffer, begin, &mut file, table, counts)
+        translate_blocks(copier, begin, &mut file, table, counts)
     } else {
-        translate_classic(input, output, buffer, begin, table, counts)
+        translate_classic(copier, begin, table, counts)
     }
 }
 
 /// Translates the packets of a classic capture that begins with these bytes.
 fn translate_classic<R: Read, W: Write>(
-    input: &mut R,
-    output: &mut W,
-    buffer: &mut Buffer,
+    copier: &mut Copier<'_, R, W>,
     begin: &[u8],
     table: &Table,
     counts: &mut Counts,
 ) -> Result<(), CaptureError>
-    requires begin { AreFirst begin.now (R.remaining input.old) }
-    ensures translates { (left : Option (List ℕ)) → Consumes left (R.remaining input.old) begin.now → IsNoPcapng left
-        → TranslatesCapture table.now result left (R.remaining input.new) (W.contents output.old) (W.contents output.new)
+    requires begin { AreFirst begin.now (R.remaining copier.old.input) }
+    ensures translates { (left : Option (List ℕ)) → Consumes left (R.remaining copier.old.input) begin.now → IsNoPcapng left
+        → TranslatesCapture table.now result left (R.remaining copier.new.input) (W.contents copier.old.output) (W.contents copier.new.output)
         counts.old counts.new }
-    ensures ends { OnOk result (IsAtEnd (R.remaining input.new)) }
+    ensures ends { OnOk result (IsAtEnd (R.remaining copier.new.input)) }
 {
-    let mut first = [0u8; CaptureHeader::LEN];
-    let len = read_after(input, begin, &mut first, 0)?;
-    let header = match header_in(&first[..len]) {
+    let header = match copier.copy_header(begin) {
         Ok(Ok(header)) => header,
         Ok(Err(error)) => return Err(CaptureError::Header(error)),
-        Err(error) => return Err(CaptureError::Read { offset: 0, error }),
+        Err(CopyError::Read(error)) => return Err(CaptureError::Read { offset: 0, error }),
+        Err(CopyError::Write(error)) => return Err(CaptureError::Write(error)),
     };
-    write(output, &first)?;
     let mut records = ClassicReader::new(header);
-    translate_records(input, output, buffer, &mut records, table, counts)
+    translate_records(copier, &mut records, table, counts)
 }

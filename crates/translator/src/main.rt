@@ -33,6 +33,7 @@ mod table;
 mod transfer;
 
 use capture::translate_capture;
+use capture_copy::Copier;
 use capture_error::CaptureError;
 use capture_packet::MAX_PACKET_LEN;
 use counts::Counts;
@@ -44,7 +45,6 @@ use std::process::ExitCode;
 use std::{env, io};
 use streams::{new_buffer, write_whole};
 use table::Table;
-use transfer::Buffer;
 
 /// The size of the buffers of input and output, in bytes.
 const STREAM_LEN: usize = 1 << 16;
@@ -146,19 +146,13 @@ fn open_error_line(alloc: Global, name: &str, error: &io::Error) -> Result<Strin
 
 /// Translates a capture, and returns the exit status.
 fn translate<R: Read + Drop>(rt: &HostRuntime, table: &Table, input: R) -> io::Result<u8> {
-    let mut input = BufReader::with_capacity(rt.alloc(), STREAM_LEN, input)?;
-    let mut output = BufWriter::with_capacity(rt.alloc(), STREAM_LEN, rt.stdout())?;
+    let input = BufReader::with_capacity(rt.alloc(), STREAM_LEN, input)?;
+    let output = BufWriter::with_capacity(rt.alloc(), STREAM_LEN, rt.stdout())?;
     let mut errors = rt.stderr();
     let mut bytes = new_buffer(rt.alloc(), MAX_PACKET_LEN)?;
     let buffer = bytes.as_mut_slice().as_mut_array().unwrap();
-    match write_translation(
-        rt.alloc(),
-        table,
-        &mut input,
-        &mut output,
-        &mut errors,
-        buffer,
-    ) {
+    let mut copier = Copier::new(input, output, buffer);
+    match write_translation(rt.alloc(), table, &mut copier, &mut errors) {
         Ok(status) => Ok(status),
         Err(error) => Ok(write_failure(rt, error)),
     }
@@ -174,17 +168,15 @@ fn translate<R: Read + Drop>(rt: &HostRuntime, table: &Table, input: R) -> io::R
 fn write_translation<R: Read, W: Write, E: Write>(
     alloc: Global,
     table: &Table,
-    input: &mut R,
-    output: &mut W,
+    copier: &mut Copier<'_, R, W>,
     errors: &mut E,
-    buffer: &mut Buffer,
 ) -> io::Result<u8>
-    ensures { WritesTranslation table.now (R.remaining input.old) (R.remaining input.new) (W.contents output.old) (W.contents output.new)
+    ensures { WritesTranslation table.now (R.remaining copier.old.input) (R.remaining copier.new.input) (W.contents copier.old.output) (W.contents copier.new.output)
         (E.contents errors.old) (E.contents errors.new) result }
 {
     let mut counts = Counts::NONE;
-    let ended = translate_capture(input, output, buffer, table, &mut counts);
+    let ended = translate_capture(copier, table, &mut counts);
     // What was written before an error is part of the output.
-    let flushed = output.flush();
+    let flushed = copier.output.flush();
     finished(errors, alloc, ended, flushed, &counts)
 }

@@ -13,7 +13,8 @@ use crate::counts::Counts;
 use crate::packet::translate_captured_frame;
 use crate::reason::Reason;
 use crate::table::Table;
-use crate::transfer::{Buffer, copy, read_into, write};
+use crate::transfer::{copy, read_into, write};
+use capture_copy::Copier;
 use capture_file::classic::RecordHeader;
 use capture_file::reader::ClassicReader;
 use capture_packet::MAX_PACKET_LEN;
@@ -21,19 +22,17 @@ use std::io::{Read, Write};
 
 /// Translates the records after the header of a classic capture. `TooManyParts` is returned only after 2^64 - 1 records.
 pub(crate) fn translate_records<R: Read, W: Write>(
-    input: &mut R,
-    output: &mut W,
-    buffer: &mut Buffer,
+    copier: &mut Copier<'_, R, W>,
     records: &mut ClassicReader,
     table: &Table,
     counts: &mut Counts,
 ) -> Result<(), CaptureError>
-    ensures passes { PassesTo (records_of table.now) result records.old records.new (R.remaining input.old) (R.remaining input.new)
-        (W.contents output.old) (W.contents output.new) counts.old counts.new }
-    ensures ends { OnOk result (IsAtEnd (R.remaining input.new)) }
+    ensures passes { PassesTo (records_of table.now) result records.old records.new (R.remaining copier.old.input) (R.remaining copier.new.input)
+        (W.contents copier.old.output) (W.contents copier.new.output) counts.old counts.new }
+    ensures ends { OnOk result (IsAtEnd (R.remaining copier.new.input)) }
 {
     for _record in 0..u64::MAX {
-        let is_record = translate_record(input, output, buffer, records, table, counts)?;
+        let is_record = translate_record(copier, records, table, counts)?;
         if !is_record {
             return Ok(());
         }
@@ -43,27 +42,25 @@ pub(crate) fn translate_records<R: Read, W: Write>(
 
 /// Translates the next record. Returns whether there is a record.
 fn translate_record<R: Read, W: Write>(
-    input: &mut R,
-    output: &mut W,
-    buffer: &mut Buffer,
+    copier: &mut Copier<'_, R, W>,
     records: &mut ClassicReader,
     table: &Table,
     counts: &mut Counts,
 ) -> Result<bool, CaptureError>
-    ensures passes { PassesAny (records_of table.now) result records.old records.new (R.remaining input.old) (R.remaining input.new)
-        (W.contents output.old) (W.contents output.new) counts.old counts.new }
-    ensures ends { result ≡ Ok false → IsAtEnd (R.remaining input.new) }
+    ensures passes { PassesAny (records_of table.now) result records.old records.new (R.remaining copier.old.input) (R.remaining copier.new.input)
+        (W.contents copier.old.output) (W.contents copier.new.output) counts.old counts.new }
+    ensures ends { result ≡ Ok false → IsAtEnd (R.remaining copier.new.input) }
 {
     let mut first = [0u8; RecordHeader::LEN];
-    let len = read_into(input, &mut first, records.offset)?;
+    let len = read_into(&mut copier.input, &mut first, records.offset)?;
     if len == 0 {
         return Ok(false);
     }
-    write(output, &first[..len])?;
+    write(&mut copier.output, &first[..len])?;
     if len < RecordHeader::LEN {
         return Err(cut_off(records.offset, RecordHeader::LEN, len));
     }
-    translate_headed(input, output, buffer, records, &first, table, counts)?;
+    translate_headed(copier, records, &first, table, counts)?;
     Ok(true)
 }
 
@@ -80,31 +77,27 @@ fn cut_off(offset: u64, required_len: usize, len: usize) -> CaptureError
 
 /// Translates a record after its header, which was read and written.
 fn translate_headed<R: Read, W: Write>(
-    input: &mut R,
-    output: &mut W,
-    buffer: &mut Buffer,
+    copier: &mut Copier<'_, R, W>,
     records: &mut ClassicReader,
     first: &[u8; RecordHeader::LEN],
     table: &Table,
     counts: &mut Counts,
 ) -> Result<(), CaptureError>
-    ensures passes { (left held : Option (List ℕ)) → Consumes left (R.remaining input.old) first.now → Appends held (W.contents output.old) first.now
-        → PassesNext (records_of table.now) result records.old records.new left (R.remaining input.new) held (W.contents output.new)
+    ensures passes { (left held : Option (List ℕ)) → Consumes left (R.remaining copier.old.input) first.now → Appends held (W.contents copier.old.output) first.now
+        → PassesNext (records_of table.now) result records.old records.new left (R.remaining copier.new.input) held (W.contents copier.new.output)
         counts.old counts.new }
 {
     let header = RecordHeader::from_bytes(records.header.byte_order, first);
     if header.captured_len as usize > MAX_PACKET_LEN {
-        copy_long(input, output, buffer, records, &header, table, counts)
+        copy_long(copier, records, &header, table, counts)
     } else {
-        translate_kept(input, output, buffer, records, &header, table, counts)
+        translate_kept(copier, records, &header, table, counts)
     }
 }
 
 /// Copies the captured bytes of a record, for which the buffer has no room.
 fn copy_long<R: Read, W: Write>(
-    input: &mut R,
-    output: &mut W,
-    buffer: &mut Buffer,
+    copier: &mut Copier<'_, R, W>,
     records: &mut ClassicReader,
     header: &RecordHeader,
     table: &Table,
@@ -112,13 +105,13 @@ fn copy_long<R: Read, W: Write>(
 ) -> Result<(), CaptureError>
     requires room { max_packet_len < header.now.captured_len }
     ensures passes { (first : List ℕ) (left held : Option (List ℕ)) → length first ≡ 16
-        → header.now ≡ record_header records.old.header.byte_order first → Consumes left (R.remaining input.old) first
-        → Appends held (W.contents output.old) first
-        → PassesNext (records_of table.now) result records.old records.new left (R.remaining input.new) held (W.contents output.new)
+        → header.now ≡ record_header records.old.header.byte_order first → Consumes left (R.remaining copier.old.input) first
+        → Appends held (W.contents copier.old.output) first
+        → PassesNext (records_of table.now) result records.old records.new left (R.remaining copier.new.input) held (W.contents copier.new.output)
         counts.old counts.new }
 {
     let captured_len = header.captured_len as usize;
-    let len = copy(input, output, buffer, captured_len, records.offset)?;
+    let len = copy(copier, captured_len, records.offset)?;
     if len < captured_len {
         let required_len = RecordHeader::LEN + captured_len;
         return Err(cut_off(records.offset, required_len, RecordHeader::LEN + len));
@@ -130,9 +123,7 @@ fn copy_long<R: Read, W: Write>(
 
 /// Translates the captured bytes of a record. If they are not all present, they are written as they were read.
 fn translate_kept<R: Read, W: Write>(
-    input: &mut R,
-    output: &mut W,
-    buffer: &mut Buffer,
+    copier: &mut Copier<'_, R, W>,
     records: &mut ClassicReader,
     header: &RecordHeader,
     table: &Table,
@@ -140,21 +131,21 @@ fn translate_kept<R: Read, W: Write>(
 ) -> Result<(), CaptureError>
     requires room { header.now.captured_len ≤ max_packet_len }
     ensures passes { (first : List ℕ) (left held : Option (List ℕ)) → length first ≡ 16
-        → header.now ≡ record_header records.old.header.byte_order first → Consumes left (R.remaining input.old) first
-        → Appends held (W.contents output.old) first
-        → PassesNext (records_of table.now) result records.old records.new left (R.remaining input.new) held (W.contents output.new)
+        → header.now ≡ record_header records.old.header.byte_order first → Consumes left (R.remaining copier.old.input) first
+        → Appends held (W.contents copier.old.output) first
+        → PassesNext (records_of table.now) result records.old records.new left (R.remaining copier.new.input) held (W.contents copier.new.output)
         counts.old counts.new }
 {
-    let frame = &mut buffer[..header.captured_len as usize];
-    let len = read_into(input, frame, records.offset)?;
+    let frame = &mut copier.buffer[..header.captured_len as usize];
+    let len = read_into(&mut copier.input, frame, records.offset)?;
     if len < frame.len() {
-        write(output, &frame[..len])?;
+        write(&mut copier.output, &frame[..len])?;
         let required_len = RecordHeader::LEN + frame.len();
         return Err(cut_off(records.offset, required_len, RecordHeader::LEN + len));
     }
     let (link_type, order) = (records.header.link_type, records.header.byte_order);
     let outcome = translate_captured_frame(link_type, order, frame, table);
-    write(output, frame)?;
+    write(&mut copier.output, frame)?;
     counts.add(outcome);
     pass(records, header);
     Ok(())

@@ -6,13 +6,9 @@ ghost use Rattle.streams.specs.Streams.{FillsAfter};
 ghost use Rattle.translator.specs.Passing.{CopiesUpTo, IsReadError, IsWriteError};
 
 use crate::capture_error::CaptureError;
-use capture_copy::CopyError;
-use capture_packet::MAX_PACKET_LEN;
+use capture_copy::{Copier, CopyError};
 use std::io::{Read, Write};
 use streams::{fill, fill_after};
-
-/// Room for a block of a pcapng file, and for the packet of a record.
-pub(crate) type Buffer = [u8; MAX_PACKET_LEN];
 
 /// Reads into a buffer until it is full or the input ends, and returns the number of bytes read. `offset` is the place in the file that an
 /// error states.
@@ -64,17 +60,15 @@ pub(crate) fn write<W: Write>(output: &mut W, bytes: &[u8]) -> Result<(), Captur
 
 /// Copies `count` bytes, or all bytes up to the end of input if there are fewer, and returns the number of bytes copied.
 pub(crate) fn copy<R: Read, W: Write>(
-    input: &mut R,
-    output: &mut W,
-    buffer: &mut Buffer,
+    copier: &mut Copier<'_, R, W>,
     count: usize,
     offset: u64,
 ) -> Result<usize, CaptureError>
-    ensures copies { CopiesUpTo offset count result (R.remaining input.old) (R.remaining input.new) (W.contents output.old) (W.contents output.new) }
+    ensures copies { CopiesUpTo offset count result (R.remaining copier.old.input) (R.remaining copier.new.input) (W.contents copier.old.output) (W.contents copier.new.output) }
     ensures within { IfOk result (λ len. len ≤ count) }
-    ensures end { IfOk result (λ len. len < count → IsAtEnd (R.remaining input.new)) }
+    ensures end { IfOk result (λ len. len < count → IsAtEnd (R.remaining copier.new.input)) }
 {
-    match capture_copy::copy(input, output, buffer, count) {
+    match copier.copy(count) {
         Ok(len) => Ok(len),
         Err(CopyError::Read(error)) => Err(CaptureError::Read { offset, error }),
         Err(CopyError::Write(error)) => Err(CaptureError::Write(error)),

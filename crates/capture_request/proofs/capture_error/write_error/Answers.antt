@@ -6,13 +6,13 @@ use Rattle.capture_request.specs.Names.{shown_name}
 use Rattle.capture_request.proofs.capture_error.write_error.Goals as goal
 
 -- the line was written, or a beginning of it
-pub returns-in-Ok : goal.returns-in-Ok
-returns-in-Ok g c =
+pub returns : goal.returns
+returns g c =
     writes_one _ _ c.write_whole.result (IsLineOf (option_map (λ text. shown_name text.now) c.args.name) (IsErrorText c.args.error.now))
-    (string_bytes c.in-Ok.line) c.in-Ok.ensures (rw c.as_bytes.ensures.value at c.write_whole.ensures.written)
+    (string_bytes c.in_ok-line.line) c.in_ok-line.ensures (rw c.as_bytes.ensures.value at c.write_whole.ensures.written)
     (rw c.as_bytes.ensures.value at c.write_whole.ensures.begun)
 
 -- no memory is left for the line
-pub returns-in-Err : goal.returns-in-Err
-returns-in-Err g c =
-    loses_error _ _ (option_map (λ text. shown_name text.now) c.args.name) c.args.error.now (λ ok. absurd (grind (arith, ok)))
+pub returns-in_err-line : goal.returns-in_err-line
+returns-in_err-line g c =
+    loses_error _ _ (option_map (λ text. shown_name text.now) c.args.name) c.args.error.now (λ ok. absurd (grind (arith, ok, c.from_residual.ensures)))

@@ -2,7 +2,7 @@ use Rattle.std.proofs.Common.{◌∙◌, ◌≤◌, arith, inr, length, rules, s
 use Rattle.capture_selection.proofs.FirstBlockLemmas.{passes_past, stops_past}
 use Rattle.capture_request.specs.Endings.{max_packets}
 use Rattle.capture_copy.proofs.PassingLemmas.{ends_by_number, passes_any, passes_more, passes_nothing, passes_on, passes_on_to_error}
-use Rattle.capture_selection.proofs.PassingLemmas.{ends_below, ends_by_limit, none_below, within_one}
+use Rattle.capture_selection.proofs.PassingLemmas.{ends_below, none_below, within_one}
 use Rattle.capture_selection.specs.Blocks.{block_selection}
 use Rattle.capture_selection.proofs.blocks.select_others.Goals as goal
 
@@ -11,7 +11,7 @@ loop-block-init g c = record { passes = (passes_nothing _ _ _ _ _, omega arith);
 
 pub returns-then-is_full-clause-passes : goal.returns-then-is_full-clause-passes
 returns-then-is_full-clause-passes g c =
-    inr (ends_by_limit (block_selection c.args.parts.now) _ _ _ _ _ _ _ _ c.loop-block.invariant.passes.0 (sym c.is_full.ensures ∙ c.if-is_full.true))
+    c.loop-block.invariant.passes.0
 
 pub returns-then-is_full-clause-limit : goal.returns-then-is_full-clause-limit
 returns-then-is_full-clause-limit g c = sym c.is_full.ensures ∙ c.if-is_full.true
@@ -22,7 +22,7 @@ returns-in_err-is_block-clause-passes g c =
 
 pub returns-in_err-is_block-clause-limit : goal.returns-in_err-is_block-clause-limit
 returns-in_err-is_block-clause-limit g c =
-    ends_below (block_selection c.args.parts.now) _ _ _ _ _ _ _ _ _ (sym c.is_full.ensures ∙ c.if-is_full.false) c.in_err-is_block.ensures.passes (search rules)
+    ends_below (block_selection c.args.parts.now) c.args.parts.now.limit _ _ _ _ _ _ _ _ _ (sym c.is_full.ensures ∙ c.if-is_full.false) c.in_err-is_block.ensures.passes (search rules)
 
 pub returns-then-not-is_block-clause-passes : goal.returns-then-not-is_block-clause-passes
 returns-then-not-is_block-clause-passes g c =
@@ -30,7 +30,7 @@ returns-then-not-is_block-clause-passes g c =
 
 pub returns-then-not-is_block-clause-limit : goal.returns-then-not-is_block-clause-limit
 returns-then-not-is_block-clause-limit g c =
-    none_below (block_selection c.args.parts.now) _ _ _ _ _ _ _ _ _ (sym c.is_full.ensures ∙ c.if-is_full.false) c.in_ok-is_block.ensures.passes
+    none_below (block_selection c.args.parts.now) c.args.parts.now.limit _ _ _ _ _ _ _ _ _ (sym c.is_full.ensures ∙ c.if-is_full.false) c.in_ok-is_block.ensures.passes
     (search rules)
 
 pub loop-block-preserved : goal.loop-block-preserved

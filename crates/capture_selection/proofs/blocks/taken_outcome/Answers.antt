@@ -13,13 +13,7 @@ returns-in-Ok-Some c =
         (
           kept packet (slice_range c.args.buffer.now packet.start (packet.start + packet.captured_len)),
           refl,
-          record {
-            packet = c.packet_in_frame.result;
-            is_packet = c.packet_in_frame.ensures;
-            given = c.outcome_of.result;
-            is_outcome = c.outcome_of.ensures;
-            has = refl;
-          },
+          c.outcome_in_frame.ensures,
         ),
       );
     }

@@ -1,7 +1,7 @@
 use Rattle.std.proofs.Common.{◌∙◌, ◌≤◌, arith, inr, length, refl, rules, sym}
 use Rattle.capture_request.specs.Endings.{max_packets}
 use Rattle.capture_copy.proofs.PassingLemmas.{ends_by_number, passes_any, passes_more, passes_nothing, passes_on, passes_on_to_error}
-use Rattle.capture_selection.proofs.PassingLemmas.{ends_below, ends_by_limit, none_below, still_full, within_one}
+use Rattle.capture_selection.proofs.PassingLemmas.{ends_below, none_below, still_full, within_one}
 use Rattle.capture_selection.specs.Records.{record_selection}
 use Rattle.capture_selection.proofs.records.select_records.Goals as goal
 
@@ -10,7 +10,7 @@ loop-record-init g c = record { passes = (passes_nothing _ _ _ _ _, omega arith)
 
 pub returns-then-is_full-clause-passes : goal.returns-then-is_full-clause-passes
 returns-then-is_full-clause-passes g c =
-    inr (ends_by_limit (record_selection c.args.parts.now) _ _ _ _ _ _ _ _ c.loop-record.invariant.passes.0 (sym c.is_full.ensures ∙ c.if-is_full.true))
+    c.loop-record.invariant.passes.0
 
 pub returns-then-is_full-clause-limit : goal.returns-then-is_full-clause-limit
 returns-then-is_full-clause-limit g c = sym c.is_full.ensures ∙ c.if-is_full.true
@@ -21,7 +21,7 @@ returns-in_err-is_record-clause-passes g c =
 
 pub returns-in_err-is_record-clause-limit : goal.returns-in_err-is_record-clause-limit
 returns-in_err-is_record-clause-limit g c =
-    ends_below (record_selection c.args.parts.now) _ _ _ _ _ _ _ _ _ (sym c.is_full.ensures ∙ c.if-is_full.false) c.in_err-is_record.ensures.passes (search rules)
+    ends_below (record_selection c.args.parts.now) c.args.parts.now.limit _ _ _ _ _ _ _ _ _ (sym c.is_full.ensures ∙ c.if-is_full.false) c.in_err-is_record.ensures.passes (search rules)
 
 pub returns-in_err-is_record-clause-full : goal.returns-in_err-is_record-clause-full
 returns-in_err-is_record-clause-full g c =
@@ -33,7 +33,7 @@ returns-then-not-is_record-clause-passes g c =
 
 pub returns-then-not-is_record-clause-limit : goal.returns-then-not-is_record-clause-limit
 returns-then-not-is_record-clause-limit g c =
-    none_below (record_selection c.args.parts.now) _ _ _ _ _ _ _ _ _ (sym c.is_full.ensures ∙ c.if-is_full.false) c.in_ok-is_record.ensures.passes
+    none_below (record_selection c.args.parts.now) c.args.parts.now.limit _ _ _ _ _ _ _ _ _ (sym c.is_full.ensures ∙ c.if-is_full.false) c.in_ok-is_record.ensures.passes
     (search rules)
 
 pub returns-then-not-is_record-clause-full : goal.returns-then-not-is_record-clause-full

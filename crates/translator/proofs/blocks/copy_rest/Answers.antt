@@ -74,7 +74,7 @@ returns-then-last_len-header g c = record {
       let four : length last ≡ 4 = omega (arith, c.read_into.auto.buffer) in
       let all : 4 ≤ c.in_ok-len-2.len = omega (arith, c.if-len-lt-LAST_LEN.false) in
       let read = full _ _ last c.in_ok-len-2.len (omega (arith, four, all)) c.in_ok-len-2.ensures.consumed in
-      let written = subst (Appends (g.W.Write.contents c.copy.new.output) (g.W.Write.contents c.write.new.output))
+      let written = subst (Appends (g.W.Write.contents c.copy.new.copier.output) (g.W.Write.contents c.write.new.output))
       (take_all c.in_ok-len-2.len last (omega (arith, four, all))) c.in_ok-write.ensures.appends in
       inr (inr (record {
         last_len = c.number-last_len.result;
@@ -100,7 +100,7 @@ returns g c = record {
       let four : length last ≡ 4 = omega (arith, c.read_into.auto.buffer) in
       let all : 4 ≤ c.in_ok-len-2.len = omega (arith, c.if-len-lt-LAST_LEN.false) in
       let read = full _ _ last c.in_ok-len-2.len (omega (arith, four, all)) c.in_ok-len-2.ensures.consumed in
-      let written = subst (Appends (g.W.Write.contents c.copy.new.output) (g.W.Write.contents c.write.new.output))
+      let written = subst (Appends (g.W.Write.contents c.copy.new.copier.output) (g.W.Write.contents c.write.new.output))
       (take_all c.in_ok-len-2.len last (omega (arith, four, all))) c.in_ok-write.ensures.appends in
       inr (
         omega (arith, c.kept_len-kept_len.ensures, c.if-rest_len-eq0.false),

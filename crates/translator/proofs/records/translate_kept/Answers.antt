@@ -20,7 +20,7 @@ returns-then-len-frame g c = record {
       let frame = c.read_into.new.buffer in
       let len = c.in_ok-len.len in
       let captured_len = ap (λ header. header.captured_len) is_header in
-      let room = length-take c.args.header.now.captured_len c.args.buffer.now in
+      let room = length-take c.args.header.now.captured_len c.args.copier.now.buffer.now in
       let taken = length-take-le len frame c.in_ok-len.ensures.len in
       ends_cut _ _ _ left _ held _ _ (first ++ take len frame) _ _ c.cut_off.ensures
       (Consumes-trans _ _ _ first (take len frame) consumed c.in_ok-len.ensures.consumed)
@@ -40,7 +40,7 @@ returns g c = record {
       let after = c.translate_captured_frame-outcome.new.frame in
       let result = c.translate_captured_frame-outcome.result in
       let captured_len = ap (λ header. header.captured_len) is_header in
-      let room = length-take c.args.header.now.captured_len c.args.buffer.now in
+      let room = length-take c.args.header.now.captured_len c.args.copier.now.buffer.now in
       passes_part _ _ _ left _ held _ _ _ (record { read = first ++ frame; written = first ++ after; outcome = Some result }) (
         after_record c.args.records.now _ c.args.header.now first frame has_len is_header c.pass.ensures,
         record_translated c.args.table.now c.args.records.now.header first frame after result has_len

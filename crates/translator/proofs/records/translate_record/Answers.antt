@@ -16,7 +16,7 @@ returns-in_err-len-clause-passes g c =
 pub returns-then-len-eq0-clause-passes : goal.returns-then-len-eq0-clause-passes
 returns-then-len-eq0-clause-passes g c = (
   refl,
-  subst (λ n. Consumes (g.R.Read.remaining c.args.input.now) (g.R.Read.remaining c.read_into.new.input) (take n c.read_into.new.buffer)) c.if-len-eq0.true
+  subst (λ n. Consumes (g.R.Read.remaining c.args.copier.now.input) (g.R.Read.remaining c.read_into.new.input) (take n c.read_into.new.buffer)) c.if-len-eq0.true
       c.in_ok-len.ensures.consumed,
   refl,
   refl,

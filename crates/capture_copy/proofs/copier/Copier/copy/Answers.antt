@@ -1,6 +1,6 @@
 use Rattle.std.proofs.Common.{arith, length-take}
 use Rattle.capture_copy.proofs.CopyLemmas.{copies_end, copies_more, copies_nothing}
-use Rattle.capture_copy.proofs.pieces.copy.Goals as goal
+use Rattle.capture_copy.proofs.copier.Copier.copy.Goals as goal
 
 pub loop-copied-init : goal.loop-copied-init
 loop-copied-init g c = record { within = omega arith; copies = copies_nothing _ _ }
@@ -19,6 +19,6 @@ returns-then-len-eq0-clause-copies g c =
 
 pub loop-copied-preserved : goal.loop-copied-preserved
 loop-copied-preserved g c = record {
-  within = omega (arith, c.loop-copied-test.true, c.min-room.ensures, c.in-Ok.ensures.len, c.fill.auto.buffer, length-take c.min-room.result c.loop-copied.buffer);
+  within = omega (arith, c.loop-copied-test.true, c.min-room.ensures, c.in-Ok.ensures.len, c.fill.auto.buffer, length-take c.min-room.result c.loop-copied.self.buffer.now);
   copies = copies_more _ _ _ _ _ _ _ _ _ c.loop-copied.invariant.copies c.in-Ok.ensures.consumed c.in_default.ensures.bytes c.in-Ok.ensures.len;
 }
