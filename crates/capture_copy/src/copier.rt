@@ -55,7 +55,8 @@ impl<R: Read, W: Write> Copier<'_, R, W> {
     ///
     /// The error of the first read or write that fails.
     pub fn copy(&mut self, count: usize) -> Result<usize, CopyError>
-        ensures copies { CopiesUpTo count result (R.remaining self.old.input) (R.remaining self.new.input) (W.contents self.old.output) (W.contents self.new.output) }
+        ensures copies { CopiesUpTo count result (R.remaining self.old.input) (R.remaining self.new.input)
+            (W.contents self.old.output) (W.contents self.new.output) }
         ensures within { IfOk result (λ len. len ≤ count) }
         ensures end { IfOk result (λ len. len < count → IsAtEnd (R.remaining self.new.input)) }
     {

@@ -77,9 +77,13 @@ line_text tokens = print (object_ended tokens) ++ codes "\n"
 
 -- ---- an array that is written row by row
 
--- the text of a later row: a comma (44), and then the row
+-- the code of a comma
+abbrev pub comma : ℕ
+comma = 44
+
+-- the text of a later row: a comma, and then the row
 abbrev pub later_row : {X : Type 0} → (X → Data) → X → List ℕ
-later_row value row = 44 ∷ compact_text (value row)
+later_row value row = comma ∷ compact_text (value row)
 
 -- the texts of rows, with commas between them
 abbrev pub rows_text : {X : Type 0} → (X → Data) → List X → List ℕ

@@ -19,8 +19,10 @@ pub fn write_line<W: Write>(output: &mut W, mut line: Line) -> Result<(), WriteE
 {
     line.end_object()?;
     let mut bytes = line.into_bytes();
-    bytes.push(b'\n')?;
-    write_bytes(output, bytes.as_slice())
+    match bytes.push(b'\n') {
+        Ok(()) => write_bytes(output, bytes.as_slice()),
+        Err(_) => Err(WriteError::NoMemory),
+    }
 }
 
 /// Writes the part of a line that is in memory.

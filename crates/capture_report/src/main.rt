@@ -206,7 +206,8 @@ fn write_selection<R: Read, W: Write, E: Write>(
     copier: &mut Copier<'_, R, W>,
     errors: &mut E,
 ) -> io::Result<u8>
-    ensures { WritesSelection parts.now (option_map (λ text. shown_name text.now) name.entry) (R.remaining copier.old.input) (R.remaining copier.new.input)
+    ensures { WritesSelection parts.now (option_map (λ text. shown_name text.now) name.entry) (R.remaining copier.old.input)
+        (R.remaining copier.new.input)
         (W.contents copier.old.output) (W.contents copier.new.output) (E.contents errors.old) (E.contents errors.new) result }
 {
     let mut counts = Counts::NONE;

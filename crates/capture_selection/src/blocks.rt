@@ -106,7 +106,8 @@ pub(crate) fn select_blocks<R: Read, W: Write>(
     requires some { 1 ≤ length begin.now }
     requires below { is_full parts.now.limit counts.old.chosen ≡ false }
     ensures passes { (left : Option (List ℕ)) → Consumes left (R.remaining copier.old.input) begin.now → PassesFile parts.now result
-        file.old file.new left (R.remaining copier.new.input) (W.contents copier.old.output) (W.contents copier.new.output) counts.old counts.new }
+        file.old file.new left (R.remaining copier.new.input)
+        (W.contents copier.old.output) (W.contents copier.new.output) counts.old counts.new }
     ensures ends { result ≡ Ok End → IsAtEnd (R.remaining copier.new.input) }
     ensures limit { EndsAtLimit parts.now.limit counts.new.chosen result }
     ensures within { IsWithin parts.now.limit counts.new.chosen }
@@ -176,7 +177,8 @@ fn select_block<R: Read, W: Write>(
 ) -> Result<Option<Outcome>, SelectionError>
     requires first { AreFirst first.now (R.remaining copier.old.input) }
     requires some { 1 ≤ length first.now }
-    ensures passes { (left : Option (List ℕ)) → Consumes left (R.remaining copier.old.input) first.now → PassesGiven (blocks_of parts.now) result
+    ensures passes { (left : Option (List ℕ)) → Consumes left (R.remaining copier.old.input) first.now →
+        PassesGiven (blocks_of parts.now) result
         file.old file.new left (R.remaining copier.new.input) (W.contents copier.old.output) (W.contents copier.new.output) }
     ensures begun { OnOk result (1 ≤ file.new.reader.offset) }
 {
@@ -202,7 +204,8 @@ fn select_kept_block<R: Read, W: Write>(
 ) -> Result<Option<Outcome>, SelectionError>
     requires header { BeginsBlock file.old.reader.section.byte_order first.now header.now }
     requires room { header.now.total_len ≤ max_packet_len }
-    ensures passes { (left : Option (List ℕ)) → Consumes left (R.remaining copier.old.input) first.now → PassesGiven (blocks_of parts.now) result
+    ensures passes { (left : Option (List ℕ)) → Consumes left (R.remaining copier.old.input) first.now →
+        PassesGiven (blocks_of parts.now) result
         file.old file.new left (R.remaining copier.new.input) (W.contents copier.old.output) (W.contents copier.new.output) }
     ensures begun { OnOk result (1 ≤ file.new.reader.offset) }
 {
@@ -309,7 +312,8 @@ fn select_long_block<R: Read, W: Write>(
 ) -> Result<Option<Outcome>, SelectionError>
     requires header { BeginsBlock file.old.reader.section.byte_order first.now header.now }
     requires room { max_packet_len < header.now.total_len }
-    ensures passes { (left : Option (List ℕ)) → Consumes left (R.remaining copier.old.input) first.now → PassesGiven (blocks_of parts.now) result
+    ensures passes { (left : Option (List ℕ)) → Consumes left (R.remaining copier.old.input) first.now →
+        PassesGiven (blocks_of parts.now) result
         file.old file.new left (R.remaining copier.new.input) (W.contents copier.old.output) (W.contents copier.new.output) }
     ensures begun { OnOk result (1 ≤ file.new.reader.offset) }
 {

@@ -29,16 +29,17 @@ use streams::fill;
 ///
 /// # Errors
 ///
-/// `Capture` states why the capture is refused, or where it can't be read further. `TooManyPackets` is returned only after 2^64 - 2 records or blocks. What was written before is a whole capture, unless the
-/// buffer has no room for the last record or block. If the header of a classic capture is refused, nothing is written. If the first block
-/// of a pcapng file is refused, the error is `Header`, as in the report. An error within a later record or block contains its place.
-/// `Write` is the error of the first write that fails.
+/// `Capture` states why the capture is refused, or where it can't be read further. `TooManyPackets` is returned only after 2^64 - 2 records
+/// or blocks. What was written before is a whole capture, unless the buffer has no room for the last record or block. If the header of a
+/// classic capture is refused, nothing is written. If the first block of a pcapng file is refused, the error is `Header`, as in the report.
+/// An error within a later record or block contains its place. `Write` is the error of the first write that fails.
 pub fn write_selected<R: Read, W: Write>(
     copier: &mut Copier<'_, R, W>,
     parts: &Parts,
     counts: &mut Counts,
 ) -> Result<Reached, SelectionError>
-    ensures selects { SelectsCapture parts.now result (R.remaining copier.old.input) (R.remaining copier.new.input) (W.contents copier.old.output) (W.contents copier.new.output)
+    ensures selects { SelectsCapture parts.now result (R.remaining copier.old.input) (R.remaining copier.new.input)
+        (W.contents copier.old.output) (W.contents copier.new.output)
         counts.old counts.new }
     ensures ends { result ≡ Ok End → IsAtEnd (R.remaining copier.new.input) }
     ensures limit { EndsAtLimit parts.now.limit counts.new.chosen result }
@@ -70,7 +71,8 @@ fn select_capture<R: Read, W: Write>(
 ) -> Result<Reached, SelectionError>
     requires begin { AreFirst begin.now (R.remaining copier.old.input) }
     ensures selects { (left : Option (List ℕ)) → Consumes left (R.remaining copier.old.input) begin.now
-        → IsNoPcapng left → SelectsCapture parts.now result left (R.remaining copier.new.input) (W.contents copier.old.output) (W.contents copier.new.output)
+        → IsNoPcapng left → SelectsCapture parts.now result left (R.remaining copier.new.input)
+        (W.contents copier.old.output) (W.contents copier.new.output)
         counts.old counts.new }
     ensures ends { result ≡ Ok End → IsAtEnd (R.remaining copier.new.input) }
     ensures limit { EndsAtLimit parts.now.limit counts.new.chosen result }

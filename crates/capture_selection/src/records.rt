@@ -61,7 +61,8 @@ pub(crate) fn select_records<R: Read, W: Write>(
     parts: &Parts,
     counts: &mut Counts,
 ) -> Result<Reached, SelectionError>
-    ensures passes { PassesTo (records_of parts.now) result records.old records.new (R.remaining copier.old.input) (R.remaining copier.new.input)
+    ensures passes { PassesTo (records_of parts.now) result records.old records.new (R.remaining copier.old.input)
+        (R.remaining copier.new.input)
         (W.contents copier.old.output) (W.contents copier.new.output) counts.old counts.new }
     ensures ends { result ≡ Ok End → IsAtEnd (R.remaining copier.new.input) }
     ensures limit { EndsAtLimit parts.now.limit counts.new.chosen result }
@@ -87,7 +88,8 @@ fn select_record<R: Read, W: Write>(
     parts: &Parts,
     counts: &mut Counts,
 ) -> Result<bool, SelectionError>
-    ensures passes { PassesAny (records_of parts.now) result records.old records.new (R.remaining copier.old.input) (R.remaining copier.new.input)
+    ensures passes { PassesAny (records_of parts.now) result records.old records.new (R.remaining copier.old.input)
+        (R.remaining copier.new.input)
         (W.contents copier.old.output) (W.contents copier.new.output) counts.old counts.new }
     ensures ends { result ≡ Ok false → IsAtEnd (R.remaining copier.new.input) }
     ensures one { counts.new.chosen ≤ counts.old.chosen + 1 }
@@ -113,7 +115,8 @@ fn select_headed<R: Read, W: Write>(
     first: &[u8; RecordHeader::LEN],
     parts: &Parts,
 ) -> Result<Option<Outcome>, SelectionError>
-    ensures passes { (left : Option (List ℕ)) → Consumes left (R.remaining copier.old.input) first.now → PassesGiven (records_of parts.now) result
+    ensures passes { (left : Option (List ℕ)) → Consumes left (R.remaining copier.old.input) first.now →
+        PassesGiven (records_of parts.now) result
         records.old records.new left (R.remaining copier.new.input) (W.contents copier.old.output) (W.contents copier.new.output) }
 {
     let header = RecordHeader::from_bytes(records.header.byte_order, first);
@@ -135,7 +138,8 @@ fn select_kept<R: Read, W: Write>(
 ) -> Result<Option<Outcome>, SelectionError>
     requires header { header.now ≡ record_header records.old.header.byte_order first.now }
     requires room { header.now.captured_len ≤ max_packet_len }
-    ensures passes { (left : Option (List ℕ)) → Consumes left (R.remaining copier.old.input) first.now → PassesGiven (records_of parts.now) result
+    ensures passes { (left : Option (List ℕ)) → Consumes left (R.remaining copier.old.input) first.now →
+        PassesGiven (records_of parts.now) result
         records.old records.new left (R.remaining copier.new.input) (W.contents copier.old.output) (W.contents copier.new.output) }
 {
     let frame = &mut copier.buffer[..header.captured_len as usize];
@@ -162,7 +166,8 @@ fn select_long<R: Read, W: Write>(
 ) -> Result<Option<Outcome>, SelectionError>
     requires header { header.now ≡ record_header records.old.header.byte_order first.now }
     requires room { max_packet_len < header.now.captured_len }
-    ensures passes { (left : Option (List ℕ)) → Consumes left (R.remaining copier.old.input) first.now → PassesGiven (records_of parts.now) result
+    ensures passes { (left : Option (List ℕ)) → Consumes left (R.remaining copier.old.input) first.now →
+        PassesGiven (records_of parts.now) result
         records.old records.new left (R.remaining copier.new.input) (W.contents copier.old.output) (W.contents copier.new.output) }
 {
     let outcome = Some(outcome_of(parts, &packet_without_room(header.captured_len)));

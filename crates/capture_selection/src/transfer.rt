@@ -74,7 +74,8 @@ fn copy<R: Read, W: Write>(
     count: usize,
     place: Place,
 ) -> Result<usize, SelectionError>
-    ensures copies { CopiesUpTo place result (R.remaining copier.old.input) (R.remaining copier.new.input) (W.contents copier.old.output) (W.contents copier.new.output) }
+    ensures copies { CopiesUpTo place result (R.remaining copier.old.input) (R.remaining copier.new.input)
+        (W.contents copier.old.output) (W.contents copier.new.output) }
     ensures within { IfOk result (λ len. len ≤ count) }
     ensures end { IfOk result (λ len. len < count → IsAtEnd (R.remaining copier.new.input)) }
 {

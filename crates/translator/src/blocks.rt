@@ -63,7 +63,8 @@ pub(crate) fn translate_blocks<R: Read, W: Write>(
     requires begin { AreFirst begin.now (R.remaining copier.old.input) }
     requires some { 1 ≤ length begin.now }
     ensures passes { (left : Option (List ℕ)) → Consumes left (R.remaining copier.old.input) begin.now → PassesTo (blocks_of table.now) result
-        file.old file.new left (R.remaining copier.new.input) (W.contents copier.old.output) (W.contents copier.new.output) counts.old counts.new }
+        file.old file.new left (R.remaining copier.new.input)
+        (W.contents copier.old.output) (W.contents copier.new.output) counts.old counts.new }
     ensures ends { OnOk result (IsAtEnd (R.remaining copier.new.input)) }
 {
     translate_block(copier, begin, file, table, counts)?;
@@ -120,8 +121,10 @@ fn translate_block<R: Read, W: Write>(
 ) -> Result<(), CaptureError>
     requires first { AreFirst first.now (R.remaining copier.old.input) }
     requires some { 1 ≤ length first.now }
-    ensures passes { (left : Option (List ℕ)) → Consumes left (R.remaining copier.old.input) first.now → PassesNext (blocks_of table.now) result
-        file.old file.new left (R.remaining copier.new.input) (W.contents copier.old.output) (W.contents copier.new.output) counts.old counts.new }
+    ensures passes { (left : Option (List ℕ)) → Consumes left (R.remaining copier.old.input) first.now
+        → PassesNext (blocks_of table.now) result
+        file.old file.new left (R.remaining copier.new.input)
+        (W.contents copier.old.output) (W.contents copier.new.output) counts.old counts.new }
 {
     let header = match BlockHeader::from_slice(file.section.byte_order, first) {
         Ok(header) => header,
@@ -146,8 +149,10 @@ fn translate_headed<R: Read, W: Write>(
     counts: &mut Counts,
 ) -> Result<(), CaptureError>
     requires header { BeginsBlock file.old.section.byte_order start.now.bytes.now start.now.header }
-    ensures passes { (left : Option (List ℕ)) → Consumes left (R.remaining copier.old.input) start.now.bytes.now → PassesNext (blocks_of table.now) result
-        file.old file.new left (R.remaining copier.new.input) (W.contents copier.old.output) (W.contents copier.new.output) counts.old counts.new }
+    ensures passes { (left : Option (List ℕ)) → Consumes left (R.remaining copier.old.input) start.now.bytes.now
+        → PassesNext (blocks_of table.now) result
+        file.old file.new left (R.remaining copier.new.input)
+        (W.contents copier.old.output) (W.contents copier.new.output) counts.old counts.new }
 {
     let header = &start.header;
     let kept = &mut copier.buffer[..kept_len(header)];

@@ -53,7 +53,8 @@ fn translate_classic<R: Read, W: Write>(
 ) -> Result<(), CaptureError>
     requires begin { AreFirst begin.now (R.remaining copier.old.input) }
     ensures translates { (left : Option (List ℕ)) → Consumes left (R.remaining copier.old.input) begin.now → IsNoPcapng left
-        → TranslatesCapture table.now result left (R.remaining copier.new.input) (W.contents copier.old.output) (W.contents copier.new.output)
+        → TranslatesCapture table.now result left (R.remaining copier.new.input)
+        (W.contents copier.old.output) (W.contents copier.new.output)
         counts.old counts.new }
     ensures ends { OnOk result (IsAtEnd (R.remaining copier.new.input)) }
 {

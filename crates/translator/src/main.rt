@@ -171,7 +171,8 @@ fn write_translation<R: Read, W: Write, E: Write>(
     copier: &mut Copier<'_, R, W>,
     errors: &mut E,
 ) -> io::Result<u8>
-    ensures { WritesTranslation table.now (R.remaining copier.old.input) (R.remaining copier.new.input) (W.contents copier.old.output) (W.contents copier.new.output)
+    ensures { WritesTranslation table.now (R.remaining copier.old.input) (R.remaining copier.new.input)
+        (W.contents copier.old.output) (W.contents copier.new.output)
         (E.contents errors.old) (E.contents errors.new) result }
 {
     let mut counts = Counts::NONE;

@@ -27,7 +27,8 @@ pub(crate) fn translate_records<R: Read, W: Write>(
     table: &Table,
     counts: &mut Counts,
 ) -> Result<(), CaptureError>
-    ensures passes { PassesTo (records_of table.now) result records.old records.new (R.remaining copier.old.input) (R.remaining copier.new.input)
+    ensures passes { PassesTo (records_of table.now) result records.old records.new (R.remaining copier.old.input)
+        (R.remaining copier.new.input)
         (W.contents copier.old.output) (W.contents copier.new.output) counts.old counts.new }
     ensures ends { OnOk result (IsAtEnd (R.remaining copier.new.input)) }
 {
@@ -47,7 +48,8 @@ fn translate_record<R: Read, W: Write>(
     table: &Table,
     counts: &mut Counts,
 ) -> Result<bool, CaptureError>
-    ensures passes { PassesAny (records_of table.now) result records.old records.new (R.remaining copier.old.input) (R.remaining copier.new.input)
+    ensures passes { PassesAny (records_of table.now) result records.old records.new (R.remaining copier.old.input)
+        (R.remaining copier.new.input)
         (W.contents copier.old.output) (W.contents copier.new.output) counts.old counts.new }
     ensures ends { result ≡ Ok false → IsAtEnd (R.remaining copier.new.input) }
 {
@@ -83,8 +85,10 @@ fn translate_headed<R: Read, W: Write>(
     table: &Table,
     counts: &mut Counts,
 ) -> Result<(), CaptureError>
-    ensures passes { (left held : Option (List ℕ)) → Consumes left (R.remaining copier.old.input) first.now → Appends held (W.contents copier.old.output) first.now
-        → PassesNext (records_of table.now) result records.old records.new left (R.remaining copier.new.input) held (W.contents copier.new.output)
+    ensures passes { (left held : Option (List ℕ)) → Consumes left (R.remaining copier.old.input) first.now → Appends held
+        (W.contents copier.old.output) first.now
+        → PassesNext (records_of table.now) result records.old records.new left
+        (R.remaining copier.new.input) held (W.contents copier.new.output)
         counts.old counts.new }
 {
     let header = RecordHeader::from_bytes(records.header.byte_order, first);
@@ -107,7 +111,8 @@ fn copy_long<R: Read, W: Write>(
     ensures passes { (first : List ℕ) (left held : Option (List ℕ)) → length first ≡ 16
         → header.now ≡ record_header records.old.header.byte_order first → Consumes left (R.remaining copier.old.input) first
         → Appends held (W.contents copier.old.output) first
-        → PassesNext (records_of table.now) result records.old records.new left (R.remaining copier.new.input) held (W.contents copier.new.output)
+        → PassesNext (records_of table.now) result records.old records.new left
+        (R.remaining copier.new.input) held (W.contents copier.new.output)
         counts.old counts.new }
 {
     let captured_len = header.captured_len as usize;
@@ -133,7 +138,8 @@ fn translate_kept<R: Read, W: Write>(
     ensures passes { (first : List ℕ) (left held : Option (List ℕ)) → length first ≡ 16
         → header.now ≡ record_header records.old.header.byte_order first → Consumes left (R.remaining copier.old.input) first
         → Appends held (W.contents copier.old.output) first
-        → PassesNext (records_of table.now) result records.old records.new left (R.remaining copier.new.input) held (W.contents copier.new.output)
+        → PassesNext (records_of table.now) result records.old records.new left
+        (R.remaining copier.new.input) held (W.contents copier.new.output)
         counts.old counts.new }
 {
     let frame = &mut copier.buffer[..header.captured_len as usize];

@@ -64,7 +64,8 @@ pub(crate) fn copy<R: Read, W: Write>(
     count: usize,
     offset: u64,
 ) -> Result<usize, CaptureError>
-    ensures copies { CopiesUpTo offset count result (R.remaining copier.old.input) (R.remaining copier.new.input) (W.contents copier.old.output) (W.contents copier.new.output) }
+    ensures copies { CopiesUpTo offset count result (R.remaining copier.old.input) (R.remaining copier.new.input)
+        (W.contents copier.old.output) (W.contents copier.new.output) }
     ensures within { IfOk result (λ len. len ≤ count) }
     ensures end { IfOk result (λ len. len < count → IsAtEnd (R.remaining copier.new.input)) }
 {
