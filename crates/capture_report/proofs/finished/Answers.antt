@@ -12,10 +12,10 @@ returns-in_err-status-clause-lines g c =
     (not_both _ c.from_residual.ensures.0) c.written_status.ensures.lines
 
 -- the output could not be flushed
-pub returns-in_err-flushed-clause-lines : goal.returns-in_err-flushed-clause-lines
-returns-in_err-flushed-clause-lines g c =
+pub returns-in_err-written-clause-lines : goal.returns-in_err-written-clause-lines
+returns-in_err-written-clause-lines g c =
     lacks_more _ _ _ _ (AreErrorLines (option_map (λ text. shown_name text.now) c.args.name) c.args.written.ended) (counts_line c.args.written.counts)
-    (not_both _ c.from_residual-in_err-flushed.ensures.0) c.written_status.ensures.lines
+    (not_both _ c.from_residual-in_err-written.ensures.0) c.written_status.ensures.lines
 
 -- the numbers could not be written
 pub returns-in_err-write_counts-clause-lines : goal.returns-in_err-write_counts-clause-lines
