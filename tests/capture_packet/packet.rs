@@ -460,13 +460,12 @@ fn link_headers_of_cut_frames_are_not_refused(rt: HostRuntime) {
 type ChecksumRow = (Header, &'static [u8], ChecksumVerdict);
 
 #[rattlefmt::skip]
-static CHECKSUMS: [ChecksumRow; 16] = [
+static CHECKSUMS: [ChecksumRow; 15] = [
     (V4_UDP, &UDP_OVER_IPV4, ChecksumVerdict::Right),
     (V4_UDP, &UDP_WRONG, ChecksumVerdict::Wrong { expected: 0x226C }),
     (V4_UDP, &UDP_PARTIAL, ChecksumVerdict::Partial { expected: 0x226C }),
     (V4_UDP, &UDP_ABSENT, ChecksumVerdict::Absent),
     (V4_UDP, &UDP_ALL_ONES, ChecksumVerdict::Wrong { expected: 0xFFFF }),
-    (V4_UDP, &UDP_OF_0, ChecksumVerdict::Untested(Untested::ZeroLength)),
     (V6_UDP, &UDP_OVER_IPV6, ChecksumVerdict::Right),
     (V6_UDP, &UDP_ABSENT, ChecksumVerdict::Wrong { expected: 0xDAF9 }),
     (V4_TCP, &TCP_OVER_IPV4, ChecksumVerdict::Right),
@@ -532,6 +531,26 @@ fn checksums_are_tested(rt: HostRuntime) {
     for row in &CHECKSUMS {
         expect_checksum(&rt, row);
     }
+}
+
+/// The header of a datagram with a length field of 0 is refused, so that only its ports are read.
+#[test]
+fn headers_with_a_length_of_0_are_not_read(rt: HostRuntime) {
+    let frame = packet_of(&rt, V4_UDP, &UDP_OF_0);
+    let content = Content::Ip {
+        addresses: OVER_IPV4,
+        protocol: ip_number::UDP,
+        proto: Some(Proto::Udp),
+        transport: Transport::Ports {
+            source: 53,
+            destination: 1234,
+            payload: &UDP_OF_0,
+        },
+        payload_len: 11,
+    };
+    let mut expected = Packet::in_no_tunnel(content, Verdict::untested(Untested::ZeroLength));
+    expected.hop_limit = Some(HopLimit::Ipv4(64));
+    expect_equal(&rt, &read_raw(&frame, false), &expected);
 }
 
 /// The first byte of a packet and its number of bytes, and its hop limit. Each further byte is the number of its place.

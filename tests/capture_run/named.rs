@@ -132,7 +132,7 @@ static RUNS_OF_ONE: [RunRow; 15] = [
      "1 00:00:00.000000 length 29: 192.0.2.1:263 > 192.0.2.2:9 UDP length 9, payload 1; checksum wrong, 18C8 expected\n", ""),
     // The length field of this packet is 0, so the packet is refused.
     (&["zero"], Asked::CheckedLines, 4,
-     "1 00:00:00.000000 length 29: 192.0.2.1:7 > 192.0.2.2:9 UDP length 0, payload 1; refused: UDP header needs 8 bytes, the UDP length is 0\n", ""),
+     "1 00:00:00.000000 length 29: 192.0.2.1:7 > 192.0.2.2:9 UDP, payload 9; refused: UDP header needs 8 bytes, the UDP length is 0\n", ""),
     (&["zero"], Asked::OnlyObjects, 0, ZERO_OBJECT, ""),
     (&["missing"], Asked::CheckedLines, 3, "", "capture_report: missing: entity not found\n"),
     // A control character in a name is shown by its number. After NUL a name is escaped already.
@@ -151,7 +151,7 @@ const RIGHT_OBJECT: &str =
 "#;
 
 const ZERO_OBJECT: &str =
-    r#"{"type":"packet","number":1,"time":"00:00:00.000000","seconds":5,"nanoseconds":7000,"length":29,"captured_length":29,"source":"192.0.2.1","destination":"192.0.2.2","protocol":17,"protocol_name":"UDP","source_port":7,"destination_port":9,"udp":{"length":0},"payload_length":1,"time_to_live":64,"refused":"UDP header needs 8 bytes, the UDP length is 0"}
+    r#"{"type":"packet","number":1,"time":"00:00:00.000000","seconds":5,"nanoseconds":7000,"length":29,"captured_length":29,"source":"192.0.2.1","destination":"192.0.2.2","protocol":17,"protocol_name":"UDP","source_port":7,"destination_port":9,"payload_length":9,"time_to_live":64,"refused":"UDP header needs 8 bytes, the UDP length is 0"}
 "#;
 
 /// Several names: each capture has a heading, unless no packet has a line. If a capture can't be read, the next one is still reported.
@@ -211,12 +211,12 @@ const OF_FOUR: &str = "\
 
 const ERRORS_OF_FOUR: &str = "\
 capture_report: version: The capture has version 2.3, which is not read.
-capture_report: cut: Packet 1, at byte 24 of the capture: its record has at least 46 bytes, and 45 are left.
+capture_report: cut: At byte 24 of the capture, in or before packet 1: The record or block has at least 46 bytes, and 45 are left.
 ";
 
 const ERRORS_WITH_MISSING: &str = "\
 capture_report: version: The capture has version 2.3, which is not read.
-capture_report: cut: Packet 1, at byte 24 of the capture: its record has at least 46 bytes, and 45 are left.
+capture_report: cut: At byte 24 of the capture, in or before packet 1: The record or block has at least 46 bytes, and 45 are left.
 capture_report: missing: entity not found
 ";
 
@@ -237,7 +237,7 @@ const OF_FIVE: &str = "\
 const ERRORS_OF_FIVE: &str = "\
 capture_report: version: The capture has version 2.3, which is not read.
 capture_report: magic: The input is no capture: its first four bytes are 0xa0b2c3d4.
-capture_report: cut: Packet 1, at byte 24 of the capture: its record has at least 46 bytes, and 45 are left.
+capture_report: cut: At byte 24 of the capture, in or before packet 1: The record or block has at least 46 bytes, and 45 are left.
 ";
 
 const OF_WRONG_LINES: &str = "\

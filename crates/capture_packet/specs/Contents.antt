@@ -1,5 +1,5 @@
 -- The content of a packet.
-use Rattle.std.specs.Prelude.{◌≡◌, ℕ, Bool, true, false, not, ◌&&◌, nat_le, if◌then◌else◌, List, length, Option, Some, None}
+use Rattle.std.specs.Prelude.{◌≡◌, ◌⊎◌, ℕ, Bool, true, false, not, ◌&&◌, nat_le, if◌then◌else◌, List, length, Option, Some, None}
 use Rattle.std.specs.Option.{option_map}
 use Rattle.ip_part.specs.Addresses.{Addresses, Ipv4, Ipv6, by_value}
 use Rattle.ip_part.specs.FixedHeaders as fixed
@@ -17,6 +17,8 @@ use Rattle.capture_packet.specs.declared.content.Content.{Content}
 use Rattle.capture_packet.specs.declared.content.Content.TheVariants.{Ip, IpHeader, NotIp, Unread}
 use Rattle.capture_packet.specs.declared.transport.Transport.{Transport}
 use Rattle.capture_packet.specs.declared.transport.Transport.TheVariants as transports
+use Rattle.capture_packet.specs.Verdicts.{is_length_refused}
+use Rattle.capture_packet.specs.declared.verdict.Verdict.{Verdict}
 
 -- the transport, or none if an error refuses it
 abbrev pub unless_refused : Option HeaderSliceError → Option TransportSlice → Option TransportSlice
@@ -55,26 +57,30 @@ ports_at is_later_fragment proto bytes =
 abbrev pub ports_in : TransportInIp → Option (ℕ × ℕ)
 ports_in found = ports_at found.is_later_fragment (proto_over (by_value found.addresses) found.protocol.0) found.payload.now
 
--- The transport of an IP packet. If its header is read, this is the transport itself. Otherwise it is the bytes after the IP headers, with
--- the two ports if the bytes begin with ports. UDP and TCP have the source port in bytes 0 and 1, and the destination port in bytes 2 and 3
--- (RFC 768; RFC 9293, section 3.1).
-abbrev pub Holds : TransportInIp → Transport → Type 0
-Holds found (transports.Read transport) = read_in found ≡ Some transport
-Holds found (transports.Ports source destination payload) =
-    (read_in found ≡ None) × ((begins_with_ports found ≡ true) × ((source ≡ be_number found.payload.now 0 2)
-    × ((destination ≡ be_number found.payload.now 2 2) × (payload.now ≡ found.payload.now))))
-Holds found (transports.Unread payload) =
-    (read_in found ≡ None) × ((begins_with_ports found ≡ false) × (payload.now ≡ found.payload.now))
+-- no transport header is read: there is none, it is refused, or the verdict refuses its length
+abbrev pub LacksHeader : TransportInIp → Verdict → Type 0
+LacksHeader found verdict = (read_in found ≡ None) ⊎ (is_length_refused verdict ≡ true)
 
--- the content is the content of an IP packet with these bytes
-abbrev pub Shows : List ℕ → TransportInIp → Content → Type 0
-Shows bytes found Unread = ⊥
-Shows bytes found (IpHeader addresses) = ⊥
-Shows bytes found (NotIp protocol) = ⊥
-Shows bytes found (Ip addresses protocol proto transport len) =
+-- The transport of an IP packet with this verdict. If its header is read, this is the transport itself. Otherwise it is the bytes after the
+-- IP headers, with the two ports if the bytes begin with ports. UDP and TCP have the source port in bytes 0 and 1, and the destination port
+-- in bytes 2 and 3 (RFC 768; RFC 9293, section 3.1).
+abbrev pub Holds : TransportInIp → Verdict → Transport → Type 0
+Holds found verdict (transports.Read transport) = (read_in found ≡ Some transport) × (is_length_refused verdict ≡ false)
+Holds found verdict (transports.Ports source destination payload) =
+    LacksHeader found verdict × ((begins_with_ports found ≡ true) × ((source ≡ be_number found.payload.now 0 2)
+    × ((destination ≡ be_number found.payload.now 2 2) × (payload.now ≡ found.payload.now))))
+Holds found verdict (transports.Unread payload) =
+    LacksHeader found verdict × ((begins_with_ports found ≡ false) × (payload.now ≡ found.payload.now))
+
+-- the content is the content of an IP packet with these bytes and this verdict
+abbrev pub Shows : List ℕ → TransportInIp → Verdict → Content → Type 0
+Shows bytes found verdict Unread = ⊥
+Shows bytes found verdict (IpHeader addresses) = ⊥
+Shows bytes found verdict (NotIp protocol) = ⊥
+Shows bytes found verdict (Ip addresses protocol proto transport len) =
     (addresses ≡ found.addresses) × ((protocol ≡ found.protocol)
     × ((proto ≡ proto_over (by_value found.addresses) found.protocol.0)
-    × (Holds found transport × (len ≡ payload_len (counted_payload_len bytes found) transport))))
+    × (Holds found verdict transport × (len ≡ payload_len (counted_payload_len bytes found) transport))))
 
 -- source and destination of an IP header
 abbrev pub addresses_in : Fixed → Addresses

@@ -29,7 +29,7 @@ max_packet_len = 524288
 
 -- the packet has this transport
 abbrev pub IsInPacket : Bool → List ℕ → TransportInIp → Packet → Type 0
-IsInPacket is_cut bytes found packet = Shows bytes found packet.content × JudgesTransport is_cut found packet.verdict
+IsInPacket is_cut bytes found packet = Shows bytes found packet.verdict packet.content × JudgesTransport is_cut found packet.verdict
 
 -- the packet has a transport after its IP headers
 pub record IsCarried (is_cut : Bool) (bytes : List ℕ) (packet : Packet) : Type 0 where

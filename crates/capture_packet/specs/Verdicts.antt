@@ -45,6 +45,11 @@ refusal_if_untested UnknownDestination = None
 refusal_if_untested OtherProtocol = None
 refusal_if_untested TooLongToTest = None
 
+-- the verdict refuses the length field of a UDP datagram, since the field is 0
+abbrev pub is_length_refused : Verdict → Bool
+is_length_refused (Checksum (checksums.Untested ZeroLength)) = true
+is_length_refused verdict = false
+
 -- the error that refuses a packet with this verdict, if there is one
 abbrev pub refusal_of : Verdict → Option Refusal
 refusal_of (Checksum checksums.Right) = None

@@ -3,7 +3,7 @@ ghost use Rattle.ip_part.specs.Addresses.{by_value};
 ghost use Rattle.ip_part.specs.Protocols.{proto_over};
 ghost use Rattle.transport_part.specs.Transports.{kept, refusal};
 ghost use Rattle.capture_packet.specs.Contents as contents;
-ghost use Rattle.capture_packet.specs.Contents.{Holds, read_in};
+ghost use Rattle.capture_packet.specs.Contents.{Holds, LacksHeader};
 ghost use Rattle.capture_packet.specs.Verdicts.{JudgesAccepted, JudgesTransport};
 ghost use Rattle.capture_packet.specs.Verdicts as specs;
 
@@ -19,8 +19,8 @@ use transport_part::{TransportSlice, Untested};
 pub enum Transport<'a> {
     /// A transport with a header that is read.
     Read(TransportSlice<'a>),
-    /// Only the ports of a UDP or TCP header are read (RFC 768; RFC 9293, section 3.1). The header is refused or incomplete, or the packet
-    /// is the first fragment.
+    /// Only the ports of a UDP or TCP header are read (RFC 768; RFC 9293, section 3.1). The header is refused or incomplete, its length
+    /// field is refused, or the packet is the first fragment.
     Ports {
         /// The port of the sender: bytes 0 and 1.
         source: u16,
@@ -73,12 +73,15 @@ pub(crate) fn read_transport<'a>(
     found: &TransportInIp<'a>,
     is_cut: bool,
 ) -> (Transport<'a>, Verdict)
-    ensures holds { Holds found.now result.0 }
+    ensures holds { Holds found.now result.1 result.0 }
     ensures judges { JudgesTransport is_cut found.now result.1 }
 {
     match transport_slice(found) {
         Ok(Some(transport)) => {
             let verdict = tested(found, &transport);
+            if verdict.refuses_length() {
+                return (unread_transport(found), verdict);
+            }
             (Transport::Read(transport), verdict)
         }
         Ok(None) => (unread_transport(found), untested(found)),
@@ -116,7 +119,7 @@ fn untested(found: &TransportInIp<'_>) -> Verdict
 
 /// A transport with a header that is not read, and its ports if they are present.
 fn unread_transport<'a>(found: &TransportInIp<'a>) -> Transport<'a>
-    ensures { read_in found.now ≡ None → Holds found.now result }
+    ensures { (verdict : _) → LacksHeader found.now verdict → Holds found.now verdict result }
 {
     match ports_in(found) {
         Some((source, destination)) => Transport::Ports {

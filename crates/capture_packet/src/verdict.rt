@@ -35,4 +35,14 @@ impl Verdict {
     {
         Verdict::Checksum(ChecksumVerdict::Untested(reason))
     }
+
+    /// Whether the length field of a UDP datagram is refused, since it is 0.
+    pub(crate) fn refuses_length(&self) -> bool
+        ensures { result ≡ specs.is_length_refused self.now }
+    {
+        matches!(
+            self,
+            Verdict::Checksum(ChecksumVerdict::Untested(Untested::ZeroLength))
+        )
+    }
 }
