@@ -1,5 +1,5 @@
 -- The text of a report: the line of each packet that has one, in the order of the packets, then an empty line, and then the summary.
-use Rattle.std.specs.Prelude.{◌≡◌, ℕ, ◌+◌, if◌then◌else◌, List, [], ◌∷◌, ◌++◌, codes, Option, Some, None, Result, Ok}
+use Rattle.std.specs.Prelude.{◌≡◌, ℕ, ◌+◌, ◌||◌, nat_lt, Bool, false, if◌then◌else◌, List, [], ◌∷◌, ◌++◌, codes, is_none, Option, Some, None, Result, Ok}
 use Rattle.std.specs.Option.{option_or}
 use Rattle.capture_file.specs.CapturePackets.{BeginsInput, FilePacket}
 use Rattle.capture_file.specs.declared.reader.capture_reader.CaptureReader.{CaptureReader}
@@ -11,7 +11,7 @@ use Rattle.capture_request.specs.Limits.{EndsWithRequested}
 use Rattle.capture_request.specs.Report.{CountsEach, IsPacketOf, ReadsUntil, ReportsOne, info_of, packet_time}
 use Rattle.capture_run.specs.ReportText.{IsTextOfOne}
 use Rattle.capture_run.specs.Runs.{RejectsBeginning}
-use Rattle.capture_summary.specs.SummaryTables.{SummaryTables}
+use Rattle.capture_summary.specs.SummaryTables.{SummaryTables, has_fault}
 use Rattle.capture_text.specs.SummaryText.{summary_text}
 use Rattle.capture_request.specs.declared.parts.Format.{Format}
 use Rattle.capture_request.specs.declared.parts.Format.TheVariants as formats
@@ -69,16 +69,25 @@ abbrev pub IsCaptureReport : Parts → Option (List ℕ) → Option (List ℕ) �
 IsCaptureReport parts left still_left ended before after None text = RejectsBeginning left ended × (after ≡ before) × (text ≡ [])
 IsCaptureReport parts left still_left ended before after (Some last) text = WritesCapture parts left still_left ended before after last text
 
--- the empty line between the lines of packets and the summary; without lines of packets it is left out
-abbrev pub empty_line : Lines → List ℕ
-empty_line lines.All = codes "\n"
-empty_line lines.Wrong = codes "\n"
-empty_line lines.None = []
+-- A packet with these counts has a line. Each counted packet has one, or only each packet whose checksum is wrong or which is refused.
+abbrev pub has_packet_line : Lines → SummaryTables → Bool
+has_packet_line lines.All tables = nat_lt 0 tables.packets
+has_packet_line lines.Wrong tables = has_fault tables
+has_packet_line lines.None tables = false
 
--- The summary in a format. As text it consists of the facts of the capture and the tables. An empty line comes first if lines of packets
--- are requested. As JSON the summary is an object.
+-- lines of packets are requested, and several captures were read, so that headings were written
+abbrev pub has_headings : Lines → Option CaptureReader → Bool
+has_headings lines.All capture = is_none capture
+has_headings lines.Wrong capture = is_none capture
+has_headings lines.None capture = false
+
+-- The empty line before the summary. It is left out if nothing was written before: no packet has a line, and there are no headings.
+abbrev pub empty_line : Lines → Option CaptureReader → SummaryTables → List ℕ
+empty_line lines capture tables = if has_packet_line lines tables || has_headings lines capture then codes "\n" else []
+
+-- The summary in a format. As text it consists of the facts of the capture and the tables, after the empty line. As JSON it is an object.
 abbrev pub summary_in : Format → Lines → ℕ → Option CaptureReader → SummaryTables → List ℕ
-summary_in formats.Text lines top capture tables = empty_line lines ++ (facts_text capture ++ summary_text top tables)
+summary_in formats.Text lines top capture tables = empty_line lines capture tables ++ (facts_text capture ++ summary_text top tables)
 summary_in formats.Json lines top capture tables = json_summary capture top tables
 
 -- the end of a report: the summary in the requested format if a summary is requested, and nothing otherwise

@@ -3,7 +3,7 @@ ghost use Rattle.std.specs.Io.KnownBytes.{Appends};
 ghost use Rattle.capture_file.specs.declared.reader.capture_reader.CaptureReader.{CaptureReader};
 ghost use Rattle.capture_run.specs.Captures.{only_capture, progress_of};
 ghost use Rattle.capture_request.specs.Endings.{status_of};
-ghost use Rattle.capture_run.specs.PacketsText.{IsCaptureReport, empty_line, end_text, summary_in};
+ghost use Rattle.capture_run.specs.PacketsText.{IsCaptureReport, empty_line, end_text, has_headings, has_packet_line, summary_in};
 ghost use Rattle.capture_summary.specs.Ranking.{busiest_of};
 ghost use Rattle.capture_request.specs.ExitStatuses.{final_status, greater};
 ghost use Rattle.capture_request.specs.Limits.{EndsByLimit, IsWithin, is_full};
@@ -219,7 +219,7 @@ impl CaptureReports {
     }
 }
 
-/// Writes the facts of the capture and the tables. If lines of packets are requested, an empty line comes first.
+/// Writes the facts of the capture and the tables. If lines of packets or headings were written, an empty line comes first.
 fn write_text_summary<W: Write>(
     output: &mut W,
     lines: Lines,
@@ -228,9 +228,9 @@ fn write_text_summary<W: Write>(
     busiest: &[ConversationCount],
 ) -> Result<(), WriteError>
     ensures { OnOk result (Appends (W.contents output.old) (W.contents output.new)
-        (empty_line lines ++ (facts_text capture.now ++ tables_text busiest.now summary.now))) }
+        (empty_line lines capture.now summary.now ++ (facts_text capture.now ++ tables_text busiest.now summary.now))) }
 {
-    write_empty_line(output, lines)?;
+    write_empty_line(output, lines, capture, summary)?;
     Ok(write_facts_and_tables(output, capture, summary, busiest)?)
 }
 
@@ -247,14 +247,37 @@ fn write_facts_and_tables<W: Write>(
     write_summary(output, summary, busiest)
 }
 
-/// Writes the empty line before the summary if lines of packets are requested.
-fn write_empty_line<W: Write>(output: &mut W, lines: Lines) -> Result<(), WriteError>
-    ensures { OnOk result (Appends (W.contents output.old) (W.contents output.new) (empty_line lines)) }
+/// Writes the empty line before the summary, unless nothing was written before.
+fn write_empty_line<W: Write>(
+    output: &mut W,
+    lines: Lines,
+    capture: &Option<CaptureReader>,
+    summary: &Summary,
+) -> Result<(), WriteError>
+    ensures { OnOk result (Appends (W.contents output.old) (W.contents output.new) (empty_line lines capture.now summary.now)) }
 {
-    if lines == Lines::None {
-        return Ok(());
+    if has_packet_line(lines, summary) || has_headings(lines, capture) {
+        return Ok(writeln!(output)?);
     }
-    Ok(writeln!(output)?)
+    Ok(())
+}
+
+/// Whether a packet with these counts has a line.
+fn has_packet_line(lines: Lines, summary: &Summary) -> bool
+    ensures { result ≡ has_packet_line lines summary.now }
+{
+    match lines {
+        Lines::All => summary.packets() > 0,
+        Lines::Wrong => summary.has_fault(),
+        Lines::None => false,
+    }
+}
+
+/// Whether headings were written. `capture` is the reader of the only capture that was read, if only one was.
+fn has_headings(lines: Lines, capture: &Option<CaptureReader>) -> bool
+    ensures { result ≡ has_headings lines capture.now }
+{
+    lines != Lines::None && capture.is_none()
 }
 
 /// Returns the status with the greater number.
