@@ -24,9 +24,9 @@ pub enum CaptureError {
     #[error(transparent)]
     Header(OpenError),
     /// The input ends within a record, or within a block of a pcapng file.
-    #[error("Packet {number}, at byte {offset} of the capture: its record has at least {required_len} bytes, and {len} are left.")]
+    #[error("At byte {offset} of the capture, in or before packet {number}: The record or block has at least {required_len} bytes, and {len} are left.")]
     RecordCutOff {
-        /// The number of the packet. The first packet of a capture is number 1.
+        /// The number of the next packet. The first packet of a capture is number 1. A block of a pcapng file may contain no packet.
         number: u64,
         /// The start of the record or block, in bytes from the start of the capture.
         offset: u64,
@@ -41,10 +41,10 @@ pub enum CaptureError {
     /// Reading failed within the beginning of the capture.
     #[error("Reading the header of the capture failed: {0}.")]
     ReadHeader(io::Error),
-    /// Reading failed within a record.
-    #[error("Reading packet {number}, at byte {offset} of the capture, failed: {error}.")]
+    /// Reading failed within a record, or within a block of a pcapng file.
+    #[error("Reading at byte {offset} of the capture, in or before packet {number}, failed: {error}.")]
     Read {
-        /// The number of the packet. The first packet of a capture is number 1.
+        /// The number of the next packet. The first packet of a capture is number 1. A block of a pcapng file may contain no packet.
         number: u64,
         /// The start of the record or block, in bytes from the start of the capture.
         offset: u64,
