@@ -40,7 +40,7 @@ const NAME: &[u8] = b"capture_report";
 const TOO_LONG: &[u8] = &[b'a'; 131073];
 
 /// Arguments that are accepted: the number of captures, the file for the packets, and whether lines are written out at once.
-static ACCEPTED: [(&[&[u8]], usize, Option<&str>, bool); 12] = [
+static ACCEPTED: [(&[&[u8]], usize, Option<&str>, bool); 14] = [
     (&[b"capture_report"], 0, None, false),
     (&[b"capture_report", b"a.pcap", b"-l"], 1, None, true),
     (
@@ -59,6 +59,33 @@ static ACCEPTED: [(&[&[u8]], usize, Option<&str>, bool); 12] = [
     (&[b"capture_report", b"--", b"-\xFF.pcap"], 1, None, false),
     (&[b"-\xFF", b"a.pcap"], 1, None, false),
     (&[NAME; 150], 149, None, false),
+    (
+        &[
+            b"capture_report",
+            b"--port=80,443,8000-8100",
+            b"--not-port",
+            b"53",
+            b"--protocol",
+            b"PPPoE-session",
+            b"a.pcap",
+        ],
+        1,
+        None,
+        false,
+    ),
+    (
+        &[
+            b"capture_report",
+            b"--source",
+            b"10.0.0.0/8",
+            b"--destination",
+            b"::1",
+            b"--not-host=::/0",
+        ],
+        0,
+        None,
+        false,
+    ),
     // A repeated option replaces its earlier use.
     (&[b"capture_report", b"-nnvvll", b"-n"], 0, None, true),
     (
@@ -82,12 +109,26 @@ static ACCEPTED: [(&[&[u8]], usize, Option<&str>, bool); 12] = [
 ];
 
 /// Arguments that are refused, or request a text, with the exit status.
-static REJECTED: [(&[&[u8]], i32); 9] = [
+static REJECTED: [(&[&[u8]], i32); 14] = [
     (&[b"capture_report", b"--help"], 0),
     (&[b"capture_report", b"--version"], 0),
     (&[b"capture_report", b"--unknown"], 2),
     (&[b"capture_report", b"--summary", b"--packets"], 2),
     (&[b"capture_report", b"--port", b"65536"], 2),
+    (&[b"capture_report", b"--port", b"80,"], 2),
+    (&[b"capture_report", b"--not-port", b"81-80"], 2),
+    (&[b"capture_report", b"--protocol", b"pppoe session"], 2),
+    (&[b"capture_report", b"--not-host", b"10.0.0.1/8"], 2),
+    (
+        &[
+            b"capture_report",
+            b"--port",
+            b"1,2,3,4,5,6,7,8,9",
+            b"--port",
+            b"1,2,3,4,5,6,7,8",
+        ],
+        2,
+    ),
     (&[b"capture_report", b"-w", b"a.pcap", b"a.pcap"], 2),
     (&[b"capture_report", b"--host=10.0.0.1\xFF", b"a.pcap"], 2),
     (&[b"capture_report", b"a.pcap", b"-\xFF"], 2),

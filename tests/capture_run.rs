@@ -14,7 +14,7 @@ use capture_run::{
     Choice, ExitStatus, Format, Lines, MAX_PACKET_LEN, Open, Outputs, Parts, STANDARD_INPUT,
     Sources, WriteError, run,
 };
-use capture_summary::MAX_CHOSEN;
+use capture_summary::{MAX_CHOSEN, PortRange};
 use std::hash::RandomState;
 use std::io;
 use std::io::{ErrorKind, Write};
@@ -204,9 +204,9 @@ const NO_CAPTURES: [(&[u8], &str); 11] = [
 const CUT_CAPTURES: [(usize, u8, &str); 3] = [
     (23, 2, "capture_report: The header of a capture has 24 bytes, and the input contains 23.\n"),
     (39, 1,
-     "capture_report: Packet 1, at byte 24 of the capture: its record has at least 16 bytes, and 15 are left.\n"),
+     "capture_report: At byte 24 of the capture, in or before packet 1: The record or block has at least 16 bytes, and 15 are left.\n"),
     (68, 1,
-     "capture_report: Packet 1, at byte 24 of the capture: its record has at least 45 bytes, and 44 are left.\n"),
+     "capture_report: At byte 24 of the capture, in or before packet 1: The record or block has at least 45 bytes, and 44 are left.\n"),
 ];
 
 #[test]
@@ -233,7 +233,7 @@ static PCAPNG_FILES: [FileRow; 5] = [
     (&[SECTION, RAW_IP, ENHANCED, &UDP, ENHANCED_END, ENHANCED_OF_SECOND, &UDP, ENHANCED_END], 1, LINE,
      "capture_report: At byte 112 of the file: The packet is of interface 1, and the section has 1.\n"),
     (&[SECTION, RAW_IP, OTHER_BLOCK, ENHANCED, &UDP], 1, "",
-     "capture_report: Packet 1, at byte 60 of the capture: its record has at least 64 bytes, and 57 are left.\n"),
+     "capture_report: At byte 60 of the capture, in or before packet 1: The record or block has at least 64 bytes, and 57 are left.\n"),
 ];
 
 /// Stops the test unless the file of a row has the report of the row.
@@ -480,13 +480,16 @@ static OF_PORTS: [PortRow; 4] = [
     (7, 4, [LINE, TO_TEN, "\nfile type classic, byte order big-endian, snap length 0, time resolution 10^-6 s\npackets 2, bytes 58, bytes a packet 29\n"]),
     (9, 0, [LINE, "", "\nfile type classic, byte order big-endian, snap length 0, time resolution 10^-6 s\npackets 1, bytes 29, bytes a packet 29\n"]),
     (10, 4, ["", TO_TEN, "\nfile type classic, byte order big-endian, snap length 0, time resolution 10^-6 s\npackets 1, bytes 29, bytes a packet 29\n"]),
-    (11, 0, ["", "", "\nfile type classic, byte order big-endian, snap length 0, time resolution 10^-6 s\npackets 0, bytes 0\n"]),
+    (11, 0, ["", "", "file type classic, byte order big-endian, snap length 0, time resolution 10^-6 s\npackets 0, bytes 0\n"]),
 ];
 
 /// The report of the packets of this port, with a limit of packets if there is one.
 fn parts_of_port(port: u16, check: bool, limit: Option<u64>) -> Parts {
     let mut ports = [None; MAX_CHOSEN];
-    ports[0] = Some(port);
+    ports[0] = Some(PortRange {
+        first: port,
+        last: port,
+    });
     Parts {
         choice: Choice {
             ports: Some(ports),

@@ -8,7 +8,7 @@ use crate::expect::{expect_at, expect_equal, expect_some, joined};
 use capture_packet::MAX_PACKET_LEN;
 use capture_run::{CaptureError, Choice, ExitStatus, Lines, Parts};
 use capture_selection::{Copier, Counts, SelectionError, write_selected};
-use capture_summary::MAX_CHOSEN;
+use capture_summary::{MAX_CHOSEN, PortRange};
 use std::io::{Read, Write};
 use std::process::Abort;
 
@@ -50,7 +50,10 @@ fn select<R: Read, W: Write>(input: &mut R, output: &mut W, parts: &Parts) -> Se
 fn of_port(port: Option<u16>, lines: Lines, limit: Option<u64>) -> Parts {
     let mut ports = [None; MAX_CHOSEN];
     if let Some(first) = ports.first_mut() {
-        *first = port;
+        *first = port.map(|port| PortRange {
+            first: port,
+            last: port,
+        });
     }
     Parts {
         choice: Choice {

@@ -1,6 +1,8 @@
 use crate::expect::{expect_at, expect_equal, expect_ok, expect_some};
 use capture_packet::{Content, NetworkProtocol, Packet, Transport, Tunnel, Verdict};
-use capture_summary::{Choice, MAX_CHOSEN, Network, NetworkError, Protocols};
+use capture_summary::{
+    Choice, ChosenProtocol, Hosts, MAX_CHOSEN, Network, NetworkError, PortRange, Ports, Protocol,
+};
 use etherparse_transport::ip::IpAddresses;
 use etherparse_transport::{
     Icmpv4Slice, IpNumber, Proto, TransportSlice, UdpSlice, Untested, ip_number,
@@ -34,44 +36,28 @@ const TIME_EXCEEDED: [u8; 36] = [
     3, 232, 0x82, 0x9A, 0, 40, 0, 0, // UDP
 ];
 
-/// No protocol.
-const NO_PROTOCOL: Protocols = Protocols {
-    udp: false,
-    tcp: false,
-    icmpv4: false,
-    icmpv6: false,
-};
+const UDP: Option<ChosenProtocol> = Some(ChosenProtocol::One(Protocol::Udp));
 
-const UDP: Option<Protocols> = Some(Protocols {
-    udp: true,
-    ..NO_PROTOCOL
-});
+const TCP: Option<ChosenProtocol> = Some(ChosenProtocol::One(Protocol::Tcp));
 
-const TCP: Option<Protocols> = Some(Protocols {
-    tcp: true,
-    ..NO_PROTOCOL
-});
+const ARP: Option<ChosenProtocol> = Some(ChosenProtocol::One(Protocol::Arp));
 
-const ICMPV4: Option<Protocols> = Some(Protocols {
-    icmpv4: true,
-    ..NO_PROTOCOL
-});
+const ICMPV4: Option<ChosenProtocol> = Some(ChosenProtocol::One(Protocol::Icmpv4));
 
-const ICMPV6: Option<Protocols> = Some(Protocols {
-    icmpv6: true,
-    ..NO_PROTOCOL
-});
+const ICMPV6: Option<ChosenProtocol> = Some(ChosenProtocol::One(Protocol::Icmpv6));
 
-/// The hosts, the ports and the protocols of a choice, and which of the five packets it includes.
+const ICMP: Option<ChosenProtocol> = Some(ChosenProtocol::Icmp);
+
+/// The hosts, the ports and the protocol of a choice, and which of the five packets it includes.
 type ChoiceRow = (
     &'static [&'static str],
     &'static [u16],
-    Option<Protocols>,
+    Option<ChosenProtocol>,
     [bool; 5],
 );
 
 #[rattlefmt::skip]
-static CHOICES: [ChoiceRow; 32] = [
+static CHOICES: [ChoiceRow; 34] = [
     (&[], &[], None, [true, true, true, true, true]),
     (&["192.0.2.1"], &[], None, [true, false, false, false, true]),
     (&["192.0.2.2"], &[], None, [true, false, false, false, true]),
@@ -95,6 +81,8 @@ static CHOICES: [ChoiceRow; 32] = [
     (&[], &[], UDP, [true, true, false, false, false]),
     (&[], &[], ICMPV6, [false, false, true, false, false]),
     (&[], &[], TCP, [false, false, false, false, false]),
+    (&[], &[], ARP, [false, false, false, true, false]),
+    (&[], &[], ICMP, [false, false, true, false, true]),
     (&["192.0.2.1"], &[53], UDP, [true, false, false, false, false]),
     (&["2001:db8::1"], &[53], None, [false, true, false, false, false]),
     (&["198.51.100.1"], &[], None, [false, false, false, false, true]),
@@ -123,22 +111,25 @@ fn datagram_over(rt: &impl Abort, addresses: IpAddresses<'static>) -> Packet<'st
     })
 }
 
-/// The choice of these hosts and ports, where any are given, and of these protocols.
+/// The choice of these hosts and ports, where any are given, and of this protocol.
 fn choice_of(
     rt: &impl Abort,
     hosts: &[&str],
     ports: &[u16],
-    protocols: Option<Protocols>,
+    protocol: Option<ChosenProtocol>,
 ) -> Choice {
+    let mut places = [None; MAX_CHOSEN];
+    places[3] = protocol;
     Choice {
         hosts: places_of_hosts(rt, hosts),
         ports: places_of_ports(ports),
-        protocols,
+        protocols: protocol.map(|_| places),
+        ..Choice::ALL
     }
 }
 
 /// The networks with these texts, if there are any.
-fn places_of_hosts(rt: &impl Abort, texts: &[&str]) -> Option<[Option<Network>; MAX_CHOSEN]> {
+fn places_of_hosts(rt: &impl Abort, texts: &[&str]) -> Option<Hosts> {
     let mut places = [None; MAX_CHOSEN];
     for (place, text) in places.iter_mut().zip(texts) {
         *place = Some(expect_ok(rt, text.parse::<Network>()));
@@ -147,12 +138,17 @@ fn places_of_hosts(rt: &impl Abort, texts: &[&str]) -> Option<[Option<Network>; 
 }
 
 /// The places of these ports, if there are any.
-fn places_of_ports(ports: &[u16]) -> Option<[Option<u16>; MAX_CHOSEN]> {
+fn places_of_ports(ports: &[u16]) -> Option<Ports> {
     let mut places = [None; MAX_CHOSEN];
     for (place, port) in places.iter_mut().zip(ports) {
-        *place = Some(*port);
+        *place = Some(range(*port, *port));
     }
     if ports.is_empty() { None } else { Some(places) }
+}
+
+/// The ports from one to another.
+const fn range(first: u16, last: u16) -> PortRange {
+    PortRange { first, last }
 }
 
 /// Texts that are no network, with the error of each.
@@ -200,8 +196,8 @@ fn error_packet(rt: &impl Abort) -> Packet<'static> {
 
 /// Stops the test unless the choice of a row includes the packets that the row says.
 fn expect_chosen(rt: &impl Abort, packets: &[Packet<'static>; 5], row: &ChoiceRow) {
-    let (hosts, ports, protocols, wanted) = row;
-    let choice = choice_of(rt, hosts, ports, *protocols);
+    let (hosts, ports, protocol, wanted) = row;
+    let choice = choice_of(rt, hosts, ports, *protocol);
     for (packet, wanted) in packets.iter().zip(wanted) {
         expect_at(rt, &choice, &choice.includes(packet), wanted);
     }
@@ -209,17 +205,82 @@ fn expect_chosen(rt: &impl Abort, packets: &[Packet<'static>; 5], row: &ChoiceRo
 
 #[test]
 fn packets_are_chosen(rt: HostRuntime) {
-    let packets = [
-        datagram_over(&rt, OVER_IPV4),
-        datagram_over(&rt, FROM_IPV6),
-        message_packet(),
-        packet_of(Content::NotIp(NetworkProtocol::EtherType(0x0806))),
-        error_packet(&rt),
-    ];
+    let packets = five_packets(&rt);
     for row in &CHOICES {
         expect_chosen(&rt, &packets, row);
     }
     expect_equal(&rt, &Choice::ALL, &choice_of(&rt, &[], &[], None));
+}
+
+/// The five packets of the rows.
+fn five_packets(rt: &impl Abort) -> [Packet<'static>; 5] {
+    [
+        datagram_over(rt, OVER_IPV4),
+        datagram_over(rt, FROM_IPV6),
+        message_packet(),
+        packet_of(Content::NotIp(NetworkProtocol::EtherType(0x0806))),
+        error_packet(rt),
+    ]
+}
+
+/// A network, and which of the five packets are from it, which are to it, and which are neither from nor to it nor quote such a packet.
+#[rattlefmt::skip]
+static DIRECTIONS: [(&str, [bool; 5], [bool; 5], [bool; 5]); 6] = [
+    ("192.0.2.1", [true, false, false, false, true], [false; 5], [false, true, true, true, false]),
+    ("192.0.2.2", [false; 5], [true, false, false, false, true], [false, true, true, true, false]),
+    ("198.51.100.0/24", [false; 5], [false; 5], [true, true, true, true, false]),
+    ("2001:db8::1", [false, true, true, false, false], [false; 5], [true, false, false, true, true]),
+    ("2001:db8::2", [false; 5], [false, false, true, false, false], [true, true, false, true, true]),
+    ("::/0", [false, true, true, false, false], [false, false, true, false, false], [true, false, false, true, true]),
+];
+
+/// Stops the test unless the choices by direction of a row include the packets that the row says.
+fn expect_directions(rt: &impl Abort, row: &(&'static str, [bool; 5], [bool; 5], [bool; 5])) {
+    let hosts = places_of_hosts(rt, &[row.0]);
+    let choices = [
+        (Choice { sources: hosts, ..Choice::ALL }, row.1),
+        (Choice { destinations: hosts, ..Choice::ALL }, row.2),
+        (Choice { other_hosts: hosts, ..Choice::ALL }, row.3),
+    ];
+    for (choice, wanted) in &choices {
+        for (packet, wanted) in five_packets(rt).iter().zip(wanted) {
+            expect_at(rt, choice, &choice.includes(packet), wanted);
+        }
+    }
+}
+
+#[test]
+fn directions_are_chosen(rt: HostRuntime) {
+    for row in &DIRECTIONS {
+        expect_directions(&rt, row);
+    }
+}
+
+/// A range of ports, and which of the five packets match it.
+#[rattlefmt::skip]
+static RANGES: [(PortRange, [bool; 5]); 7] = [
+    (range(0, 65535), [true, true, false, false, true]), (range(53, 53), [true, true, false, false, false]), (range(50, 52), [false; 5]),
+    (range(54, 999), [false; 5]), (range(54, 1000), [false, false, false, false, true]), (range(1, 53), [true, true, false, false, false]),
+    (range(60, 50), [false; 5]),
+];
+
+/// Stops the test unless the choice of the range of a row, and the choice without it, include the packets that the row says.
+fn expect_range(rt: &impl Abort, row: &(PortRange, [bool; 5])) {
+    let mut places = [None; MAX_CHOSEN];
+    places[15] = Some(row.0);
+    let chosen = Choice { ports: Some(places), ..Choice::ALL };
+    let others = Choice { other_ports: Some(places), ..Choice::ALL };
+    for (packet, wanted) in five_packets(rt).iter().zip(&row.1) {
+        expect_at(rt, row, &chosen.includes(packet), wanted);
+        expect_at(rt, row, &others.includes(packet), &!*wanted);
+    }
+}
+
+#[test]
+fn ranges_are_chosen(rt: HostRuntime) {
+    for row in &RANGES {
+        expect_range(&rt, row);
+    }
 }
 
 /// A host, and whether a packet over IPv4 in a tunnel over IPv6 matches it.

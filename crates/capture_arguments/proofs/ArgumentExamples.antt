@@ -1,6 +1,7 @@
 -- A worked example of a command line, from its words to the options that they request, so that a wrong definition fails before any code does.
-use Rattle.std.proofs.Common.{Global, Vec, ◌≡◌, ◌≢◌, ◌∙◌, ◌⊎◌, ◌↔◌, ◌++◌, Bool, IsTrue, true, false, not, List, [], ◌∷◌, None, Some, ap, ap₂, arith, codes, if◌then◌else◌, inl, inr, length, length-take, map, refl, replicate, slice_index, subst, sym, take, unwrap_or}
+use Rattle.std.proofs.Common.{Global, Vec, ◌≡◌, ◌∙◌, ◌++◌, ℕ, Bool, true, false, not, List, [], ◌∷◌, None, Some, ap, ap₂, arith, codes, if◌then◌else◌, inl, inr, length, length-take, map, refl, replicate, subst, sym, take, unwrap_or}
 use Rattle.std.specs.Borrow.{Bor}
+use Rattle.std.specs.List.{flat_map}
 use Rattle.std.specs.Option.{option_map}
 use Rattle.std.specs.Ptr.{null_ptr}
 use Rattle.std.specs.Char.{encode_utf8}
@@ -12,20 +13,24 @@ use Rattle.clap.specs.Walk.{Row, bundle_met, walked}
 use Rattle.clap.specs.Words.{App, Text, fault_of as faults_of, first_value, found_of, matched_of, matches_of, one_text, raw_values, rows_of}
 use Rattle.clap.specs.declared.parser.matches.ArgMatches.{ArgMatches}
 use Rattle.clap.specs.declared.parser.matches.ArgMatches.TheViews.{out-roll-ArgMatches, roll-ArgMatches}
-use Rattle.clap.specs.declared.builder.value_parser.Reading.TheVariants.{AsWritten, WithoutMinus}
+use Rattle.clap.specs.declared.builder.value_parser.Reading.TheVariants.{AsWritten}
 use Rattle.clap.specs.declared.parser.matches.Found.{Found}
 use Rattle.clap.specs.declared.parser.matches.ValueSource.TheVariants.{CommandLine, DefaultValue}
 use Rattle.capture_request.specs.Lines.{lines_by}
 use Rattle.capture_request.specs.declared.parts.Format.TheVariants.{Json, Text as AsText}
 use Rattle.capture_request.specs.declared.parts.Lines.TheVariants.{All}
-use Rattle.capture_summary.specs.declared.choice.Protocols.{Protocols}
+use Rattle.capture_protocols.specs.declared.protocol.Protocol.TheVariants.{Tcp}
+use Rattle.capture_summary.specs.Choice.{every_packet}
+use Rattle.capture_summary.specs.declared.choice.ChosenProtocol.TheVariants.{One}
+use Rattle.capture_summary.specs.declared.choice.PortRange.{PortRange}
 use Rattle.capture_words.specs.TimeText.{times_by}
 use Rattle.capture_words.specs.declared.times.Times.TheVariants.{SinceFirst}
 use Rattle.capture_arguments.specs.Arguments.{HasFlag, flag_text, values_of}
-use Rattle.capture_arguments.specs.Chosen.{AreChosen, AreRead, HasProtocols, ReadsPort}
-use Rattle.capture_arguments.specs.CommandLine.{AreMatchesOf, AreRequestedBy, command_line, protocol_names}
+use Rattle.capture_arguments.specs.Chosen.{AreRead, ReadsProtocol, ReadsRange, list_items}
+use Rattle.capture_arguments.specs.CommandLine.{AreMatchesOf, AreRequestedBy, command_line}
 use Rattle.capture_arguments.specs.Conflicts.{conflict_in}
 use Rattle.capture_arguments.specs.Options.{IsOptionsOf}
+use Rattle.capture_arguments.specs.ProtocolNames.{protocol_rows}
 use Rattle.capture_arguments.specs.Words.{escaped_option, escaped_option_text, is_escaped_option, word_of}
 use Rattle.capture_arguments.specs.declared.arguments.Options.{Options}
 
@@ -33,7 +38,7 @@ use Rattle.capture_arguments.specs.declared.arguments.Options.{Options}
 
 words : List Text
 words =
-    codes "capture_report" ∷ codes "-vv" ∷ codes "--json" ∷ codes "--json" ∷ codes "--port" ∷ codes "53" ∷ codes "--protocol" ∷ codes "TCP" ∷ codes "-c" ∷ codes "5"
+    codes "capture_report" ∷ codes "-vv" ∷ codes "--json" ∷ codes "--json" ∷ codes "--port" ∷ codes "53,80-90" ∷ codes "--protocol" ∷ codes "TCP" ∷ codes "-c" ∷ codes "5"
     ∷ codes "a.pcap" ∷ []
 
 -- a reference to a value
@@ -52,14 +57,18 @@ vec_of items = record {
   small = omega arith;
 }
 
-abbrev tcp_alone : Protocols
-tcp_alone = record { udp = false; tcp = true; icmpv4 = false; icmpv6 = false }
+-- the ports from one to another
+abbrev range : ℕ → ℕ → PortRange
+range first last = record { first = first; last = last }
 
 -- the requested options, and the defaults of the others: all lines and the summary, the times since the first packet, ten conversations
 abbrev options : Options
 options = record {
   parts = record {
-    choice = record { hosts = None; ports = Some (Some 53 ∷ replicate 15 None); protocols = Some tcp_alone };
+    choice = record every_packet {
+      ports = Some (Some (range 53 53) ∷ Some (range 80 90) ∷ replicate 14 None);
+      protocols = Some (Some (One Tcp) ∷ replicate 15 None);
+    };
     lines = All;
     times = SinceFirst;
     verbose = true;
@@ -77,7 +86,7 @@ options = record {
 -- ---- the matches of the words
 
 abbrev app : App
-app = command_line (reference_to (map reference_to protocol_names))
+app = command_line
 
 fits : faults_of app words ≡ []
 unfolding bundle_met chars defaults_fault encode_utf8 flags_fault walk_fault walked words
@@ -94,7 +103,7 @@ not_given id = record { id = id; values = codes "false" ∷ []; count = None; so
 abbrev rows : List Row
 rows =
     given (codes "verbose") (codes "true") ∷ given (codes "json") (codes "true")
-    ∷ record (given (codes "port") (codes "53")) { reading = WithoutMinus } ∷ given (codes "protocol") (codes "TCP")
+    ∷ given (codes "port") (codes "53,80-90") ∷ given (codes "protocol") (codes "TCP")
     ∷ given (codes "count") (codes "5") ∷ given (codes "file") (codes "a.pcap") ∷ not_given (codes "summary") ∷ not_given (codes "packets")
     ∷ not_given (codes "wrong") ∷ not_given (codes "absolute") ∷ not_given (codes "check") ∷ not_given (codes "line-buffered")
     ∷ not_given (codes "numeric") ∷ []
@@ -129,7 +138,7 @@ are_found : found_of matches ≡ found
 are_found = ap (λ fields. fields.found) (out-roll-ArgMatches _)
 
 are_matches : AreMatchesOf words matches
-are_matches = (app, (reference_to (map reference_to protocol_names), refl, refl), fits, ap rows_of are_found ∙ are_rows)
+are_matches = (app, refl, fits, ap rows_of are_found ∙ are_rows)
 
 -- ---- the options in these matches
 
@@ -147,25 +156,26 @@ flag_is id value flag one has = one_flag value flag (sym one ∙ sym (ap (λ fou
 values : (id : Text) → values_of matches id ≡ unwrap_or (option_map raw_values (matched_of found id)) []
 values id = ap (λ found. unwrap_or (option_map raw_values (matched_of found id)) []) are_found
 
--- these names differ in their first letters
-other_name : {first second : Text} → slice_index first 0 ≢ slice_index second 0 → (first ≡ second) ⊎ ⊥ → ⊥
-other_name letters (inl same) = letters (ap (λ text. slice_index text 0) same)
-other_name letters (inr none) = none
+-- the ports in the list
+are_ports : AreRead ReadsRange (flat_map list_items (codes "53,80-90" ∷ [])) options.parts.choice.ports
+are_ports = (
+  λ none. absurd (cc none),
+  (
+    (((omega arith, (omega arith, tt)), refl, omega arith), refl),
+    (
+      (
+        ((omega arith, (omega arith, tt)), refl, omega arith),
+        (((omega arith, (omega arith, tt)), refl, omega arith), omega arith),
+      ),
+      tt,
+    ),
+  ),
+)
 
-neither : {A B : Type 0} → (A → ⊥) → (B → ⊥) → A ⊎ B → ⊥
-neither not_first not_second (inl first) = not_first first
-neither not_first not_second (inr second) = not_second second
-
-is_false : {A : Type 0} → (A → ⊥) → IsTrue false ↔ A
-is_false absent = (λ is. absurd (cc is), λ is. absurd (absent is))
-
-is_tcp : AreChosen (codes "TCP" ∷ []) tcp_alone
-is_tcp = record {
-  udp = is_false (other_name (λ letter. absurd (omega (arith, letter))));
-  tcp = (λ is. inl refl, λ is. refl);
-  icmpv4 = is_false (neither (other_name (λ letter. absurd (omega (arith, letter)))) (other_name (λ letter. absurd (omega (arith, letter)))));
-  icmpv6 = is_false (neither (other_name (λ letter. absurd (omega (arith, letter)))) (other_name (λ letter. absurd (omega (arith, letter)))));
-}
+-- `icmp` and `udp` are other names than `TCP`
+is_tcp : ReadsProtocol (codes "TCP") (One Tcp)
+unfolding protocol_rows
+is_tcp = inr (λ same. absurd (cc same), inr (λ same. absurd (cc same), inl (refl, refl)))
 
 are_options : IsOptionsOf matches options
 are_options = record {
@@ -178,10 +188,15 @@ are_options = record {
   format = λ flag has. ap (λ flag. if flag then Json else AsText) (flag_is (codes "json") true flag refl has);
   top = (λ none. refl, λ text given has number. absurd (cc (sym (ap (λ found. one_text found (codes "top")) are_found) ∙ has)));
   choice = record {
-    hosts = values (codes "host");
-    ports = subst (λ texts. AreRead ReadsPort texts options.parts.choice.ports) (sym (values (codes "port")))
-        (λ none. absurd (cc none), (((omega arith, (omega arith, (omega arith, tt))), refl, omega arith), tt));
-    protocols = subst (λ names. HasProtocols names options.parts.choice.protocols) (sym (values (codes "protocol"))) (λ none. absurd (cc none), is_tcp);
+    addresses = record {
+      hosts = values (codes "host");
+      sources = values (codes "source");
+      destinations = values (codes "destination");
+      other_hosts = values (codes "not-host");
+    };
+    ports = subst (λ texts. AreRead ReadsRange (flat_map list_items texts) options.parts.choice.ports) (sym (values (codes "port"))) are_ports;
+    other_ports = ap (flat_map list_items) (values (codes "not-port"));
+    protocols = subst (λ names. AreRead ReadsProtocol names options.parts.choice.protocols) (sym (values (codes "protocol"))) (λ none. absurd (cc none), (is_tcp, tt));
   };
   limit = (
     λ none. absurd (cc (sym (ap (λ found. one_text found (codes "count")) are_found) ∙ none)),

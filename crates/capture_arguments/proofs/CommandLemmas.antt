@@ -1,6 +1,5 @@
 -- For the arguments of the command line.
-use Rattle.std.proofs.Common.{◌≡◌, ◌∙◌, ◌⊎◌, ◌++◌, Bool, List, [], MatchOption, false, inl, inr, map, true, ap, refl, subst, ⊎_elim}
-use Rattle.std.specs.Borrow.{Bor}
+use Rattle.std.proofs.Common.{◌≡◌, ◌∙◌, ◌⊎◌, ◌++◌, Bool, List, [], MatchOption, false, inl, inr, true, ap, refl, subst, ⊎_elim}
 use Rattle.clap.specs.Words.{AddsArg, App, HasKind, HasMatchesOf, Rule, Text, app_of, fault_of as faults_of, is_simple, is_simple_and_free, kind_of, rule_of, takes, with_rule}
 use Rattle.clap.specs.declared.builder.arg.Arg.{Arg}
 use Rattle.clap.specs.declared.builder.command.Command.{Command}
@@ -8,16 +7,16 @@ use Rattle.clap.specs.declared.error.Error.{Error}
 use Rattle.clap.specs.declared.error.kind.ErrorKind.{ErrorKind}
 use Rattle.clap.specs.declared.error.kind.ErrorKind.TheVariants.{OutOfMemory, UnknownArgument}
 use Rattle.clap.specs.declared.parser.matches.ArgMatches.{ArgMatches}
-use Rattle.capture_arguments.specs.CommandLine.{AreMatchesOf, IsCommandLine, bare_command, choice_rules, end_rules, file_rules, form_rules, line_rules, output_rules, protocol_names, with_rules}
+use Rattle.capture_arguments.specs.CommandLine.{AreMatchesOf, IsCommandLine, bare_command, choice_rules, end_rules, file_rules, form_rules, host_rules, line_rules, output_rules, with_rules}
 use Rattle.capture_arguments.specs.Rejections.{AreRejectedBy, HaveFault, IsExplainedUnless, IsShownFor, named_word}
 use Rattle.capture_arguments.specs.Unknown.{unknown_text}
 
 -- clap says what the matches of the command line are, and why it refuses words
 pub is_simple_command_line : (app : App) → IsCommandLine app → is_simple app ≡ true
-is_simple_command_line app is_line = ap is_simple is_line.2 ∙ refl
+is_simple_command_line app is_line = ap is_simple is_line ∙ refl
 
 pub is_free_command_line : (app : App) → IsCommandLine app → is_simple_and_free app ≡ true
-is_free_command_line app is_line = ap is_simple_and_free is_line.2 ∙ refl
+is_free_command_line app is_line = ap is_simple_and_free is_line ∙ refl
 
 -- the matches that clap finds
 pub matches_of_command_line : (app : App) (words : List Text) (matches : ArgMatches) → IsCommandLine app → HasMatchesOf app words matches
@@ -31,27 +30,17 @@ pub adds_rule : (old : Command) (arg : Arg) (new : Command) (app : App) (rule : 
 adds_rule old arg new app rule adds local is_rule is_app =
     adds.shape local ∙ (ap (with_rule (app_of old)) is_rule ∙ ap (λ some. with_rule some rule) is_app)
 
--- the names of protocols that the options choose by
-pub chosen_by : (names : Bor (List (Bor Text))) (app more : App) → map (λ name. name.now) names.now ≡ protocol_names
-    → more ≡ with_rules app (choice_rules names ++ end_rules)
-    → (given : Bor (List (Bor Text))) × (map (λ name. name.now) given.now ≡ protocol_names)
-    × (more ≡ with_rules app (choice_rules given ++ end_rules))
-chosen_by names app more are_names is_more = (names, are_names, is_more)
-
 -- the command line, of a bare command with all options
-pub all_options : (bare lines form choice all : App) (names : Bor (List (Bor Text))) → bare ≡ bare_command
-    → lines ≡ with_rules bare line_rules → form ≡ with_rules lines form_rules → map (λ name. name.now) names.now ≡ protocol_names
-    → choice ≡ with_rules form (choice_rules names ++ end_rules) → all ≡ with_rules choice (output_rules ++ file_rules)
-    → IsCommandLine all
-all_options bare lines form choice all names is_bare is_lines is_form are_names is_choice is_all = (
-  names,
-  are_names,
-  is_all
-      ∙ ap (λ app. with_rules app (output_rules ++ file_rules)) (is_choice
-      ∙ ap (λ app. with_rules app (choice_rules names ++ end_rules)) (is_form
-      ∙ ap (λ app. with_rules app form_rules) (is_lines
-      ∙ ap (λ app. with_rules app line_rules) is_bare))),
-)
+pub all_options : (bare lines form hosts choice all : App) → bare ≡ bare_command → lines ≡ with_rules bare line_rules
+    → form ≡ with_rules lines form_rules → hosts ≡ with_rules form host_rules → choice ≡ with_rules hosts (choice_rules ++ end_rules)
+    → all ≡ with_rules choice (output_rules ++ file_rules) → IsCommandLine all
+all_options bare lines form hosts choice all is_bare is_lines is_form is_hosts is_choice is_all =
+    is_all
+    ∙ ap (λ app. with_rules app (output_rules ++ file_rules)) (is_choice
+    ∙ ap (λ app. with_rules app (choice_rules ++ end_rules)) (is_hosts
+    ∙ ap (λ app. with_rules app host_rules) (is_form
+    ∙ ap (λ app. with_rules app form_rules) (is_lines
+    ∙ ap (λ app. with_rules app line_rules) is_bare))))
 
 decided : (test : Bool) → (test ≡ true) ⊎ (test ≡ false)
 decided true = inl refl

@@ -1,14 +1,16 @@
 -- The packets that the matches of a command line choose.
-use Rattle.std.specs.Prelude.{◌≡◌, ◌≢◌, ◌⊎◌, ◌<◌, ◌≤◌, ◌↔◌, ℕ, IsTrue, List, [], ◌∷◌, ◌++◌, codes, decimal, length, map, None, Ok, Option, Err, Some}
-use Rattle.std.specs.Char.{to_ascii_lowercase}
+use Rattle.std.specs.Prelude.{◌≡◌, ◌≢◌, ◌⊎◌, ◌<◌, ◌≤◌, ◌==◌, ℕ, Bool, nat_lt, if◌then◌else◌, List, [], ◌∷◌, ◌++◌, codes, decimal, length, None, Ok, Option, Err, Some}
+use Rattle.std.specs.List.{after_first, before_first, flat_map, position_or_len, slice_split}
 use Rattle.clap.specs.declared.parser.matches.ArgMatches.{ArgMatches}
 use Rattle.capture_summary.specs.Networks.{ReadsNetwork, network_error_text}
 use Rattle.capture_summary.specs.declared.choice.Choice.{Choice}
-use Rattle.capture_summary.specs.declared.choice.Protocols.{Protocols}
+use Rattle.capture_summary.specs.declared.choice.ChosenProtocol.{ChosenProtocol}
+use Rattle.capture_summary.specs.declared.choice.PortRange.{PortRange}
 use Rattle.capture_summary.specs.declared.network.Network.{Network}
 use Rattle.capture_arguments.specs.Arguments.{IsNumberText, values_of}
+use Rattle.capture_arguments.specs.ProtocolNames.{Names, protocol_rows}
 use Rattle.capture_arguments.specs.declared.chosen.ChoiceError.{ChoiceError}
-use Rattle.capture_arguments.specs.declared.chosen.ChoiceError.TheVariants.{Host, Port, TooMany}
+use Rattle.capture_arguments.specs.declared.chosen.ChoiceError.TheVariants.{Host, Port, Protocol, TooMany}
 
 -- ---- values in places
 
@@ -38,32 +40,66 @@ ReadsHost text host = ReadsNetwork text (Ok host)
 abbrev pub ReadsPort : List ℕ → ℕ → Type 0
 ReadsPort text port = IsNumberText 16 text port
 
--- ---- protocols
+-- the two texts are the bounds of a range of ports
+abbrev pub ReadsBounds : List ℕ → List ℕ → PortRange → Type 0
+ReadsBounds first last range = ReadsPort first range.first × (ReadsPort last range.last × (range.first ≤ range.last))
 
--- one of these names is this name, in either case
-abbrev pub IsNamed : List ℕ → List (List ℕ) → Type 0
-IsNamed name [] = ⊥
-IsNamed name (given ∷ names) = (map to_ascii_lowercase given ≡ map to_ascii_lowercase name) ⊎ IsNamed name names
+-- a byte is `-` (45)
+abbrev pub is_dash : ℕ → Bool
+is_dash byte = byte == 45
 
--- the protocols with these names
-pub record AreChosen (names : List (List ℕ)) (chosen : Protocols) : Type 0 where
-  pub udp : IsTrue chosen.udp ↔ IsNamed (codes "udp") names
-  pub tcp : IsTrue chosen.tcp ↔ IsNamed (codes "tcp") names
-  pub icmpv4 : IsTrue chosen.icmpv4 ↔ (IsNamed (codes "icmp") names ⊎ IsNamed (codes "icmpv4") names)
-  pub icmpv6 : IsTrue chosen.icmpv6 ↔ (IsNamed (codes "icmp") names ⊎ IsNamed (codes "icmpv6") names)
+-- the text contains `-`
+abbrev pub has_dash : List ℕ → Bool
+has_dash text = nat_lt (position_or_len is_dash text) (length text)
 
--- the protocols with these names; `None` if there are no names
-abbrev pub HasProtocols : List (List ℕ) → Option Protocols → Type 0
-HasProtocols names None = names ≡ []
-HasProtocols names (Some chosen) = (names ≢ []) × AreChosen names chosen
+-- the texts before and after the first `-`, if there is one
+abbrev pub bounds_in : List ℕ → Option (List ℕ × List ℕ)
+bounds_in text = if has_dash text then Some (before_first is_dash text, after_first is_dash text) else None
+
+-- the text is a port, and the range has only this port
+abbrev pub IsSingle : List ℕ → PortRange → Type 0
+IsSingle text range = ReadsPort text range.first × (range.last ≡ range.first)
+
+-- the text is a range of ports: with bounds it is a range from one to the other, and otherwise it is a port
+abbrev pub IsRangeBy : List ℕ → Option (List ℕ × List ℕ) → PortRange → Type 0
+IsRangeBy text None range = IsSingle text range
+IsRangeBy text (Some bounds) range = ReadsBounds bounds.0 bounds.1 range
+
+-- the text is a range of ports, such as `80` or `8000-8100`
+abbrev pub ReadsRange : List ℕ → PortRange → Type 0
+ReadsRange text range = IsRangeBy text (bounds_in text) range
+
+-- a byte is a comma (44)
+abbrev pub is_comma : ℕ → Bool
+is_comma byte = byte == 44
+
+-- the items of a list with commas
+abbrev pub list_items : List ℕ → List (List ℕ)
+list_items list = slice_split is_comma list
+
+-- the items of all values of an option, in their order
+abbrev pub items_in : ArgMatches → List ℕ → List (List ℕ)
+items_in matches id = flat_map list_items (values_of matches id)
+
+-- the text is the name of a protocol
+abbrev pub ReadsProtocol : List ℕ → ChosenProtocol → Type 0
+ReadsProtocol text protocol = Names protocol_rows text (Some protocol)
 
 -- ---- the choice
 
+-- the choice by addresses in some matches
+pub record HasAddressesOf (matches : ArgMatches) (choice : Choice) : Type 0 where
+  pub hosts : AreRead ReadsHost (values_of matches (codes "host")) choice.hosts
+  pub sources : AreRead ReadsHost (values_of matches (codes "source")) choice.sources
+  pub destinations : AreRead ReadsHost (values_of matches (codes "destination")) choice.destinations
+  pub other_hosts : AreRead ReadsHost (values_of matches (codes "not-host")) choice.other_hosts
+
 -- the choice in some matches
 pub record IsChoiceOf (matches : ArgMatches) (choice : Choice) : Type 0 where
-  pub hosts : AreRead ReadsHost (values_of matches (codes "host")) choice.hosts
-  pub ports : AreRead ReadsPort (values_of matches (codes "port")) choice.ports
-  pub protocols : HasProtocols (values_of matches (codes "protocol")) choice.protocols
+  pub addresses : HasAddressesOf matches choice
+  pub ports : AreRead ReadsRange (items_in matches (codes "port")) choice.ports
+  pub other_ports : AreRead ReadsRange (items_in matches (codes "not-port")) choice.other_ports
+  pub protocols : AreRead ReadsProtocol (values_of matches (codes "protocol")) choice.protocols
 
 -- ---- refusals
 
@@ -80,35 +116,84 @@ pub record IsFirstWrong {X : Type 0} (Reads : List ℕ → X → Type 0) (IsWron
 abbrev pub IsNoPort : List ℕ → Type 0
 IsNoPort text = (port : ℕ) → ¬ (ReadsPort text port)
 
--- why the hosts with these texts choose no packets: there are more than 16 of them, or this is the first that is no host
-abbrev pub AreNoHosts : List (List ℕ) → ChoiceError → Type 0
-AreNoHosts texts (TooMany name) = (name.now ≡ codes "host") × (16 < length texts)
-AreNoHosts texts (Host text error) =
-    (length texts ≤ 16) × IsFirstWrong ReadsHost (λ wrong. ReadsNetwork wrong (Err error)) texts text.now
-AreNoHosts texts (Port text) = ⊥
+-- the text is not the port of a range
+abbrev pub IsNoSingle : List ℕ → Type 0
+IsNoSingle text = (range : PortRange) → ¬ (IsSingle text range)
 
--- why the ports with these texts choose no packets: there are more than 16 of them, or this is the first that is no port
-abbrev pub AreNoPorts : List (List ℕ) → ChoiceError → Type 0
-AreNoPorts texts (TooMany name) = (name.now ≡ codes "port") × (16 < length texts)
-AreNoPorts texts (Host text error) = ⊥
-AreNoPorts texts (Port text) = (length texts ≤ 16) × IsFirstWrong ReadsPort IsNoPort texts text.now
+-- the two texts are not the bounds of a range
+abbrev pub AreNoBounds : List ℕ → List ℕ → Type 0
+AreNoBounds first last = (range : PortRange) → ¬ (ReadsBounds first last range)
 
--- the texts are at most 16 hosts
-abbrev pub AreHosts : List (List ℕ) → Type 0
-AreHosts texts = (length texts ≤ 16) × ((hosts : Option (List (Option Network))) × AreRead ReadsHost texts hosts)
+-- the text is no range of ports
+abbrev pub IsNoRange : List ℕ → Type 0
+IsNoRange text = (range : PortRange) → ¬ (ReadsRange text range)
 
--- why some matches contain no choice of packets: the hosts are wrong, or the hosts are right and the ports are wrong
+-- the text is not the name of a protocol
+abbrev pub IsNoProtocol : List ℕ → Type 0
+IsNoProtocol text = Names protocol_rows text None
+
+-- why the hosts with these texts are not accepted as values of this option: there are more than 16 of them, or this is the first that is
+-- no host
+abbrev pub AreNoHosts : List ℕ → List (List ℕ) → ChoiceError → Type 0
+AreNoHosts option texts (TooMany name) = (name.now ≡ option) × (16 < length texts)
+AreNoHosts option texts (Host name text error) =
+    (name.now ≡ option) × ((length texts ≤ 16) × IsFirstWrong ReadsHost (λ wrong. ReadsNetwork wrong (Err error)) texts text.now)
+AreNoHosts option texts (Port name text) = ⊥
+AreNoHosts option texts (Protocol text) = ⊥
+
+-- the same for ports with these texts
+abbrev pub AreNoPorts : List ℕ → List (List ℕ) → ChoiceError → Type 0
+AreNoPorts option texts (TooMany name) = (name.now ≡ option) × (16 < length texts)
+AreNoPorts option texts (Host name text error) = ⊥
+AreNoPorts option texts (Port name text) = (name.now ≡ option) × ((length texts ≤ 16) × IsFirstWrong ReadsRange IsNoRange texts text.now)
+AreNoPorts option texts (Protocol text) = ⊥
+
+-- the same for protocols with these names
+abbrev pub AreNoProtocols : List (List ℕ) → ChoiceError → Type 0
+AreNoProtocols texts (TooMany name) = (name.now ≡ codes "protocol") × (16 < length texts)
+AreNoProtocols texts (Host name text error) = ⊥
+AreNoProtocols texts (Port name text) = ⊥
+AreNoProtocols texts (Protocol text) = (length texts ≤ 16) × IsFirstWrong ReadsProtocol IsNoProtocol texts text.now
+
+-- the texts are at most 16, and each has a value
+abbrev pub AreFew : {X : Type 0} → (List ℕ → X → Type 0) → List (List ℕ) → Type 0
+AreFew {X} Reads texts = (length texts ≤ 16) × ((values : Option (List (Option X))) × AreRead Reads texts values)
+
+-- the values of the options for hosts are hosts
+abbrev pub HaveAddresses : ArgMatches → Type 0
+HaveAddresses matches =
+    AreFew ReadsHost (values_of matches (codes "host")) × (AreFew ReadsHost (values_of matches (codes "source"))
+    × (AreFew ReadsHost (values_of matches (codes "destination")) × AreFew ReadsHost (values_of matches (codes "not-host"))))
+
+-- the first option for hosts with values that are not accepted
+abbrev pub AreNoAddresses : ArgMatches → ChoiceError → Type 0
+AreNoAddresses matches error =
+    AreNoHosts (codes "host") (values_of matches (codes "host")) error
+    ⊎ (AreFew ReadsHost (values_of matches (codes "host")) × (AreNoHosts (codes "source") (values_of matches (codes "source")) error
+    ⊎ (AreFew ReadsHost (values_of matches (codes "source")) × (AreNoHosts (codes "destination") (values_of matches (codes "destination")) error
+    ⊎ (AreFew ReadsHost (values_of matches (codes "destination")) × AreNoHosts (codes "not-host") (values_of matches (codes "not-host")) error)))))
+
+-- Why some matches contain no choice of packets: the first option with values that are not accepted. The options for hosts are tested first,
+-- then those for ports, and then the one for protocols.
 abbrev pub IsRefusal : ArgMatches → ChoiceError → Type 0
 IsRefusal matches error =
-    AreNoHosts (values_of matches (codes "host")) error
-    ⊎ (AreHosts (values_of matches (codes "host")) × AreNoPorts (values_of matches (codes "port")) error)
+    AreNoAddresses matches error
+    ⊎ (HaveAddresses matches × (AreNoPorts (codes "port") (items_in matches (codes "port")) error
+    ⊎ (AreFew ReadsRange (items_in matches (codes "port")) × (AreNoPorts (codes "not-port") (items_in matches (codes "not-port")) error
+    ⊎ (AreFew ReadsRange (items_in matches (codes "not-port")) × AreNoProtocols (values_of matches (codes "protocol")) error)))))
 
 -- ---- the message
 
+-- an option with a value in a message
+abbrev pub of_option : List ℕ → List ℕ → List ℕ
+of_option name value = codes "' for '--" ++ (name ++ value)
+
 -- the message about a choice that is not valid
 abbrev pub choice_text : ChoiceError → List ℕ
-choice_text (Host text error) =
-    codes "invalid value '" ++ (text.now ++ (codes "' for '--host <ADDRESS>': " ++ network_error_text error))
-choice_text (Port text) =
-    codes "invalid value '" ++ (text.now ++ codes "' for '--port <N>': not a number from 0 to 65535")
-choice_text (TooMany name) = codes "'--" ++ (name.now ++ (codes "' is given more than " ++ (decimal 16 ++ codes " times")))
+choice_text (Host name text error) =
+    codes "invalid value '" ++ (text.now ++ of_option name.now (codes " <ADDRESS>': " ++ network_error_text error))
+choice_text (Port name text) =
+    codes "invalid value '" ++ (text.now ++ of_option name.now (codes " <N>': not a number from 0 to 65535, and no range such as 8000-8100"))
+choice_text (Protocol text) =
+    codes "invalid value '" ++ (text.now ++ codes "' for '--protocol <NAME>': not the name of a protocol in the table `protocol` of the summary")
+choice_text (TooMany name) = codes "'--" ++ (name.now ++ (codes "' is given more than " ++ (decimal 16 ++ codes " values")))

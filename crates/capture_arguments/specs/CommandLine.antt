@@ -1,5 +1,5 @@
 -- The command line of the program, as clap reads it.
-use Rattle.std.specs.Prelude.{◌≡◌, ◌-◌, ◌^◌, true, List, [], ◌∷◌, ◌++◌, Option, None, Some, codes, fold, map, option_map, pos}
+use Rattle.std.specs.Prelude.{◌≡◌, ◌-◌, ◌^◌, true, List, [], ◌∷◌, ◌++◌, Option, None, Some, codes, fold, option_map}
 use Rattle.std.specs.Borrow.{Bor}
 use Rattle.clap.specs.Words.{App, Rule, Text, fault_of as faults_of, found_of, matches_of, new_app, new_rule, rows_of, with_rule}
 use Rattle.clap.specs.declared.builder.action.ArgAction.TheVariants.{Append, Set, SetTrue}
@@ -44,19 +44,16 @@ top_rule = parsed_rule (codes "top") (parsers.Unsigned 0 (2 ^ 64 - 1))
 abbrev pub form_rules : List Rule
 form_rules = flag_rule (codes "absolute") ∷ flag_rule (codes "check") ∷ flag_rule (codes "json") ∷ top_rule ∷ []
 
--- the names of protocols
-abbrev pub protocol_names : List Text
-protocol_names = codes "udp" ∷ codes "tcp" ∷ codes "icmp" ∷ codes "icmpv4" ∷ codes "icmpv6" ∷ []
+-- the options that choose packets by hosts
+abbrev pub host_rules : List Rule
+host_rules =
+    repeated (value_rule (codes "host")) ∷ repeated (value_rule (codes "source")) ∷ repeated (value_rule (codes "destination"))
+    ∷ repeated (value_rule (codes "not-host")) ∷ []
 
--- the option for a protocol; its name can be in upper or lower case
-abbrev pub protocol_rule : Bor (List (Bor Text)) → Rule
-protocol_rule names = record (repeated (parsed_rule (codes "protocol") (parsers.Names names))) { ignore_case = true }
-
--- The options that choose packets, with these names of protocols. The number of a port has at most 16 bits.
-abbrev pub choice_rules : Bor (List (Bor Text)) → List Rule
-choice_rules names =
-    repeated (value_rule (codes "host")) ∷ repeated (parsed_rule (codes "port") (parsers.Signed (pos 0) (pos (2 ^ 16 - 1))))
-    ∷ protocol_rule names ∷ []
+-- the other options that choose packets
+abbrev pub choice_rules : List Rule
+choice_rules =
+    repeated (value_rule (codes "port")) ∷ repeated (value_rule (codes "not-port")) ∷ repeated (value_rule (codes "protocol")) ∷ []
 
 -- the option for the number of packets, `-c` (99); the number is at least 1 and has at most 64 bits
 abbrev pub count_rule : Rule
@@ -121,13 +118,14 @@ pub record IsDescribed (command : Command) : Type 0 where
   pub version : IsText (out-Command command).version version_text
   pub about : IsText (out-Command command).about about_text
 
--- the command line with these names of protocols
-abbrev pub command_line : Bor (List (Bor Text)) → App
-command_line names = with_rules bare_command (line_rules ++ form_rules ++ choice_rules names ++ end_rules ++ output_rules ++ file_rules)
+-- the command line
+abbrev pub command_line : App
+command_line =
+    with_rules bare_command (line_rules ++ form_rules ++ host_rules ++ choice_rules ++ end_rules ++ output_rules ++ file_rules)
 
--- this is the command line, with the names of protocols above
+-- this is the command line
 abbrev pub IsCommandLine : App → Type 0
-IsCommandLine app = (names : Bor (List (Bor Text))) × (map (λ name. name.now) names.now ≡ protocol_names) × (app ≡ command_line names)
+IsCommandLine app = app ≡ command_line
 
 -- These words fit the command line, and these are their matches. The first word is the name of the program.
 abbrev pub AreMatchesOf : List Text → ArgMatches → Type 0

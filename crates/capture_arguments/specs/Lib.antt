@@ -5,6 +5,7 @@ pub mod Conflicts
 pub mod Filters
 pub mod Options
 pub mod OutputFaults
+pub mod ProtocolNames
 pub mod Rejections
 pub mod Unknown
 pub mod Words

@@ -1,8 +1,7 @@
 //! The arguments of the program.
 
-ghost use Rattle.std.specs.Prelude.{◌≡◌, ◌++◌, ◌-◌, ◌^◌, Bool, IfErr, IfOk, None, OnErr, Some, codes, false, if◌then◌else◌, map, option_map, pos, string_bytes};
+ghost use Rattle.std.specs.Prelude.{◌≡◌, ◌++◌, Bool, IfErr, IfOk, None, OnErr, Some, codes, false, if◌then◌else◌, map, option_map, string_bytes};
 ghost use Rattle.clap.specs.Words.{IsPlainArg, app_of, kind_of, rule_of};
-ghost use Rattle.clap.specs.declared.builder.value_parser.ValueParser.TheVariants as parsers;
 ghost use Rattle.clap.specs.declared.error.kind.ErrorKind.TheVariants as ErrorKind;
 ghost use Rattle.capture_arguments.specs.Arguments.{HasFlag, HasNumberOr};
 ghost use Rattle.capture_arguments.specs.Options.{IsOptionsOf, IsRefusedBy, names_of};
@@ -12,12 +11,12 @@ ghost use Rattle.capture_arguments.specs.OutputFaults.{fault_of, is_capture_text
 ghost use Rattle.capture_arguments.specs.Words.{escaped_option_text};
 ghost use Rattle.capture_arguments.specs.Unknown.{unknown_text};
 ghost use Rattle.capture_arguments.specs.Rejections.{AreRejectedBy, IsExplainedUnless, IsShownFor, no_capture_text};
-ghost use Rattle.capture_arguments.specs.CommandLine.{AreRequestedBy, IsCommandLine, IsDescribed, bare_command, choice_rules, count_rule, end_rules, file_rule, file_rules, flag_rule, form_rules, line_buffered_rule, line_rules, numeric_rule, output_rules, parsed_rule, protocol_names, protocol_rule, read_rule, repeated, top_rule, value_rule, verbose_rule, with_rules, write_rule};
+ghost use Rattle.capture_arguments.specs.CommandLine.{AreRequestedBy, IsCommandLine, IsDescribed, bare_command, choice_rules, count_rule, end_rules, file_rule, file_rules, flag_rule, form_rules, host_rules, line_buffered_rule, line_rules, numeric_rule, output_rules, read_rule, repeated, top_rule, value_rule, verbose_rule, with_rules, write_rule};
 ghost use Rattle.capture_summary.specs.Ranking.{default_top};
 ghost use Rattle.capture_words.specs.TimeText.{times_by};
 ghost use Rattle.capture_request.specs.declared.parts.Format.TheVariants as Format;
 
-use crate::chosen::{ChoiceError, choice_of, choice_text};
+use crate::chosen::{ChoiceError, choice_of, choice_text, port_items};
 use crate::conflicts::{conflict_in, conflict_text};
 use crate::filters::has_filter;
 use crate::memory::Memory;
@@ -46,9 +45,6 @@ Exit status: 0 all was read, or as much as -c requests; 1 a capture ends early;
 Examples:
   capture_report --host 10.0.0.0/8 --port 53 --wrong capture.pcap
   gzip -dc capture.pcap.gz | capture_report --summary";
-
-/// The names of the protocols that packets can be chosen by. `icmp` is ICMPv4 and ICMPv6.
-static PROTOCOLS: [&str; 5] = ["udp", "tcp", "icmp", "icmpv4", "icmpv6"];
 
 /// The error if the file to write is the capture.
 const OUTPUT_IS_CAPTURE: &str = "the FILE of '--write <FILE>' is the capture";
@@ -152,7 +148,11 @@ fn options_of<'a, M: Memory>(
     if let Some((first, second)) = conflict_in(matches) {
         return Err(OptionsError::Conflict(first, second));
     }
-    let choice = match choice_of(matches) {
+    let ports = match port_items(memory, matches) {
+        Ok(ports) => ports,
+        Err(error) => return Err(OptionsError::NoMemory(error)),
+    };
+    let choice = match choice_of(matches, &ports) {
         Ok(choice) => choice,
         Err(error) => return Err(OptionsError::Choice(error)),
     };
@@ -353,6 +353,7 @@ fn command<'a, M: Memory>(memory: &M) -> Result<Command<'a>, AllocError>
 {
     let command = with_lines(memory, bare(memory.alloc()))?;
     let command = with_form(memory, command)?;
+    let command = with_hosts(memory, command)?;
     let command = with_choice(memory, command)?;
     with_files(memory, command)
 }
@@ -484,17 +485,16 @@ fn top<'a>(alloc: Global) -> Arg<'a>
     .value_parser(value_parser!(usize))
 }
 
-/// The command line with the options that choose packets, and with the option for the end of the report.
-fn with_choice<'a, M: Memory>(memory: &M, command: Command<'a>) -> Result<Command<'a>, AllocError>
-    ensures rules { IfOk result (λ more. (names : _) × (map (λ name. name.now) names.now ≡ protocol_names)
-        × (app_of more ≡ with_rules (app_of command.entry) (choice_rules names ++ end_rules))) }
+/// The command line with the options that choose packets by hosts.
+fn with_hosts<'a, M: Memory>(memory: &M, command: Command<'a>) -> Result<Command<'a>, AllocError>
+    ensures rules { IfOk result (λ more. app_of more ≡ with_rules (app_of command.entry) host_rules) }
     ensures ran_out { OnErr result (M.ran_out memory.now) }
 {
     let alloc = memory.alloc();
     let command = memory.with_arg(command, host(alloc))?;
-    let command = memory.with_arg(command, port(alloc))?;
-    let command = memory.with_arg(command, protocol(alloc))?;
-    memory.with_arg(command, count(alloc))
+    let command = memory.with_arg(command, source(alloc))?;
+    let command = memory.with_arg(command, destination(alloc))?;
+    memory.with_arg(command, other_host(alloc))
 }
 
 /// The hosts that choose packets.
@@ -510,33 +510,94 @@ fn host<'a>(alloc: Global) -> Arg<'a>
     )
 }
 
+/// The sources that choose packets.
+fn source<'a>(alloc: Global) -> Arg<'a>
+    ensures rule { rule_of result ≡ repeated (value_rule (codes "source")) }
+    ensures local { result.global ≡ false }
+{
+    several(
+        alloc,
+        "source",
+        "ADDRESS",
+        "Report only packets from this address or network",
+    )
+}
+
+/// The destinations that choose packets.
+fn destination<'a>(alloc: Global) -> Arg<'a>
+    ensures rule { rule_of result ≡ repeated (value_rule (codes "destination")) }
+    ensures local { result.global ≡ false }
+{
+    several(
+        alloc,
+        "destination",
+        "ADDRESS",
+        "Report only packets to this address or network",
+    )
+}
+
+/// The hosts whose packets are left out.
+fn other_host<'a>(alloc: Global) -> Arg<'a>
+    ensures rule { rule_of result ≡ repeated (value_rule (codes "not-host")) }
+    ensures local { result.global ≡ false }
+{
+    several(
+        alloc,
+        "not-host",
+        "ADDRESS",
+        "Leave out the packets that --host with this value reports",
+    )
+}
+
+/// The command line with the other options that choose packets, and with the option for the end of the report.
+fn with_choice<'a, M: Memory>(memory: &M, command: Command<'a>) -> Result<Command<'a>, AllocError>
+    ensures rules { IfOk result (λ more. app_of more ≡ with_rules (app_of command.entry) (choice_rules ++ end_rules)) }
+    ensures ran_out { OnErr result (M.ran_out memory.now) }
+{
+    let alloc = memory.alloc();
+    let command = memory.with_arg(command, port(alloc))?;
+    let command = memory.with_arg(command, other_port(alloc))?;
+    let command = memory.with_arg(command, protocol(alloc))?;
+    memory.with_arg(command, count(alloc))
+}
+
 /// The ports that choose packets.
 fn port<'a>(alloc: Global) -> Arg<'a>
-    ensures rule { rule_of result ≡ repeated (parsed_rule (codes "port") (parsers.Signed (pos 0) (pos (2 ^ 16 - 1)))) }
+    ensures rule { rule_of result ≡ repeated (value_rule (codes "port")) }
     ensures local { result.global ≡ false }
 {
     several(
         alloc,
         "port",
         "N",
-        "Report only packets from or to this port; repeat it for several ports",
+        "Report only packets from or to this port, one of a list such as 80,443, or one of a range such as 8000-8100",
     )
-    .value_parser(value_parser!(u16))
+}
+
+/// The ports whose packets are left out.
+fn other_port<'a>(alloc: Global) -> Arg<'a>
+    ensures rule { rule_of result ≡ repeated (value_rule (codes "not-port")) }
+    ensures local { result.global ≡ false }
+{
+    several(
+        alloc,
+        "not-port",
+        "N",
+        "Leave out the packets that --port with this value reports",
+    )
 }
 
 /// The protocols that choose packets.
 fn protocol<'a>(alloc: Global) -> Arg<'a>
-    ensures rule { (names : _) × (map (λ name. name.now) names.now ≡ protocol_names) × (rule_of result ≡ protocol_rule names) }
+    ensures rule { rule_of result ≡ repeated (value_rule (codes "protocol")) }
     ensures local { result.global ≡ false }
 {
     several(
         alloc,
         "protocol",
         "NAME",
-        "Report only packets of this protocol; repeat it for several protocols",
+        "Report only packets of this protocol: icmp, or a name in the table `protocol` of the summary, with - for a space; repeat it for several",
     )
-    .value_parser(PROTOCOLS.as_slice())
-    .ignore_case(true)
 }
 
 /// The number of packets.

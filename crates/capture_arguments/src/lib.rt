@@ -17,6 +17,7 @@ mod chosen;
 mod conflicts;
 mod filters;
 mod memory;
+mod names;
 mod unknown;
 mod words;
 

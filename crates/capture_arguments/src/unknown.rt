@@ -7,7 +7,7 @@ use crate::memory::Memory;
 use std::alloc::AllocError;
 
 /// The options with long names.
-static LONG_OPTIONS: [&str; 18] = [
+static LONG_OPTIONS: [&str; 22] = [
     "--summary",
     "--packets",
     "--wrong",
@@ -17,7 +17,11 @@ static LONG_OPTIONS: [&str; 18] = [
     "--json",
     "--top",
     "--host",
+    "--source",
+    "--destination",
+    "--not-host",
     "--port",
+    "--not-port",
     "--protocol",
     "--count",
     "--write",

@@ -1,5 +1,5 @@
 -- Worked examples of what a summary counts, so that a wrong definition fails before any code does.
-use Rattle.std.proofs.Common.{◌≡◌, ℕ, List, [], ◌∷◌, None, Some, Ok, arith, codes, inl, inr, pos, refl, replicate}
+use Rattle.std.proofs.Common.{◌≡◌, ℕ, List, [], ◌∷◌, None, Some, Ok, arith, codes, inl, inr, pos, refl, replicate, suc, zero}
 use Rattle.std.specs.declared.net.ip_addr.IpAddr.TheVariants as ip_addr
 use Rattle.std.specs.declared.net.socket_addr.SocketAddr.{SocketAddr}
 use Rattle.std.specs.declared.net.socket_addr.SocketAddr.TheVariants as socket_addr
@@ -10,7 +10,9 @@ use Rattle.capture_file.specs.declared.pcapng.time_resolution.TimeResolution.The
 use Rattle.capture_packet.proofs.PacketExamples.{packet}
 use Rattle.capture_protocols.specs.declared.protocol.Protocol.TheVariants as protocols
 use Rattle.capture_texts.specs.declared.link_type.LinkType.TheVariants.{Ethernet}
-use Rattle.capture_summary.specs.Choice.{IsChosen}
+use Rattle.capture_summary.specs.Choice.{HasAny, HasNone, HasPort, IsChosen, every_packet}
+use Rattle.capture_summary.specs.declared.choice.ChosenProtocol.TheVariants as chosen
+use Rattle.capture_summary.specs.declared.choice.PortRange.{PortRange}
 use Rattle.capture_summary.specs.CountedPackets.{table_of}
 use Rattle.capture_summary.specs.FlowOf.{IsFlowOf}
 use Rattle.capture_summary.specs.Networks.{IsIpv4In, ReadsNetwork}
@@ -139,8 +141,38 @@ reads_network = record {
 
 -- ---- choices
 
--- a packet to port 9, from a host in the network
+-- the ports from one to another
+abbrev range : ℕ → ℕ → PortRange
+range first last = record { first = first; last = last }
+
+-- places without a value
+empty_places : {X : Type 0} (Statement : X → Type 0) (count : ℕ) → HasAny Statement (replicate count None) → ⊥
+empty_places Statement zero any = any
+empty_places Statement (suc count) (inl none) = none
+empty_places Statement (suc count) (inr any) = empty_places Statement count any
+
+-- neither port 7 nor port 9 is above 60000
+outside : HasNone (HasPort packet.content) (Some (range 60001 65535) ∷ replicate 15 None)
+outside (inl (inl (inl within))) = omega (arith, within.0)
+outside (inl (inl (inr within))) = omega (arith, within.0)
+outside (inl (inr quoted)) = quoted
+outside (inr any) = empty_places (HasPort packet.content) 15 any
+
+-- a packet to port 9, from a host in the network; it is UDP, and no port is above 60000
 is_chosen : IsChosen
-    (record { hosts = Some (Some test_net ∷ replicate 15 None); ports = Some (Some 53 ∷ Some 9 ∷ replicate 14 None); protocols = None }) packet
+    (record every_packet {
+      hosts = Some (Some test_net ∷ replicate 15 None);
+      sources = Some (Some test_net ∷ replicate 15 None);
+      ports = Some (Some (range 53 53) ∷ Some (range 7 9) ∷ replicate 14 None);
+      other_ports = Some (Some (range 60001 65535) ∷ replicate 15 None);
+      protocols = Some (Some (chosen.One protocols.Udp) ∷ replicate 15 None);
+    }) packet
 unfolding ipv4_bits
-is_chosen = record { hosts = inl (inl (inl (inl refl))); ports = inr (inl (inl (inr refl))); protocols = tt }
+is_chosen = record {
+  addresses = record { hosts = inl (inl (inl (inl refl))); sources = inl refl; destinations = tt; other_hosts = tt };
+  content = record {
+    ports = inr (inl (inl (inr (omega arith, omega arith))));
+    other_ports = outside;
+    protocols = inl refl;
+  };
+}

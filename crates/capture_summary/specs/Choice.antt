@@ -1,7 +1,7 @@
 -- The packets that are chosen: by hosts, ports and protocols.
-use Rattle.std.specs.Prelude.{◌≡◌, ◌⊎◌, ℕ, Bool, true, false, IfSome, IsSomeAnd, List, [], ◌∷◌, Option, Some, None}
+use Rattle.std.specs.Prelude.{◌≡◌, ◌⊎◌, ◌≤◌, ℕ, IfSome, IsSomeAnd, List, [], ◌∷◌, Option, Some, None}
 use Rattle.ip_part.specs.Addresses.{Addresses, Ipv4, Ipv6, by_value}
-use Rattle.capture_protocols.specs.Protocols.{content_protocol}
+use Rattle.capture_protocols.specs.Protocols.{content_protocol, protocol_place}
 use Rattle.capture_summary.specs.Networks.{IsIpv4In, IsIpv6In}
 use Rattle.capture_packet.specs.declared.content.Content.{Content}
 use Rattle.capture_packet.specs.declared.content.Content.TheVariants as contents
@@ -10,39 +10,67 @@ use Rattle.capture_packet.specs.declared.packet.Packet.{Packet}
 use Rattle.capture_packet.specs.declared.tunnel.Tunnel.{Tunnel}
 use Rattle.capture_summary.specs.FlowOf.{ports_of}
 use Rattle.capture_summary.specs.declared.choice.Choice.{Choice}
-use Rattle.capture_summary.specs.declared.choice.Protocols.{Protocols}
+use Rattle.capture_summary.specs.declared.choice.ChosenProtocol.{ChosenProtocol}
+use Rattle.capture_summary.specs.declared.choice.ChosenProtocol.TheVariants as chosen
+use Rattle.capture_summary.specs.declared.choice.PortRange.{PortRange}
+use Rattle.capture_summary.specs.declared.choice.Side.{Side}
+use Rattle.capture_summary.specs.declared.choice.Side.TheVariants.{Destination, Either, Source}
 use Rattle.capture_summary.specs.declared.flow.FlowProtocol.{FlowProtocol}
 use Rattle.capture_summary.specs.declared.network.Network.{Network}
-use Rattle.capture_protocols.specs.declared.protocol.Protocol.{Protocol}
-use Rattle.capture_protocols.specs.declared.protocol.Protocol.TheVariants.{Udp, Tcp, Icmpv4, Icmpv6}
+use Rattle.capture_protocols.specs.declared.protocol.Protocol.TheVariants.{Icmpv4, Icmpv6}
 
 -- the choice of all packets
 abbrev pub every_packet : Choice
-every_packet = record { hosts = None; ports = None; protocols = None }
+every_packet = record {
+  hosts = None;
+  sources = None;
+  destinations = None;
+  other_hosts = None;
+  ports = None;
+  other_ports = None;
+  protocols = None;
+}
 
 -- the statement holds for one of these values; places without a value do not count
 abbrev pub HasAny : {X : Type 0} → (X → Type 0) → List (Option X) → Type 0
 HasAny Statement [] = ⊥
 HasAny Statement (place ∷ places) = IsSomeAnd place Statement ⊎ HasAny Statement places
 
+-- the statement holds for none of these values
+abbrev pub HasNone : {X : Type 0} → (X → Type 0) → List (Option X) → Type 0
+HasNone Statement places = HasAny Statement places → ⊥
+
+-- the source is in the network
+abbrev pub IsSource : Addresses → Network → Type 0
+IsSource (Ipv4 source destination) host = IsIpv4In source host
+IsSource (Ipv6 source destination) host = IsIpv6In source host
+
+-- the final destination is in the network; an unknown destination is in none
+abbrev pub IsDestination : Addresses → Network → Type 0
+IsDestination (Ipv4 source destination) host = IsIpv4In destination host
+IsDestination (Ipv6 source (Some destination)) host = IsIpv6In destination host
+IsDestination (Ipv6 source None) host = ⊥
+
 -- The source or the final destination is in the network. If the final destination is unknown, only the source is compared.
 abbrev pub IsSourceOrDestination : Addresses → Network → Type 0
-IsSourceOrDestination (Ipv4 source destination) host = IsIpv4In source host ⊎ IsIpv4In destination host
-IsSourceOrDestination (Ipv6 source (Some destination)) host = IsIpv6In source host ⊎ IsIpv6In destination host
-IsSourceOrDestination (Ipv6 source None) host = IsIpv6In source host
+IsSourceOrDestination addresses host = IsSource addresses host ⊎ IsDestination addresses host
 
--- the packet has ports, and this is one of the two
-abbrev pub IsPortOf : Option (FlowProtocol × ℕ × ℕ) → ℕ → Type 0
-IsPortOf None port = ⊥
-IsPortOf (Some ports) port = (port ≡ ports.1) ⊎ (port ≡ ports.2)
+-- the port is in the range
+abbrev pub IsInRange : ℕ → PortRange → Type 0
+IsInRange port range = (range.first ≤ port) × (port ≤ range.last)
+
+-- the packet has ports, and one of the two is in the range
+abbrev pub IsPortOf : Option (FlowProtocol × ℕ × ℕ) → PortRange → Type 0
+IsPortOf None range = ⊥
+IsPortOf (Some ports) range = IsInRange ports.1 range ⊎ IsInRange ports.2 range
 
 -- the packet that an ICMP error quotes is from or to this host
 abbrev pub QuotesHost : Option Quoted → Network → Type 0
 QuotesHost quoted host = IsSomeAnd quoted (λ packet. IsSourceOrDestination packet.addresses host)
 
--- the packet that an ICMP error quotes is from or to this port
-abbrev pub QuotesPort : Option Quoted → ℕ → Type 0
-QuotesPort quoted port = IsSomeAnd quoted (λ packet. IsSomeAnd packet.ports (λ ports. (port ≡ ports.0) ⊎ (port ≡ ports.1)))
+-- the packet that an ICMP error quotes is from or to a port in this range
+abbrev pub QuotesPort : Option Quoted → PortRange → Type 0
+QuotesPort quoted range = IsSomeAnd quoted (λ packet. IsSomeAnd packet.ports (λ ports. IsInRange ports.0 range ⊎ IsInRange ports.1 range))
 
 -- An IP packet is from or to this host, or it is an ICMP error that quotes a packet from or to the host. If the headers of the packet are
 -- refused, the addresses in its fixed header are compared.
@@ -63,24 +91,55 @@ HasTunnelEnd (tunnel ∷ tunnels) host = IsSourceOrDestination (by_value tunnel.
 abbrev pub MatchesHost : Packet → Network → Type 0
 MatchesHost packet host = HasHost packet.content host ⊎ HasTunnelEnd packet.tunnels.items host
 
--- the packet is from or to this port, or it is an ICMP error that quotes a packet from or to the port
-abbrev pub HasPort : Content → ℕ → Type 0
-HasPort contents.Unread port = ⊥
-HasPort (contents.IpHeader addresses) port = ⊥
-HasPort (contents.NotIp protocol) port = ⊥
-HasPort (contents.Ip addresses protocol proto transport payload_len) port =
-    IsPortOf (ports_of proto transport) port ⊎ QuotesPort (quoted_in transport) port
+-- an IP packet is from this host; if the headers of the packet are refused, the address in its fixed header is compared
+abbrev pub IsFrom : Content → Network → Type 0
+IsFrom contents.Unread host = ⊥
+IsFrom (contents.IpHeader addresses) host = IsSource (by_value addresses) host
+IsFrom (contents.NotIp protocol) host = ⊥
+IsFrom (contents.Ip addresses protocol proto transport payload_len) host = IsSource (by_value addresses) host
 
--- whether a protocol is one of these
-abbrev pub is_among : Protocols → Protocol → Bool
-is_among chosen Udp = chosen.udp
-is_among chosen Tcp = chosen.tcp
-is_among chosen Icmpv4 = chosen.icmpv4
-is_among chosen Icmpv6 = chosen.icmpv6
-is_among chosen other = false
+-- an IP packet is to this host; if the headers of the packet are refused, the address in its fixed header is compared
+abbrev pub IsTo : Content → Network → Type 0
+IsTo contents.Unread host = ⊥
+IsTo (contents.IpHeader addresses) host = IsDestination (by_value addresses) host
+IsTo (contents.NotIp protocol) host = ⊥
+IsTo (contents.Ip addresses protocol proto transport payload_len) host = IsDestination (by_value addresses) host
 
--- A packet is chosen. If the choice has hosts, the packet matches one of them. The same holds for ports and for protocols.
-pub record IsChosen (choice : Choice) (packet : Packet) : Type 0 where
+-- the packet matches this host on this side
+abbrev pub MatchesOn : Side → Packet → Network → Type 0
+MatchesOn Either packet host = MatchesHost packet host
+MatchesOn Source packet host = IsFrom packet.content host
+MatchesOn Destination packet host = IsTo packet.content host
+
+-- the packet is from or to a port in this range, or it is an ICMP error that quotes such a packet
+abbrev pub HasPort : Content → PortRange → Type 0
+HasPort contents.Unread range = ⊥
+HasPort (contents.IpHeader addresses) range = ⊥
+HasPort (contents.NotIp protocol) range = ⊥
+HasPort (contents.Ip addresses protocol proto transport payload_len) range =
+    IsPortOf (ports_of proto transport) range ⊎ QuotesPort (quoted_in transport) range
+
+-- the packet is of the chosen protocol: it has the same row, or it is ICMP of either version of IP
+abbrev pub IsOfProtocol : Content → ChosenProtocol → Type 0
+IsOfProtocol content (chosen.One one) = protocol_place (content_protocol content) ≡ protocol_place one
+IsOfProtocol content chosen.Icmp = (content_protocol content ≡ Icmpv4) ⊎ (content_protocol content ≡ Icmpv6)
+
+-- The packet matches the fields about addresses. If the choice has hosts, the packet matches one of them. If it has sources, the packet is
+-- from one of them, and if it has destinations, the packet is to one of them. If it has other hosts, the packet matches none of these.
+pub record HasChosenAddresses (choice : Choice) (packet : Packet) : Type 0 where
   pub hosts : IfSome choice.hosts (HasAny (MatchesHost packet))
-  pub ports : IfSome choice.ports (HasAny (HasPort packet.content))
-  pub protocols : IfSome choice.protocols (λ chosen. is_among chosen (content_protocol packet.content) ≡ true)
+  pub sources : IfSome choice.sources (HasAny (IsFrom packet.content))
+  pub destinations : IfSome choice.destinations (HasAny (IsTo packet.content))
+  pub other_hosts : IfSome choice.other_hosts (HasNone (MatchesHost packet))
+
+-- The packet matches the fields about ports and protocols. If the choice has ports, the packet matches one of them. If it has other ports,
+-- the packet matches none of these. If it has protocols, the packet is of one of them.
+pub record HasChosenContent (choice : Choice) (content : Content) : Type 0 where
+  pub ports : IfSome choice.ports (HasAny (HasPort content))
+  pub other_ports : IfSome choice.other_ports (HasNone (HasPort content))
+  pub protocols : IfSome choice.protocols (HasAny (IsOfProtocol content))
+
+-- a packet is chosen: it matches each field that the choice has
+pub record IsChosen (choice : Choice) (packet : Packet) : Type 0 where
+  pub addresses : HasChosenAddresses choice packet
+  pub content : HasChosenContent choice packet.content

@@ -1,7 +1,7 @@
-ghost use Rattle.std.specs.Prelude.{◌≡◌, ◌↔◌, IfSome, IsTrue, None, true};
+ghost use Rattle.std.specs.Prelude.{◌↔◌, IfSome, IsTrue};
 ghost use Rattle.ip_part.specs.Addresses.{by_value};
-ghost use Rattle.capture_protocols.specs.Protocols.{content_protocol};
-ghost use Rattle.capture_summary.specs.Choice.{HasAny, HasHost, HasPort, HasTunnelEnd, IsChosen, IsPortOf, IsSourceOrDestination, MatchesHost, QuotesHost, QuotesPort, is_among};
+ghost use Rattle.capture_summary.specs.Choice.{HasAny, HasChosenAddresses, HasChosenContent, HasHost, HasNone, HasPort, HasTunnelEnd, IsChosen, IsDestination, IsFrom, IsInRange, IsOfProtocol, IsPortOf, IsSource, IsSourceOrDestination, IsTo, MatchesHost, MatchesOn, QuotesHost, QuotesPort};
+ghost use Rattle.capture_summary.specs.declared.choice.Side.TheVariants as Side;
 ghost use Rattle.capture_packet.specs.Quotes.{quoted_in};
 ghost use Rattle.capture_summary.specs.FlowOf.{ports_of};
 
@@ -10,17 +10,34 @@ use crate::{FlowProtocol, Network, Protocol};
 use capture_packet::{Content, Packet, Transport, Tunnel};
 use ip_part::IpAddresses;
 
-/// The greatest number of hosts in a choice, and the greatest number of ports.
+/// The greatest number of values in a field of a choice.
 pub const MAX_CHOSEN: usize = 16;
+
+/// Hosts in places. A place without a value does not count.
+pub type Hosts = [Option<Network>; MAX_CHOSEN];
+
+/// Ranges of ports in places. A place without a value does not count.
+pub type Ports = [Option<PortRange>; MAX_CHOSEN];
+
+/// Protocols in places. A place without a value does not count.
+pub type Protocols = [Option<ChosenProtocol>; MAX_CHOSEN];
 
 /// The packets that are chosen. A packet is chosen if it matches every field that is set.
 #[derive(Clone, Copy, Debug, PartialEq, Eq)]
 pub struct Choice {
     /// If set, only packets from or to one of these networks are chosen. An ICMP error that quotes such a packet is chosen too. So is a
     /// packet in tunnels, if the outer packet of one tunnel is from or to one of the networks.
-    pub hosts: Option<[Option<Network>; MAX_CHOSEN]>,
+    pub hosts: Option<Hosts>,
+    /// If set, only packets from one of these networks are chosen. Quoted packets and tunnels are not compared.
+    pub sources: Option<Hosts>,
+    /// If set, only packets to one of these networks are chosen. Quoted packets and tunnels are not compared.
+    pub destinations: Option<Hosts>,
+    /// If set, no packet is chosen that `hosts` with these networks would choose.
+    pub other_hosts: Option<Hosts>,
     /// If set, only packets from or to one of these ports are chosen. An ICMP error that quotes such a packet is chosen too.
-    pub ports: Option<[Option<u16>; MAX_CHOSEN]>,
+    pub ports: Option<Ports>,
+    /// If set, no packet is chosen that `ports` with these ranges would choose.
+    pub other_ports: Option<Ports>,
     /// If set, only packets of these protocols are chosen.
     pub protocols: Option<Protocols>,
 }
@@ -29,7 +46,11 @@ impl Choice {
     /// Every packet.
     pub const ALL: Choice = Choice {
         hosts: None,
+        sources: None,
+        destinations: None,
+        other_hosts: None,
         ports: None,
+        other_ports: None,
         protocols: None,
     };
 
@@ -39,64 +60,174 @@ impl Choice {
     pub fn includes(&self, packet: &Packet<'_>) -> bool
         ensures { IsTrue result ↔ IsChosen self.now packet.now }
     {
-        includes_hosts(&self.hosts, packet)
-            && includes_ports(&self.ports, &packet.content)
-            && includes_protocols(self.protocols, &packet.content)
+        self.includes_addresses(packet) && self.includes_content(&packet.content)
+    }
+
+    /// Whether a packet matches the fields about addresses.
+    fn includes_addresses(&self, packet: &Packet<'_>) -> bool
+        ensures { IsTrue result ↔ HasChosenAddresses self.now packet.now }
+    {
+        includes_hosts(&self.hosts, Side::Either, packet)
+            && includes_hosts(&self.sources, Side::Source, packet)
+            && includes_hosts(&self.destinations, Side::Destination, packet)
+            && lacks_hosts(&self.other_hosts, packet)
+    }
+
+    /// Whether a packet matches the fields about ports and protocols.
+    fn includes_content(&self, content: &Content<'_>) -> bool
+        ensures { IsTrue result ↔ HasChosenContent self.now content.now }
+    {
+        includes_ports(&self.ports, content)
+            && lacks_ports(&self.other_ports, content)
+            && includes_protocols(&self.protocols, content)
     }
 }
 
-/// The protocols of a choice.
+/// Which addresses of a packet are compared with a host.
 #[derive(Clone, Copy, Debug, PartialEq, Eq)]
-pub struct Protocols {
-    /// Whether UDP is chosen.
-    pub udp: bool,
-    /// Whether TCP is chosen.
-    pub tcp: bool,
-    /// Whether ICMPv4 is chosen.
-    pub icmpv4: bool,
-    /// Whether ICMPv6 is chosen.
-    pub icmpv6: bool,
+pub(crate) enum Side {
+    /// Source and destination, those of a quoted packet, and the ends of tunnels.
+    Either,
+    /// The source.
+    Source,
+    /// The final destination.
+    Destination,
 }
 
-impl Protocols {
-    /// Whether this protocol is chosen.
-    fn include(self, protocol: Protocol) -> bool
-        ensures { result ≡ is_among self protocol }
+/// The ports from `first` to `last`. If `first` is above `last`, there are none.
+#[derive(Clone, Copy, Debug, PartialEq, Eq)]
+pub struct PortRange {
+    /// The least port.
+    pub first: u16,
+    /// The greatest port.
+    pub last: u16,
+}
+
+impl PortRange {
+    /// Whether a port is in the range.
+    pub fn contains(&self, port: u16) -> bool
+        ensures { IsTrue result ↔ IsInRange port self.now }
     {
-        match protocol {
-            Protocol::Udp => self.udp,
-            Protocol::Tcp => self.tcp,
-            Protocol::Icmpv4 => self.icmpv4,
-            Protocol::Icmpv6 => self.icmpv6,
-            _ => false,
+        self.first <= port && port <= self.last
+    }
+}
+
+/// A protocol by which packets are chosen.
+#[derive(Clone, Copy, Debug, PartialEq, Eq)]
+pub enum ChosenProtocol {
+    /// The protocol of a row of the table of protocols.
+    One(Protocol),
+    /// ICMPv4 and ICMPv6.
+    Icmp,
+}
+
+impl ChosenProtocol {
+    /// Whether a packet with this content is of this protocol.
+    fn includes(self, content: &Content<'_>) -> bool
+        ensures { IsTrue result ↔ IsOfProtocol content.now self }
+    {
+        let protocol = Protocol::of(content);
+        match self {
+            ChosenProtocol::One(chosen) => protocol.place() == chosen.place(),
+            ChosenProtocol::Icmp => protocol == Protocol::Icmpv4 || protocol == Protocol::Icmpv6,
         }
     }
 }
 
-/// Whether a packet matches one of these hosts. If no hosts are given, every packet does.
-fn includes_hosts(hosts: &Option<[Option<Network>; MAX_CHOSEN]>, packet: &Packet<'_>) -> bool
-    ensures { IsTrue result ↔ IfSome hosts.now (HasAny (MatchesHost packet.now)) }
+/// Whether a packet matches one of these hosts on this side. If no hosts are given, every packet does.
+fn includes_hosts(hosts: &Option<Hosts>, side: Side, packet: &Packet<'_>) -> bool
+    ensures { IsTrue result ↔ IfSome hosts.now (HasAny (MatchesOn side packet.now)) }
 {
     match hosts {
-        Some(hosts) => matches_any_host(hosts.as_slice(), packet),
+        Some(hosts) => matches_any_host(hosts.as_slice(), side, packet),
         None => true,
     }
 }
 
-/// Whether a packet matches one of these hosts.
-fn matches_any_host(hosts: &[Option<Network>], packet: &Packet<'_>) -> bool
-    ensures { IsTrue result ↔ HasAny (MatchesHost packet.now) hosts.now }
+/// Whether a packet matches none of these hosts. If no hosts are given, every packet does.
+fn lacks_hosts(hosts: &Option<Hosts>, packet: &Packet<'_>) -> bool
+    ensures { IsTrue result ↔ IfSome hosts.now (HasNone (MatchesOn Side.Either packet.now)) }
+{
+    match hosts {
+        Some(hosts) => !matches_any_host(hosts.as_slice(), Side::Either, packet),
+        None => true,
+    }
+}
+
+/// Whether a packet matches one of these hosts on this side.
+fn matches_any_host(hosts: &[Option<Network>], side: Side, packet: &Packet<'_>) -> bool
+    ensures { IsTrue result ↔ HasAny (MatchesOn side packet.now) hosts.now }
 {
     let mut left = hosts;
     while let [first, others @ ..] = left {
         if let Some(host) = first
-            && matches_host(packet, host)
+            && matches_on(side, packet, host)
         {
             return true;
         }
         left = others;
     }
     false
+}
+
+/// Whether a packet matches this host on this side.
+fn matches_on(side: Side, packet: &Packet<'_>, host: &Network) -> bool
+    ensures { IsTrue result ↔ MatchesOn side packet.now host.now }
+{
+    match side {
+        Side::Either => matches_host(packet, host),
+        Side::Source => is_from(&packet.content, host),
+        Side::Destination => is_to(&packet.content, host),
+    }
+}
+
+/// Whether a packet is from this host.
+fn is_from(content: &Content<'_>, host: &Network) -> bool
+    ensures { IsTrue result ↔ IsFrom content.now host.now }
+{
+    match content {
+        Content::Ip { addresses, .. } | Content::IpHeader(addresses) => is_source(*addresses, host),
+        Content::Unread | Content::NotIp(_) => false,
+    }
+}
+
+/// Whether a packet is to this host.
+fn is_to(content: &Content<'_>, host: &Network) -> bool
+    ensures { IsTrue result ↔ IsTo content.now host.now }
+{
+    match content {
+        Content::Ip { addresses, .. } | Content::IpHeader(addresses) => {
+            is_destination(*addresses, host)
+        }
+        Content::Unread | Content::NotIp(_) => false,
+    }
+}
+
+/// Whether the source is in this network.
+fn is_source(addresses: IpAddresses<'_>, host: &Network) -> bool
+    ensures { IsTrue result ↔ IsSource (by_value addresses.entry) host.now }
+{
+    match addresses {
+        IpAddresses::Ipv4 { source, .. } => host.contains_ipv4(source),
+        IpAddresses::Ipv6 { source, .. } => host.contains_ipv6(source),
+    }
+}
+
+/// Whether the final destination is in this network.
+fn is_destination(addresses: IpAddresses<'_>, host: &Network) -> bool
+    ensures { IsTrue result ↔ IsDestination (by_value addresses.entry) host.now }
+{
+    match addresses {
+        IpAddresses::Ipv4 { destination, .. } => host.contains_ipv4(destination),
+        IpAddresses::Ipv6 {
+            destination: Some(destination),
+            ..
+        } => host.contains_ipv6(destination),
+        IpAddresses::Ipv6 {
+            destination: None,
+            ..
+        } => false,
+    }
 }
 
 /// Whether a packet, or the packet that it quotes, is from or to this host, or the host is an end of one of its tunnels.
@@ -149,24 +280,11 @@ fn quotes_host(transport: &Transport<'_>, host: &Network) -> bool
 fn is_source_or_destination(addresses: IpAddresses<'_>, host: &Network) -> bool
     ensures { IsTrue result ↔ IsSourceOrDestination (by_value addresses.entry) host.now }
 {
-    match addresses {
-        IpAddresses::Ipv4 {
-            source,
-            destination,
-        } => host.contains_ipv4(source) || host.contains_ipv4(destination),
-        IpAddresses::Ipv6 {
-            source,
-            destination: Some(destination),
-        } => host.contains_ipv6(source) || host.contains_ipv6(destination),
-        IpAddresses::Ipv6 {
-            source,
-            destination: None,
-        } => host.contains_ipv6(source),
-    }
+    is_source(addresses, host) || is_destination(addresses, host)
 }
 
 /// Whether a packet, or the packet that it quotes, is from or to one of these ports. If no ports are given, every packet is.
-fn includes_ports(ports: &Option<[Option<u16>; MAX_CHOSEN]>, content: &Content<'_>) -> bool
+fn includes_ports(ports: &Option<Ports>, content: &Content<'_>) -> bool
     ensures { IsTrue result ↔ IfSome ports.now (HasAny (HasPort content.now)) }
 {
     match ports {
@@ -175,14 +293,24 @@ fn includes_ports(ports: &Option<[Option<u16>; MAX_CHOSEN]>, content: &Content<'
     }
 }
 
+/// Whether neither a packet nor the packet that it quotes is from or to one of these ports. If no ports are given, this is true.
+fn lacks_ports(ports: &Option<Ports>, content: &Content<'_>) -> bool
+    ensures { IsTrue result ↔ IfSome ports.now (HasNone (HasPort content.now)) }
+{
+    match ports {
+        Some(ports) => !has_any_port(ports.as_slice(), content),
+        None => true,
+    }
+}
+
 /// Whether a packet, or the packet that it quotes, is from or to one of these ports.
-fn has_any_port(ports: &[Option<u16>], content: &Content<'_>) -> bool
+fn has_any_port(ports: &[Option<PortRange>], content: &Content<'_>) -> bool
     ensures { IsTrue result ↔ HasAny (HasPort content.now) ports.now }
 {
     let mut left = ports;
     while let [first, others @ ..] = left {
-        if let Some(port) = first
-            && has_port(content, *port)
+        if let Some(range) = first
+            && has_port(content, range)
         {
             return true;
         }
@@ -191,49 +319,65 @@ fn has_any_port(ports: &[Option<u16>], content: &Content<'_>) -> bool
     false
 }
 
-/// Whether a packet, or the packet that it quotes, is from or to this port.
-fn has_port(content: &Content<'_>, port: u16) -> bool
-    ensures { IsTrue result ↔ HasPort content.now port }
+/// Whether a packet, or the packet that it quotes, is from or to a port in this range.
+fn has_port(content: &Content<'_>, range: &PortRange) -> bool
+    ensures { IsTrue result ↔ HasPort content.now range.now }
 {
     match content {
         Content::Ip {
             proto,
             transport,
             ..
-        } => is_port_of(ports(*proto, transport), port) || quotes_port(transport, port),
+        } => is_port_of(ports(*proto, transport), range) || quotes_port(transport, range),
         Content::Unread | Content::IpHeader(_) | Content::NotIp(_) => false,
     }
 }
 
-/// Whether a port is the source port or the destination port.
-fn is_port_of(ports: Option<(FlowProtocol, u16, u16)>, port: u16) -> bool
-    ensures { IsTrue result ↔ IsPortOf ports port }
+/// Whether the source port or the destination port is in a range.
+fn is_port_of(ports: Option<(FlowProtocol, u16, u16)>, range: &PortRange) -> bool
+    ensures { IsTrue result ↔ IsPortOf ports range.now }
 {
     match ports {
-        Some((_, source, destination)) => port == source || port == destination,
+        Some((_, source, destination)) => range.contains(source) || range.contains(destination),
         None => false,
     }
 }
 
-/// Whether a transport is an ICMP error that quotes a packet from or to this port.
-fn quotes_port(transport: &Transport<'_>, port: u16) -> bool
-    ensures { IsTrue result ↔ QuotesPort (quoted_in transport.now) port }
+/// Whether a transport is an ICMP error that quotes a packet from or to a port in this range.
+fn quotes_port(transport: &Transport<'_>, range: &PortRange) -> bool
+    ensures { IsTrue result ↔ QuotesPort (quoted_in transport.now) range.now }
 {
     let Some(quoted) = transport.quoted_packet() else {
         return false;
     };
     match quoted.ports {
-        Some((source, destination)) => port == source || port == destination,
+        Some((source, destination)) => range.contains(source) || range.contains(destination),
         None => false,
     }
 }
 
 /// Whether a packet is of one of these protocols. If no protocols are given, every packet is.
-fn includes_protocols(protocols: Option<Protocols>, content: &Content<'_>) -> bool
-    ensures { IsTrue result ↔ IfSome protocols (λ chosen. is_among chosen (content_protocol content.now) ≡ true) }
+fn includes_protocols(protocols: &Option<Protocols>, content: &Content<'_>) -> bool
+    ensures { IsTrue result ↔ IfSome protocols.now (HasAny (IsOfProtocol content.now)) }
 {
     match protocols {
-        Some(protocols) => protocols.include(Protocol::of(content)),
+        Some(protocols) => has_any_protocol(protocols.as_slice(), content),
         None => true,
     }
+}
+
+/// Whether a packet is of one of these protocols.
+fn has_any_protocol(protocols: &[Option<ChosenProtocol>], content: &Content<'_>) -> bool
+    ensures { IsTrue result ↔ HasAny (IsOfProtocol content.now) protocols.now }
+{
+    let mut left = protocols;
+    while let [first, others @ ..] = left {
+        if let Some(chosen) = first
+            && chosen.includes(content)
+        {
+            return true;
+        }
+        left = others;
+    }
+    false
 }

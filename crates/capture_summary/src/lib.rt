@@ -26,7 +26,7 @@ mod verdict_kind;
 
 pub use capture_info::{CaptureInfo, FrameLen};
 pub use capture_protocols::{Protocol, ip_protocol_name, network_protocol_name};
-pub use choice::{Choice, MAX_CHOSEN, Protocols};
+pub use choice::{Choice, ChosenProtocol, Hosts, MAX_CHOSEN, PortRange, Ports, Protocols};
 pub use conversation_count::ConversationCount;
 pub use count::Count;
 pub use flow::{Flow, FlowProtocol};

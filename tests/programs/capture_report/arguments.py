@@ -8,6 +8,10 @@ from ..build import IPV4, RAW, capture, ipv4, udp
 from .report import lines_of, run
 
 
+# The options with an address or a network.
+HOST_OPTIONS = ("--host", "--source", "--destination", "--not-host")
+
+
 def check_values(tally):
     """Values that are refused, and what the message names."""
     for arguments, words in [
@@ -15,7 +19,12 @@ def check_values(tally):
         (("--host", "192.0.2.256"), "192.0.2.256"), (("--host", "192.0.2.1:53"), "192.0.2.1:53"), (("--host", ""), "--host"),
         (("--host", "192.0.2.0/33"), "prefix length"), (("--host", "2001:db8::/129"), "prefix length"), (("--host", "192.0.2.1/24"), "bits"),
         (("--host", "192.0.2.0/24", "--host", "x"), "'x'"), (("--port", "1") * 17, "--port"), (("--host", "::1") * 17, "--host"),
-        (("--protocol", "sctp"), "sctp"), (("--top", "-1"), "-1"), (("--top", "ten"), "ten"),
+        (("--protocol", "sctpp"), "'sctpp'"), (("--protocol", "pppoe session"), "'pppoe session'"),
+        (("--port", "80,"), "''"), (("--port", "80,x,y"), "'x'"), (("--port", "81-80"), "'81-80'"), (("--port", "80-"), "'80-'"),
+        (("--port", "1-2-3"), "'1-2-3'"), (("--not-port", "65536"), "'65536' for '--not-port <N>'"), (("--port", ",".join(["1"] * 17)), "--port"),
+        (("--source", "x"), "'x' for '--source <ADDRESS>'"), (("--destination", "::1/3"), "'--destination <ADDRESS>'"),
+        (("--not-host", "192.0.2.1/24"), "'--not-host <ADDRESS>'"), (("--source", "x", "--host", "y"), "'y'"), (("--port", "x", "--not-host", "y"), "'y'"),
+        (("--protocol", "x", "--not-port", "y"), "'y'"), (("--protocol", "udp") * 17, "--protocol"), (("--top", "-1"), "-1"), (("--top", "ten"), "ten"),
         (("--top", "18446744073709551616"), "18446744073709551616"), (("--top", "3", "--packets"), "--packets"), (("--host",), "--host"),
         (("--absolute", "--summary"), "--summary"),
         (("-c", "0"), "'0'"), (("-c", "-1"), "-1"), (("--count", "x"), "'x'"),
@@ -36,9 +45,9 @@ def check_unknown_options(tally):
 def check_known_options(tally):
     """Each option that the help shows is known, so that an error about another word names this word."""
     shown = re.findall(r"^ +(?:(-[a-zA-Z]), )?(--[a-z-]+)", run(b"", "--help").stdout.decode(), re.MULTILINE)
-    tally.expect("options of the help", len(shown), 18)
+    tally.expect("options of the help", len(shown), 22)
     for name in [name for names in shown for name in names if name not in ("", "-h", "--help", "-V", "--version")]:
-        value = {"--host": "192.0.2.1", "--protocol": "udp"}.get(name, "1")
+        value = {"--protocol": "udp"}.get(name, "192.0.2.1" if name in HOST_OPTIONS else "1")
         done = run(b"", name, value, "--other")
         tally.expect(f"{name} and --other", (done.returncode, done.stderr.decode().split("\n")[0]), (2, "error: unexpected argument '--other' found"))
 
@@ -76,7 +85,7 @@ EXCLUSIVE = [("--summary", "--packets"), ("--wrong", "--summary"), ("--absolute"
              *(("--write <FILE>", option) for option in ("--summary", "--packets", "--absolute", "--check", "--json", "--top <N>"))]
 
 # The options that are used with any other option.
-FREE_OPTIONS = ["--verbose", "--host <ADDRESS>", "--port <N>", "--protocol <NAME>", "--count <N>", "--line-buffered", "--numeric", "--read <FILE>"]
+FREE_OPTIONS = ["--verbose", *(f"{name} <ADDRESS>" for name in HOST_OPTIONS), "--port <N>", "--not-port <N>", "--protocol <NAME>", "--count <N>", "--line-buffered", "--numeric", "--read <FILE>"]
 
 
 def check_pairs(tally):

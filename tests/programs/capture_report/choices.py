@@ -17,12 +17,21 @@ def protocols_of(names):
     return [protocol for name in names for protocol in (("icmpv4", "icmpv6") if name.lower() == "icmp" else (name.lower(),))]
 
 
-def is_chosen(line, host=(), port=(), protocol=()):
+def in_ranges(port, values):
+    """Whether a port is in one of these lists of ports and ranges."""
+    ranges = [(item.split("-") * 2)[:2] for value in values for item in str(value).split(",")]
+    return port is not None and any(int(first) <= int(port) <= int(last) for first, last in ranges)
+
+
+def is_chosen(line, protocol=(), **values):
     """Whether the packet of a line is one of these, by what its line says of it."""
-    named = re.match(rf"\d+ \S+ {LENGTH}\S+ > \S+ (\w+)", line)
-    ends = ends_of(line) + quoted_ends_of(line)
-    return ((not host or any(in_network(address, host) for address, _ in ends))
-            and (not port or any(number in port for _, number in ends))
+    named = re.match(rf"\d+ \S+ {LENGTH}(?:\S+ > \S+ )?([A-Za-z][\w-]*)", line)
+    own = ends_of(line)
+    ends = own + quoted_ends_of(line)
+    hosts = {"host": ends, "source": own[:1], "destination": own[1:], "not-host": ends}
+    found = {key: any(in_network(address, values[key]) for address, _ in hosts[key]) for key in hosts if key in values}
+    found |= {key: any(in_ranges(port, values[key]) for _, port in ends) for key in ("port", "not-port") if key in values}
+    return (all(matches != key.startswith("not-") for key, matches in found.items())
             and (not protocol or named is not None and named.group(1).lower() in protocols_of(protocol)))
 
 
@@ -45,6 +54,11 @@ def check_choices(tally):
             {"host": ["192.0.2.0/24"]}, {"host": ["192.0.2.0/31"]}, {"host": ["198.51.100.0/29"]}, {"host": ["192.0.2.1/32"]},
             {"host": ["0.0.0.0/0"]}, {"host": ["::/0"]}, {"host": ["2001:db8::/32"]}, {"host": ["2001:db8::2/127"]}, {"host": ["2001:db9::/32"]},
             {"host": ["198.51.100.0/24", "2001:db8::4/126"]},
+            {"source": ["192.0.2.1"]}, {"destination": ["192.0.2.1"]}, {"source": ["192.0.2.2"]}, {"destination": ["192.0.2.0/24", "2001:db8::2"]},
+            {"source": ["192.0.2.1"], "destination": ["192.0.2.1"]}, {"source": ["198.51.100.7"]}, {"not-host": ["192.0.2.1"]}, {"not-host": ["::/0"]},
+            {"not-host": ["0.0.0.0/0", "2001:db8::1"]}, {"not-port": [53]}, {"not-port": ["0-65535"]}, {"host": ["192.0.2.1"], "not-port": ["53,80"]},
+            {"port": ["80,53"]}, {"port": ["50-60"]}, {"port": ["1,50-53", 80]}, {"port": ["54-79"]}, {"port": ["0-65535"]},
+            {"port": ["0-65535"], "not-port": ["49152"]}, {"protocol": ["arp"]}, {"protocol": ["OSPF", "gre"]}, {"protocol": ["arp", "icmp"]},
         ]:
             arguments = [word for key, values in choice.items() for value in values for word in (f"--{key}", str(value))]
             wanted = [line for line in lines if is_chosen(line, **choice)]
@@ -56,3 +70,9 @@ def check_choices(tally):
             tally.expect(f"{name}, {arguments}: packets", re.search(r"^packets (\d+)", summary, re.M).group(1), str(len(wanted)))
     written = run(capture(ETHERNET, frames), "--packets", "--host", "2001:0DB8:0:0::1").stdout
     tally.expect("another text of an address", written, run(capture(ETHERNET, frames), "--packets", "--host", "2001:db8::1").stdout)
+    # An empty line separates lines and summary, and is left out if there are no lines.
+    data = capture(ETHERNET, frames)
+    for arguments, is_empty in [(("--port", "1"), False), (("--protocol", "ospf", "--wrong"), False), ((), True), (("--wrong",), True), (("--summary",), False)]:
+        summary = lines_of(run(data, *(word for word in arguments if word != "--wrong"), "--summary").stdout)
+        written = lines_of(run(data, *arguments).stdout)
+        tally.expect(f"{arguments}: the line before the summary", (written[-len(summary):], written[:-len(summary)][-1:]), (summary, [""] if is_empty else []))

@@ -6,7 +6,6 @@ use Rattle.capture_arguments.proofs.arguments.command.Goals as goal
 -- one part after the other
 pub returns-clause-line : goal.returns-clause-line
 returns-clause-line g c =
-    let choice = c.in_ok-command-3.ensures.rules in
     IfOk-weaker _ _ _
-    (λ more is_all. all_options _ _ _ _ (app_of more) choice.0 c.bare.ensures.app c.in_ok-command.ensures.rules c.in_ok-command-2.ensures.rules
-    choice.1 choice.2 is_all) c.with_files.ensures.rules
+    (λ more is_all. all_options _ _ _ _ _ (app_of more) c.bare.ensures.app c.in_ok-command.ensures.rules c.in_ok-command-2.ensures.rules
+    c.in_ok-command-3.ensures.rules c.in_ok-command-4.ensures.rules is_all) c.with_files.ensures.rules

@@ -1,14 +1,12 @@
 use Rattle.std.proofs.Common.{refl}
 use Rattle.std.proofs.lemmas.Result.{IfOk-weaker}
-use Rattle.capture_arguments.proofs.CommandLemmas.{adds_rule, chosen_by}
+use Rattle.capture_arguments.proofs.CommandLemmas.{adds_rule}
 use Rattle.capture_arguments.proofs.arguments.with_choice.Goals as goal
 
 -- one option after the other
 pub returns-clause-rules : goal.returns-clause-rules
 returns-clause-rules g c =
-    let names = c.protocol.ensures.rule in
-    let first = adds_rule _ _ _ _ _ c.in_ok-command.ensures.adds c.host.ensures.local c.host.ensures.rule refl in
-    let second = adds_rule _ _ _ _ _ c.in_ok-command-2.ensures.adds c.port.ensures.local c.port.ensures.rule first in
-    let third = adds_rule _ _ _ _ _ c.in_ok-command-3.ensures.adds c.protocol.ensures.local names.2 second in
-    IfOk-weaker _ _ _
-    (λ more adds. chosen_by names.0 _ _ names.1 (adds_rule _ _ _ _ _ adds c.count.ensures.local c.count.ensures.rule third)) c.with_arg-4.ensures.adds
+    let first = adds_rule _ _ _ _ _ c.in_ok-command.ensures.adds c.port.ensures.local c.port.ensures.rule refl in
+    let second = adds_rule _ _ _ _ _ c.in_ok-command-2.ensures.adds c.other_port.ensures.local c.other_port.ensures.rule first in
+    let third = adds_rule _ _ _ _ _ c.in_ok-command-3.ensures.adds c.protocol.ensures.local c.protocol.ensures.rule second in
+    IfOk-weaker _ _ _ (λ more adds. adds_rule _ _ _ _ _ adds c.count.ensures.local c.count.ensures.rule third) c.with_arg-4.ensures.adds

@@ -1,21 +1,20 @@
-use Rattle.std.proofs.Common.{◌∙◌, arith, sym}
+use Rattle.std.proofs.Common.{◌∙◌, arith}
 use Rattle.std.proofs.lemmas.List.{length-set}
-use Rattle.capture_arguments.specs.Chosen.{IsNoPort, ReadsPort}
+use Rattle.capture_arguments.specs.Chosen.{IsNoRange, ReadsRange}
 use Rattle.capture_arguments.proofs.ChosenLemmas.{first-wrong, reads-step}
 use Rattle.capture_arguments.proofs.chosen.ports_in.Goals as goal
 
--- one more port
+-- one more range of ports
 pub loop-place-preserved : goal.loop-place-preserved
 loop-place-preserved c =
-    let (len, reads) = c.loop-place.invariant in
-    let spelled = c.in-Ok.ensures.value.0 in (
+    let (len, reads) = c.loop-place.invariant in (
       length-set c.loop-place.ports _ _ ∙ len,
-      reads-step ReadsPort c.args.texts.now (λ text. text.now) c.loop-place.place _ c.loop-place.ports c.in-Ok.port c.loop-place-test.true
-          (omega arith) reads (spelled.0.0, sym spelled.1, omega (arith, spelled.0.1, spelled.1)),
+      reads-step ReadsRange c.args.texts.now (λ text. text.now) c.loop-place.place _ c.loop-place.ports c.in-Some.range c.loop-place-test.true
+          (omega arith) reads (rw c.in-Some.is at c.range_in.ensures),
     )
 
--- the first text that is no port
-pub returns-in-Err-clause-refusal : goal.returns-in-Err-clause-refusal
-returns-in-Err-clause-refusal c =
-    first-wrong ReadsPort IsNoPort c.args.texts.now (λ text. text.now) c.loop-place.place _ c.loop-place.ports c.loop-place-test.true
-    c.loop-place.invariant.1 (λ port is. c.in-Err.ensures.value.0 (is.0, omega (arith, is.1, is.2)))
+-- the first text that is no range of ports
+pub returns-in-None-clause-refusal : goal.returns-in-None-clause-refusal
+returns-in-None-clause-refusal c =
+    first-wrong ReadsRange IsNoRange c.args.texts.now (λ text. text.now) c.loop-place.place _ c.loop-place.ports c.loop-place-test.true
+    c.loop-place.invariant.1 (rw c.in-None.is at c.range_in.ensures)
