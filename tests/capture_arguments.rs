@@ -135,7 +135,7 @@ static REJECTED: [(&[&[u8]], i32); 14] = [
     (&[b"capture_report", b"--help", b"-\xFF"], 0),
 ];
 
-/// Words that look like options and are none, each with the text of the error, which names no other option.
+/// Words that look like options but are not options, each with the text of the error, which names no other option.
 static UNKNOWN: [(&[&[u8]], &str); 6] = [
     (&[b"capture_report", b"--filter", b"tcp"], "--filter"),
     (&[b"capture_report", b"-i", b"eth0"], "-i"),
@@ -145,7 +145,7 @@ static UNKNOWN: [(&[&[u8]], &str); 6] = [
     (&[b"capture_report", b"--write-to=-", b"-q"], "--write-to=-"),
 ];
 
-/// Several captures with `-w`, and whether the error has the hint at the options for filters.
+/// Several captures with `-w`, and whether the error contains the hint at the options for filters.
 static SEVERAL: [(&[&[u8]], bool); 3] = [
     (
         &[b"capture_report", b"-w", b"-", b"a.pcap", b"b.pcap"],

@@ -9,7 +9,7 @@ use capture_file::reader::{CaptureReader, ClassicReader, PcapngReader, Section};
 use capture_texts::FileTexts;
 use std::process::Abort;
 
-/// Stops the test unless this text shows what the capture is.
+/// Stops the test unless the facts of the capture are this text.
 fn expect_facts(rt: &(impl Abort + AllocGlobal), capture: &Option<CaptureReader>, wanted: &str) {
     let mut text = Vec::new(rt.alloc());
     expect_ok(rt, write_facts(&mut text, capture));

@@ -24,7 +24,7 @@ const OVER_IPV6: IpAddresses = IpAddresses::Ipv6 {
     destination: None,
 };
 
-/// A UDP datagram from port 7 to port 9, of 9 bytes, and the same without a length.
+/// A UDP datagram from port 7 to port 9, of 9 bytes, and the same datagram without a length.
 const DATAGRAM: [u8; 9] = [0, 7, 0, 9, 0, 9, 0, 0, 1];
 
 const DATAGRAM_OF_0: [u8; 9] = [0, 7, 0, 9, 0, 0, 0, 0, 1];
@@ -35,7 +35,7 @@ const SEGMENT: [u8; 28] = [
     3, 3, 7, 8, 1, 0, 0, 0, // the options
 ];
 
-/// ICMPv4 errors: time exceeded for a UDP datagram, with its ports and without, and with a part of its IP header.
+/// ICMPv4 errors: time exceeded for a UDP datagram with its ports, without its ports, and with only a part of its IP header.
 const ERROR: [u8; 32] = [
     11, 0, 0, 0, 0, 0, 0, 0, // ICMPv4
     0x45, 0, 0, 60, 0, 0, 0, 0, 1, 17, 0, 0, 192, 0, 2, 1, 198, 51, 100, 7, // IPv4
@@ -231,7 +231,7 @@ fn objects_of_verdicts(rt: HostRuntime) {
     }
 }
 
-/// Transports over IPv4, which are told by their length, the verdicts on their checksums, and the object of each.
+/// Transports over IPv4, which differ in their lengths, the verdicts on their checksums, and the object of each.
 #[rattlefmt::skip]
 static TRANSPORTS: [(&[u8], ChecksumVerdict, &str); 3] = [
     (&DATAGRAM, ChecksumVerdict::Wrong { expected: 0x1A2B },
@@ -293,7 +293,7 @@ fn segment_with(rt: &(impl Abort + AllocGlobal), options: &[u8]) -> Vec<u8> {
     joined(rt, &parts)
 }
 
-/// What the object of a segment with options begins with.
+/// The beginning of the object of a segment with options.
 const BEFORE_OPTIONS: &str =
     r#"{"type":"packet","number":1,"time":null,"source":"192.0.2.1","destination":"192.0.2.2","protocol":17,"protocol_name":"UDP","source_port":7,"destination_port":9,"tcp":{"flags":["SYN"],"sequence":1,"acknowledgment":2,"window":3,"#;
 
@@ -335,7 +335,7 @@ const ICMPV6_FIELDS: [(&[u8], &str); 4] = [
     (&[133, 0, 9, 9, 0, 0, 0, 0], r#""type":133,"code":0,"message":"router solicitation, code 0""#),
 ];
 
-/// What the object of a packet with an ICMP message begins with.
+/// The beginning of the object of a packet with an ICMP message.
 const BEFORE_MESSAGE: &str =
     r#"{"type":"packet","number":1,"time":null,"source":"192.0.2.1","destination":"192.0.2.2","protocol":1,"protocol_name":"ICMPv4","#;
 
@@ -393,15 +393,15 @@ static ERRORS: [(&[u8], &str, &str); 3] = [
     (&ERROR_WITHOUT_HEADER, "", "19"),
 ];
 
-/// What the object of a packet with an ICMPv4 error begins with.
+/// The beginning of the object of a packet with an ICMPv4 error.
 const BEFORE_ERROR: &str =
     r#"{"type":"packet","number":1,"time":null,"source":"192.0.2.1","destination":"192.0.2.2","protocol":1,"protocol_name":"ICMPv4""#;
 
-/// What comes before the length of its payload.
+/// The text before the length of the payload of an ICMPv4 error.
 const MESSAGE_OF_ERROR: &str =
     r#","icmpv4":{"type":11,"code":0,"message":"time exceeded, code 0 (time to live)"},"payload_length":"#;
 
-/// Stops the test unless the object of a packet with this error has this member for the quoted packet, and this length of its payload.
+/// Stops the test unless the object of a packet with this error has this member for the quoted packet, and this payload length.
 fn expect_quoted(rt: &(impl Abort + AllocGlobal), bytes: &[u8], quoted: &str, payload_len: &str) {
     let message = expect_ok(rt, Icmpv4Slice::from_slice(bytes));
     let content = Content::Ip {
@@ -429,7 +429,7 @@ const OF_THREE_PACKETS: &str =
     r#"{"type":"summary","packets":3,"bytes":98,"bytes_per_packet":32,"conversations":1,"first_packet":"2023-11-14T22:13:20.000000Z","first_packet_seconds":1700000000,"first_packet_nanoseconds":0,"last_packet":"2023-11-14T22:13:25.000000Z","last_packet_seconds":1700000005,"last_packet_nanoseconds":0,"duration":"00:00:05.000000","duration_seconds":5,"duration_nanoseconds":0,"packets_per_second":0,"bits_per_second":156,"link_types":{"BSD_loopback":0,"Ethernet":0,"PPP":0,"PPP_or_Cisco_HDLC":0,"PPP_over_Ethernet":0,"raw_IP":3,"Cisco_HDLC":0,"IEEE_802.11":0,"Frame_Relay":0,"OpenBSD_loopback":0,"Linux_cooked":0,"PFLOG":0,"Prism":0,"radiotap":0,"AVS":0,"PPI":0,"Solaris_ipnet":0,"NFLOG":0,"IP_over_InfiniBand":0,"PKTAP":0,"Linux_cooked_version_2":0,"another_link_type":0,"unknown":0},"protocols":{"UDP":{"packets":2,"bytes":68},"TCP":{"packets":0,"bytes":0},"ICMPv4":{"packets":0,"bytes":0},"ICMPv6":{"packets":0,"bytes":0},"IGMP":{"packets":0,"bytes":0},"IPv4":{"packets":0,"bytes":0},"DCCP":{"packets":0,"bytes":0},"IPv6":{"packets":0,"bytes":0},"RSVP":{"packets":0,"bytes":0},"GRE":{"packets":0,"bytes":0},"ESP":{"packets":0,"bytes":0},"AH":{"packets":0,"bytes":0},"no_next_header":{"packets":0,"bytes":0},"EIGRP":{"packets":0,"bytes":0},"OSPF":{"packets":0,"bytes":0},"EtherIP":{"packets":0,"bytes":0},"PIM":{"packets":0,"bytes":0},"IPComp":{"packets":0,"bytes":0},"VRRP":{"packets":0,"bytes":0},"L2TP":{"packets":0,"bytes":0},"SCTP":{"packets":0,"bytes":0},"UDP-Lite":{"packets":0,"bytes":0},"MPLS-in-IP":{"packets":0,"bytes":0},"other_over_IP":{"packets":1,"bytes":30},"ARP":{"packets":0,"bytes":0},"RARP":{"packets":0,"bytes":0},"IPX":{"packets":0,"bytes":0},"slow_protocol":{"packets":0,"bytes":0},"MPLS":{"packets":0,"bytes":0},"PPPoE_discovery":{"packets":0,"bytes":0},"PPPoE_session":{"packets":0,"bytes":0},"EAPOL":{"packets":0,"bytes":0},"LLDP":{"packets":0,"bytes":0},"MACsec":{"packets":0,"bytes":0},"MVRP":{"packets":0,"bytes":0},"PTP":{"packets":0,"bytes":0},"CFM":{"packets":0,"bytes":0},"loopback":{"packets":0,"bytes":0},"IPCP":{"packets":0,"bytes":0},"IPV6CP":{"packets":0,"bytes":0},"CCP":{"packets":0,"bytes":0},"LCP":{"packets":0,"bytes":0},"PAP":{"packets":0,"bytes":0},"LQR":{"packets":0,"bytes":0},"CHAP":{"packets":0,"bytes":0},"EAP":{"packets":0,"bytes":0},"CLNP":{"packets":0,"bytes":0},"ES-IS":{"packets":0,"bytes":0},"IS-IS":{"packets":0,"bytes":0},"STP":{"packets":0,"bytes":0},"other_without_IP":{"packets":0,"bytes":0},"unknown":{"packets":0,"bytes":0}},"checksums":{"right":0,"wrong":0,"not_filled_in":1,"none":0,"fragment":0,"cut_off":1,"no_length_stated":0,"final_destination_unknown":0,"another_protocol":0,"too_long":0,"refused":1},"refusals":{"link_header_cut_off":0,"IP_header_cut_off":0,"IP_version":0,"IP_header_length":0,"IP_total_length":0,"IP_packet_cut_off":0,"IP_extension_header":0,"UDP_length":1,"TCP_length":0,"TCP_data_offset":0,"ICMPv4_length":0,"ICMPv6_length":0},"busiest_conversations":[{"protocol":17,"protocol_name":"UDP","source":"192.0.2.1","source_port":49152,"destination":"192.0.2.2","destination_port":53,"packets":1,"bytes":40,"forward":{"packets":1,"bytes":40},"reverse":{"packets":0,"bytes":0}}],"packets_without_ports":{"packets":2,"bytes":58},"packets_of_other_flows":{"packets":0,"bytes":0}}
 "#;
 
-/// What a capture of raw IP says of a packet of this many bytes that came at this second.
+/// What a capture of raw IP states about a packet with this number of bytes, captured at this second.
 fn info_of(seconds: u64, len: u64) -> CaptureInfo {
     CaptureInfo {
         link_type: Some(Ok(LinkType::RawIp)),

@@ -14,7 +14,7 @@ const ADDRESSES: [u8; 22] = [
     0x2C, 0, 2, 0, 0, 0, 0, 2, 2, 0, 0, 0, 0, 1, 2, 0, 0, 0, 0, 3, 0x10, 0,
 ];
 
-/// The length of the link header of this frame, and as many bytes after it as the UDP packet has.
+/// The length of the link header of this frame, and the bytes after it, as many as the UDP packet has.
 fn udp_in<'a>(rt: &impl Abort, link_type: LinkType, frame: &'a [u8]) -> (usize, &'a [u8]) {
     let len = IPV4_UDP.len() + UDP_OVER_IPV4.len();
     match network_packet(link_type, ByteOrder::BigEndian, frame) {
@@ -32,7 +32,7 @@ fn expect_udp(rt: &(impl Abort + AllocGlobal), link_type: LinkType, header: &[&[
     expect_at(rt, &frame, &found, &(header.len(), packet.as_slice()));
 }
 
-/// Stops the test unless in this frame another protocol comes next, or the frame ends within a link header of this length.
+/// Stops the test unless the frame contains another protocol, or ends within a link header of this length.
 fn expect_other(
     rt: &impl Abort,
     link_type: LinkType,
@@ -48,7 +48,7 @@ fn expect_other(
     expect_at(rt, &frame, &found, &expected);
 }
 
-/// The Frame Control field, and what comes after the sequence number: address 4, QoS Control and HT Control.
+/// The Frame Control field, and the bytes after the sequence number: address 4, QoS Control and HT Control.
 #[rattlefmt::skip]
 static WIRELESS: [(&[u8], &[u8]); 9] = [
     (&[0x08, 0x01], &[]),
@@ -62,7 +62,7 @@ static WIRELESS: [(&[u8], &[u8]); 9] = [
     (&[0x88, 0x83], &[2, 0, 0, 0, 0, 4, 0, 0, 1, 2, 3, 4]),
 ];
 
-/// The link types of such frames, and what comes before them.
+/// The link types of IEEE 802.11 frames, and the headers before the frame.
 #[rattlefmt::skip]
 static BEFORE_WIRELESS: [(LinkType, &[u8]); 9] = [
     (LinkType::Ieee80211, &[]),
@@ -94,7 +94,7 @@ fn wireless_headers_are_passed_over(rt: HostRuntime) {
     }
 }
 
-/// The Frame Control field, the sequence number's first byte, what comes after it, and the protocol that is found, or the length of the
+/// The Frame Control field, the first byte of the sequence number, the bytes after it, and the protocol that is found, or the length of the
 /// header that is cut off.
 type WirelessRow = (
     &'static [u8],
@@ -236,7 +236,7 @@ fn other_frames_of_serial_lines(rt: HostRuntime) {
     }
 }
 
-/// What comes after the addresses of an Ethernet frame, in front of an IPv4 packet.
+/// The bytes of an Ethernet frame after its addresses and before an IPv4 packet.
 #[rattlefmt::skip]
 static ETHER_TYPES: [&[u8]; 12] = [
     &[0, 36, 6, 6, 3],
@@ -265,7 +265,7 @@ fn headers_after_an_ether_type_are_passed_over(rt: HostRuntime) {
     }
 }
 
-/// What comes after the addresses of an Ethernet frame, and its protocol, or the length of the header that is cut off.
+/// The bytes of an Ethernet frame after its addresses, and its protocol, or the length of the header that is cut off.
 type EthernetRow = (&'static [u8], Result<NetworkProtocol, usize>);
 
 #[rattlefmt::skip]
@@ -363,8 +363,8 @@ fn discovery_of_pppoe_is_no_session(rt: HostRuntime) {
     }
 }
 
-/// The length of an NFLOG attribute with 4 bytes of a packet, the bytes after the packet, and how many bytes of the frame are the packet,
-/// if the header states it.
+/// The length of an NFLOG attribute with 4 bytes of a packet, the bytes after the packet, and the number of bytes of the frame that belong
+/// to the packet, if the header states it.
 #[rattlefmt::skip]
 static LOGGED: [(u8, &[u8], usize, bool); 6] = [
     (8, &[], 4, true),

@@ -68,7 +68,7 @@ fn names_over_ppp(rt: HostRuntime) {
     }
 }
 
-/// What a packet is, and the row of its protocol.
+/// The content of a packet, and the row of its protocol.
 type ProtocolRow = (Content<'static>, Protocol);
 
 #[rattlefmt::skip]

@@ -34,7 +34,7 @@ const LINE: &str =
 /// The end of this line, after the length of the frame.
 const AFTER_LENGTH: &str = "192.0.2.1:7 > 192.0.2.2:9 UDP length 9, payload 1; checksum right\n";
 
-/// The number of a link type, what comes before an IPv4 packet, and the length of the frame.
+/// The number of a link type, the bytes before an IPv4 packet, and the length of the frame.
 type LinkRow = (u32, &'static [u8], &'static str);
 
 #[rattlefmt::skip]
@@ -69,7 +69,7 @@ impl<'a> Open for Captures<'a> {
     }
 }
 
-/// Runs a report. The buffer is an array, since a checked build fills and drops a vector byte by byte.
+/// Runs a report. The buffer is an array, since a checked build fills and drops a vector byte by byte, which takes long.
 fn run_into<O: Open, W: Write, E: Write>(
     rt: &(impl Abort + RandomSource),
     parts: Parts,
@@ -81,7 +81,7 @@ fn run_into<O: Open, W: Write, E: Write>(
     run(sources, parts, state, &mut buffer, outputs)
 }
 
-/// The exit status of a run. If nothing more could be reported, it is the status of the program then.
+/// The exit status of a run. If nothing more could be reported, it is the exit status of the program in this case.
 fn status_of(outcome: Result<ExitStatus, WriteError>) -> u8 {
     match outcome {
         Ok(status) => status.number(),
@@ -173,7 +173,7 @@ fn every_link_and_order_is_read(rt: HostRuntime) {
     }
 }
 
-/// Inputs that are no captures, and the error of each.
+/// Inputs that are not captures, and the error of each.
 #[rattlefmt::skip]
 const NO_CAPTURES: [(&[u8], &str); 11] = [
     (&[], "capture_report: The header of a capture has 24 bytes, and the input contains 0.\n"),
@@ -199,7 +199,7 @@ const NO_CAPTURES: [(&[u8], &str); 11] = [
      "capture_report: The capture is compressed, and is read by lz4 -dc FILE | capture_report.\n"),
 ];
 
-/// How many bytes of a capture there are, and the status and the error.
+/// The number of bytes of a capture that are present, and the status and the error.
 #[rattlefmt::skip]
 const CUT_CAPTURES: [(usize, u8, &str); 3] = [
     (23, 2, "capture_report: The header of a capture has 24 bytes, and the input contains 23.\n"),
@@ -392,7 +392,7 @@ fn expect_lines_before(
 fn read_faults_leave_the_report_before_them(rt: HostRuntime) {
     let one = expect_ok(&rt, raw_capture(rt.alloc())).len();
     let bytes = two_packets(&rt, 9);
-    // Each byte takes a read, and the end of the capture one more.
+    // Each byte needs a read, and the end of the capture needs another.
     for reads in 0..bytes.len() + 1 {
         expect_lines_before(&rt, &bytes, one, reads);
     }
@@ -419,7 +419,7 @@ fn expect_beginning<O: Open>(
         errors: Vec::new(rt.alloc()),
     };
     let outcome = run_into(rt, parts, sources, &mut outputs);
-    // Each byte takes a write, and the flush is one call more.
+    // Each byte needs a write, and the flush is one call more.
     let expected = if calls <= whole.len() { 3 } else { 0 };
     expect_at(rt, &calls, &status_of(outcome), &expected);
     let written = outputs.report.written.as_slice();
@@ -516,8 +516,8 @@ fn packets_that_are_not_chosen_are_left_out(rt: HostRuntime) {
     }
 }
 
-/// A number of packets, the length of the capture that is read, the status, and the lines of packets and the totals. The first packet of a
-/// capture is complete after 69 bytes, and the second after 114.
+/// A number of packets, the length of the capture that is read, the status, and the lines of packets and the totals. The first packet of
+/// the capture ends after 69 bytes, and the second after 114.
 type LimitRow = (u64, usize, u8, [&'static str; 3]);
 
 #[rattlefmt::skip]
@@ -525,7 +525,7 @@ static LIMITS: [LimitRow; 6] = [
     (1, 114, 0, [LINE, "", "\nfile type classic, byte order big-endian, snap length 0, time resolution 10^-6 s\npackets 1, bytes 29, bytes a packet 29\n"]),
     (2, 114, 0, [LINE, TO_TEN, "\nfile type classic, byte order big-endian, snap length 0, time resolution 10^-6 s\npackets 2, bytes 58, bytes a packet 29\n"]),
     (3, 114, 0, [LINE, TO_TEN, "\nfile type classic, byte order big-endian, snap length 0, time resolution 10^-6 s\npackets 2, bytes 58, bytes a packet 29\n"]),
-    // What follows the last packet is not read.
+    // The bytes after the last packet are not read.
     (1, 113, 0, [LINE, "", "\nfile type classic, byte order big-endian, snap length 0, time resolution 10^-6 s\npackets 1, bytes 29, bytes a packet 29\n"]),
     (2, 113, 1, [LINE, "", "\nfile type classic, byte order big-endian, snap length 0, time resolution 10^-6 s\npackets 1, bytes 29, bytes a packet 29\n"]),
     (0, 114, 0, ["", "", ""]),
@@ -597,7 +597,7 @@ const OBJECT: &str =
 const TOTALS: &str =
     r#"{"type":"summary","file_type":"classic","byte_order":"big-endian","snap_length":0,"time_resolution":"10^-6 s","packets":1,"bytes":29,"bytes_per_packet":29,"conversations":1,"first_packet":"1970-01-01T00:00:05.000007Z","first_packet_seconds":5,"first_packet_nanoseconds":7000,"last_packet":"1970-01-01T00:00:05.000007Z","last_packet_seconds":5,"last_packet_nanoseconds":7000,"duration":"00:00:00.000000","duration_seconds":0,"duration_nanoseconds":0,"link_types":{"BSD_loopback":0,"#;
 
-/// Which lines there are, whether there is a summary, and what the report begins with.
+/// The lines of the report, whether it has a summary, and the beginning of the report.
 type ObjectsRow = (Lines, bool, [&'static str; 3]);
 
 #[rattlefmt::skip]

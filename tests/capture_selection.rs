@@ -1,4 +1,4 @@
-//! Tests of the crate `capture_selection`: the packets of a capture as a capture.
+//! Tests of the crate `capture_selection`: packets of a capture are written as a capture.
 
 use crate::captures::{
     ALL, ENHANCED, ENHANCED_END, ENHANCED_OF_SECOND, FaultyReader, FaultyWriter, OTHER_BLOCK,
@@ -29,7 +29,7 @@ fn place_in(error: &CaptureError) -> Option<(u64, u64)> {
     }
 }
 
-/// Selects packets of a capture. The buffer is an array, since a checked build fills and drops a vector byte by byte.
+/// Selects packets of a capture. The buffer is an array, since a checked build fills and drops a vector byte by byte, which takes long.
 fn select<R: Read, W: Write>(input: &mut R, output: &mut W, parts: &Parts) -> Selected {
     let mut buffer = [0; MAX_PACKET_LEN];
     let mut counts = Counts::NONE;
@@ -66,8 +66,8 @@ fn of_port(port: Option<u16>, lines: Lines, limit: Option<u64>) -> Parts {
     }
 }
 
-/// A port, the lines, a limit, and what is written of the records of a capture of two packets: the numbers of bytes before them and of
-/// themselves. Then the packets that are read, chosen and written. The second packet is wrong.
+/// A port, the lines, a limit, and the part of a capture of two packets that is written: the numbers of bytes before the records and of the
+/// records. Then the numbers of packets that are read, chosen and written. The second packet is wrong.
 type SelectionRow = (
     Option<u16>,
     Lines,
@@ -119,7 +119,7 @@ fn records_are_selected(rt: HostRuntime) {
     }
 }
 
-/// What the selection of a cut capture has to be: its status, its length, the packets that are read, and the place in its error.
+/// The expected selection of a cut capture: its status, its length, the number of packets that are read, and the place in its error.
 type Cut = (ExitStatus, usize, u64, Option<(u64, u64)>);
 
 /// The selection of all packets of a capture that is cut here.
@@ -154,8 +154,8 @@ fn cut_captures_are_selected(rt: HostRuntime) {
     }
 }
 
-/// A port, the number of bytes that are missing at the end of a capture of one packet that is too long, whether the record is written as
-/// far as it is there, and the status.
+/// A port, the number of bytes that are missing at the end of a capture with one packet that is too long, whether the present bytes of the
+/// record are written, and the status.
 type LongRow = (Option<u16>, usize, bool, ExitStatus);
 
 #[rattlefmt::skip]
@@ -236,8 +236,8 @@ fn read_faults_end_a_selection(rt: HostRuntime) {
     }
 }
 
-/// A port, the lines, and what is written of a pcapng file with two sections, four packets and blocks that contain no packet. The link type
-/// of the second packet is not read.
+/// A port, the lines, and what is written for a pcapng file with two sections, four packets and blocks without a packet. The link type of
+/// the second packet is not read.
 type FileRow = (Option<u16>, Lines, &'static [&'static [u8]]);
 
 #[rattlefmt::skip]

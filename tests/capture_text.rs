@@ -26,13 +26,13 @@ const FIRST: PacketTime = PacketTime {
     offset: 0,
 };
 
-/// The length of a frame that was captured whole.
+/// The length of a frame that was captured completely.
 const WHOLE: FrameLen = FrameLen {
     original: 60,
     captured: 60,
 };
 
-/// What the first line of a capture begins with if its frame was captured whole.
+/// The beginning of the first line of a capture if its whole frame was captured.
 const START: &str = "1 00:00:00.000000 length 60: ";
 
 /// The first line of a capture, of this packet in a frame of this length.
@@ -46,14 +46,14 @@ fn line_of(rt: &(impl Abort + AllocGlobal), len: Option<FrameLen>, packet: &Pack
     line
 }
 
-/// Stops the test unless the three texts together are the first line of a capture, of this packet, after the length of its frame.
+/// Stops the test unless the three texts together are the first line of a capture for this packet, after the length of its frame.
 fn expect_line_of(rt: &(impl Abort + AllocGlobal), packet: &Packet<'_>, wanted: [&str; 3]) {
     let [before, wanted, after] = wanted;
     let line = line_of(rt, Some(WHOLE), packet);
     expect_all_written(rt, &line, &[START, before, wanted, after, "\n"]);
 }
 
-/// Stops the test unless the three texts together are the first line of a capture, of a packet in no tunnel, after the length of its frame.
+/// Stops the test unless the three texts together are the first line of a capture for a packet in no tunnel, after the length of its frame.
 fn expect_line(
     rt: &(impl Abort + AllocGlobal),
     content: Content<'_>,
@@ -63,7 +63,7 @@ fn expect_line(
     expect_line_of(rt, &Packet::in_no_tunnel(content, verdict), wanted);
 }
 
-/// Stops the test unless the three texts together are what is written of an IP packet with this transport, whose checksum is right.
+/// Stops the test unless the three texts together are the text of an IP packet with this transport, whose checksum is right.
 fn expect_transport(
     rt: &(impl Abort + AllocGlobal),
     addresses: IpAddresses<'_>,
@@ -85,7 +85,7 @@ fn expect_transport(
     expect_all_written(rt, &line, &[START, before, wanted, after, end]);
 }
 
-/// Stops the test unless the three texts together are what is written of this verdict on a packet that is not read.
+/// Stops the test unless the three texts together are the text of this verdict on a packet that is not read.
 fn expect_verdict(rt: &(impl Abort + AllocGlobal), verdict: Verdict, wanted: [&str; 3]) {
     expect_line(rt, Content::Unread, verdict, wanted);
 }

@@ -36,7 +36,7 @@ fn number_bytes(is_little_endian: bool, number: u32) -> [u8; 4] {
     }
 }
 
-/// A capture of this link type with one packet, after these bytes of its link.
+/// A capture of this link type with one packet, which follows these bytes of its link header.
 pub fn capture(
     alloc: Global,
     is_little_endian: bool,
@@ -54,7 +54,7 @@ pub fn capture(
         number_bytes(is_little_endian, 7),
         number_bytes(is_little_endian, len),
     ];
-    // The magic number, the version, what is not looked at, the link type, the time and both lengths.
+    // The magic number, the version, fields that are not read, the link type, the time and both lengths.
     let [magic, version, link_type, seconds, fraction, len] = &number;
     let parts: [&[u8]; 10] = [
         magic, version, &[0; 12], link_type, seconds, fraction, len, len, link, &UDP,
@@ -67,7 +67,7 @@ pub fn raw_capture(alloc: Global) -> Result<Vec<u8>, AllocError> {
     capture(alloc, false, 101, &[])
 }
 
-/// The same capture, in which the byte at this place is this one.
+/// The capture of `raw_capture`, in which the byte at this place is replaced.
 pub fn changed_capture(alloc: Global, place: usize, byte: u8) -> Result<Vec<u8>, AllocError> {
     let mut bytes = raw_capture(alloc)?;
     if let Some(changed) = bytes.as_mut_slice().get_mut(place) {
@@ -76,7 +76,7 @@ pub fn changed_capture(alloc: Global, place: usize, byte: u8) -> Result<Vec<u8>,
     Ok(bytes)
 }
 
-/// A capture of the UDP packet, and of another one to this port.
+/// A capture of the UDP packet, and of another UDP packet to this port.
 pub fn two_packets(rt: &(impl Abort + AllocGlobal), port: u8) -> Vec<u8> {
     let first = expect_ok(rt, raw_capture(rt.alloc()));
     let second = expect_ok(rt, changed_capture(rt.alloc(), 63, port));
@@ -84,10 +84,10 @@ pub fn two_packets(rt: &(impl Abort + AllocGlobal), port: u8) -> Vec<u8> {
     joined(rt, &[first.as_slice(), packet])
 }
 
-/// The header of a capture and of a record of a packet that has more bytes than are read.
+/// The header of a capture, and of a record whose packet has more bytes than are read.
 static LONG_HEADERS: [u32; 10] = [0xA1B2_C3D4, 0x2_0004, 0, 0, 0, 101, 5, 7, 528_384, 528_384];
 
-/// A capture of this packet.
+/// A capture with a packet that has more bytes than are read.
 pub fn long_capture(rt: &(impl Abort + AllocGlobal)) -> Vec<u8> {
     let mut bytes = Vec::new(rt.alloc());
     for number in &LONG_HEADERS {
@@ -97,14 +97,14 @@ pub fn long_capture(rt: &(impl Abort + AllocGlobal)) -> Vec<u8> {
     bytes
 }
 
-/// Appends the bytes of this packet.
+/// Appends the bytes of the long packet.
 fn append_zeros(rt: &impl Abort, bytes: &mut Vec<u8>) {
     for _ in 0..129 {
         append(rt, bytes, &[0; 4096]);
     }
 }
 
-/// The first bytes of a capture, or all of it if it has fewer.
+/// The first bytes of a capture, or all bytes if it has fewer.
 pub fn first_bytes(bytes: &[u8], len: usize) -> &[u8] {
     &bytes[..len.min(bytes.len())]
 }
@@ -123,22 +123,22 @@ pub const OTHER_LINK: &[u8] =
 /// A block of another type, which is passed over.
 pub const OTHER_BLOCK: &[u8] = b"\x05\0\0\0\x0C\0\0\0\x0C\0\0\0";
 
-/// What comes before the UDP packet in an enhanced packet block of the first interface, 5 units after the beginning of 1970.
+/// The bytes before the UDP packet in an enhanced packet block of the first interface, 5 units after the beginning of 1970.
 pub const ENHANCED: &[u8] = b"\x06\0\0\0\x40\0\0\0\0\0\0\0\0\0\0\0\x05\0\0\0\x1D\0\0\0\x1D\0\0\0";
 
-/// The same of the second interface, a unit later.
+/// The bytes before the UDP packet in an enhanced packet block of the second interface, a unit later.
 pub const ENHANCED_OF_SECOND: &[u8] =
     b"\x06\0\0\0\x40\0\0\0\x01\0\0\0\0\0\0\0\x06\0\0\0\x1D\0\0\0\x1D\0\0\0";
 
-/// What comes after it: the padding, and the length again.
+/// The bytes after the UDP packet in an enhanced packet block: the padding, and the length again.
 pub const ENHANCED_END: &[u8] = b"\0\0\0\x40\0\0\0";
 
-/// The same in a simple packet block.
+/// The bytes before the UDP packet in a simple packet block.
 pub const SIMPLE: &[u8] = b"\x03\0\0\0\x30\0\0\0\x1D\0\0\0";
 
 pub const SIMPLE_END: &[u8] = b"\0\0\0\x30\0\0\0";
 
-/// Gives a byte a read, and fails once, at the read after `reads`.
+/// A reader that returns one byte per read. The read after `reads` reads fails, once.
 #[derive(Drop)]
 pub struct FaultyReader<'a> {
     pub rest: &'a [u8],
@@ -163,7 +163,7 @@ impl<'a> Read for FaultyReader<'a> {
     }
 }
 
-/// Takes a byte a write, and fails, or takes nothing, once, at the call after `calls`, a flush being a call.
+/// A writer that accepts one byte per write. The call after `calls` calls, which are writes and flushes, fails or accepts nothing, once.
 #[derive(Drop)]
 pub struct FaultyWriter {
     pub written: Vec<u8>,

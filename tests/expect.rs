@@ -1,4 +1,4 @@
-//! How tests compare, and how they build their bytes.
+//! The comparisons of tests, and the functions that build their bytes.
 
 use std::alloc::{AllocError, Global};
 use std::fmt::{Debug, Display};
@@ -26,7 +26,7 @@ pub fn expect_bytes(rt: &impl Abort, bytes: &[u8], expected: &[u8]) {
     }
 }
 
-/// Whether both are the same bytes. In a checked build `==` takes several calls a byte, and the sweeps compare many bytes.
+/// Whether both are the same bytes. In a checked build `==` makes several calls for each byte, and the sweeps compare many bytes.
 pub fn are_same(bytes: &[u8], others: &[u8]) -> bool {
     let len = bytes.len();
     if len != others.len() {
@@ -72,7 +72,7 @@ pub fn expect_clone<T: Clone + PartialEq + Debug + Drop>(rt: &impl Abort, value:
     expect_equal(rt, &copy, value);
 }
 
-/// Returns the value. Stops the test if there is none.
+/// Returns the value. Stops the test if the option is `None`.
 pub fn expect_some<T>(rt: &impl Abort, value: Option<T>) -> T {
     value.expect(rt, "there is no value")
 }
@@ -87,7 +87,7 @@ pub fn bytes_from<'a>(rt: &impl Abort, bytes: &'a [u8], start: usize) -> &'a [u8
     expect_some(rt, bytes.get(start..))
 }
 
-/// Returns the bytes in front of this place. Stops the test if there are fewer.
+/// Returns the first `end` bytes. Stops the test if there are fewer.
 pub fn bytes_to<'a>(rt: &impl Abort, bytes: &'a [u8], end: usize) -> &'a [u8] {
     expect_some(rt, bytes.get(..end))
 }

@@ -201,7 +201,7 @@ fn fragments_in_any_order_give_the_payload_back(rt: HostRuntime) {
     }
 }
 
-/// The place of a fragment, whether more fragments come after it, its bytes in the payload, and why it is refused after the bytes 8 to 16.
+/// The place of a fragment, whether more fragments come after it, its bytes in the payload, and why it is refused after the bytes 8 to 15.
 #[rattlefmt::skip]
 static REFUSED: [(u16, bool, usize, usize, ReassemblyError); 8] = [
     (8, true, 0, 0, ReassemblyError::Empty),

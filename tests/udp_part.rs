@@ -73,7 +73,7 @@ fn a_packet_is_made_and_sliced(rt: HostRuntime) {
 
 #[test]
 fn the_example_of_the_root_file(rt: HostRuntime) {
-    // An IPv4 header that has the addresses alone, a UDP packet, and two bytes of padding.
+    // An IPv4 header in which only the addresses matter, a UDP packet, and two bytes of padding.
     let mut frame = [
         0x45, 0, 0, 0, 0, 0, 0, 0, 0, 17, 0, 0, 192, 168, 1, 1, 192, 168, 1, 2, // IPv4
         0x00, 0x15, 0x04, 0xD2, 0x00, 0x10, 0x67, 0x7F, // UDP
@@ -254,7 +254,7 @@ fn expect_sliced_header(rt: &impl Abort, header: &UdpHeaderSlice<'_>, front: &[u
     expect_equal(rt, &header.to_header(), &SLICED);
 }
 
-/// The length field, how many bytes there are, and what the error says: the required length, the length, where it came from, and the
+/// The length field, the number of bytes, and what the error states: the required length, the length, the source of the length, and the
 /// layer.
 type RefusedRow = (u8, usize, usize, usize, LenSource, Layer);
 
@@ -284,7 +284,7 @@ fn strict_slices_are_refused_by_the_length_field(rt: HostRuntime) {
     expect_equal(&rt, &error, &expected);
 }
 
-/// The length field, the bytes that are there, those that are kept, and where their number came from.
+/// The length field, the number of bytes present, the number of bytes kept, and the source of this number.
 type KeptRow = (u8, usize, usize, LenSource);
 
 static KEPT: [KeptRow; 6] = [
@@ -382,7 +382,7 @@ fn checksums_over_ipv6(rt: HostRuntime) {
     let nothing = Ipv6Header::default();
     let raw = header.calc_checksum_ipv6_raw([0; 16], [0; 16], &[]);
     let calculated = header.calc_checksum_ipv6(&nothing, &[]);
-    // The length field is summed, and not the length of the payload, which it cannot say.
+    // The length field is summed. The length of the payload is not, since the field can't state it.
     let too_long = header.calc_checksum_ipv6_raw([0; 16], [0; 16], &TOO_LONG);
     expect_equal(&rt, &expect_ok(&rt, raw), &0xFFDE);
     expect_equal(&rt, &expect_ok(&rt, calculated), &0xFFDE);

@@ -272,7 +272,7 @@ enum etherparse_status_number {
 /* The packet is a fragment. An echo request is answered only after its packet is put together (RFC 1122, section 3.3.2): no other field. */
 #define ETHERPARSE_STATUS_ECHO_FRAGMENT 32
 /*
- * The packet is no echo request, which has type 8 over IPv4 and 128 over IPv6, and code 0. Or it has another IP version than the
+ * The packet is not an echo request, which has type 8 over IPv4 and 128 over IPv6, and code 0. Or it has another IP version than the
  * call: no other field.
  */
 #define ETHERPARSE_STATUS_ECHO_NO_REQUEST 33
@@ -298,9 +298,9 @@ enum etherparse_status_number {
 #define ETHERPARSE_STATUS_TRANSLATE_PROTOCOL 40
 /* The packet contains fewer than 8 bytes of UDP, TCP or ICMP: required_len, which is 8, and len. */
 #define ETHERPARSE_STATUS_TRANSLATE_HEADER_CUT_OFF 41
-/* The ICMP message is no query and no error, or a redirect, so the packet is not translated: no other field. */
+/* The ICMP message is neither a query nor an error, or it is a redirect. So the packet is not translated: no other field. */
 #define ETHERPARSE_STATUS_TRANSLATE_ICMP_MESSAGE 42
-/* The packet that the ICMP error is about cannot be translated, so neither is the error: no other field. */
+/* The packet that the ICMP error quotes can't be translated, so the error is not translated: no other field. */
 #define ETHERPARSE_STATUS_TRANSLATE_QUOTED_PACKET 43
 /* The packet is not the reply to the echo request: no other field. */
 #define ETHERPARSE_STATUS_ECHO_NO_REPLY 44
@@ -338,7 +338,7 @@ enum {
     ETHERPARSE_LEN_SOURCE_UDP_HEADER_LEN = 2 /* the length field of a UDP header */
 };
 
-/* Which value was above its limit. 0 means no value. */
+/* The kind of the value that was above its limit. 0 means no value. */
 enum {
     ETHERPARSE_VALUE_UDP_PAYLOAD_LENGTH_IPV4 = 1,
     ETHERPARSE_VALUE_UDP_PAYLOAD_LENGTH_IPV6 = 2,
@@ -353,7 +353,7 @@ typedef struct etherparse_error {
     uint32_t status;           /* the status that the call returned */
     uint32_t layer;            /* ETHERPARSE_LAYER_..: the layer that could not be read */
     uint32_t len_source;       /* ETHERPARSE_LEN_SOURCE_..: the source of `len` */
-    uint32_t value_type;       /* ETHERPARSE_VALUE_..: which value was too big */
+    uint32_t value_type;       /* ETHERPARSE_VALUE_..: the kind of the value that was too big */
     uint32_t data_offset;      /* the data offset that was read, in words of four bytes */
     uint32_t option_kind;      /* the kind of the option */
     uint32_t option_size;      /* the length byte of the option */
@@ -407,11 +407,11 @@ enum {
 };
 
 /*
- * What an IP packet carries.
+ * The transport in an IP packet.
  *
  * `protocol` is the protocol of the payload. The payload begins with the header of that protocol if is_fragment is 0. A fragment has to be
- * reassembled first. ICMPv4 in a packet of IPv6 and ICMPv6 in a packet of IPv4 are no messages of ICMP. etherparse_packet_verdict tests all
- * of this: its header_protocol is the protocol whose calls read the payload.
+ * reassembled first. ICMPv4 over IPv6, and ICMPv6 over IPv4, are not ICMP messages. etherparse_packet_verdict tests all of this: its
+ * header_protocol is the protocol whose calls read the payload.
  */
 typedef struct etherparse_ip_transport {
     uint32_t version;           /* 4 or 6 */
@@ -604,7 +604,7 @@ enum {
     ETHERPARSE_VERDICT_UNTESTED_FRAGMENT = 16,            /* the checksum covers all fragments */
     ETHERPARSE_VERDICT_UNTESTED_CUT_OFF = 17,             /* bytes of the packet are missing */
     ETHERPARSE_VERDICT_UNTESTED_UNKNOWN_DESTINATION = 18, /* has_destination is 0 */
-    ETHERPARSE_VERDICT_UNTESTED_OTHER_PROTOCOL = 19,      /* none of the four, or ICMP of the other version of IP */
+    ETHERPARSE_VERDICT_UNTESTED_OTHER_PROTOCOL = 19,      /* not UDP, not TCP, and not ICMP of this IP version */
     ETHERPARSE_VERDICT_UNTESTED_ZERO_LENGTH = 20,         /* the length field of a UDP packet of at most 65,535 bytes is 0, which is
                                                              malformed (RFC 768) */
     ETHERPARSE_VERDICT_UNTESTED_TOO_LONG = 21             /* too many bytes for a pseudo header, as in a packet without a length */
@@ -965,7 +965,7 @@ etherparse_status etherparse_tcp_options_write(const etherparse_tcp_option *opti
 #define ETHERPARSE_ICMPV4_HEADER_LEN 8
 #define ETHERPARSE_ICMPV4_TIMESTAMP_LEN 20
 
-/* The kinds of ICMPv4 messages, by numbers of this library. They are no types: an echo request has kind 4 and type 8. */
+/* The kinds of ICMPv4 messages, by numbers of this library. They are not types: an echo request has kind 4 and type 8. */
 enum {
     ETHERPARSE_ICMPV4_KIND_UNKNOWN = 0, /* any other type and code */
     ETHERPARSE_ICMPV4_KIND_ECHO_REPLY = 1,
@@ -1116,7 +1116,7 @@ etherparse_status etherparse_icmpv4_checksum_test(const uint8_t *bytes, size_t l
 /* The length of an ICMPv6 header, in bytes. */
 #define ETHERPARSE_ICMPV6_HEADER_LEN 8
 
-/* The kinds of ICMPv6 messages, by numbers of this library. They are no types: an echo request has kind 5 and type 128. */
+/* The kinds of ICMPv6 messages, by numbers of this library. They are not types: an echo request has kind 5 and type 128. */
 enum {
     ETHERPARSE_ICMPV6_KIND_UNKNOWN = 0,                 /* any other type and code */
     ETHERPARSE_ICMPV6_KIND_DESTINATION_UNREACHABLE = 1, /* codes 0 to 6 */
@@ -1318,18 +1318,18 @@ etherparse_status etherparse_echo_is_reply(const uint8_t *request, size_t reques
                                            etherparse_error *error);
 
 /*
- * The same, except that the reply comes from any address of one host. A host that answers a request to an anycast address replies from its
- * own address, which the request does not name (RFC 4443, section 4.2).
+ * Tests the same as etherparse_echo_is_reply, except that the reply may come from any address of one host. A host that answers a request to
+ * an anycast address replies from its own address, which the request does not contain (RFC 4443, section 4.2).
  */
 ETHERPARSE_CHECK_RESULT
 etherparse_status etherparse_echo_is_reply_from_any(const uint8_t *request, size_t request_len, const uint8_t *reply, size_t reply_len,
                                                     etherparse_error *error);
 
-/* ---- the packet that an ICMP error is about (RFC 792; RFC 4443, section 3) -------------------------------------------------- */
+/* ---- the packet that an ICMP error quotes (RFC 792; RFC 4443, section 3) ---------------------------------------------------- */
 
 /*
- * Writes where the packet that an ICMP error is about lies in the bytes, which are the ICMP message. The packet begins with its IP
- * header at bytes[*offset], and *len bytes of it are there, possibly 0. *offset is 8. The length field of RFC 4884 ends the packet
+ * Writes the place and the length of the packet that an ICMP error quotes. The bytes are the ICMP message. The quoted packet begins with
+ * its IP header at bytes[*offset], and *len bytes of it are present, possibly 0. *offset is 8. The length field of RFC 4884 ends the packet
  * if it counts at least 128 bytes. Otherwise the packet extends to the end of the bytes. The packet is often truncated, which
  * etherparse_transport_in_ip_lax accepts.
  *
@@ -1529,8 +1529,8 @@ ETHERPARSE_CHECK_RESULT
 uint16_t etherparse_checksum_change_apply(etherparse_checksum_change change, uint16_t checksum);
 
 /*
- * The same as UDP stores it: 0, which means no checksum, stays 0, and no other checksum becomes 0. A right checksum becomes
- * the right checksum, and a wrong checksum stays wrong.
+ * Returns the checksum of the changed packet, as UDP stores it: 0, which means no checksum, stays 0, and no other checksum becomes 0. A
+ * right checksum becomes the right checksum, and a wrong checksum stays wrong.
  */
 ETHERPARSE_CHECK_RESULT
 uint16_t etherparse_checksum_change_apply_udp(etherparse_checksum_change change, uint16_t checksum);

@@ -128,7 +128,7 @@ fn expect_headers(rt: &impl Abort, form: &Form) {
     expect_header(rt, form, 2, Err(2));
 }
 
-/// Bytes that are no header, and why not.
+/// Bytes that are not a header, each with the error.
 #[rattlefmt::skip]
 static NO_HEADERS: [(&[u8], CaptureHeaderError); 5] = [
     (&[0x0A, 0x0D, 0x0D, 0x0A], CaptureHeaderError::Pcapng),
@@ -243,7 +243,7 @@ fn append_counted(rt: &impl Abort, bytes: &mut Vec<u8>, len: u32) {
     }
 }
 
-/// The records of `RECORDS`, and one that is cut off.
+/// The records of `RECORDS`, and a record that is cut off.
 fn records_in(rt: &(impl Abort + AllocGlobal), order: ByteOrder) -> Vec<u8> {
     let mut bytes = Vec::new(rt.alloc());
     for (captured_len, original_len) in &RECORDS {
@@ -287,7 +287,7 @@ fn expect_record(
     expect_equal(rt, &header.is_cut(), &is_cut);
 }
 
-/// Stops the test unless the next record is cut off, and nothing comes after it.
+/// Stops the test unless the next record is cut off, and nothing follows it.
 fn expect_last(
     rt: &impl Abort,
     input: &mut &[u8],
@@ -317,7 +317,7 @@ fn expect_records(rt: &impl Abort, bytes: &[u8], order: ByteOrder, buffer: &mut 
     expect_equal(rt, &buffer.get(250), &Some(&250));
     expect_last(rt, &mut input, order, buffer, 21, 20);
     expect_count(rt, bytes, order, buffer);
-    // Into a buffer without room all but the empty record are too long, and are counted all the same.
+    // Into a buffer of 0 bytes, all records except the empty one are too long. They are counted too.
     expect_count(rt, bytes, order, &mut []);
 }
 
@@ -337,12 +337,12 @@ static SHORT_RECORDS: [(&[u8], bool); 4] = [
     (b"ef", true),
 ];
 
-/// How many bytes these are.
+/// The number of these bytes.
 fn len_of(rt: &impl Abort, bytes: &[u8]) -> u32 {
     expect_ok(rt, u32::try_from(bytes.len()))
 }
 
-/// The records of `SHORT_RECORDS`, and one that is cut off.
+/// The records of `SHORT_RECORDS`, and a record that is cut off.
 fn short_records_in(rt: &(impl Abort + AllocGlobal), order: ByteOrder) -> Vec<u8> {
     let mut bytes = Vec::new(rt.alloc());
     for (captured, _) in &SHORT_RECORDS {

@@ -158,8 +158,9 @@ fn bytes_are_refused_as_blocks(rt: HostRuntime) {
     }
 }
 
-/// Bodies of interface description blocks, and what they say: without options; with a comment before the resolution, and another
-/// resolution after it; with an offset of -1 and a power of two; with a resolution after the end of the options; with one that is cut off.
+/// Bodies of interface description blocks, and what they state: without options; with a comment before the resolution, and another
+/// resolution after it; with an offset of -1 and a power of two; with a resolution after the end of the options; with a resolution that is
+/// cut off.
 static INTERFACES: [(ByteOrder, &[u8], InterfaceDescription); 5] = [
     (
         ByteOrder::LittleEndian,
@@ -213,7 +214,7 @@ static INTERFACES: [(ByteOrder, &[u8], InterfaceDescription); 5] = [
     ),
 ];
 
-/// Stops the test unless this is what the body of an interface description block says.
+/// Stops the test unless the body of an interface description block states this.
 fn expect_interface(
     rt: &impl Abort,
     order: ByteOrder,
@@ -242,7 +243,7 @@ const VERSION: SectionHeader = SectionHeader {
     minor_version: 0,
 };
 
-/// The byte order and the body of a section header block, and what the body says.
+/// The byte order and the body of a section header block, and what the body states.
 type SectionRow = (ByteOrder, &'static [u8], Result<SectionHeader, BodyError>);
 
 #[rattlefmt::skip]
@@ -267,7 +268,7 @@ static SECTION_BODIES: [SectionRow; 6] = [
     ),
 ];
 
-/// Stops the test unless the body of a row says what the row says.
+/// Stops the test unless the body of a row states what the row contains.
 fn expect_section_body(rt: &impl Abort, row: &SectionRow) {
     let (order, body, expected) = row;
     expect_equal(rt, &SectionHeader::from_body(*order, body), expected);
@@ -284,7 +285,7 @@ fn section_headers_are_read(rt: HostRuntime) {
 /// the beginning of 1970.
 const ENHANCED: &[u8] = b"\0\0\0\0\x05\0\0\0\x06\0\0\0\x03\0\0\0\x09\0\0\0abc\0";
 
-/// The same packet in the body of an obsolete packet block, 7 packets having been dropped before it.
+/// The body of an obsolete packet block with the packet of `ENHANCED`; 7 packets were dropped before it.
 const OBSOLETE: &[u8] = b"\0\0\x07\0\x05\0\0\0\x06\0\0\0\x03\0\0\0\x09\0\0\0abc\0";
 
 /// The body of a simple packet block with three bytes.
@@ -313,7 +314,7 @@ fn block_of(block_type: u32, body: &[u8]) -> Block<'_> {
 /// The time of the packet.
 const TIME: Option<u64> = Some(0x5_0000_0006);
 
-/// The type of a block, its body, the snap length of its interface, and what the body says.
+/// The type of a block, its body, the snap length of its interface, and what the body states.
 type ReadRow = (u32, &'static [u8], u32, BlockBody<'static>);
 
 #[rattlefmt::skip]
@@ -326,7 +327,7 @@ static READ: [ReadRow; 6] = [
     (5, ENHANCED, 0, BlockBody::Other),
 ];
 
-/// Stops the test unless the body of a row is read as the row says.
+/// Stops the test unless the body of a row is read as in the row.
 fn expect_body(rt: &impl Abort, row: &ReadRow) {
     let (block_type, body, snap_len, expected) = *row;
     let read = BlockBody::from_block(&block_of(block_type, body), &[interface_with(snap_len)]);
@@ -340,8 +341,8 @@ fn packets_are_read(rt: HostRuntime) {
     }
 }
 
-/// The type of a block, its body, the places of the first byte of it that is there and after the last, the number of interfaces, and why
-/// the body is refused.
+/// The type of a block, its body, the place of its first present byte, the place after its last present byte, the number of interfaces, and
+/// why the body is refused.
 type RefusedRow = (u32, &'static [u8], usize, usize, usize, BodyError);
 
 #[rattlefmt::skip]
@@ -356,7 +357,7 @@ static REFUSED_BODIES: [RefusedRow; 8] = [
     (6, ENHANCED, 4, 24, 1, BodyError::Interface { interface: 5, count: 1 }),
 ];
 
-/// Stops the test unless the body of a row is refused as the row says.
+/// Stops the test unless the body of a row is refused as in the row.
 fn expect_refused(rt: &impl Abort, row: &RefusedRow) {
     let (block_type, body, start, end, count, error) = *row;
     let body = expect_some(rt, body.get(start..end));
@@ -373,14 +374,14 @@ fn packets_are_refused(rt: HostRuntime) {
     }
 }
 
-/// A section of each byte order, one after the other, each with a block without a body.
+/// A section in each byte order, one after the other, each with a block without a body.
 fn file_of_two_sections(rt: &(impl Abort + AllocGlobal)) -> Vec<u8> {
     let [(_, first), (_, second)] = &SECTIONS;
     let [(_, empty), (_, other)] = &EMPTY;
     joined(rt, &[first, empty, second, other])
 }
 
-/// How many bytes of this file there are, the byte orders of the blocks in them, and the error after these blocks.
+/// The number of bytes of this file, the byte orders of the blocks in them, and the error after these blocks.
 type CutRow = (usize, &'static [ByteOrder], Option<PlacedBlockError>);
 
 #[rattlefmt::skip]

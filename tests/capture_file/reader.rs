@@ -16,12 +16,12 @@ const CLASSIC_BIG_ENDIAN: &[u8] =
 const CLASSIC_LITTLE_ENDIAN: &[u8] =
     b"\xD4\xC3\xB2\xA1\x02\0\x04\0\0\0\0\0\0\0\0\0\0\0\x04\0\x01\0\0\0\x05\0\0\0\x06\0\0\0\x03\0\0\0\x09\0\0\0abc\x07\0\0\0\x08\0\0\0\x05\0\0\0\x05\0\0\0defgh";
 
-/// The same packets in two sections of a pcapng file. The first is little-endian, and its packet is of the second of its interfaces; the
-/// first has another link type. The second section is big-endian, and has one interface.
+/// The packets of the classic captures in two sections of a pcapng file. The first section is little-endian, and its packet belongs to the
+/// second of its interfaces; the first interface has another link type. The second section is big-endian, and has one interface.
 const PCAPNG: &[u8] =
     b"\x0A\x0D\x0D\x0A\x1C\0\0\0\x4D\x3C\x2B\x1A\x01\0\0\0\xFF\xFF\xFF\xFF\xFF\xFF\xFF\xFF\x1C\0\0\0\x01\0\0\0\x14\0\0\0\x65\0\0\0\0\0\0\0\x14\0\0\0\x01\0\0\0\x14\0\0\0\x01\0\0\0\0\0\0\0\x14\0\0\0\x06\0\0\0\x24\0\0\0\x01\0\0\0\0\0\0\0\x46\x4B\x4C\0\x03\0\0\0\x09\0\0\0abc\0\x24\0\0\0\x0A\x0D\x0D\x0A\0\0\0\x1C\x1A\x2B\x3C\x4D\0\x01\0\0\xFF\xFF\xFF\xFF\xFF\xFF\xFF\xFF\0\0\0\x1C\0\0\0\x01\0\0\0\x14\0\x01\0\0\0\0\0\0\0\0\0\x14\0\0\0\x06\0\0\0\x28\0\0\0\0\0\0\0\0\0\x6A\xCF\xC8\0\0\0\x05\0\0\0\x05defgh\0\0\0\0\0\0\x28";
 
-/// The seconds and microseconds of the time of a packet, how many bytes it had, and those captured.
+/// The seconds and microseconds of the time of a packet, its length in bytes, and its captured bytes.
 type PacketRow = (u64, u64, u32, &'static [u8]);
 
 /// The packets of each of these files.
@@ -53,7 +53,7 @@ fn expect_packet(rt: &impl Abort, row: &PacketRow, packet: &CapturedPacket, buff
     expect_equal(rt, &kept.get(..row.3.len()), &Some(row.3));
 }
 
-/// Returns how many packets are left and what comes after them. Stops the test unless each is the packet of its row.
+/// Returns the number of packets left, and the item after them. Stops the test unless each is the packet of its row.
 fn read_rest(
     rt: &impl Abort,
     reader: &mut CaptureReader,
@@ -69,7 +69,7 @@ fn read_rest(
     (2, expect_ok(rt, reader.next_packet(input, buffer)))
 }
 
-/// Returns how many packets a file has and what comes after them. Stops the test unless each is the packet of its row.
+/// Returns the number of packets in a file, and the item after them. Stops the test unless each is the packet of its row.
 fn read_packets(rt: &impl Abort, file: &[u8]) -> (usize, Result<NextPacket, OpenError>) {
     let mut input = file;
     let mut buffer = [0u8; 64];
@@ -82,7 +82,7 @@ fn read_packets(rt: &impl Abort, file: &[u8]) -> (usize, Result<NextPacket, Open
     }
 }
 
-/// Stops the test unless a file has this many packets, and this comes after them.
+/// Stops the test unless a file has this number of packets, and this item follows them.
 fn expect_read(
     rt: &impl Abort,
     file: &[u8],
@@ -130,7 +130,7 @@ fn files_are_cut(rt: HostRuntime) {
     }
 }
 
-/// Bytes that are no capture, and why not.
+/// Bytes that are not a capture, each with the error.
 static NO_CAPTURES: [(&[u8], OpenError); 7] = [
     (
         b"\x0A\x0D\x0D",

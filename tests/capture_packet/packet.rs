@@ -43,25 +43,25 @@ pub(crate) const IPV6_DESTINATION: [u8; 16] = [
     0x20, 1, 0x0d, 0xb8, 0, 0, 0, 0, 0, 0, 0, 0, 0, 0, 0, 2,
 ];
 
-/// UDP with the checksum that is right over IPv6, with another, and with none.
+/// UDP with the right checksum over IPv6, with a wrong checksum, and without a checksum.
 pub(crate) const UDP_OVER_IPV6: [u8; 11] = [0, 53, 4, 210, 0, 11, 0xDA, 0xF9, 97, 98, 99];
 
 const UDP_WRONG: [u8; 11] = [0, 53, 4, 210, 0, 11, 0x12, 0x34, 97, 98, 99];
 
-/// Its checksum is the sum of the pseudo header over IPv4 alone.
+/// A UDP packet whose checksum is only the sum of the pseudo header over IPv4.
 const UDP_PARTIAL: [u8; 11] = [0, 53, 4, 210, 0, 11, 0x14, 0x1F, 97, 98, 99];
 
 const UDP_ABSENT: [u8; 11] = [0, 53, 4, 210, 0, 11, 0, 0, 97, 98, 99];
 
-/// The sum of this packet is all ones, so its checksum would be 0.
+/// A UDP packet whose sum is all ones, so that its computed checksum is 0.
 const UDP_ALL_ONES: [u8; 11] = [0, 53, 4, 210, 0, 11, 0, 1, 0xE6, 0xCE, 0];
 
-/// Length fields of 0, which counts less than a header, and of 12, which counts more than there is.
+/// UDP packets with a length field of 0, which counts less than a header, and of 12, which counts more bytes than the packet has.
 const UDP_OF_0: [u8; 11] = [0, 53, 4, 210, 0, 0, 0x22, 0x6C, 97, 98, 99];
 
 const UDP_OF_12: [u8; 11] = [0, 53, 4, 210, 0, 12, 0x22, 0x6C, 97, 98, 99];
 
-/// TCP, with a bit of byte 12 that has no meaning: the checksums that are right over IPv4 and over IPv6, and another.
+/// TCP segments with a bit of byte 12 that has no meaning: with the right checksums over IPv4 and over IPv6, and with a wrong checksum.
 const TCP_OVER_IPV4: [u8; 23] = [
     0, 80, 4, 210, 0, 0, 0, 1, 0, 0, 0, 0, 0x5E, 0x12, 0x20, 0, 0xA4, 0x47, 0, 0, 97, 98, 99,
 ];
@@ -74,12 +74,12 @@ const TCP_WRONG: [u8; 23] = [
     0, 80, 4, 210, 0, 0, 0, 1, 0, 0, 0, 0, 0x5E, 0x12, 0x20, 0, 0, 0x47, 0, 0, 97, 98, 99,
 ];
 
-/// The data offset is 4, which is below 5.
+/// A TCP header with a data offset of 4, which is below 5.
 const TCP_OF_4_WORDS: [u8; 23] = [
     0, 80, 4, 210, 0, 0, 0, 1, 0, 0, 0, 0, 0x40, 0x12, 0x20, 0, 0xA4, 0x47, 0, 0, 97, 98, 99,
 ];
 
-/// The first 19 bytes of a header, whose data offset is 5 or 4.
+/// The first 19 bytes of TCP headers with a data offset of 5 and of 4.
 const TCP_CUT: [u8; 19] = [
     0, 80, 4, 210, 0, 0, 0, 1, 0, 0, 0, 0, 0x5E, 0x12, 0x20, 0, 0xA4, 0x47, 0,
 ];
@@ -88,7 +88,7 @@ const TCP_OF_4_WORDS_CUT: [u8; 19] = [
     0, 80, 4, 210, 0, 0, 0, 1, 0, 0, 0, 0, 0x40, 0x12, 0x20, 0, 0xA4, 0x47, 0,
 ];
 
-/// Requests for an echo, and their right checksums; the same with other checksums.
+/// Echo requests with their right checksums, and with wrong checksums.
 const ECHO_OVER_IPV4: [u8; 9] = [8, 0, 0x96, 0xFC, 0, 1, 0, 2, 97];
 
 const ECHO_OVER_IPV6: [u8; 9] = [128, 0, 0xC3, 0x43, 0, 1, 0, 2, 97];
@@ -165,7 +165,7 @@ enum Kind {
     IpHeader,
     /// Another protocol than IP.
     NotIp,
-    /// An IP packet of this protocol, if it is one of the four.
+    /// An IP packet with this protocol, or with a protocol other than UDP, TCP, ICMPv4 and ICMPv6.
     Ip(Option<Proto>),
 }
 
@@ -310,8 +310,8 @@ fn link_headers_are_passed_over(rt: HostRuntime) {
     }
 }
 
-/// The link type, the byte order, the bytes of a frame, and its network protocol. The error is the length of the link header that the
-/// frame ends within, or 0 where the frame is a refused IP packet.
+/// The link type, the byte order, the bytes of a frame, and its network protocol. The error is the length of the link header within which
+/// the frame ends, or 0 if the frame is a refused IP packet.
 type NetworkRow = (
     LinkType,
     ByteOrder,
@@ -423,7 +423,7 @@ static NETWORKS: [NetworkRow; 65] = [
     (LinkType::Pktap, BIG, &[12, 0, 0, 0, 1, 0, 0, 0, 0, 0, 0, 0, 7, 0, 0, 3], Ok(NetworkProtocol::AddressFamily(0x0300_0007))),
 ];
 
-/// Stops the test unless the frame of a row carries the protocol of the row, or is refused.
+/// Stops the test unless the frame of a row contains the protocol of the row, or is refused.
 fn expect_network(rt: &impl Abort, row: &NetworkRow) {
     let (link_type, order, frame, expected) = *row;
     let len = frame.len();
@@ -478,7 +478,7 @@ static CHECKSUMS: [ChecksumRow; 15] = [
     (V6_ICMP, &ECHO_OVER_IPV6_WRONG, ChecksumVerdict::Wrong { expected: 0xC343 }),
 ];
 
-/// The content of a packet with this transport, which is told by its length.
+/// The content of a packet with this transport. The length of the transport shows its protocol.
 fn content<'a>(rt: &impl Abort, header: Header, bytes: &'a [u8]) -> Content<'a> {
     let is_v4 = matches!(header, Header::Ipv4(..));
     let (protocol, transport) = match bytes.len() {
@@ -562,7 +562,7 @@ static HOP_LIMITS: [HopLimitRow; 8] = [
     (0x60, 40, Some(HopLimit::Ipv6(7))), (0x60, 39, None), (0x50, 40, None), (0x45, 1, None),
 ];
 
-/// This byte, and this many bytes with it. Each further byte is the number of its place.
+/// Bytes that begin with this byte, `len` together. Each further byte is the number of its place.
 fn counted_bytes(rt: &(impl Abort + AllocGlobal), first: u8, len: u8) -> Vec<u8> {
     let mut bytes = joined(rt, &[&[first]]);
     for byte in 1..len {
@@ -642,7 +642,8 @@ fn packets_are_refused(rt: HostRuntime) {
     }
 }
 
-/// The headers of a packet, its transport, the protocol and the layer that is refused, how many bytes it needs, and how many there are.
+/// The headers of a packet, its transport, the protocol and the layer that is refused, the number of bytes that it needs, and the number of
+/// bytes present.
 type LengthRow = (Header, &'static [u8], Proto, Layer, usize, usize);
 
 #[rattlefmt::skip]
@@ -714,8 +715,7 @@ static PORTS: [PortsRow; 14] = [
     (Header::Ipv4(0x45, 27, 0, 1), &[8, 0, 0x96, 0xFC, 0, 1, 0], false, None),
 ];
 
-/// Fragments over IPv6: their extension headers come before the transport. In the last row bytes of an option look like a fragment
-/// header.
+/// Fragments over IPv6, with extension headers before the transport. In the last row, bytes of an option look like a fragment header.
 #[rattlefmt::skip]
 static PORTS_OF_FRAGMENTS: [PortsRow; 6] = [
     (Header::Ipv6(19, 44), &[17, 0, 0, 1, 0, 0, 0, 1, 0, 53, 4, 210, 0, 11, 0xDA, 0xF9, 97, 98, 99], false, OF_UDP),
@@ -738,7 +738,7 @@ static PORTS_OF_FRAGMENTS: [PortsRow; 6] = [
     ),
 ];
 
-/// Stops the test unless the packet of a row has the ports of the row, though its transport header is not read.
+/// Stops the test unless the packet of a row has the ports of the row, although its transport header is not read.
 fn expect_ports(rt: &(impl Abort + AllocGlobal), row: &PortsRow) {
     let (header, payload, is_cut, ports) = *row;
     let frame = packet_of(rt, header, payload);
@@ -760,7 +760,7 @@ fn ports_of_fragments_over_ipv6(rt: HostRuntime) {
     }
 }
 
-/// A packet whose headers are refused has the addresses 10.0.0.1 and 10.0.0.2, or those over IPv6.
+/// Whether a packet with refused headers has the addresses 10.0.0.1 and 10.0.0.2, or 2001:db8::1 and 2001:db8::2.
 fn has_addresses(packet: &Packet<'_>) -> bool {
     match &packet.content {
         Content::IpHeader(
@@ -823,7 +823,7 @@ const TCP: Kind = Kind::Ip(Some(Proto::Tcp));
 
 const ICMPV4: Kind = Kind::Ip(Some(Proto::Icmpv4));
 
-/// The headers of a packet, the bytes after them, whether its frame is cut, what the packet is, and the verdict on it.
+/// The headers of a packet, the bytes after them, whether its frame is cut, the kind of the packet, and the verdict on it.
 type VerdictRow = (Header, &'static [u8], bool, Kind, Verdict);
 
 #[rattlefmt::skip]
@@ -867,7 +867,7 @@ static VERDICTS: [VerdictRow; 23] = [
     (Header::Ipv6(16, 44), &[47, 0, 0, 1, 0, 0, 0, 7, 0, 0, 8, 0, 1, 2, 3, 4], true, Kind::Ip(None), OTHER_PROTOCOL),
 ];
 
-/// Stops the test unless the packet of a row is what the row says, and has its verdict.
+/// Stops the test unless the packet of a row has the kind and the verdict of the row.
 fn expect_verdict(rt: &(impl Abort + AllocGlobal), row: &VerdictRow) {
     let (header, payload, is_cut, kind, verdict) = row;
     let frame = packet_of(rt, *header, payload);
@@ -886,7 +886,7 @@ fn packets_are_not_looked_at(rt: HostRuntime) {
 /// UDP whose length field counts less than a header.
 const UDP_OF_5: [u8; 11] = [0, 53, 4, 210, 0, 5, 0x22, 0x6C, 97, 98, 99];
 
-/// The headers of a packet, the bytes after them, the length of its payload, and how many bytes of the payload are present.
+/// The headers of a packet, the bytes after them, the length of its payload, and the number of bytes of the payload that are present.
 type PayloadRow = (Header, &'static [u8], usize, usize);
 
 #[rattlefmt::skip]
@@ -931,7 +931,7 @@ fn lengths_of_payloads(rt: HostRuntime) {
     }
 }
 
-/// Packets with a total length or a payload length of 0. Without a header that must follow they are cut off or refused.
+/// Packets with a total length or a payload length of 0. If a header that must follow is missing, they are cut off or refused.
 #[rattlefmt::skip]
 static WITHOUT_LENGTH: [VerdictRow; 20] = [
     (Header::Ipv4(0x45, 0, 0x40, 17), &UDP_OVER_IPV4, false, UDP, Verdict::LengthMissing),

@@ -8,7 +8,7 @@ use capture_packet::{Content, Refusal, Verdict, read_packet};
 use etherparse_transport::ip::IpError;
 use std::process::Abort;
 
-/// The link types of frames of PPPoE, and what comes before the PPPoE header.
+/// The link types of PPPoE frames, and the bytes before the PPPoE header.
 static BEFORE_SESSION: [(LinkType, &[u8]); 2] = [
     (
         LinkType::Ethernet,
@@ -17,8 +17,8 @@ static BEFORE_SESSION: [(LinkType, &[u8]); 2] = [
     (LinkType::PppOverEthernet, &[]),
 ];
 
-/// The length in a PPPoE header, and the verdict on the frame. After the PPP protocol number it has a UDP packet of 31 bytes, and four bytes
-/// of padding.
+/// The length in a PPPoE header, and the verdict on the frame. After the PPP protocol number it has a UDP packet of 31 bytes, and four
+/// bytes of padding.
 #[rattlefmt::skip]
 static PAYLOAD_LENS: [(u8, Verdict); 8] = [
     (0, OTHER_PROTOCOL),

@@ -93,7 +93,7 @@ const IPV6_ROUTING: [u8; 8] = [0x60, 0, 0, 0, 0, 64, 43, 1];
 
 const IPV6_FRAGMENT: [u8; 8] = [0x60, 0, 0, 0, 0, 64, 44, 1];
 
-/// The extension headers of these, each before UDP: the routing header has an unknown type and a segment left.
+/// The extension headers for these IPv6 headers, each before UDP. The routing header has an unknown type and one segment left.
 const OPTIONS: [u8; 8] = [17, 0, 1, 4, 0, 0, 0, 0];
 
 const ROUTING: [u8; 8] = [17, 0, 253, 1, 0, 0, 0, 0];
@@ -109,7 +109,7 @@ const TCP: [u8; 8] = [0, 80, 4, 210, 0, 0, 0, 1];
 
 const ECHO: [u8; 8] = [8, 0, 0, 0, 0, 1, 0, 2];
 
-/// The ports of these.
+/// The ports of these transports.
 const UDP_PORTS: Option<(u16, u16)> = Some((49152, 33434));
 
 const TCP_PORTS: Option<(u16, u16)> = Some((80, 1234));
@@ -127,7 +127,7 @@ static ICMPV4_ERRORS: [QuoteRow; 23] = [
     (&[&[4, 0, 0, 0, 0, 0, 0, 0], &IPV4_UDP, &UDP], Some((OVER_IPV4, 17, UDP_PORTS))),
     (&[&[5, 1, 0, 0, 192, 0, 2, 3], &IPV4_UDP, &UDP], Some((OVER_IPV4, 17, UDP_PORTS))),
     (&[&[12, 0, 0, 0, 20, 0, 0, 0], &IPV4_UDP, &UDP], Some((OVER_IPV4, 17, UDP_PORTS))),
-    // The length field counts seven words of four bytes, and five: fewer than 128 bytes, so it ends nothing.
+    // The length field counts seven words of four bytes, and then five words. Both are fewer than 128 bytes, so the field ends nothing.
     (&[&[11, 0, 0, 0, 0, 7, 0, 0], &IPV4_UDP, &UDP, &[0x20, 0, 0, 0]], Some((OVER_IPV4, 17, UDP_PORTS))),
     (&[&[11, 0, 0, 0, 0, 5, 0, 0], &IPV4_UDP, &UDP], Some((OVER_IPV4, 17, UDP_PORTS))),
     // The transport header is cut off.
@@ -146,7 +146,7 @@ static ICMPV4_ERRORS: [QuoteRow; 23] = [
     (&[&[11, 0, 0, 0, 0, 0, 0, 0], &IPV4_SHORT, &UDP], None),
     (&[&[11, 0, 0, 0, 0, 0, 0, 0], &[0x55], &IPV4_UDP, &UDP], None),
     (&[&[11, 0, 0, 0, 0, 0, 0, 0]], None),
-    // The message is no error.
+    // The message is not an error.
     (&[&[8, 0, 0, 0, 0, 0, 0, 0], &IPV4_UDP, &UDP], None),
     (&[&[0, 0, 0, 0, 0, 0, 0, 0], &IPV4_UDP, &UDP], None),
 ];
@@ -168,7 +168,7 @@ static ICMPV6_ERRORS: [QuoteRow; 15] = [
     (&[&[3, 0, 0, 0, 0, 0, 0, 0], &IPV6_FRAGMENT, &IPV6_ADDRESSES, &SECOND_FRAGMENT, &UDP], Some((OVER_IPV6, 17, None))),
     // An IP header or an extension header is cut off.
     (&[&[3, 0, 0, 0, 0, 0, 0, 0], &IPV6_OPTIONS, &IPV6_ADDRESSES, &[17, 0, 1, 4, 0, 0, 0]], None),
-    // The message is no error.
+    // The message is not an error.
     (&[&[128, 0, 0, 0, 0, 0, 0, 0], &IPV6_UDP, &IPV6_ADDRESSES, &UDP], None),
     (&[&[137, 0, 0, 0, 0, 0, 0, 0], &IPV6_UDP, &IPV6_ADDRESSES, &UDP], None),
 ];

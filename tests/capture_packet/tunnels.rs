@@ -182,7 +182,7 @@ fn shape_of(packet: &Packet<'_>) -> (usize, Option<u8>) {
     (packet.tunnels.len(), protocol)
 }
 
-/// An IPv4 packet with this protocol, of these bytes, in which the byte at this place is this one.
+/// An IPv4 packet with this protocol and these bytes, in which the byte at this place is replaced.
 fn changed_packet(
     rt: &(impl Abort + AllocGlobal),
     protocol: u8,

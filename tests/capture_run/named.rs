@@ -57,12 +57,12 @@ const CHECKED_LINES: Parts = Parts {
     ..ONLY_LINES
 };
 
-/// The parts of the report of a row. `Parts` contains arrays, which the borrow checker does not cover in a table with references.
+/// The parts of the report of a row. `Parts` contains arrays, which the borrow checker does not allow in a table with references.
 #[derive(Clone, Copy)]
 enum Asked {
     /// All that is written without options.
     All,
-    /// The same with a check.
+    /// All parts, with a check.
     CheckedAll,
     /// Lines of packets with a check.
     CheckedLines,
@@ -80,7 +80,7 @@ enum Asked {
     AllOfTwo,
 }
 
-/// Which lines there are, whether there are a summary and a check, the format, and the limit of packets.
+/// The lines of the report, whether it has a summary and a check, its format, and its limit of packets.
 fn options_of(asked: Asked) -> (Lines, bool, bool, Format, Option<u64>) {
     match asked {
         Asked::All => (Lines::All, true, false, Format::Text, None),
@@ -113,7 +113,7 @@ fn run_named(rt: &(impl Abort + AllocGlobal + RandomSource), parts: Parts, names
     run_over(rt, parts, names, &Changed { alloc: rt.alloc() })
 }
 
-/// The names of captures, what is asked of their report, the status, the output, and the errors.
+/// The names of captures, the requested parts of their report, the status, the output, and the errors.
 type RunRow = (
     &'static [&'static str],
     Asked,
@@ -256,7 +256,7 @@ const OBJECTS: &str = r#"{"type":"file","file":"right"}
 {"type":"packet","number":1,"time":"00:00:00.000000","seconds":5,"nanoseconds":7000,"length":29,"captured_length":29,"source":"192.0.2.1","destination":"192.0.2.2","protocol":17,"protocol_name":"UDP","source_port":263,"destination_port":9,"udp":{"length":9},"payload_length":1,"time_to_live":64,"checksum":"wrong","expected_checksum":6344}
 "#;
 
-/// Stops the test unless the run of a row has the status of the row, and writes what the row says.
+/// Stops the test unless the run of a row has the status, the output and the errors of the row.
 fn expect_named(rt: &(impl Abort + AllocGlobal + RandomSource), row: &RunRow) {
     let (names, asked, status, output, errors) = *row;
     let ran = run_named(rt, parts_of(asked), names);
@@ -284,8 +284,8 @@ fn standard_input_that_cannot_be_opened(rt: HostRuntime) {
     expect_ran(&rt, &ran, 3, "", errors);
 }
 
-/// The names of captures, what is asked of their report, the status, and what the output begins with: the lines, an empty line, and the
-/// totals of all captures.
+/// The names of captures, the requested parts of their report, the status, and the beginning of the output: the lines, an empty line, and
+/// the totals of all captures.
 type SummaryRow = (&'static [&'static str], Asked, u8, [&'static str; 3]);
 
 #[rattlefmt::skip]
@@ -299,7 +299,7 @@ static SUMMARIES: [SummaryRow; 5] = [
      [OBJECTS, r#"{"type":"summary","packets":2,"bytes":58,"#, r#""bytes_per_packet":29,"conversations":2,"#]),
 ];
 
-/// Stops the test unless the run of a row begins as the row says.
+/// Stops the test unless the output of a row begins with the texts of the row.
 fn expect_summary(rt: &(impl Abort + AllocGlobal + RandomSource), row: &SummaryRow) {
     let (names, asked, status, wanted) = *row;
     let ran = run_named(rt, parts_of(asked), names);
@@ -349,7 +349,7 @@ fn errors_that_cannot_be_written(rt: HostRuntime) {
     expect_without_errors(&rt, 20);
 }
 
-/// How many calls of the writer come before its fault, which is in the first heading, in the line after it, in the empty line before the
+/// The number of calls of the writer before its fault, which is in the first heading, in the line after it, in the empty line before the
 /// second heading, in the second heading, or in the line after it.
 #[rattlefmt::skip]
 static CALLS: [usize; 6] = [0, 5, 14, 98, 99, 113];

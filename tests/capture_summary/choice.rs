@@ -194,7 +194,7 @@ fn error_packet(rt: &impl Abort) -> Packet<'static> {
     })
 }
 
-/// Stops the test unless the choice of a row includes the packets that the row says.
+/// Stops the test unless the choice of a row includes exactly the packets of the row.
 fn expect_chosen(rt: &impl Abort, packets: &[Packet<'static>; 5], row: &ChoiceRow) {
     let (hosts, ports, protocol, wanted) = row;
     let choice = choice_of(rt, hosts, ports, *protocol);

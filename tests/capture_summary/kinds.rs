@@ -1,4 +1,4 @@
-//! The rows of the tables that packets are counted in.
+//! The rows of the tables in which packets are counted.
 
 use crate::expect::expect_at;
 use capture_file::LinkType;
@@ -133,7 +133,7 @@ fn kinds_of_refusals(rt: HostRuntime) {
     }
 }
 
-/// What a capture says of a link type, the row of the link type, and its name.
+/// What a capture states about a link type, the row of the link type, and its name.
 type LinkRow = (Option<Result<LinkType, u16>>, LinkKind, &'static str);
 
 #[rattlefmt::skip]

@@ -40,7 +40,7 @@ fn flow_from(number: u32) -> Flow {
     flow(FlowProtocol::Udp, (number, 4660), SERVER)
 }
 
-/// What a capture of Ethernet says of a packet of this many bytes, whose time it does not know.
+/// What a capture of Ethernet states about a packet with this number of bytes, whose time is unknown.
 fn info_of(len: u64) -> CaptureInfo {
     CaptureInfo {
         link_type: Some(Ok(LinkType::Ethernet)),
@@ -52,13 +52,14 @@ fn info_of(len: u64) -> CaptureInfo {
     }
 }
 
-/// Counts a packet of a flow whose checksum is right.
+/// Counts a packet of a flow, whose checksum is right.
 fn judge_flow(rt: &impl Abort, summary: &mut Summary, flow: Flow, len: u64) {
     let info = info_of(len);
     judge(rt, summary, UDP, VerdictKind::Right, Some(flow), info);
 }
 
-/// Counts packets of a right checksum of the conversation of a flow, each of this many bytes. Each second one goes back.
+/// Counts packets of the conversation of a flow, each with this number of bytes and a right checksum. Every second packet goes in the other
+/// direction.
 fn judge_many(rt: &impl Abort, summary: &mut Summary, number: u32, packets: u32, len: u64) {
     let there = flow_from(number);
     let back = there.reversed();
@@ -318,7 +319,8 @@ static REFUSAL_ROWS: [(&str, u64); 12] = [
     ("ICMPv6 length", 1),
 ];
 
-/// The rows of protocols with packets, and one more row, in the order of their packets. Those with one packet are in the order of the table.
+/// The rows of protocols with packets, and the row after them, ordered by their packets. Rows with one packet are in the order of the
+/// table.
 #[rattlefmt::skip]
 static PROTOCOLS_BY_PACKETS: [(&str, Count); 10] = [
     ("unknown", Count { packets: 14, bytes: 880 }),
@@ -353,7 +355,8 @@ fn expect_rows(rt: &impl Abort, summary: &Summary) {
     expect_table(rt, &summary.refusals(), &REFUSAL_ROWS);
 }
 
-/// Stops the test unless these are the number of conversations, and the counts of packets without ports and of those that found no room.
+/// Stops the test unless these are the number of conversations, the count of packets without ports, and the count of packets of
+/// conversations for which there was no room.
 fn expect_flows(
     rt: &impl Abort,
     summary: &Summary,
@@ -385,7 +388,7 @@ fn each_packet_is_counted_once_in_each_table(rt: HostRuntime) {
     expect_flows(&rt, &summary, 1, without_ports, Count::NONE);
 }
 
-/// This many packets, with more bytes than can be counted.
+/// A count of this number of packets, with more bytes than can be counted.
 fn saturated(packets: u64) -> Count {
     Count {
         packets,
@@ -393,8 +396,8 @@ fn saturated(packets: u64) -> Count {
     }
 }
 
-/// Counts more conversations than there is room for. Then it counts two packets of conversations that have a row of their own, and one of
-/// a conversation that has none.
+/// Counts more conversations than there is room for. Then it counts two packets of conversations that have a row, and one packet of a
+/// conversation that has no row.
 fn judge_too_many(rt: &impl Abort, summary: &mut Summary) {
     for number in 0..65_540 {
         judge_many(rt, summary, number, 1, 100);
@@ -441,7 +444,7 @@ static CONVERSATIONS: [(u32, u32, u64); 12] = [
     (12, 1, 900),
 ];
 
-/// How many conversations are asked for, and how many there are.
+/// The number of conversations that are requested, and the number that are returned.
 static TOPS: [(usize, usize); 5] = [(0, 0), (1, 1), (10, 10), (11, 11), (100, 12)];
 
 #[test]
@@ -459,7 +462,7 @@ fn the_busiest_conversations_come_first(rt: HostRuntime) {
 /// The numbers of the flows, the busiest first.
 static BUSIEST: [u32; 12] = [11, 5, 9, 3, 4, 2, 7, 6, 10, 1, 8, 12];
 
-/// Stops the test unless this many conversations are found if `top` are asked for, the busiest first.
+/// Stops the test unless this number of conversations is returned if `top` are requested, the busiest first.
 fn expect_busiest(rt: &(impl Abort + AllocGlobal), summary: &Summary, top: usize, len: usize) {
     let busiest = expect_ok(rt, summary.flows().busiest(rt.alloc(), top));
     expect_equal(rt, &busiest.len(), &len);
@@ -476,7 +479,7 @@ const CLIENT: End = (7, 4660);
 
 const HIGHEST: End = (0xFFFF_FFFF, 4660);
 
-/// Packets: from where to where, and their bytes. Another port or another protocol is another conversation.
+/// Packets with their flows and their bytes. Another port or another protocol belongs to another conversation.
 static DIRECTIONS: [DirectionRow; 13] = [
     (OVER_UDP, CLIENT, SERVER, 100),
     (OVER_UDP, SERVER, CLIENT, 40),
@@ -493,7 +496,7 @@ static DIRECTIONS: [DirectionRow; 13] = [
     (OVER_UDP, SERVER, CLIENT, 42),
 ];
 
-/// The direction of a conversation that is seen first, and the packets and bytes of each direction.
+/// The direction of a conversation that was seen first, and the packets and bytes of each direction.
 type BothWaysRow = (FlowProtocol, End, End, (u64, u64), (u64, u64));
 
 /// The conversations of these packets.
@@ -519,7 +522,7 @@ fn count_of((packets, bytes): (u64, u64)) -> Count {
     Count { packets, bytes }
 }
 
-/// A packet: from where to where, and its bytes.
+/// A packet: its flow, and its bytes.
 type DirectionRow = (FlowProtocol, End, End, u64);
 
 /// Counts the packet of a row.

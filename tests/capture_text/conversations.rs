@@ -5,7 +5,7 @@ use capture_text::write_conversations;
 use std::net::{IpAddr, SocketAddr};
 use std::process::Abort;
 
-/// No packet.
+/// The count without packets.
 const NONE: Count = Count {
     packets: 0,
     bytes: 0,
@@ -51,7 +51,8 @@ UDP 192.0.2.1:49152 <> 192.0.2.2:53                                             
 UDP 192.0.2.1:49152 <> 192.0.2.2:53                                                                    18446744073709551615 18446744073709551615 18446744073709551615 18446744073709551615           1            40
 ";
 
-/// The rows from one number up to another, the counts of packets without ports and of those that found no room, and the table.
+/// The rows from one number up to another, the count of packets without ports, the count of packets of conversations for which there was no
+/// room, and the table.
 type TableRow = (usize, usize, Count, Count, &'static str);
 
 #[rattlefmt::skip]
@@ -83,7 +84,7 @@ fn expect_table(rt: &(impl Abort + AllocGlobal), rows: &[ConversationCount], tab
 #[test]
 fn the_table_of_conversations(rt: HostRuntime) {
     let ipv4 = flow_of_ipv4();
-    // No name is longer.
+    // The longest name.
     let ipv6 = Flow {
         protocol: FlowProtocol::Tcp,
         source: SocketAddr::new(IpAddr::from([0xFFFFu16; 8]), 65535),

@@ -5,7 +5,7 @@ use capture_packet::Transport;
 use etherparse_transport::{Icmpv4Slice, Icmpv6Slice, TransportSlice, ip_number};
 use std::process::Abort;
 
-/// A message, and what is written of it.
+/// A message, and its text.
 type MessageRow = (&'static [u8], &'static str);
 
 #[rattlefmt::skip]
@@ -29,7 +29,7 @@ static ICMPV4_MESSAGES: [MessageRow; 25] = [
     (&[14, 0, 9, 9, 0, 1, 0, 2, 0, 0, 0, 3, 0, 0, 0, 4, 0, 0, 0, 5],
      "timestamp reply, code 0, identifier 1, sequence number 2, originate 3, receive 4, transmit 5, payload 0"),
     (&[42, 0, 9, 9, 0, 0, 0, 0], "type 42, code 0, bytes 5 to 8 00000000, payload 0"),
-    // Errors that quote a packet, the last but one only a part of its IP header, and a message that is no error.
+    // Errors that quote a packet, the last but one with only a part of its IP header, and a message that is not an error.
     (&[11, 0, 9, 9, 0, 0, 0, 0, 0x45, 0, 0, 60, 0, 0, 0, 0, 1, 17, 0, 0, 192, 0, 2, 1, 198, 51, 100, 7, 0xC0, 0, 0x82, 0x9A, 0, 40, 0, 0],
      "time exceeded, code 0 (time to live) for 192.0.2.1:49152 > 198.51.100.7:33434 UDP, payload 28"),
     (&[3, 4, 9, 9, 0, 0, 5, 0xDC, 0x45, 0, 0, 60, 0, 0, 0, 0, 1, 6, 0, 0, 192, 0, 2, 1, 198, 51, 100, 7, 0, 80, 4, 210],
@@ -48,7 +48,7 @@ static ICMPV4_MESSAGES: [MessageRow; 25] = [
      "echo request, code 0, identifier 1, sequence number 2, payload 20"),
 ];
 
-/// Stops the test unless the ICMPv4 message of a row is written as the row says.
+/// Stops the test unless the ICMPv4 message of a row has the text of the row.
 fn expect_icmpv4(rt: &(impl Abort + AllocGlobal), row: &MessageRow) {
     let (message, wanted) = *row;
     let message = expect_ok(rt, Icmpv4Slice::from_slice(message));
@@ -96,7 +96,7 @@ static ICMPV6_MESSAGES: [MessageRow; 22] = [
     (&[42, 0, 9, 9, 1, 2, 0xAB, 0xCD], "type 42, code 0, bytes 5 to 8 0102ABCD, payload 0"),
 ];
 
-/// Stops the test unless the ICMPv6 message of a row is written as the row says.
+/// Stops the test unless the ICMPv6 message of a row has the text of the row.
 fn expect_icmpv6(rt: &(impl Abort + AllocGlobal), row: &MessageRow) {
     let (message, wanted) = *row;
     let message = expect_ok(rt, Icmpv6Slice::from_slice(message));

@@ -26,7 +26,7 @@ const PORTS: [u8; 5] = [0, 53, 15, 160, 7];
 /// Bytes from which nothing is read.
 const UNREAD: [u8; 3] = [1, 2, 3];
 
-/// These bytes as a transport. Their length tells which of the three they are.
+/// These bytes as a transport. Their length shows which of the three it is.
 fn transport_of<'a>(rt: &impl Abort, bytes: &'a [u8]) -> Transport<'a> {
     match bytes.len() {
         9 => Transport::Read(TransportSlice::Udp(expect_ok(rt, UdpSlice::from_slice(bytes)))),
@@ -61,7 +61,7 @@ fn whole_lines(rt: HostRuntime) {
     expect_line(&rt, datagram_over_ipv4(&rt, 1), verdict, wanted);
 }
 
-/// The tunnels of a packet, and what is written of them.
+/// The tunnels of a packet, and their text.
 #[rattlefmt::skip]
 static TUNNELS: [(&[(IpAddresses, u8)], &str); 5] = [
     (&[(OVER_IPV4, 4)], "192.0.2.1 > 192.0.2.2 IPv4 | "),
@@ -71,7 +71,7 @@ static TUNNELS: [(&[(IpAddresses, u8)], &str); 5] = [
     (&[(OVER_IPV4, 47), (OVER_IPV6, 4)], "192.0.2.1 > 192.0.2.2 GRE | 2001:db8::1 > 2001:db8::2 IPv4 | "),
 ];
 
-/// Stops the test unless this is written of a packet in these tunnels.
+/// Stops the test unless the line of a packet in these tunnels contains this text.
 fn expect_tunnels(
     rt: &(impl Abort + AllocGlobal),
     tunnels: &[(IpAddresses<'static>, u8)],
@@ -97,7 +97,7 @@ fn tunnels(rt: HostRuntime) {
     }
 }
 
-/// Protocols other than IP, and what is written of each.
+/// Protocols other than IP, and the text of each.
 #[rattlefmt::skip]
 const NETWORK_PROTOCOLS: [(NetworkProtocol, &str); 12] = [
     (NetworkProtocol::EtherType(0x0805), "ether type 0805"),
@@ -122,7 +122,7 @@ fn other_network_protocols(rt: HostRuntime) {
     }
 }
 
-/// Addresses, and what is written of them.
+/// Addresses, and their text.
 static OF_REFUSED: [(IpAddresses, &str); 2] = [
     (OVER_IPV4, "192.0.2.1 > 192.0.2.2"),
     (OVER_IPV6, "2001:db8::1 > 2001:db8::2"),
@@ -143,7 +143,7 @@ const UNKNOWN: IpAddresses = IpAddresses::Ipv6 {
     destination: None,
 };
 
-/// Addresses, the number of a protocol and the bytes of a transport, and what is written of them.
+/// Addresses, the number of a protocol, the bytes of a transport, and their text.
 type AddressesRow = (IpAddresses<'static>, u8, &'static [u8], &'static str);
 
 #[rattlefmt::skip]
@@ -165,7 +165,7 @@ static ADDRESSES: [AddressesRow; 15] = [
     (UNKNOWN, 6, &PORTS, "[::]:53 > unknown:4000 TCP, payload 5"),
 ];
 
-/// Stops the test unless the addresses and the transport of a row are written as the row says.
+/// Stops the test unless the addresses and the transport of a row have the text of the row.
 fn expect_addresses(rt: &(impl Abort + AllocGlobal), row: &AddressesRow) {
     let (addresses, protocol, bytes, wanted) = *row;
     let transport = transport_of(rt, bytes);
@@ -191,7 +191,7 @@ fn a_payload_that_is_cut_off(rt: HostRuntime) {
     expect_line(&rt, datagram_over_ipv4(&rt, 1400), verdict, wanted);
 }
 
-/// Lengths of frames, and what is written of a packet of ARP in each.
+/// Lengths of frames, and the text of an ARP packet in each.
 #[rattlefmt::skip]
 const LENGTHS: [(Option<FrameLen>, &str); 5] = [
     (Some(FrameLen { original: 42, captured: 42 }), "length 42: ARP"),
@@ -201,7 +201,7 @@ const LENGTHS: [(Option<FrameLen>, &str); 5] = [
     (None, "length unknown: ARP"),
 ];
 
-/// Stops the test unless this is written of a packet of ARP in a frame of this length.
+/// Stops the test unless an ARP packet in a frame of this length has this text.
 fn expect_length(rt: &(impl Abort + AllocGlobal), len: Option<FrameLen>, wanted: &str) {
     let content = Content::NotIp(NetworkProtocol::EtherType(0x0806));
     let packet = Packet::in_no_tunnel(content, Verdict::untested(Untested::OtherProtocol));
@@ -216,7 +216,7 @@ fn lengths_of_frames(rt: HostRuntime) {
     }
 }
 
-/// Hop limits, whether the line is verbose, and what is written.
+/// Hop limits, whether the line is verbose, and the text.
 #[rattlefmt::skip]
 const HOP_LIMITS: [(Option<HopLimit>, bool, &str); 5] = [
     (Some(HopLimit::Ipv4(64)), true, "1 - length unknown: 192.0.2.1 > 192.0.2.2, time to live 64; checksum not looked at: cut off\n"),
@@ -226,7 +226,7 @@ const HOP_LIMITS: [(Option<HopLimit>, bool, &str); 5] = [
     (Some(HopLimit::Ipv6(255)), false, "1 - length unknown: 192.0.2.1 > 192.0.2.2; checksum not looked at: cut off\n"),
 ];
 
-/// Stops the test unless this is written of a packet with this hop limit.
+/// Stops the test unless a packet with this hop limit has this text.
 fn expect_hop_limit(
     rt: &(impl Abort + AllocGlobal),
     hop_limit: Option<HopLimit>,
@@ -251,7 +251,7 @@ fn hop_limits(rt: HostRuntime) {
     }
 }
 
-/// Verdicts on checksums, and what is written of each. A UDP packet without a length is refused.
+/// Verdicts on checksums, and the text of each. A UDP packet with a length field of 0 is refused.
 #[rattlefmt::skip]
 const CHECKSUMS: [(ChecksumVerdict, &str); 10] = [
     (ChecksumVerdict::Right, "checksum right"),
@@ -307,7 +307,7 @@ const LINK: Refusal = Refusal::Link(LinkHeaderCutOff {
 
 const DATA_OFFSET: HeaderError = HeaderError::DataOffsetTooSmall { data_offset: 4 };
 
-/// A UDP header that is longer than its length field says.
+/// A UDP header that is longer than its length field states.
 const BY_FIELD: LenError = LenError {
     required_len: 8,
     len: 7,
@@ -325,7 +325,7 @@ const FROM_BYTE_34: LenError = LenError {
     layer_start_offset: 34,
 };
 
-/// Refusals, and what is written of each.
+/// Refusals, and the text of each.
 #[rattlefmt::skip]
 const REFUSALS: [(Refusal, &str); 4] = [
     (LINK, "link header needs 14 bytes, has 13"),
@@ -362,7 +362,7 @@ fn refused_layers(rt: HostRuntime) {
     }
 }
 
-/// Errors of the headers of IP, and what is written of each.
+/// Errors of IP headers, and the text of each.
 #[rattlefmt::skip]
 const IP_ERRORS: [(IpError, &str); 10] = [
     (IpError::HeaderCutOff { required_len: 20, len: 15 }, "refused: IP header needs 20 bytes, has 15"),

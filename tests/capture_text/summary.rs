@@ -42,7 +42,7 @@ UDP 192.0.2.1:49152 <> 192.0.2.2:53         2          1044           1         
 packets without ports                       3           268
 ";
 
-/// What a capture says of a packet of this many bytes that came at this second.
+/// What a capture states about a packet with this number of bytes, captured at this second.
 fn info_of(seconds: u64, len: u64) -> CaptureInfo {
     CaptureInfo {
         link_type: Some(Ok(LinkType::Ethernet)),

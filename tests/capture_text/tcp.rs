@@ -5,8 +5,8 @@ use capture_packet::Transport;
 use etherparse_transport::{TcpSlice, TransportSlice, ip_number};
 use std::process::Abort;
 
-/// Stops the test unless the three texts together are what is written of a TCP segment with these flags, the urgent pointer 7, these
-/// options and two bytes of payload.
+/// Stops the test unless the three texts together are the text of a TCP segment with these flags, the urgent pointer 7, these options and
+/// two bytes of payload.
 fn expect_segment(
     rt: &(impl Abort + AllocGlobal),
     flags: [u8; 2],
@@ -27,7 +27,7 @@ fn expect_segment(
     expect_transport(rt, OVER_IPV4, ip_number::TCP, transport, wanted);
 }
 
-/// Flags, in the last bit of byte 12 and in byte 13, and what is written of them.
+/// Flags, in the last bit of byte 12 and in byte 13, and their text.
 #[rattlefmt::skip]
 const FLAGS: [([u8; 2], &str); 15] = [
     ([0, 0], "none, sequence 1000, acknowledgment 9, window 64240"),
@@ -56,7 +56,7 @@ fn flags_of_segments(rt: HostRuntime) {
     }
 }
 
-/// Options, and what is written of them.
+/// Options, and their text.
 #[rattlefmt::skip]
 const OPTIONS: [(&[u8], &str); 13] = [
     (&[2, 4, 5, 0xB4, 4, 2, 8, 10, 0, 0, 0, 100, 0, 0, 0, 0, 1, 3, 3, 7],

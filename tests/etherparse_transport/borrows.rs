@@ -1,4 +1,4 @@
-//! What is borrowed from the input is used after the value that it came from ended.
+//! Borrows from an input are used after the value that returned them ended.
 
 use crate::expect::{bytes_from, bytes_to, expect_equal, expect_ok};
 use etherparse_transport::{

@@ -100,7 +100,7 @@ static OVER_IPV6: [Row; 3] = [
     ]),
 ];
 
-/// The slice begins with the packet, and is as it was after it.
+/// The slice begins with the packet, and its bytes after the packet are unchanged.
 fn expect_packet(rt: &impl Abort, slice: &[u8; 72], packet: &[u8]) {
     let untouched = [0xEE; 72];
     let len = packet.len();

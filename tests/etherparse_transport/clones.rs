@@ -1,4 +1,4 @@
-//! A clone of each public type is Ok and the same value. The modules `laws` prove it for every value.
+//! Clones a value of each public type. The result is Ok and the same value. The modules `laws` prove this for every value.
 
 use crate::expect::{expect_clone, expect_equal, expect_ok, expect_some};
 use etherparse_transport::checksum::Sum16BitWords;
@@ -25,7 +25,7 @@ static IPV4_PACKET: [u8; 28] = [
     0x45, 0, 0, 28, 0, 0, 0, 0, 64, 17, 0, 0, 192, 0, 2, 1, 192, 0, 2, 2, 0, 53, 4, 210, 0, 8, 0, 0,
 ];
 
-/// A TCP header with the option window scale, and an operation that is none.
+/// A TCP header with a window scale option and a no-operation option.
 static SEGMENT: [u8; 24] = [
     0, 80, 4, 210, 0, 0, 0, 1, 0, 0, 0, 2, 0x60, 0x12, 1, 0, 0, 0, 0, 0, 3, 3, 7, 1,
 ];

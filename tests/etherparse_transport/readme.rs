@@ -1,4 +1,4 @@
-//! The functions of docs/EXAMPLES.md, as they are there, and what they return.
+//! Copies of the functions in docs/EXAMPLES.md, and their results.
 
 use crate::expect::{bytes_from, bytes_to, expect_equal, expect_ok, expect_some};
 use etherparse_transport::ChecksumVerdict::{Absent, Right};

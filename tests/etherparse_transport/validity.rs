@@ -1,4 +1,4 @@
-//! The calls that test a received checksum, over valid packets and over each of them with one bit changed.
+//! The calls that test a received checksum, over valid packets and over packets with one changed bit.
 
 use crate::expect::{bytes_to, expect_at, expect_equal, expect_ok};
 use arrayvec::ArrayVec;
@@ -22,7 +22,7 @@ static PAYLOAD: [u8; 20] = [
     11, 48, 85, 122, 159, 196, 233, 14, 51, 88, 125, 162, 199, 236, 17, 54, 91, 128, 165, 202,
 ];
 
-/// How a packet is tested.
+/// The way in which a packet is tested.
 #[derive(Clone, Copy, Debug)]
 enum Tested {
     UdpOverIpv4,
@@ -67,7 +67,8 @@ fn is_tcp_valid(tested: Tested, bytes: &[u8]) -> bool {
     }
 }
 
-/// How many packets were tested, in how many places one bit of them was changed, and how many of the changes were not found.
+/// The number of packets that were tested, the number of places at which one bit was changed, and the number of changes that were not
+/// found.
 #[derive(Clone, Copy, Debug, PartialEq, Eq)]
 struct Counts {
     packets: usize,
@@ -144,7 +145,7 @@ fn every_changed_bit_of_udp_is_found(rt: HostRuntime) {
     expect_equal(&rt, &counts, &expected);
 }
 
-/// A header whose checksum has one bit, in both versions: without this bit it says that there is none, which IPv4 alone allows.
+/// A header whose checksum has one bit, over both versions. Without this bit, it states that there is no checksum, which only IPv4 allows.
 #[test]
 fn a_udp_checksum_that_becomes_zero_is_found_over_ipv6_alone(rt: HostRuntime) {
     let mut counts = NONE;

@@ -38,7 +38,7 @@ fn identifiers_are_translated(rt: HostRuntime) {
     }
 }
 
-/// An echo reply that is all zeros but for its identifier 1, which becomes 0: the checksum that is updated is 0, and should be 65535.
+/// An echo reply whose bytes are all zeros except its identifier 1, which becomes 0. The updated checksum is 0, and should be 65535.
 #[test]
 fn an_echo_reply_of_zeros_is_summed_again(rt: HostRuntime) {
     let reply = |id| Icmpv4Type::EchoReply(IcmpEchoHeader { id, seq: 0 });

@@ -47,7 +47,7 @@ static LISTED: [Row; 29] = [
     (14, 0, "TimestampReply(TimestampMessage { id: 258, seq: 772, originate_timestamp: 84281096, receive_timestamp: 151653132, transmit_timestamp: 219025168 })", [1, 2, 3, 4]),
 ];
 
-/// The row of a type and code. The loop is one without calls, which take most of the time of a checked build.
+/// The row of a type and code. The loop makes no calls, which take most of the time of a checked build.
 fn listed(type_u8: u8, code_u8: u8) -> Option<&'static Row> {
     let mut place = 0;
     while place < LISTED.len() {
@@ -60,7 +60,7 @@ fn listed(type_u8: u8, code_u8: u8) -> Option<&'static Row> {
     None
 }
 
-/// The text of that row, empty where there is none.
+/// The text of the row of a type and code, or an empty text if there is no row.
 fn text_of(type_u8: u8, code_u8: u8) -> &'static str {
     listed(type_u8, code_u8).map_or("", |row| row.2)
 }
@@ -873,7 +873,7 @@ fn echo_headers_are_ordered_and_hashed(rt: HostRuntime) {
     }
 }
 
-/// Whether each value equals itself alone.
+/// Whether each value is equal only to itself.
 fn differ<T: PartialEq>(values: &[T]) -> bool {
     for (place, value) in values.iter().enumerate() {
         for (other_place, other) in values.iter().enumerate() {

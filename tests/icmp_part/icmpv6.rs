@@ -48,7 +48,7 @@ static LISTED: [Row; 28] = [
     (136, 0, "NeighborAdvertisement(NeighborAdvertisementHeader { router: true, solicited: false, override_flag: true })", [0xA0, 0, 0, 0]),
 ];
 
-/// The row of a type and code. The loop is one without calls, which take most of the time of a checked build.
+/// The row of a type and code. The loop makes no calls, which take most of the time of a checked build.
 fn listed(type_u8: u8, code_u8: u8) -> Option<&'static Row> {
     let mut place = 0;
     while place < LISTED.len() {
@@ -61,7 +61,7 @@ fn listed(type_u8: u8, code_u8: u8) -> Option<&'static Row> {
     None
 }
 
-/// The text of that row, or an empty text if there is none.
+/// The text of the row of a type and code, or an empty text if there is no row.
 fn text_of(type_u8: u8, code_u8: u8) -> &'static str {
     listed(type_u8, code_u8).map_or("", |row| row.2)
 }

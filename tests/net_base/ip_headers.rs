@@ -8,7 +8,7 @@ use etherparse_transport::{
 };
 use std::process::Abort;
 
-/// The bytes 0, 1, 2 and so on, but for this first one.
+/// The bytes 0, 1, 2 and so on, except that the first byte is this one.
 fn rising_bytes(first: u8) -> [u8; 60] {
     let mut bytes = [first; 60];
     for place in 1..60u8 {
@@ -17,7 +17,7 @@ fn rising_bytes(first: u8) -> [u8; 60] {
     bytes
 }
 
-/// A header whose addresses differ from 1.2.3.4 differs from one that has this address twice.
+/// A header with other addresses than 1.2.3.4 differs from a header with this address twice.
 fn expect_other_ipv4(rt: &impl Abort, source: [u8; 4], destination: [u8; 4]) {
     let header = Ipv4Header {
         source: [1, 2, 3, 4],
@@ -30,7 +30,7 @@ fn expect_other_ipv4(rt: &impl Abort, source: [u8; 4], destination: [u8; 4]) {
     expect_at(rt, &other, &(other == header), &false);
 }
 
-/// The same of IPv6, with the address that has 16 bytes 1.
+/// A header with other addresses than an address of 16 bytes 1 differs from a header with this address twice.
 fn expect_other_ipv6(rt: &impl Abort, source: [u8; 16], destination: [u8; 16]) {
     let header = Ipv6Header {
         source: [1; 16],

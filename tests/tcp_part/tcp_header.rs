@@ -18,7 +18,7 @@ static ZEROS: [u8; 65516] = [0; 65516];
 #[rattlefmt::skip]
 static SEGMENT: [u8; 24] = [0, 1, 0, 2, 0, 0, 0, 3, 0, 0, 0, 0, 0x60, 0x02, 0, 4, 0, 0, 0, 0, 2, 4, 0x05, 0xB4];
 
-/// Zeros but for bytes 12 and 13.
+/// Zeros except bytes 12 and 13.
 fn zeros_with(offset_byte: u8, flags_byte: u8) -> [u8; 20] {
     let mut bytes = [0; 20];
     bytes[12] = offset_byte;
@@ -171,7 +171,7 @@ fn expect_error(rt: &impl Abort, error: Option<HeaderSliceError>, expected: &Hea
     expect_equal(rt, &expect_some(rt, error), expected);
 }
 
-/// Zeros but for byte 12 are refused, by each of three calls.
+/// Zeros except byte 12 are refused by each of three calls.
 fn expect_refused(rt: &impl Abort, offset_byte: u8, len: usize, expected: &HeaderSliceError) {
     let bytes = zeros_with(offset_byte, 0);
     let slice = bytes_to(rt, &bytes, len);
@@ -226,7 +226,7 @@ fn expect_lengths_and_options(rt: &impl Abort, header: &TcpHeader) {
     expect_equal(rt, &elements.next(), &None);
 }
 
-/// `full_header` with one of its fields changed, by their order in the struct. What comes after the fields are forty bytes of options.
+/// `full_header` with one of its fields changed, by their order in the struct. After the fields come forty bytes of options.
 fn changed(field: usize) -> TcpHeader {
     let mut header = full_header();
     match field {
@@ -569,7 +569,7 @@ fn sum_of_zeros(rt: &impl Abort, header: &TcpHeader, len: usize) -> Sum {
     header.calc_checksum_ipv4_raw([0; 4], [0; 4], bytes_to(rt, &ZEROS, len))
 }
 
-/// The same of the slice of a header.
+/// The checksum over IPv4 of the slice of a header, with this number of zeros as payload.
 fn slice_sum_of_zeros(rt: &impl Abort, header: &[u8], len: usize) -> Sum {
     header_slice(rt, header).calc_checksum_ipv4_raw([0; 4], [0; 4], bytes_to(rt, &ZEROS, len))
 }
@@ -584,7 +584,7 @@ fn long_payloads_are_refused(rt: HostRuntime) {
     let mut header = TcpHeader::default();
     expect_sum(&rt, sum_of_zeros(&rt, &header, 65515), 0xAFF9);
     expect_too_big(&rt, sum_of_zeros(&rt, &header, 65516), 65516, 65515);
-    // Over IPv6 this is below the limit: the length is 65536, and its two words add 1.
+    // Over IPv6, this length is below the limit. It is 65536, and its two words add 1 to the sum.
     let checksum = header.calc_checksum_ipv6_raw([0; 16], [0; 16], &ZEROS);
     expect_sum(&rt, checksum, 0xAFF8);
 

@@ -192,7 +192,7 @@ fn elements_are_written_and_read_back(rt: HostRuntime) {
         &[WindowScale(123), Noop, Noop],
         &[3, 3, 123, 1, 1, 0, 0, 0],
     );
-    // What a common kernel sends.
+    // The options that a common kernel sends.
     expect_written(
         &rt,
         &[

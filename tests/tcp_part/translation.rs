@@ -73,7 +73,7 @@ fn addresses_and_ports_are_translated_over_ipv6(rt: HostRuntime) {
     );
 }
 
-/// What a checksum is wrong by stays.
+/// If a checksum is wrong, its difference from the right checksum stays.
 #[test]
 fn wrong_checksums_stay_wrong(rt: HostRuntime) {
     let (old, peer, new) = ([10, 0, 0, 1], [10, 0, 0, 2], [10, 0, 0, 3]);

@@ -48,7 +48,7 @@ fn longest_with(checksum: u16) -> [u8; 60] {
     bytes
 }
 
-/// Zeros but for the data offset of a header without options, and this checksum.
+/// Zeros except the data offset of a header without options, and this checksum.
 fn zeros_with(checksum: u16) -> [u8; 20] {
     let mut bytes = [0; 20];
     bytes[12] = 0x50;
@@ -59,14 +59,15 @@ fn zeros_with(checksum: u16) -> [u8; 20] {
 /// A payload of 23 bytes.
 static ODD: &[u8] = b"an odd number of bytes.";
 
-/// The source port, byte 12 and checksum of a SYN, and whether it is right. From the port of the last three rows the computed checksum is 0.
+/// The source port, byte 12 and checksum of a SYN, and whether it is right. From the port of the last three rows the computed checksum is
+/// 0.
 #[rattlefmt::skip]
 static SYNS_IPV4: [(u16, u8, u16, bool); 8] = [
     (0xC350, 0x70, 0x3739, true), (0xC350, 0x72, 0x3739, false), (0xC350, 0x72, 0x3539, true), (0xC350, 0x70, 0xFFFF, false),
     (0xC350, 0x70, 0x0000, false), (0xFA89, 0x70, 0x0000, true), (0xFA89, 0x70, 0xFFFF, true), (0xFA89, 0x70, 0x0001, false),
 ];
 
-/// The same over IPv6.
+/// The source port, byte 12 and checksum of a SYN over IPv6, and whether the checksum is right.
 #[rattlefmt::skip]
 static SYNS_IPV6: [(u16, u8, u16, bool); 8] = [
     (0xC350, 0x70, 0x5F18, true), (0xC350, 0x72, 0x5F18, false), (0xC350, 0x72, 0x5D18, true), (0xC350, 0x70, 0xFFFF, false),

@@ -1,4 +1,4 @@
-//! Packets, and whether a receiver takes their checksum for right, over IPv4 and over IPv6.
+//! Tests whether a receiver accepts the checksum of packets, over IPv4 and over IPv6.
 
 use crate::expect::{bytes_from, bytes_to, expect_at, expect_ok};
 use etherparse_transport::UdpSlice;
@@ -19,11 +19,11 @@ type ReceivedRow = (u128, usize, bool, bool);
 
 #[rattlefmt::skip]
 static RECEIVED: [ReceivedRow; 25] = [
-    // The packet of the README, of an odd length, with its checksum over IPv4, with that over IPv6, and with none.
+    // The packet of the README, which has an odd length, with its checksum over IPv4, with its checksum over IPv6, and without a checksum.
     (0x0015_04D2_000B_B33A_6162_63, 11, true, false),
     (0x0015_04D2_000B_DABC_6162_63, 11, false, true),
     (0x0015_04D2_000B_0000_6162_63, 11, true, false),
-    // One bit changed: of the last byte, of the checksum, and of a port.
+    // One bit changed: in the last byte, in the checksum, and in a port.
     (0x0015_04D2_000B_B33A_6162_62, 11, false, false),
     (0x0015_04D2_000B_DABC_6162_62, 11, false, false),
     (0x0015_04D2_000B_B23A_6162_63, 11, false, false),
@@ -50,7 +50,7 @@ static RECEIVED: [ReceivedRow; 25] = [
     // An even length.
     (0x0015_04D2_0010_677F_0102_0304_0506_0708, 16, true, false),
     (0x0015_04D2_0010_8F01_0102_0304_0506_0708, 16, false, true),
-    // FFFF instead of 0000 is not found.
+    // A change from 0000 to FFFF is not found.
     (0x0015_04D2_000C_1639_0000_6162, 12, true, false),
     (0x0015_04D2_000C_1639_FFFF_6162, 12, true, false),
 ];

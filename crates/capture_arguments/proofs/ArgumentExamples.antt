@@ -148,11 +148,11 @@ one_flag true false same = absurd (cc same)
 one_flag false true same = absurd (cc same)
 one_flag false false same = refl
 
--- a flag with this value in what was found
+-- the flag with this name has this value in what was found
 flag_is : (id : Text) (value flag : Bool) → one_text found id ≡ Some (flag_text value) → HasFlag matches id flag → value ≡ flag
 flag_is id value flag one has = one_flag value flag (sym one ∙ sym (ap (λ found. one_text found id) are_found) ∙ has)
 
--- the values of an argument
+-- the values of an argument are what was found for it
 values : (id : Text) → values_of matches id ≡ unwrap_or (option_map raw_values (matched_of found id)) []
 values id = ap (λ found. unwrap_or (option_map raw_values (matched_of found id)) []) are_found
 
@@ -221,7 +221,7 @@ is_escaped : is_escaped_option (word_of (codes "--host=10.0.0.1" ++ 255 ∷ []))
 unfolding chars encode_utf8 is_utf8
 is_escaped = refl
 
--- it is an option, but not after `--`
+-- the second argument is an escaped option, but not after `--`
 is_option : escaped_option (codes "capture_report" ∷ (0 ∷ codes "--host=\\xFF") ∷ codes "a.pcap" ∷ []) ≡ Some (0 ∷ codes "--host=\\xFF")
 is_option = refl
 

@@ -11,20 +11,20 @@ use Rattle.capture_arguments.specs.CommandLine.{AreMatchesOf, IsCommandLine, bar
 use Rattle.capture_arguments.specs.Rejections.{AreRejectedBy, HaveFault, IsExplainedUnless, IsShownFor, named_word}
 use Rattle.capture_arguments.specs.Unknown.{unknown_text}
 
--- clap says what the matches of the command line are, and why it refuses words
+-- clap states what the matches of the command line are, and why it refuses words
 pub is_simple_command_line : (app : App) → IsCommandLine app → is_simple app ≡ true
 is_simple_command_line app is_line = ap is_simple is_line ∙ refl
 
 pub is_free_command_line : (app : App) → IsCommandLine app → is_simple_and_free app ≡ true
 is_free_command_line app is_line = ap is_simple_and_free is_line ∙ refl
 
--- the matches that clap finds
+-- the matches that clap finds are the matches of the command line
 pub matches_of_command_line : (app : App) (words : List Text) (matches : ArgMatches) → IsCommandLine app → HasMatchesOf app words matches
     → (is_simple_and_free app ≡ true → faults_of app words ≡ []) → AreMatchesOf words matches
 matches_of_command_line app words matches is_line has fits =
     (app, is_line, fits (is_free_command_line app is_line), (has (is_simple_command_line app is_line)).0)
 
--- the command with one more argument
+-- the command after another argument is added
 pub adds_rule : (old : Command) (arg : Arg) (new : Command) (app : App) (rule : Rule) → AddsArg old arg new
     → arg.global ≡ false → rule_of arg ≡ rule → app_of old ≡ app → app_of new ≡ with_rule app rule
 adds_rule old arg new app rule adds local is_rule is_app =
@@ -65,7 +65,7 @@ no_match RanOut Refuses Explains app words found shown is_line passes ran_out ki
     ⊎_elim about_memory (λ among. inr (inl (app, found, is_line, rejected, among, refused, is_shown))) (kinds (is_free_command_line app is_line)))
     (decided (takes app words))
 
--- the words have a fault that clap does not find, or an allocation failed
+-- the words are rejected for a fault that clap does not find, or since an allocation failed
 pub rejected_by_fault : (RanOut : Type 0) (Refuses : App → List Text → Error → Type 0) (Explains : App → ErrorKind → Text → Error → Type 0)
     (words : List Text) (kind : ErrorKind) (message : Text) (error : Error) → IsExplainedUnless RanOut Explains kind message error
     → HaveFault words kind message → AreRejectedBy RanOut Refuses Explains words error

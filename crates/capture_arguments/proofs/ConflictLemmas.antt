@@ -1,4 +1,4 @@
--- For the options that are not used together.
+-- Laws of the options that are not used together.
 use Rattle.std.proofs.Common.{◌≡◌, ◌∙◌, Option, None, Some, ap, refl}
 use Rattle.std.specs.Prelude.{find, option_and_then, option_map}
 use Rattle.std.specs.Str.{bytes_eq}

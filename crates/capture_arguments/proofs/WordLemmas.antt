@@ -1,4 +1,4 @@
--- For the words of the command line.
+-- Laws of the words of the command line.
 use Rattle.std.proofs.Common.{◌≡◌, ◌⊎◌, ◌+◌, ◌-◌, ◌^◌, ◌∷◌, ◌++◌, [], Bool, IsUtf8, List, ℕ, arith, false, if◌then◌else◌, inl, inr, length, refl, subst, true}
 use Rattle.std.proofs.lemmas.Str.{IsUtf8-from_is_utf8, is_utf8-from_IsUtf8}
 use Rattle.std.specs.List.{flat_map}
@@ -8,7 +8,7 @@ use Rattle.std.specs.declared.io.ErrorKind.TheVariants.{ArgumentListTooLong, Out
 use Rattle.capture_facts.specs.ShownText.{escaped_byte}
 use Rattle.capture_arguments.specs.Words.{AreArguments, AreTooLong, max_argument_len, word_of}
 
--- bytes that are UTF-8
+-- bytes that are UTF-8 are the word itself
 pub text_word : (bytes text : List ℕ) → text ≡ bytes → IsUtf8 bytes → text ≡ word_of bytes
 text_word bytes text same utf8 = rw (is_utf8-from_IsUtf8 bytes utf8) same
 
@@ -17,11 +17,11 @@ escaped_by : (bytes : List ℕ) (test : Bool) → is_utf8 bytes ≡ test → (Is
 escaped_by bytes true is other = absurd (other (IsUtf8-from_is_utf8 bytes is))
 escaped_by bytes false is other = refl
 
--- other bytes
+-- bytes that are not UTF-8 are escaped in the word
 pub escaped_word : (bytes : List ℕ) → (IsUtf8 bytes → ⊥) → 0 ∷ flat_map escaped_byte bytes ≡ word_of bytes
 escaped_word bytes other = escaped_by bytes (is_utf8 bytes) refl other
 
--- one more argument
+-- the arguments after another argument
 pub arguments-push : (holds : ℕ → List ℕ → Type 0) (place now : ℕ) (arguments : List (List ℕ)) (argument : List ℕ)
     → AreArguments holds place arguments → now ≡ place + length arguments → holds now argument
     → AreArguments holds place (arguments ++ argument ∷ [])

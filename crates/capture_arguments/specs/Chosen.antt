@@ -20,7 +20,7 @@ AreEmpty [] = Unit {0}
 AreEmpty (None ∷ places) = AreEmpty places
 AreEmpty (Some value ∷ places) = ⊥
 
--- the first places have the values of these texts, in their order, and the other places have none
+-- the first places contain the values of these texts, in their order, and the other places are empty
 abbrev pub ReadsPlaces : {X : Type 0} → (List ℕ → X → Type 0) → List (List ℕ) → List (Option X) → Type 0
 ReadsPlaces Reads [] places = AreEmpty places
 ReadsPlaces Reads (text ∷ texts) [] = ⊥
@@ -32,11 +32,11 @@ abbrev pub AreRead : {X : Type 0} → (List ℕ → X → Type 0) → List (List
 AreRead Reads texts None = texts ≡ []
 AreRead Reads texts (Some places) = (texts ≢ []) × ReadsPlaces Reads texts places
 
--- the text is a host
+-- the text is this host
 abbrev pub ReadsHost : List ℕ → Network → Type 0
 ReadsHost text host = ReadsNetwork text (Ok host)
 
--- the text is a port
+-- the text is this port
 abbrev pub ReadsPort : List ℕ → ℕ → Type 0
 ReadsPort text port = IsNumberText 16 text port
 
@@ -103,7 +103,7 @@ pub record IsChoiceOf (matches : ArgMatches) (choice : Choice) : Type 0 where
 
 -- ---- refusals
 
--- This is the first of the texts that has no value. The first statement is about a text and its value, and the second about the wrong text.
+-- `wrong` is the first of these texts that has no value. `Reads` relates a text to its value, and `IsWrong` holds for `wrong`.
 pub record IsFirstWrong {X : Type 0} (Reads : List ℕ → X → Type 0) (IsWrong : List ℕ → Type 0) (texts : List (List ℕ)) (wrong : List ℕ) : Type 0 where
   pub before : List (List ℕ)
   pub after : List (List ℕ)

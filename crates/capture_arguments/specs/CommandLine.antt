@@ -20,23 +20,23 @@ flag_rule name = record (new_rule name) { long = Some name; action = Some SetTru
 abbrev pub value_rule : Text → Rule
 value_rule name = record (new_rule name) { long = Some name; value_names = 1; action = Some Set }
 
--- an option with a value that this parser tests
+-- an option whose value this parser checks
 abbrev pub parsed_rule : Text → ValueParser → Rule
 parsed_rule name parser = record (value_rule name) { parser = Some parser }
 
--- an option that can be given several times
+-- an option that may occur several times
 abbrev pub repeated : Rule → Rule
 repeated rule = record rule { action = Some Append }
 
--- the option for further fields in the lines, `-v` (118)
+-- the option that requests more fields in each line, `-v` (118)
 abbrev pub verbose_rule : Rule
 verbose_rule = record (flag_rule (codes "verbose")) { short = Some 118 }
 
--- the options for the parts and the lines of the report
+-- the options that select the lines of the report
 abbrev pub line_rules : List Rule
 line_rules = flag_rule (codes "summary") ∷ flag_rule (codes "packets") ∷ flag_rule (codes "wrong") ∷ verbose_rule ∷ []
 
--- the option for the number of conversations in the summary; the number has at most 64 bits
+-- the option that states how many conversations the summary lists; the number has at most 64 bits
 abbrev pub top_rule : Rule
 top_rule = parsed_rule (codes "top") (parsers.Unsigned 0 (2 ^ 64 - 1))
 
@@ -55,27 +55,27 @@ abbrev pub choice_rules : List Rule
 choice_rules =
     repeated (value_rule (codes "port")) ∷ repeated (value_rule (codes "not-port")) ∷ repeated (value_rule (codes "protocol")) ∷ []
 
--- the option for the number of packets, `-c` (99); the number is at least 1 and has at most 64 bits
+-- the option that ends the report after a number of packets, `-c` (99); the number is at least 1 and has at most 64 bits
 abbrev pub count_rule : Rule
 count_rule = record (parsed_rule (codes "count") (parsers.Unsigned 1 (2 ^ 64 - 1))) { short = Some 99 }
 
--- the option that ends the report after a number of packets
+-- the options that end the report
 abbrev pub end_rules : List Rule
 end_rules = count_rule ∷ []
 
--- the option that writes a capture instead of a report, `-w` (119)
+-- the option that writes packets to a file instead of a report, `-w` (119)
 abbrev pub write_rule : Rule
 write_rule = record (value_rule (codes "write")) { short = Some 119 }
 
--- the option for what is written
+-- the options that replace the report by another output
 abbrev pub output_rules : List Rule
 output_rules = write_rule ∷ []
 
--- the option that writes each line out as soon as it is complete, `-l` (108)
+-- the option that writes out each line as soon as it is complete, `-l` (108)
 abbrev pub line_buffered_rule : Rule
 line_buffered_rule = record (flag_rule (codes "line-buffered")) { short = Some 108 }
 
--- an option without an effect, `-n` (110)
+-- the option that has no effect, `-n` (110)
 abbrev pub numeric_rule : Rule
 numeric_rule = record (flag_rule (codes "numeric")) { short = Some 110 }
 
@@ -83,19 +83,19 @@ numeric_rule = record (flag_rule (codes "numeric")) { short = Some 110 }
 abbrev pub read_rule : Rule
 read_rule = record (repeated (value_rule (codes "read"))) { short = Some 114 }
 
--- the captures without an option before their names
+-- the names of captures without an option
 abbrev pub file_rule : Rule
 file_rule = record (new_rule (codes "file")) { value_names = 1; action = Some Append }
 
--- the option for whole lines, the option without an effect, and the captures
+-- the option that writes out each line, the option without an effect, and the names of captures
 abbrev pub file_rules : List Rule
 file_rules = line_buffered_rule ∷ numeric_rule ∷ read_rule ∷ file_rule ∷ []
 
--- a command to which these options are added, in their order
+-- a command line to which these options are added, in their order
 abbrev pub with_rules : App → List Rule → App
 with_rules app rules = fold with_rule app rules
 
--- The command without options, but with a version. A repeated option replaces its earlier use, unless its values are appended.
+-- The command line without options. It has a version. An option that occurs again replaces its earlier use, unless its values are appended.
 abbrev pub bare_command : App
 bare_command =
     let app = new_app (codes "capture_report") in record app { top = record app.top { has_version = true; args_override_self = true } }
@@ -104,15 +104,15 @@ bare_command =
 abbrev pub version_text : Text
 version_text = codes "0.5.0"
 
--- what help says before the usage
+-- the text of the help before the usage
 abbrev pub about_text : Text
 about_text = codes "Reads captures, and reports what each packet is and whether its checksum is right"
 
--- a text that may be absent is this text
+-- the text is present, and it is this text
 abbrev pub IsText : Option (Bor Text) → Text → Type 0
 IsText given text = option_map (λ one. one.now) given ≡ Some text
 
--- the texts of the command for help and for the version
+-- the texts that the help and the version show
 pub record IsDescribed (command : Command) : Type 0 where
   pub name : (out-Command command).name.now ≡ codes "capture_report"
   pub version : IsText (out-Command command).version version_text
@@ -127,12 +127,12 @@ command_line =
 abbrev pub IsCommandLine : App → Type 0
 IsCommandLine app = app ≡ command_line
 
--- These words fit the command line, and these are their matches. The first word is the name of the program.
+-- These words fit the command line, and their matches are these. The first word is the name of the program.
 abbrev pub AreMatchesOf : List Text → ArgMatches → Type 0
 AreMatchesOf words matches =
     (app : App) × IsCommandLine app × (faults_of app words ≡ []) × (rows_of (found_of matches) ≡ matches_of app words)
 
--- the words fit the command line with these matches, and each word that is an option is UTF-8
+-- these words fit the command line, their matches are these, and each option among the words is UTF-8
 abbrev pub ArePlainMatchesOf : List Text → ArgMatches → Type 0
 ArePlainMatchesOf words matches = AreMatchesOf words matches × (escaped_option words ≡ None)
 

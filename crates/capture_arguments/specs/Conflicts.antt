@@ -1,4 +1,4 @@
--- Which options are not used together.
+-- The options that are not used together.
 use Rattle.std.specs.Prelude.{◌&&◌, Bool, true, false, List, [], ◌∷◌, ◌++◌, codes, find, if◌then◌else◌, Option, Some, option_and_then}
 use Rattle.std.specs.Str.{bytes_eq}
 use Rattle.clap.specs.Words.{Row, Text}
@@ -7,7 +7,7 @@ use Rattle.clap.specs.declared.parser.matches.ValueSource.TheVariants.{CommandLi
 
 -- ---- the options
 
--- the pairs of options that are not used together, by their names, in the order in which the program tests them
+-- the names of options that are not used together, in pairs; the pairs are tested in this order
 abbrev pub exclusive_pairs : List (Text × Text)
 exclusive_pairs =
     (codes "summary", codes "packets") ∷ (codes "wrong", codes "summary") ∷ (codes "absolute", codes "summary") ∷ (codes "top", codes "packets")
@@ -19,21 +19,21 @@ abbrev pub is_from_words : Option ValueSource → Bool
 is_from_words (Some CommandLine) = true
 is_from_words source = false
 
--- the command line contains the option with this name
+-- the option with this name occurs on the command line
 abbrev pub is_given : List Row → Text → Bool
 is_given rows name = is_from_words (option_and_then (λ row. row.source) (find (λ row. bytes_eq row.id name) rows))
 
--- the first of the pairs whose options are both on the command line
+-- the first pair whose two options both occur on the command line
 abbrev pub conflict_in : List Row → Option (Text × Text)
 conflict_in rows = find (λ pair. is_given rows pair.0 && is_given rows pair.1) exclusive_pairs
 
 -- ---- the message
 
--- the value of an option in a message; an option without a value has none
+-- the value of an option as a message shows it; it is empty for an option without a value
 abbrev pub shown_value : Text → Text
 shown_value name = if bytes_eq name (codes "top") then codes " <N>" else (if bytes_eq name (codes "write") then codes " <FILE>" else [])
 
--- an option in a message, such as '--top <N>'
+-- an option as a message shows it, such as '--top <N>'
 abbrev pub shown_option : Text → Text
 shown_option name = codes "'--" ++ (name ++ (shown_value name ++ codes "'"))
 

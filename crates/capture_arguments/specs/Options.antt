@@ -18,7 +18,8 @@ use Rattle.capture_arguments.specs.declared.arguments.OptionsError.TheVariants.{
 abbrev pub IsCompatible : ArgMatches → Type 0
 IsCompatible matches = conflict_in (rows_of (found_of matches)) ≡ None
 
--- some matches contain no options for this reason: options that are not used together, then the choice of packets, then an allocation that failed
+-- The reason why options can't be read from these matches. Options that are not used together come first, and then a wrong choice of
+-- packets. An allocation can fail at any time.
 abbrev pub IsRefusedBy : Type 0 → ArgMatches → OptionsError → Type 0
 IsRefusedBy RanOut matches (Conflict first second) = conflict_in (rows_of (found_of matches)) ≡ Some (first.now, second.now)
 IsRefusedBy RanOut matches (Choice error) = IsCompatible matches × IsRefusal matches error

@@ -29,17 +29,17 @@ HaveConflict words message =
     (matches : ArgMatches) × (first : Text) × (second : Text) × ArePlainMatchesOf words matches
     × (conflict_in (rows_of (found_of matches)) ≡ Some (first, second)) × (message ≡ conflict_text first second)
 
--- the values of options contain no choice of packets
+-- the options that choose packets have a wrong value
 abbrev pub HaveNoChoice : List Text → Text → Type 0
 HaveNoChoice words message =
     (matches : ArgMatches) × (error : ChoiceError) × ArePlainMatchesOf words matches × IsCompatible matches × IsRefusal matches error
     × (message ≡ choice_text error)
 
--- the packets can't be written to the file that the words name
+-- packets can't be written to the file that the words name
 abbrev pub HaveNoOutput : List Text → Text → Type 0
 HaveNoOutput words message = (options : Options) × AreRequestedBy words options × (fault_of options ≡ Some message)
 
--- the first fault in words that fit the command line, by the kind and the message of its error
+-- the first fault in words that fit the command line; the error has this kind and this message
 abbrev pub HaveFault : List Text → ErrorKind → Text → Type 0
 HaveFault words kind message =
     ((kind ≡ UnknownArgument) × HaveEscapedOption words message)
@@ -53,45 +53,46 @@ no_capture_text = codes "no FILE is named, and standard input is a terminal"
 
 -- ---- errors
 
--- clap made this error of this kind, this message and the usage of the program. The statement `Explains` is true of what clap makes of them.
+-- clap made this error, with this kind, this message and the usage of the program. `Explains` is the statement about errors that clap
+-- makes.
 abbrev pub IsExplained : (App → ErrorKind → Text → Error → Type 0) → ErrorKind → Text → Error → Type 0
 IsExplained Explains kind message error =
     (kind_of error ≡ kind) × ((app : App) × IsCommandLine app × Explains app kind message error)
 
--- the error is about the memory, since an allocation failed
+-- the error is about memory, and an allocation failed
 abbrev pub IsAboutMemory : Type 0 → Error → Type 0
 IsAboutMemory RanOut error = (kind_of error ≡ OutOfMemory) × RanOut
 
--- the error has this kind and this message, with the usage of the program, or it is about the memory
+-- the error has this kind, this message and the usage of the program, or it is about memory
 abbrev pub IsExplainedUnless : Type 0 → (App → ErrorKind → Text → Error → Type 0) → ErrorKind → Text → Error → Type 0
 IsExplainedUnless RanOut Explains kind message error = IsExplained Explains kind message error ⊎ IsAboutMemory RanOut error
 
--- the word that an error of this kind names, if it names a word that looks like an option and is none
+-- the word that an error of this kind names: a word that looks like an option but is none
 abbrev pub named_word : ErrorKind → List Text → Option Text
 named_word UnknownArgument words = unknown_option words
 named_word kind words = None
 
--- The error `shown` is shown for the error `found`, which clap found in these words. If `found` is about a word that looks like an option and
+-- `shown` is the error that is shown for `found`, which clap found in these words. If `found` is about a word that looks like an option but
 -- is none, `shown` names this word, and no other option. Otherwise it is `found`.
 abbrev pub IsShownFor : Type 0 → (App → ErrorKind → Text → Error → Type 0) → List Text → Error → Error → Type 0
 IsShownFor RanOut Explains words found shown = MatchOption (named_word (kind_of found) words) (shown ≡ found)
     (λ word. IsExplainedUnless RanOut Explains UnknownArgument (unknown_text word) shown)
 
--- These words don't fit the command line, or request help or the version. clap found an error in them, and `error` is shown for it. The
--- statement `Refuses` is true of what clap returns for words. The error of clap has the kind of the first fault in them.
+-- These words do not fit the command line, or request help or the version. clap found a fault in them, and `error` is shown for it.
+-- `Refuses` is the statement about errors that clap returns for words.
 abbrev pub AreNoMatch : Type 0 → (App → List Text → Error → Type 0) → (App → ErrorKind → Text → Error → Type 0) → List Text → Error → Type 0
 AreNoMatch RanOut Refuses Explains words error =
     (app : App) × (found : Error) × IsCommandLine app × (takes app words ≡ false) × IsAmong (kind_of found) (faults_of app words)
     × Refuses app words found × IsShownFor RanOut Explains words found error
 
--- clap refuses these words, or the error has the kind and the message of the first fault in them, or it is about the memory
+-- the error is about memory, or clap refuses these words, or the error has the kind and the message of the first fault in them
 abbrev pub AreRejectedBy : Type 0 → (App → List Text → Error → Type 0) → (App → ErrorKind → Text → Error → Type 0) → List Text → Error → Type 0
 AreRejectedBy RanOut Refuses Explains words error =
     IsAboutMemory RanOut error
     ⊎ (AreNoMatch RanOut Refuses Explains words error
     ⊎ ((kind : ErrorKind) × (message : Text) × HaveFault words kind message × IsExplained Explains kind message error))
 
--- the exit status after the text of such an error: 0 for help and for the version, 3 if no memory is left, and 2 for every other error
+-- the exit status after an error of this kind: 0 for help and for the version, 3 if no memory is left, and 2 for any other error
 abbrev pub answer_number : ErrorKind → ℕ
 answer_number DisplayHelp = 0
 answer_number DisplayVersion = 0

@@ -8,16 +8,16 @@ use Rattle.std.specs.declared.io.ErrorKind.TheVariants.{ArgumentListTooLong, Out
 use Rattle.capture_facts.specs.ShownText.{escaped_byte}
 use Rattle.capture_request.specs.Names.{without_mark}
 
--- an argument as a text; if it is not UTF-8, it is the name of a file in its escaped form, after NUL (0), which no argument contains
+-- an argument as a word; if it is not UTF-8, the word is NUL (0), which no argument contains, and the escaped bytes
 abbrev pub word_of : List ℕ → List ℕ
 word_of bytes = if is_utf8 bytes then bytes else 0 ∷ flat_map escaped_byte bytes
 
--- these are the arguments from this place on, by the statement about a place and its argument
+-- these are the arguments from this place on; `holds` is the statement about a place and its argument
 abbrev pub AreArguments : (ℕ → List ℕ → Type 0) → ℕ → List (List ℕ) → Type 0
 AreArguments holds place [] = Unit {0}
 AreArguments holds place (argument ∷ arguments) = holds place argument × AreArguments holds (place + 1) arguments
 
--- These are the words of all arguments, in their order. The last statement is true of the place after the last argument.
+-- These are the words of all arguments, in their order. `ends` is the statement about a place after the last argument.
 pub record AreWordsOf (holds : ℕ → List ℕ → Type 0) (ends : ℕ → Type 0) (words : List (List ℕ)) : Type 0 where
   pub arguments : List (List ℕ)
   pub are_arguments : AreArguments holds 0 arguments
@@ -32,34 +32,34 @@ is_escaped_option [] = false
 is_escaped_option (mark ∷ []) = false
 is_escaped_option (mark ∷ (first ∷ word)) = mark == 0 && first == 45
 
--- the first of these words that is an escaped option; no word after `--` is an option
+-- the first of these words that is an escaped option; the words after `--` are no options
 abbrev pub first_escaped_option : List (List ℕ) → Option (List ℕ)
 first_escaped_option [] = None
 first_escaped_option (word ∷ words) =
     if bytes_eq word (codes "--") then None else (if is_escaped_option word then Some word else first_escaped_option words)
 
--- the same for the words of a command line; the first word is the name of the program
+-- the first word of a command line that is an escaped option; the name of the program, which is the first word, is no option
 abbrev pub escaped_option : List (List ℕ) → Option (List ℕ)
 escaped_option words = first_escaped_option (drop 1 words)
 
--- the message about such an option
+-- the message about an option that is not UTF-8
 abbrev pub escaped_option_text : List ℕ → List ℕ
 escaped_option_text word = codes "the argument '" ++ (without_mark word ++ codes "' is not UTF-8")
 
 -- ---- refusals
 
--- the greatest length of an argument in bytes: Linux accepts no longer one
+-- the greatest length of an argument that Linux accepts, in bytes
 abbrev pub max_argument_len : ℕ
 max_argument_len = 2 ^ 17
 
--- There are too many bytes. After these arguments, the next is longer than the greatest length, by the last statement. Or there are as many
--- arguments as a place can number.
+-- The arguments are too long. Either the argument after these arguments exceeds the greatest length, as `exceeds` states. Or there are 2^64
+-- - 1 arguments.
 pub record AreTooLong (holds : ℕ → List ℕ → Type 0) (exceeds : ℕ → ℕ → Type 0) : Type 0 where
   pub arguments : List (List ℕ)
   pub are_arguments : AreArguments holds 0 arguments
   pub are_too_long : exceeds (length arguments) max_argument_len ⊎ (length arguments ≡ 2 ^ 64 - 1)
 
--- why there are no words: an allocation failed, by the last statement, or the arguments are too long
+-- why there are no words: an allocation failed, or the arguments are too long
 abbrev pub AreNoWords : (ℕ → List ℕ → Type 0) → (ℕ → ℕ → Type 0) → Type 0 → Error → Type 0
 AreNoWords holds exceeds RanOut error =
     ((error_kind error ≡ OutOfMemory) × RanOut) ⊎ ((error_kind error ≡ ArgumentListTooLong) × AreTooLong holds exceeds)

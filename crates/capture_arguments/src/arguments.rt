@@ -28,10 +28,10 @@ use clap::error::ErrorKind;
 use clap::{Arg, ArgAction, ArgMatches, Command, Error, value_parser};
 use std::alloc::{AllocError, Global};
 
-/// The version of the program, which is that of the library (`ETHERPARSE_VERSION` in the C header).
+/// The version of the program. It is the version of the library, `ETHERPARSE_VERSION` in the C header.
 const VERSION: &str = "0.5.0";
 
-/// The help after the options.
+/// The text of the help after the options.
 const AFTER_HELP: &str = "\
 --wrong and --check are about packets whose checksum is wrong, and packets that
 are refused. A checksum that is not filled in is normal for packets that this
@@ -52,30 +52,31 @@ const OUTPUT_IS_CAPTURE: &str = "the FILE of '--write <FILE>' is the capture";
 /// The error if several captures are named.
 const SEVERAL_CAPTURES: &str = "'--write <FILE>' is used with more than one capture";
 
-/// The same error if one of the names begins like a filter.
+/// The error if several captures are named, and one of the names begins like a filter.
 const SEVERAL_OR_FILTER: &str =
     "'--write <FILE>' is used with more than one capture; filters are --host, --port and --protocol";
 
-/// The options in the arguments.
+/// The options that the arguments give.
 #[derive(Drop)]
 pub struct Options<'a> {
     /// The options of the report.
     pub parts: Parts,
     /// Whether each line is written out as soon as it is complete.
     pub line_buffered: bool,
-    /// The name of the file to which the packets are written instead of a report, if they are. `-` is standard output.
+    /// The name of the file to which packets are written instead of a report. `-` is standard output. `None` if a report is requested.
     pub write: Option<&'a str>,
     /// The names of the captures, in their order.
     pub files: Vec<&'a str>,
 }
 
-/// The options in the arguments after the name of the program.
+/// Reads the options from the arguments after the name of the program.
 ///
 /// # Errors
 ///
-/// The text of the error names what is wrong, and the exit status is 2. It is an unknown argument, an option that is not UTF-8, two options
-/// that are not used together, the first wrong host or port, or a file that can't be written. A request for help or for the version is also
-/// an error. Its text goes to standard output, and its exit status is 0. If no memory is left, the exit status is 3.
+/// If an argument is wrong, the text of the error names it, and the exit status is 2. It can be an unknown argument, an option that is not
+/// UTF-8, two options that are not used together, the first wrong host or port, or a file that can't be written. A request for help or for
+/// the version is also returned as an error. Its text goes to standard output, and its exit status is 0. If no memory is left, the exit
+/// status is 3.
 pub fn requested_options<'a, M: Memory>(
     memory: &M,
     words: &'a [String],
@@ -92,7 +93,7 @@ pub fn requested_options<'a, M: Memory>(
     }
 }
 
-/// The options in the arguments, whether the requested file can be written or not.
+/// Reads the options from the arguments, without checking whether the requested file can be written.
 fn given_options<'a, M: Memory>(memory: &M, words: &'a [String]) -> Result<Options<'a>, Error>
     ensures options { IfOk result (AreRequestedBy (map (λ word. string_bytes word) words.now)) }
     ensures rejected { IfErr result (AreRejectedBy (M.ran_out memory.now) (M.refuses memory.now) (M.explains memory.now)
@@ -114,7 +115,8 @@ fn given_options<'a, M: Memory>(memory: &M, words: &'a [String]) -> Result<Optio
     }
 }
 
-/// The error of clap for these words. If it is about an unknown option, it is made anew, without the tips of clap, which name other options.
+/// The error that is shown for an error of clap in these words. An error about an unknown option is replaced by an error without the tips
+/// of clap, which name other options.
 fn without_tips<M: Memory>(memory: &M, words: &[String], error: Error) -> Error
     ensures { IsShownFor (M.ran_out memory.now) (M.explains memory.now) (map (λ word. string_bytes word) words.now) error result }
 {
@@ -127,17 +129,17 @@ fn without_tips<M: Memory>(memory: &M, words: &[String], error: Error) -> Error
     }
 }
 
-/// Why some matches contain no options.
+/// Why options can't be read from matches of clap.
 pub enum OptionsError<'a> {
-    /// They contain the two options with these names, which are not used together.
+    /// The options with these two names are not used together.
     Conflict(&'static str, &'static str),
-    /// They contain no choice of packets.
+    /// A value of an option that chooses packets is wrong.
     Choice(ChoiceError<'a>),
     /// No memory is left.
     NoMemory(AllocError),
 }
 
-/// The options in these matches.
+/// Reads the options from these matches.
 fn options_of<'a, M: Memory>(
     memory: &M,
     matches: &ArgMatches<'a>,
@@ -204,7 +206,7 @@ fn flag_of(matches: &ArgMatches<'_>, id: &str) -> bool
     matches.get_flag(id)
 }
 
-/// How the lines of packets show their times.
+/// The form of the times in the lines of packets.
 fn times_of(matches: &ArgMatches<'_>) -> Times
     ensures { (absolute : Bool) → HasFlag matches.now (codes "absolute") absolute → result ≡ times_by absolute }
 {
@@ -240,7 +242,7 @@ fn count_of(matches: &ArgMatches<'_>) -> Option<u64>
     matches.get_one("count")
 }
 
-/// The error for an option that is not UTF-8, with the usage. If no memory is left for its text, the error is about the memory.
+/// The error for an option that is not UTF-8. Its text contains the usage. If no memory is left, it is an error about memory.
 fn invalid_option<M: Memory>(memory: &M, word: &str) -> Error
     ensures { IsExplainedUnless (M.ran_out memory.now) (M.explains memory.now) ErrorKind.UnknownArgument (escaped_option_text word.now) result }
 {
@@ -250,7 +252,7 @@ fn invalid_option<M: Memory>(memory: &M, word: &str) -> Error
     }
 }
 
-/// The error for a word that is no option, with the usage. If no memory is left for its text, the error is about the memory.
+/// The error for a word that is no option. Its text contains the usage. If no memory is left, it is an error about memory.
 fn invalid_word<M: Memory>(memory: &M, word: &str) -> Error
     ensures { IsExplainedUnless (M.ran_out memory.now) (M.explains memory.now) ErrorKind.UnknownArgument (unknown_text word.now) result }
 {
@@ -260,7 +262,7 @@ fn invalid_word<M: Memory>(memory: &M, word: &str) -> Error
     }
 }
 
-/// The error for two options that are not used together, with the usage. If no memory is left for its text, the error is about the memory.
+/// The error for two options that are not used together. Its text contains the usage. If no memory is left, it is an error about memory.
 fn invalid_pair<M: Memory>(memory: &M, first: &str, second: &str) -> Error
     ensures { IsExplainedUnless (M.ran_out memory.now) (M.explains memory.now) ErrorKind.ArgumentConflict (conflict_text first.now second.now) result }
 {
@@ -270,7 +272,7 @@ fn invalid_pair<M: Memory>(memory: &M, first: &str, second: &str) -> Error
     }
 }
 
-/// The error for a choice of packets that is not valid, with the usage. If no memory is left for its text, the error is about the memory.
+/// The error for a choice of packets that is not valid. Its text contains the usage. If no memory is left, it is an error about memory.
 fn invalid_choice<M: Memory>(memory: &M, error: ChoiceError<'_>) -> Error
     ensures { IsExplainedUnless (M.ran_out memory.now) (M.explains memory.now) ErrorKind.ValueValidation (choice_text error.entry) result }
 {
@@ -280,8 +282,8 @@ fn invalid_choice<M: Memory>(memory: &M, error: ChoiceError<'_>) -> Error
     }
 }
 
-/// Why the packets of the captures can't be written to the requested file, if they can't: there are several captures, or the file is the
-/// capture.
+/// The reason why packets can't be written to the requested file: several captures are named, or the file is the capture. Otherwise
+/// `None`.
 fn output_fault(options: &Options<'_>) -> Option<&'static str>
     ensures { option_map (λ text. text.now) result ≡ fault_of options.now }
 {
@@ -295,21 +297,21 @@ fn output_fault(options: &Options<'_>) -> Option<&'static str>
     }
 }
 
-/// The error for a file that can't be written, with the usage. If no memory is left for its text, the error is about the memory.
+/// The error for a file that can't be written. Its text contains the usage. If no memory is left, it is an error about memory.
 fn invalid_output<M: Memory>(memory: &M, fault: &str) -> Error
     ensures { IsExplainedUnless (M.ran_out memory.now) (M.explains memory.now) ErrorKind.ArgumentConflict fault.now result }
 {
     error_with_usage(memory, ErrorKind::ArgumentConflict, fault)
 }
 
-/// The error if the file to write is the capture, with the usage. If no memory is left for its text, the error is about the memory.
+/// The error if the file to write is the capture. Its text contains the usage. If no memory is left, it is an error about memory.
 pub fn output_is_capture<M: Memory>(memory: &M) -> Error
     ensures { IsExplainedUnless (M.ran_out memory.now) (M.explains memory.now) ErrorKind.ArgumentConflict is_capture_text result }
 {
     invalid_output(memory, OUTPUT_IS_CAPTURE)
 }
 
-/// The error if there is no capture to read, with the usage. If no memory is left for its text, the error is about the memory.
+/// The error if there is no capture to read. Its text contains the usage. If no memory is left, it is an error about memory.
 pub fn no_capture<M: Memory>(memory: &M) -> Error
     ensures { IsExplainedUnless (M.ran_out memory.now) (M.explains memory.now) ErrorKind.MissingRequiredArgument no_capture_text result }
 {
@@ -320,7 +322,7 @@ pub fn no_capture<M: Memory>(memory: &M) -> Error
     )
 }
 
-/// An error of this kind with this message and the usage. If no memory is left for its text, the error is about the memory.
+/// An error of this kind with this message and the usage. If no memory is left, it is an error about memory.
 fn error_with_usage<M: Memory>(memory: &M, kind: ErrorKind, message: &str) -> Error
     ensures { IsExplainedUnless (M.ran_out memory.now) (M.explains memory.now) kind message.now result }
 {
@@ -330,7 +332,7 @@ fn error_with_usage<M: Memory>(memory: &M, kind: ErrorKind, message: &str) -> Er
     }
 }
 
-/// An error of this kind with this message and the usage of this command, or an error about the memory.
+/// An error of this kind with this message and the usage of this command, or an error about memory.
 fn error_of<M: Memory>(
     memory: &M,
     command: &mut Command<'_>,
@@ -346,7 +348,7 @@ fn error_of<M: Memory>(
     }
 }
 
-/// The command line.
+/// The command line that the program accepts.
 fn command<'a, M: Memory>(memory: &M) -> Result<Command<'a>, AllocError>
     ensures line { IfOk result (λ command. IsCommandLine (app_of command)) }
     ensures ran_out { OnErr result (M.ran_out memory.now) }
@@ -358,7 +360,8 @@ fn command<'a, M: Memory>(memory: &M) -> Result<Command<'a>, AllocError>
     with_files(memory, command)
 }
 
-/// The command line without options. An option without several values that is repeated replaces its earlier use, so that `-nn` is `-n`.
+/// The command line without options. An option that occurs again replaces its earlier use, unless it accepts several
+/// values. So `-nn` means `-n`.
 fn bare<'a>(alloc: Global) -> Command<'a>
     ensures app { app_of result ≡ bare_command }
     ensures described { IsDescribed result }
@@ -370,7 +373,7 @@ fn bare<'a>(alloc: Global) -> Command<'a>
         .args_override_self(true)
 }
 
-/// The command line with the options for the parts and the lines of the report.
+/// The command line with the options for what is reported: the summary, the lines, and the details of lines.
 fn with_lines<'a, M: Memory>(memory: &M, command: Command<'a>) -> Result<Command<'a>, AllocError>
     ensures rules { IfOk result (λ more. app_of more ≡ with_rules (app_of command.entry) line_rules) }
     ensures ran_out { OnErr result (M.ran_out memory.now) }
@@ -382,7 +385,7 @@ fn with_lines<'a, M: Memory>(memory: &M, command: Command<'a>) -> Result<Command
     memory.with_arg(command, verbose(alloc))
 }
 
-/// The option for the summary without lines.
+/// The option that requests only the summary.
 fn summary<'a>(alloc: Global) -> Arg<'a>
     ensures rule { rule_of result ≡ flag_rule (codes "summary") }
     ensures local { result.global ≡ false }
@@ -390,7 +393,7 @@ fn summary<'a>(alloc: Global) -> Arg<'a>
     flag(alloc, "summary", "Write only the summary")
 }
 
-/// The option for lines without the summary.
+/// The option that requests only the lines of packets.
 fn packets<'a>(alloc: Global) -> Arg<'a>
     ensures rule { rule_of result ≡ flag_rule (codes "packets") }
     ensures local { result.global ≡ false }
@@ -398,7 +401,7 @@ fn packets<'a>(alloc: Global) -> Arg<'a>
     flag(alloc, "packets", "Write only the lines of packets")
 }
 
-/// The option for lines only of packets with a fault.
+/// The option that requests only the lines of packets with a fault.
 fn wrong<'a>(alloc: Global) -> Arg<'a>
     ensures rule { rule_of result ≡ flag_rule (codes "wrong") }
     ensures local { result.global ≡ false }
@@ -410,7 +413,7 @@ fn wrong<'a>(alloc: Global) -> Arg<'a>
     )
 }
 
-/// The option for further fields in the lines.
+/// The option that requests more fields in each line.
 fn verbose<'a>(alloc: Global) -> Arg<'a>
     ensures rule { rule_of result ≡ verbose_rule }
     ensures local { result.global ≡ false }
@@ -435,7 +438,7 @@ fn with_form<'a, M: Memory>(memory: &M, command: Command<'a>) -> Result<Command<
     memory.with_arg(command, top(alloc))
 }
 
-/// The option for the date and time of packets.
+/// The option that shows the date and time of packets.
 fn absolute<'a>(alloc: Global) -> Arg<'a>
     ensures rule { rule_of result ≡ flag_rule (codes "absolute") }
     ensures local { result.global ≡ false }
@@ -447,7 +450,7 @@ fn absolute<'a>(alloc: Global) -> Arg<'a>
     )
 }
 
-/// The option for an exit status of packets with a fault.
+/// The option that sets the exit status if a packet has a fault.
 fn check<'a>(alloc: Global) -> Arg<'a>
     ensures rule { rule_of result ≡ flag_rule (codes "check") }
     ensures local { result.global ≡ false }
@@ -459,7 +462,7 @@ fn check<'a>(alloc: Global) -> Arg<'a>
     )
 }
 
-/// The option for JSON.
+/// The option that requests JSON.
 fn json<'a>(alloc: Global) -> Arg<'a>
     ensures rule { rule_of result ≡ flag_rule (codes "json") }
     ensures local { result.global ≡ false }
@@ -471,7 +474,7 @@ fn json<'a>(alloc: Global) -> Arg<'a>
     )
 }
 
-/// The number of conversations in the summary.
+/// The option that states how many conversations the summary lists.
 fn top<'a>(alloc: Global) -> Arg<'a>
     ensures rule { rule_of result ≡ top_rule }
     ensures local { result.global ≡ false }
@@ -497,7 +500,7 @@ fn with_hosts<'a, M: Memory>(memory: &M, command: Command<'a>) -> Result<Command
     memory.with_arg(command, other_host(alloc))
 }
 
-/// The hosts that choose packets.
+/// The option that chooses packets by a host.
 fn host<'a>(alloc: Global) -> Arg<'a>
     ensures rule { rule_of result ≡ repeated (value_rule (codes "host")) }
     ensures local { result.global ≡ false }
@@ -587,7 +590,7 @@ fn other_port<'a>(alloc: Global) -> Arg<'a>
     )
 }
 
-/// The protocols that choose packets.
+/// The option that chooses packets by a protocol.
 fn protocol<'a>(alloc: Global) -> Arg<'a>
     ensures rule { rule_of result ≡ repeated (value_rule (codes "protocol")) }
     ensures local { result.global ≡ false }
@@ -600,7 +603,7 @@ fn protocol<'a>(alloc: Global) -> Arg<'a>
     )
 }
 
-/// The number of packets.
+/// The option that ends the report after a number of packets.
 fn count<'a>(alloc: Global) -> Arg<'a>
     ensures rule { rule_of result ≡ count_rule }
     ensures local { result.global ≡ false }
@@ -615,7 +618,7 @@ fn count<'a>(alloc: Global) -> Arg<'a>
     .value_parser(value_parser!(u64).range(1..))
 }
 
-/// The command line with the captures, and with the options for writing packets or lines.
+/// The command line with the names of the captures, and with the options for the output.
 fn with_files<'a, M: Memory>(memory: &M, command: Command<'a>) -> Result<Command<'a>, AllocError>
     ensures rules { IfOk result (λ more. app_of more ≡ with_rules (app_of command.entry) (output_rules ++ file_rules)) }
     ensures ran_out { OnErr result (M.ran_out memory.now) }
@@ -628,7 +631,7 @@ fn with_files<'a, M: Memory>(memory: &M, command: Command<'a>) -> Result<Command
     memory.with_arg(command, file(alloc))
 }
 
-/// The file for the packets. An option for the form of a report has no effect on them.
+/// The option that writes the packets to a file instead of a report.
 fn write<'a>(alloc: Global) -> Arg<'a>
     ensures rule { rule_of result ≡ write_rule }
     ensures local { result.global ≡ false }
@@ -642,7 +645,7 @@ fn write<'a>(alloc: Global) -> Arg<'a>
     .short('w')
 }
 
-/// The option for writing lines.
+/// The option that writes out each line as soon as it is complete.
 fn line_buffered<'a>(alloc: Global) -> Arg<'a>
     ensures rule { rule_of result ≡ line_buffered_rule }
     ensures local { result.global ≡ false }
@@ -655,7 +658,7 @@ fn line_buffered<'a>(alloc: Global) -> Arg<'a>
     .short('l')
 }
 
-/// The option of other programs that keeps numbers from being looked up, which this program does not do.
+/// The option that stops other programs from looking up names. It has no effect here, since this program looks up no names.
 fn numeric<'a>(alloc: Global) -> Arg<'a>
     ensures rule { rule_of result ≡ numeric_rule }
     ensures local { result.global ≡ false }
@@ -668,7 +671,7 @@ fn numeric<'a>(alloc: Global) -> Arg<'a>
     .short('n')
 }
 
-/// The captures that the option `-r` names, as in tcpdump.
+/// The option `-r`, which names a capture as in tcpdump.
 fn read<'a>(alloc: Global) -> Arg<'a>
     ensures rule { rule_of result ≡ read_rule }
     ensures local { result.global ≡ false }
@@ -676,7 +679,7 @@ fn read<'a>(alloc: Global) -> Arg<'a>
     several(alloc, "read", "FILE", "A capture, like FILE").short('r')
 }
 
-/// The captures.
+/// The names of the captures without an option.
 fn file<'a>(alloc: Global) -> Arg<'a>
     ensures rule { rule_of result ≡ file_rule }
     ensures local { result.global ≡ false }
@@ -687,7 +690,7 @@ fn file<'a>(alloc: Global) -> Arg<'a>
         .action(ArgAction::Append)
 }
 
-/// An argument with a value, that can be given several times.
+/// An option with a value that may occur several times.
 fn several<'a>(alloc: Global, name: &'a str, value: &'a str, help: &'a str) -> Arg<'a>
     ensures rule { rule_of result ≡ repeated (value_rule name.entry.now) }
     ensures plain { IsPlainArg result }
@@ -696,7 +699,7 @@ fn several<'a>(alloc: Global, name: &'a str, value: &'a str, help: &'a str) -> A
     valued(alloc, name, value, help).action(ArgAction::Append)
 }
 
-/// An argument with a value.
+/// An option with a value.
 fn valued<'a>(alloc: Global, name: &'a str, value: &'a str, help: &'a str) -> Arg<'a>
     ensures rule { rule_of result ≡ value_rule name.entry.now }
     ensures plain { IsPlainArg result }
@@ -709,7 +712,7 @@ fn valued<'a>(alloc: Global, name: &'a str, value: &'a str, help: &'a str) -> Ar
         .action(ArgAction::Set)
 }
 
-/// An argument without a value.
+/// An option without a value.
 fn flag<'a>(alloc: Global, name: &'a str, help: &'a str) -> Arg<'a>
     ensures rule { rule_of result ≡ flag_rule name.entry.now }
     ensures plain { IsPlainArg result }

@@ -1,4 +1,4 @@
-//! The packets that the arguments choose.
+//! The choice of packets that the arguments give.
 
 ghost use Rattle.std.specs.Prelude.{◌≡◌, ◌≤◌, ◌<◌, ◌++◌, ◌∷◌, [], Err, IfErr, IfOk, IfSome, MatchOption, OnErr, OnOk, codes, length, map, option_map, string_bytes};
 ghost use Rattle.std.specs.List.{flat_map};
@@ -13,7 +13,7 @@ use capture_summary::{Hosts, MAX_CHOSEN, Network, NetworkError, PortRange, Ports
 use clap::ArgMatches;
 use std::alloc::AllocError;
 
-/// Why some matches contain no choice.
+/// Why matches of clap give no choice of packets.
 #[derive(Clone, Copy)]
 pub enum ChoiceError<'a> {
     /// For the option with this name, this text is no network.
@@ -319,7 +319,7 @@ fn protocols_in<'a>(texts: &[&'a str]) -> Result<Protocols, &'a str>
     Ok(protocols)
 }
 
-/// The message about a choice of packets that is not valid.
+/// The message about a wrong choice of packets.
 pub fn choice_text<M: Memory>(memory: &M, error: ChoiceError<'_>) -> Result<String, AllocError>
     ensures text { IfOk result (λ text. string_bytes text ≡ choice_text error.entry) }
     ensures ran_out { OnErr result (M.ran_out memory.now) }

@@ -9,7 +9,7 @@ use clap::ArgMatches;
 use clap::parser::ValueSource;
 use std::alloc::AllocError;
 
-/// The pairs of options that are not used together, by their names, in the order in which they are tested.
+/// The names of options that are not used together, in pairs. The pairs are tested in this order.
 static EXCLUSIVE: [(&str, &str); 10] = [
     ("summary", "packets"),
     ("wrong", "summary"),
@@ -23,7 +23,7 @@ static EXCLUSIVE: [(&str, &str); 10] = [
     ("write", "top"),
 ];
 
-/// The first two options on the command line that are not used together.
+/// The first pair of options that are not used together and that both occur on the command line.
 pub fn conflict_in(matches: &ArgMatches<'_>) -> Option<(&'static str, &'static str)>
     ensures { option_map (λ pair. (pair.0.now, pair.1.now)) result ≡ conflict_in (rows_of (found_of matches.now)) }
 {
@@ -62,7 +62,7 @@ pub fn conflict_text<M: Memory>(memory: &M, first: &str, second: &str) -> Result
     ))
 }
 
-/// The value of an option in a message. An option without a value has an empty text.
+/// The value of an option as a message shows it. The text is empty for an option without a value.
 fn shown_value(name: &str) -> &'static str
     ensures { result.now ≡ shown_value name.now }
 {

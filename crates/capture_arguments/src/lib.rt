@@ -1,7 +1,7 @@
 //! The arguments of the program `capture_report`.
 //!
-//! `words_of` returns the words of the command line, and `requested_options` the options in them. A refused word is named in the text of the
-//! error, whose kind decides the exit status.
+//! `words_of` returns the words of the command line, and `requested_options` the options in these words. If a word is refused, the text of
+//! the error names it. The kind of the error decides the exit status.
 //!
 //! ```
 //! let words = words_of(&rt.alloc(), &OwnArguments { rt })?;

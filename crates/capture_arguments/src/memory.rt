@@ -1,4 +1,4 @@
-//! The calls of this crate that allocate.
+//! The calls by which this crate allocates memory.
 
 use clap::error::ErrorKind;
 use clap::{Arg, ArgMatches, Command, Error};
@@ -6,9 +6,9 @@ use std::alloc::{AllocError, Global};
 use std::fmt::Display;
 use streams::new_buffer;
 
-/// What allocates for this crate. Only these calls return an error because no memory is left. A function over any `Memory` can hence state
-/// that its error is about the memory only if an allocation failed. In the same way it can state which error of `clap` it returns, since
-/// only these calls return one.
+/// The calls by which this crate allocates memory and asks `clap`. Only these calls fail if no memory is left. So a function over any
+/// `Memory` can state that its error is about memory only if an allocation failed. Only these calls return errors of `clap`, so such a
+/// function can also state which of these errors it returns.
 pub trait Memory {
     ghost use Rattle.std.specs.Prelude.{◌≡◌, ◌++◌, ◌∷◌, [], ℕ, IfErr, IfOk, IfSome, List, OnErr, OnOk, length, map, string_bytes, true};
     ghost use Rattle.clap.specs.Words.{AddsArg, App, FailsBy, HasMatchesOf, app_of, fault_of as faults_of, is_simple_and_free, kind_of, takes};
@@ -16,23 +16,23 @@ pub trait Memory {
     ghost use Rattle.clap.specs.declared.error.kind.ErrorKind.{ErrorKind};
     ghost use Rattle.clap.specs.declared.error.kind.ErrorKind.TheVariants.{OutOfMemory};
 
-    /// The statement that is true if an allocation failed.
+    /// A statement that holds if an allocation failed.
     ghost ran_out: { Self → Type 0 };
 
-    /// The statement that is true of a command line, of words, and of the error that `matches` returns for them.
+    /// A statement about a command line, words, and the error that `matches` returns for them.
     ghost refuses: { Self → App → List (List ℕ) → Error → Type 0 };
 
-    /// The statement that is true of a command line, of a kind, of a message, and of the error that `usage_error` makes of them.
+    /// A statement about a command line, a kind, a message, and the error that `usage_error` makes of them.
     ghost explains: { Self → App → ErrorKind → List ℕ → Error → Type 0 };
 
-    /// The allocator, for calls that don't allocate.
+    /// The allocator, for calls that do not allocate.
     fn alloc(&self) -> Global;
 
-    /// A buffer with this length in bytes.
+    /// A buffer of this length, in bytes.
     ///
     /// # Errors
     ///
-    /// `AllocError` if no memory is left, as in each call below.
+    /// `AllocError` if no memory is left. The calls below return it too.
     fn buffer(&self, len: usize) -> Result<Vec<u8>, AllocError>
         ensures len { IfOk result (λ buffer. length buffer.items ≡ len) }
         ensures ran_out { OnErr result (ran_out self.now) };
@@ -52,12 +52,13 @@ pub trait Memory {
         ensures items { OnOk result (names.new.items ≡ names.old.items ++ more.now) }
         ensures ran_out { OnErr result (ran_out self.now) };
 
-    /// The command with one more argument.
+    /// The command with this argument added.
     fn with_arg<'a>(&self, command: Command<'a>, arg: Arg<'a>) -> Result<Command<'a>, AllocError>
         ensures adds { IfOk result (AddsArg command.entry arg.entry) }
         ensures ran_out { OnErr result (ran_out self.now) };
 
-    /// What `try_get_matches_from` of the command returns for these words. An error of another kind than `OutOfMemory` is about the words.
+    /// The matches of these words, from `try_get_matches_from` of the command. An error of a kind other than `OutOfMemory` is about the
+    /// words.
     fn matches<'a>(
         &self,
         command: Command<'a>,
@@ -83,7 +84,7 @@ pub trait Memory {
         ensures ran_out { OnErr result (ran_out self.now) };
 }
 
-/// The memory of the program. Nothing is stated about when its allocations fail, or about the texts of errors.
+/// The memory of the program. Nothing is stated about when an allocation fails, or about the texts of errors.
 impl Memory for Global {
     ghost ran_out = { λ memory. Unit {0} };
 

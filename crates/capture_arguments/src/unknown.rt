@@ -1,4 +1,4 @@
-//! Words that look like options, and are no options of the program.
+//! Words that look like options but are no options of the program.
 
 ghost use Rattle.std.specs.Prelude.{◌≡◌, IfOk, OnErr, map, option_map, string_bytes};
 ghost use Rattle.capture_arguments.specs.Unknown.{has_unknown_letter, is_unknown, option_name, unknown_option, unknown_text};
@@ -32,14 +32,14 @@ static LONG_OPTIONS: [&str; 22] = [
     "--version",
 ];
 
-/// The letters of the options without a value.
+/// The letters of the options that have no value.
 const FLAGS: &[u8] = b"vlnhV";
 
-/// The letters of the options with a value, which can follow in the same word.
+/// The letters of the options that have a value. The value can follow in the same word.
 const VALUED: &[u8] = b"cwr";
 
-/// The first word that looks like an option and is no option of the program, if there is one. The first word is the name of the program,
-/// and no word after `--` is an option.
+/// The first word that looks like an option but is no option of the program. The name of the program, which is the first word, and the
+/// words after `--` are not checked.
 pub fn unknown_option(words: &[String]) -> Option<&str>
     ensures { option_map (λ word. word.now) result ≡ unknown_option (map (λ word. string_bytes word) words.now) }
 {
@@ -59,7 +59,7 @@ pub fn unknown_option(words: &[String]) -> Option<&str>
     None
 }
 
-/// Whether a word begins with `-`, and is no option of the program.
+/// Whether a word begins with `-` but is no option of the program.
 fn is_unknown(word: &str) -> bool
     ensures { result ≡ is_unknown word.now }
 {
@@ -80,7 +80,7 @@ fn option_name(word: &str) -> &str
     }
 }
 
-/// Whether one of these letters is no option. The letters after an option with a value are its value.
+/// Whether one of these letters is no option. If an option has a value, the letters after it are the value.
 fn has_unknown_letter(letters: &[u8]) -> bool
     ensures { result ≡ has_unknown_letter letters.now }
 {

@@ -11,7 +11,7 @@ use std::env::{Env, FillError};
 use std::io;
 use std::io::ErrorKind;
 
-/// The greatest length of an argument in bytes: Linux accepts no longer one (`MAX_ARG_STRLEN`).
+/// The greatest length of an argument that Linux accepts, in bytes (`MAX_ARG_STRLEN`).
 const MAX_ARGUMENT_LEN: usize = 1 << 17;
 
 /// The arguments of a program.
@@ -19,12 +19,12 @@ pub trait Arguments {
     ghost use Rattle.std.specs.Prelude.{◌≡◌, ◌≤◌, ℕ, Err, List, IfOk, length, take};
     ghost use Rattle.std.specs.declared.env.FillError.TheVariants.{NotPresent, TooLong};
 
-    /// The statement that is true of a place and of the bytes of its argument.
+    /// A statement about a place and the bytes of the argument at this place.
     ghost holds: { Self → ℕ → List ℕ → Type 0 };
-    /// The statement that is true of a place after the last argument.
+    /// A statement about a place after the last argument.
     ghost ends: { Self → ℕ → Type 0 };
 
-    /// The statement that is true of a place and of a length if the argument is longer.
+    /// A statement about a place and a length, which holds if the argument at this place is longer than this length.
     ghost exceeds: { Self → ℕ → ℕ → Type 0 };
 
     /// Writes the argument at this place to the front of `buffer`, and returns its length.
@@ -42,7 +42,7 @@ pub trait Arguments {
 /// The arguments of this program.
 #[derive(Drop)]
 pub struct OwnArguments<'a> {
-    /// The runtime that has the arguments.
+    /// The runtime that provides the arguments.
     pub rt: &'a HostRuntime,
 }
 
@@ -58,12 +58,14 @@ impl<'a> Arguments for OwnArguments<'a> {
     }
 }
 
-/// All arguments of a program as words, the name of the program first. An argument that is not UTF-8 is escaped, and begins with
-/// [`ESCAPED`]. [`requested_options`](crate::requested_options) accepts it as a value or as the name of a file, but not as an option.
+/// All arguments of a program as words, beginning with the name of the program. An argument that is not UTF-8 becomes an escaped word,
+/// which begins with [`ESCAPED`]. [`requested_options`](crate::requested_options) accepts it as a value or as the name of a file, but not
+/// as an option.
 ///
 /// # Errors
 ///
-/// `ArgumentListTooLong` if an argument is longer than Linux accepts, or if there are 2^64 - 1 arguments. `OutOfMemory` if no memory is left.
+/// `ArgumentListTooLong` if an argument is longer than Linux accepts, or if there are 2^64 - 1 arguments. `OutOfMemory` if no memory is
+/// left.
 pub fn words_of<M: Memory, A: Arguments>(memory: &M, arguments: &A) -> io::Result<Vec<String>>
     ensures words { IfOk result (λ words. AreWordsOf (A.holds arguments.now) (A.ends arguments.now) (map (λ word. string_bytes word) words.items)) }
     ensures refusal { IfErr result (AreNoWords (A.holds arguments.now) (A.exceeds arguments.now) (M.ran_out memory.now)) }
@@ -81,7 +83,7 @@ pub fn words_of<M: Memory, A: Arguments>(memory: &M, arguments: &A) -> io::Resul
     Err(io::Error::from(ErrorKind::ArgumentListTooLong))
 }
 
-/// An argument as a word. If its bytes are not UTF-8, they are escaped, after the mark.
+/// An argument as a word. If its bytes are not UTF-8, the word is the mark [`ESCAPED`] and the escaped bytes.
 fn word_of<M: Memory>(memory: &M, bytes: &[u8]) -> Result<String, AllocError>
     ensures word { IfOk result (λ word. string_bytes word ≡ word_of bytes.now) }
     ensures ran_out { OnErr result (M.ran_out memory.now) }
@@ -92,8 +94,8 @@ fn word_of<M: Memory>(memory: &M, bytes: &[u8]) -> Result<String, AllocError>
     }
 }
 
-/// The first option that is not UTF-8, in its escaped form, if there is one. The first word is the name of the program, and no word after
-/// `--` is an option.
+/// The first option that is not UTF-8, in its escaped form, if there is one. The name of the program, which is the first word, and the
+/// words after `--` are no options.
 pub fn escaped_option(words: &[String]) -> Option<&str>
     ensures { option_map (λ word. word.now) result ≡ escaped_option (map (λ word. string_bytes word) words.now) }
 {

@@ -12,7 +12,7 @@ use Rattle.capture_file.specs.Reading.{ReadsHeader, RefusesHeader}
 use Rattle.capture_file.specs.declared.classic.capture_header.CaptureHeader.{CaptureHeader}
 use Rattle.capture_file.specs.declared.classic.capture_header_error.CaptureHeaderError.{CaptureHeaderError}
 
--- what was read from bytes in memory: their first 24 bytes
+-- what a read of the header states about bytes in memory: it reads their first 24 bytes
 says_header : (bytes : List ℕ) (left : Option (List ℕ)) (read : Result CaptureHeader CaptureHeaderError) → ReadsHeader (Some bytes) left read
     → SaysHeader (take 24 bytes) read
 says_header bytes None (Ok header) reads = absurd reads.consumed
@@ -21,13 +21,13 @@ says_header bytes (Some rest) (Ok header) reads =
     subst (λ given. SaysHeader given (Ok header)) (sym same) (reads.has_len, reads.accepted, reads.is_header)
 says_header bytes left (Err error) reads = ap header_refusal (sym reads.first) ∙ reads.refused
 
--- the same of a read that may fail
+-- what a read of the header states if the read may fail
 pub says_unless_failed : {E : Type 0} → (bytes : List ℕ) (left : Option (List ℕ)) (result : Result (Result CaptureHeader CaptureHeaderError) E)
     → IfOk result (ReadsHeader (Some bytes) left) → IfOk result (SaysHeader (take 24 bytes))
 says_unless_failed bytes left (Ok read) reads = says_header bytes left read reads
 says_unless_failed bytes left (Err error) reads = tt
 
--- what 24 bytes of a buffer, or fewer, are as a header
+-- what a read of the header states about the bytes with which a buffer was filled
 pub says_of_filled : (buffer : List ℕ) (len : ℕ) (read : Result CaptureHeader CaptureHeaderError) → length buffer ≡ 24
     → SaysHeader (take 24 (take len buffer)) read → SaysHeader (take len buffer) read
 says_of_filled buffer len read room says =
@@ -50,7 +50,7 @@ first_bytes (Some all) (Some more) bytes consumed within end =
     (λ all_there. sym (ap (take 24) consumed ∙ take_at bytes more 24 (omega (arith, within, all_there))))
     (cases_lt (length bytes) 24)
 
--- the bytes that were read into a buffer after first bytes
+-- the bytes that were read are the first bytes and the bytes in the buffer
 pub all_consumed : (left middle still_left : Option (List ℕ)) (begin buffer : List ℕ) (len : ℕ) → Consumes left middle begin
     → FillsAfter begin middle still_left buffer len → Consumes left still_left (take len buffer)
 all_consumed left middle still_left begin buffer len consumed fills =

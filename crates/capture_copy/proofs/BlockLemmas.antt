@@ -5,11 +5,11 @@ use Rattle.capture_file.specs.PcapngReading.{IsNextBlock, ReadsAfter}
 use Rattle.capture_texts.specs.declared.byte_order.ByteOrder.{ByteOrder}
 use Rattle.capture_file.specs.declared.pcapng.read.NextBlock.{NextBlock}
 
--- bytes that are all that is left, read to the end
+-- reading all the bytes that are left ends at the end of input
 pub alone : (rest : List ℕ) → Consumes (Some rest) (Some []) rest
 alone rest = sym (append-nil rest)
 
--- the next item according to first bytes and all bytes after them
+-- the next item, given the first bytes and all bytes after them
 pub next_of : (section : ByteOrder) (first rest buffer : List ℕ) (next : NextBlock) → ReadsAfter section first (Some rest) (Some []) buffer next
     → IsNextBlock section (first ++ rest) buffer next
 next_of section first rest buffer next reads =

@@ -7,7 +7,7 @@ use Rattle.capture_copy.specs.Copies.{Copies}
 pub copies_nothing : (left held : Option (List ℕ)) → Copies left left held held 0
 copies_nothing left held = record { bytes = []; has_len = refl; consumed = Consumes-nil left; appended = Appends-nil held }
 
--- a copy, and then bytes from the front of a buffer
+-- a copy and then the copy of bytes at the front of a buffer are one copy
 pub copies_more : (left middle still_left held now_held then_held : Option (List ℕ)) (len count : ℕ) (buffer : List ℕ)
     → Copies left middle held now_held len → Consumes middle still_left (take count buffer) → Appends now_held then_held (take count buffer)
     → count ≤ length buffer → Copies left still_left held then_held (len + count)
@@ -18,7 +18,7 @@ copies_more left middle still_left held now_held then_held len count buffer copi
   appended = Appends-trans held now_held then_held copies.bytes (take count buffer) copies.appended appended;
 }
 
--- a copy, and then a read at the end of input
+-- a copy and then a read at the end of input are one copy
 pub copies_end : (left middle still_left held now_held : Option (List ℕ)) (len count : ℕ) (buffer : List ℕ)
     → Copies left middle held now_held len → Consumes middle still_left (take count buffer) → count ≡ 0 → Copies left still_left held now_held len
 copies_end left middle still_left held now_held len count buffer copies consumed none = record {

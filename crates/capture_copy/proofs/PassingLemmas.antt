@@ -18,7 +18,7 @@ passes_nothing format state left held counts = record {
   counted = refl;
 }
 
--- a part alone
+-- one passed part is a list of passed parts, with these values
 pub passes_part : (format : Format) (before after : format.State) (left still_left held now_held : Option (List ℕ)) (counts now_counts : format.Counts)
     (part : Part format.Outcome)
     → format.IsPart before part after → Consumes left still_left part.read → Appends held now_held part.written
@@ -31,7 +31,7 @@ passes_part format before after left still_left held now_held counts now_counts 
   counted = counts_are;
 }
 
--- one part is a list of parts
+-- one passed part is a list of passed parts
 pub passes_one : (format : Format) (before after : format.State) (left still_left held now_held : Option (List ℕ)) (counts now_counts : format.Counts)
     → PassesOne format before after left still_left held now_held counts now_counts
     → (passes : Passes format before after left still_left held now_held counts now_counts) × (length passes.parts ≡ 1)
@@ -47,7 +47,7 @@ passes_one format before after left still_left held now_held counts now_counts o
       refl,
     )
 
--- one part or none is a list of parts
+-- one passed part, or none, is a list of passed parts
 pub passes_any : (format : Format) (is_any : Bool) (before after : format.State) (left still_left held now_held : Option (List ℕ))
     (counts now_counts : format.Counts)
     → PassesAny format (Ok is_any) before after left still_left held now_held counts now_counts
@@ -69,7 +69,7 @@ are_parts_append format before between after [] others first second =
 are_parts_append format before between after (part ∷ parts) others first second =
     (first.0, first.1, are_parts_append format first.0 between after parts others first.2 second)
 
--- parts, and then others, with their number
+-- passed parts and then other passed parts are a list of passed parts, whose number is the sum
 passes_both : (format : Format) (before between after : format.State) (left middle still_left held now_held then_held : Option (List ℕ))
     (counts now_counts then_counts : format.Counts)
     → (first : Passes format before between left middle held now_held counts now_counts)
@@ -92,7 +92,7 @@ passes_both format before between after left middle still_left held now_held the
   length-append first.parts second.parts,
 )
 
--- parts, and then others
+-- passed parts and then other passed parts are a list of passed parts
 pub passes_on : (format : Format) (before between after : format.State) (left middle still_left held now_held then_held : Option (List ℕ))
     (counts now_counts then_counts : format.Counts)
     → Passes format before between left middle held now_held counts now_counts
@@ -101,7 +101,7 @@ pub passes_on : (format : Format) (before between after : format.State) (left mi
 passes_on format before between after left middle still_left held now_held then_held counts now_counts then_counts first second =
     (passes_both format before between after left middle still_left held now_held then_held counts now_counts then_counts first second).0
 
--- parts, and then one more
+-- parts and another part are a list of parts
 pub passes_more : (format : Format) (is_any : Bool) (before between after : format.State) (left middle still_left held now_held then_held : Option (List ℕ))
     (counts now_counts then_counts : format.Counts)
     → (first : Passes format before between left middle held now_held counts now_counts)
@@ -115,7 +115,7 @@ passes_more format true before between after left middle still_left held now_hel
 
 -- ---- results
 
--- at least as many parts
+-- if the number of parts reached the maximum, so did the number of more parts
 more_parts : (format : Format) (error : format.Error) (parts others : List (Part format.Outcome)) (left still_left held now_held : Option (List ℕ)) (counts now_counts : format.Counts)
     → length parts ≤ length others → StopsByNumber format error parts left still_left held now_held counts now_counts
     → StopsByNumber format error others left still_left held now_held counts now_counts
@@ -127,7 +127,7 @@ more_parts format error parts others left still_left held now_held counts now_co
   uncounted = stops.uncounted;
 }
 
--- the end of parts, after parts before them
+-- an end after parts is also an end after other parts before them
 stops_on : (format : Format) (error : format.Error) (state : format.State) (left still_left held now_held : Option (List ℕ)) (counts now_counts : format.Counts)
     (parts others : List (Part format.Outcome))
     → length parts ≤ length others
@@ -137,7 +137,7 @@ stops_on format error state left still_left held now_held counts now_counts part
 stops_on format error state left still_left held now_held counts now_counts parts others more (inr stops) =
     inr (more_parts format error parts others left still_left held now_held counts now_counts more stops)
 
--- parts, and then others up to a result
+-- passed parts and then what was passed to a result are what was passed to the result
 pub passes_to_on : {A : Type 0} → (format : Format) (result : Result A format.Error) (before between after : format.State)
     (left middle still_left held now_held then_held : Option (List ℕ)) (counts now_counts then_counts : format.Counts)
     → Passes format before between left middle held now_held counts now_counts
@@ -159,7 +159,7 @@ passes_to_on format (Err error) before between after left middle still_left held
           (omega (arith, both.1)) ends.stops;
     })
 
--- parts, and then the end by their number
+-- the result if the number of passed parts reached the maximum
 pub ends_by_number : (format : Format) (before after : format.State) (left still_left held now_held : Option (List ℕ)) (counts now_counts : format.Counts)
     → (passes : Passes format before after left still_left held now_held counts now_counts) → format.max_parts ≤ length passes.parts
     → EndsBy format format.too_many before left still_left held now_held counts now_counts
@@ -172,7 +172,7 @@ ends_by_number format before after left still_left held now_held counts now_coun
   stops = inr (record { is = refl; many = many; unread = refl; unwritten = refl; uncounted = refl });
 }
 
--- the end of the next part, as the end of a result with this error
+-- a result with the error that ended the next part
 pub next_to_end : {A : Type 0} → (format : Format) (result : Result A format.Error) (error : format.Error) (before after : format.State)
     (left still_left held now_held : Option (List ℕ)) (counts now_counts : format.Counts)
     → (format.IsWriteError error ⊎ StopsBy format error before left still_left held now_held counts now_counts) → result ≡ Err error
@@ -180,7 +180,7 @@ pub next_to_end : {A : Type 0} → (format : Format) (result : Result A format.E
 next_to_end format result error before after left still_left held now_held counts now_counts ends fails =
     subst (λ given. PassesNext format given before after left still_left held now_held counts now_counts) (sym fails) ends
 
--- the same of a call that returns whether there is a next part
+-- what was passed up to an error by a call that returns whether there is a next part
 pub any_to_end : (format : Format) (result : Result Bool format.Error) (error : format.Error) (before after : format.State)
     (left still_left held now_held : Option (List ℕ)) (counts now_counts : format.Counts)
     → (format.IsWriteError error ⊎ StopsBy format error before left still_left held now_held counts now_counts) → result ≡ Err error
@@ -200,7 +200,7 @@ passes_on_to_error format result error before between after left middle still_le
     subst (λ given. PassesTo format given before after left still_left held then_held counts then_counts) (sym fails)
     (inr (record { after = between; middle = middle; then_held = now_held; then_counts = now_counts; passes = first; stops = inl stops }))
 
--- no part was passed before an error within the first part
+-- no part was passed if the error is within the first part
 pub passes_to_first_error : {A : Type 0} → (format : Format) (result : Result A format.Error) (error : format.Error) (before after : format.State)
     (left still_left held then_held : Option (List ℕ)) (counts then_counts : format.Counts)
     → (format.IsWriteError error ⊎ StopsBy format error before left still_left held then_held counts then_counts) → result ≡ Err error
@@ -209,14 +209,14 @@ passes_to_first_error format result error before after left still_left held then
     passes_on_to_error format result error before before after left left still_left held held then_held counts counts then_counts
     (passes_nothing format before left held counts) ends fails
 
--- writing failed
+-- the result if writing failed
 pub next_to_write_error : {A : Type 0} → (format : Format) (result : Result A format.Error) (error : format.Error) (before after : format.State)
     (left still_left held now_held : Option (List ℕ)) (counts now_counts : format.Counts)
     → format.IsWriteError error → result ≡ Err error → PassesNext format result before after left still_left held now_held counts now_counts
 next_to_write_error format result error before after left still_left held now_held counts now_counts failed fails =
     next_to_end format result error before after left still_left held now_held counts now_counts (inl failed) fails
 
--- an error after these bytes of a part
+-- the result if an error came after these bytes of a part
 pub next_to_error : {A : Type 0} → (format : Format) (result : Result A format.Error) (error : format.Error) (before after : format.State)
     (left then_left still_left held now_held : Option (List ℕ)) (counts now_counts : format.Counts) (front : Part format.Outcome)
     → format.IsEnd before front error → Consumes left then_left front.read → Appends held now_held front.written

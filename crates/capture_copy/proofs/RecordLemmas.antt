@@ -13,7 +13,7 @@ pub is_record : (order : ByteOrder) (first captured : List ℕ) → length first
 is_record order first captured has_len counted =
     omega (arith, length-append first captured, record_len_front order first captured (omega (arith, has_len)), has_len, counted)
 
--- a capture that ends within the header of a record
+-- a capture ends within the header of a record
 pub cut_header : (order : ByteOrder) (first : List ℕ) (len : ℕ) → length first ≡ 16 → (len ≡ 0 → ⊥) → len < 16
     → IsCutRecord order (take len first) 16 len
 cut_header order first len has_len some within =
@@ -24,7 +24,7 @@ cut_header order first len has_len some within =
       omega (arith, taken),
     )
 
--- a capture that ends within the captured bytes of a record
+-- a capture ends within the captured bytes of a record
 pub cut_captured : (order : ByteOrder) (first captured : List ℕ) (required len : ℕ) → length first ≡ 16
     → length captured < number_at order first 8 → required ≡ 16 + number_at order first 8 → len ≡ 16 + length captured
     → IsCutRecord order (first ++ captured) required len

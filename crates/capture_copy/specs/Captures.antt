@@ -15,6 +15,7 @@ use Rattle.capture_copy.specs.declared.copier.CopyError.TheVariants.{Read, Write
 abbrev pub IsPcapng : Option (List ℕ) → Type 0
 IsPcapng left = IfSome left (λ all. is_section_header (take min_block_len all) ≡ true)
 
+-- the first 12 bytes of an input, if they are known, do not begin with the type of a section header block
 abbrev pub IsNoPcapng : Option (List ℕ) → Type 0
 IsNoPcapng left = IfSome left (λ all. is_section_header (take min_block_len all) ≡ false)
 

@@ -11,15 +11,15 @@ pub record Copies (left still_left held now_held : Option (List ℕ)) (len : ℕ
   pub consumed : Consumes left still_left bytes
   pub appended : Appends held now_held bytes
 
--- fewer than this number of bytes were copied before reading failed; the reader may have lost more
+-- fewer than this number of bytes were copied before reading failed; the reader may have lost more bytes
 pub record CopiesFront (count : ℕ) (left held now_held : Option (List ℕ)) : Type 0 where
   pub len : ℕ
   pub within : len < count
   pub then_left : Option (List ℕ)
   pub copies : Copies left then_left held now_held len
 
--- As many bytes were copied as the result counts. If reading failed, fewer than `count` bytes were copied before. If writing failed, nothing
--- is known.
+-- The result counts the bytes that were copied. If reading failed, fewer than `count` bytes were copied before. If writing failed, nothing
+-- is stated.
 abbrev pub CopiesUpTo : ℕ → Result ℕ CopyError → Option (List ℕ) → Option (List ℕ) → Option (List ℕ) → Option (List ℕ) → Type 0
 CopiesUpTo count (Ok len) left still_left held now_held = Copies left still_left held now_held len
 CopiesUpTo count (Err (Read error)) left still_left held now_held = CopiesFront count left held now_held

@@ -11,30 +11,32 @@ pub record Part (Outcome : Type 0) : Type 0 where
   pub written : List ℕ
   pub outcome : Option Outcome
 
--- the bytes were written as they were read, with this outcome
+-- the bytes of the part were written as they were read, and the part has this outcome
 abbrev pub IsUnchanged : {Outcome : Type 0} → Part Outcome → Option Outcome → Type 0
 IsUnchanged part outcome = (part.written ≡ part.read) × (part.outcome ≡ outcome)
 
--- all bytes that were read, all that were written, and all outcomes
+-- the bytes that were read for these parts
 abbrev pub read_of : {Outcome : Type 0} → List (Part Outcome) → List ℕ
 read_of parts = flat_map (λ part. part.read) parts
 
+-- the bytes that were written for these parts
 abbrev pub written_of : {Outcome : Type 0} → List (Part Outcome) → List ℕ
 written_of parts = flat_map (λ part. part.written) parts
 
+-- the outcomes of all packets in these parts
 abbrev pub outcomes_of : {Outcome : Type 0} → List (Part Outcome) → List Outcome
 outcomes_of parts = flat_map (λ part. option_to_list part.outcome) parts
 
--- the number of parts or packets with one more; it is at most 2^64 - 1
+-- the count of parts or packets after another is counted, up to 2^64 - 1
 abbrev pub one_more : ℕ → ℕ
 one_more count = min (count + 1) (2 ^ 64 - 1)
 
 -- ---- formats
 
--- A format of captures, and what a copier does with its parts. A part leads from one state to the next: in a pcapng file a block can begin a
--- section or describe an interface.
+-- A format of captures, and what a copier does with its parts. A part leads from one state to the next: in a pcapng file a block can begin
+-- a section or describe an interface.
 pub record Format : Type 1 where
-  -- what the parts before determine about the next part
+  -- what the previous parts determine about the next part
   pub State : Type 0
   -- what became of a packet
   pub Outcome : Type 0
@@ -50,23 +52,24 @@ pub record Format : Type 1 where
   pub IsEnd : State → Part Outcome → Error → Type 0
   -- what the input has left at an error, next to what it had left after the bytes that were passed
   pub LeavesAt : Error → Option (List ℕ) → Option (List ℕ) → Type 0
-  -- writing failed
+  -- this is an error of writing
   pub IsWriteError : Error → Type 0
-  -- the error after the greatest number of parts, and this number
+  -- the error if the number of parts reached the maximum
   pub too_many : Error
+  -- the maximum number of parts
   pub max_parts : ℕ
 
--- the counts after an outcome, if there is one
+-- the counts after this outcome is counted; they are unchanged if there is no outcome
 abbrev pub counted_if : (format : Format) → format.Counts → Option format.Outcome → format.Counts
 counted_if format counts outcome = fold format.counted counts (option_to_list outcome)
 
--- parts, one after the other
+-- these are parts, one after the other, which lead from one state to another
 abbrev pub AreParts : (format : Format) → format.State → List (Part format.Outcome) → format.State → Type 0
 AreParts format before [] after = after ≡ before
 AreParts format before (part ∷ parts) after = (between : format.State) × format.IsPart before part between × AreParts format between parts after
 
--- Parts were passed. The input lost exactly the bytes of the parts, in their order. The output grew by exactly what was written for them. Each
--- outcome was counted.
+-- Parts were passed. The input lost exactly the bytes of the parts, in their order. The output grew by exactly what was written for them.
+-- Each outcome was counted.
 pub record Passes (format : Format) (before after : format.State) (left still_left held now_held : Option (List ℕ))
     (counts now_counts : format.Counts) : Type 0 where
   pub parts : List (Part format.Outcome)
@@ -97,7 +100,7 @@ pub record StopsBy (format : Format) (error : format.Error) (state : format.Stat
   pub counted : now_counts ≡ counted_if format counts front.outcome
   pub leaves : format.LeavesAt error then_left still_left
 
--- the number of these parts reached the greatest number, and nothing was read, written or counted after them
+-- the number of these parts reached the maximum, and nothing was read, written or counted after them
 pub record StopsByNumber (format : Format) (error : format.Error) (parts : List (Part format.Outcome))
     (left still_left held now_held : Option (List ℕ)) (counts now_counts : format.Counts) : Type 0 where
   pub is : error ≡ format.too_many
@@ -106,7 +109,7 @@ pub record StopsByNumber (format : Format) (error : format.Error) (parts : List 
   pub unwritten : now_held ≡ held
   pub uncounted : now_counts ≡ counts
 
--- parts were passed, and then the first bytes of another part up to an error, unless the number of parts reached the greatest number
+-- parts were passed, and then the capture ended with this error: within another part, or since the number of parts reached the maximum
 pub record EndsBy (format : Format) (error : format.Error) (before : format.State) (left still_left held now_held : Option (List ℕ))
     (counts now_counts : format.Counts) : Type 0 where
   pub after : format.State
@@ -119,7 +122,7 @@ pub record EndsBy (format : Format) (error : format.Error) (before : format.Stat
 
 -- ---- results
 
--- What was passed up to this result. If a write failed, nothing is known.
+-- What was passed up to this result. If a write failed, nothing is stated.
 abbrev pub PassesTo : {A : Type 0} → (format : Format) → Result A format.Error → format.State → format.State → Option (List ℕ) → Option (List ℕ)
     → Option (List ℕ) → Option (List ℕ) → format.Counts → format.Counts → Type 0
 PassesTo format (Ok given) before after left still_left held now_held counts now_counts =
@@ -127,7 +130,7 @@ PassesTo format (Ok given) before after left still_left held now_held counts now
 PassesTo format (Err error) before after left still_left held now_held counts now_counts =
     format.IsWriteError error ⊎ EndsBy format error before left still_left held now_held counts now_counts
 
--- what a call passed that passes one part; after an error no part was passed
+-- what was passed by a call for one part; after an error no whole part was passed
 abbrev pub PassesNext : {A : Type 0} → (format : Format) → Result A format.Error → format.State → format.State → Option (List ℕ) → Option (List ℕ)
     → Option (List ℕ) → Option (List ℕ) → format.Counts → format.Counts → Type 0
 PassesNext format (Ok given) before after left still_left held now_held counts now_counts =

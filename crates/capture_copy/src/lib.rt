@@ -1,5 +1,5 @@
-//! What the calls share that copy a capture: what is read and written part by part, bytes that are copied by pieces, and the beginning of a
-//! capture.
+//! The common part of the calls that copy a capture: what is read and written part by part, bytes that are copied by pieces, and the
+//! beginning of a capture.
 //!
 //! A part is a record of a classic capture or a block of a pcapng file. `specs/Passing` states what a copier does with each part.
 //!

@@ -1,4 +1,4 @@
--- Worked examples of what a capture is, as text, so that a wrong definition fails before any code does. The texts are those of tests of
+-- Worked examples of the facts of a capture as text, so that a wrong definition fails before any code does. The texts are those of tests of
 -- `capture_facts`.
 use Rattle.std.proofs.Common.{◌≡◌, ◌++◌, [], ◌∷◌, Err, codes, pos, refl}
 use Rattle.std.specs.Char.{encode_utf8}
@@ -19,7 +19,7 @@ classic = refl
 
 -- ---- a pcapng file
 
--- Ethernet, and a snap length of 262,144
+-- an Ethernet interface with a snap length of 262,144 bytes
 abbrev described : InterfaceDescription
 described = record { link_type = 1; snap_len = 262144; time_resolution = PowerOfTen 6; time_offset = pos 0 }
 

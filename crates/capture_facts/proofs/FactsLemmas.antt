@@ -8,7 +8,7 @@ use Rattle.capture_facts.specs.FactsText.{described_text, interfaces_text}
 use Rattle.capture_file.specs.declared.pcapng.interface_description.InterfaceDescription.{InterfaceDescription}
 use Rattle.capture_texts.specs.declared.file_texts.InterfaceTexts.{InterfaceTexts}
 
--- an interface after others
+-- the lines of interfaces and of an interface after them
 interfaces-push : (texts : List InterfaceTexts) (first now : ℕ) (interfaces : List InterfaceDescription) (interface : InterfaceDescription)
     → now ≡ first + length interfaces → interfaces_text texts first (interfaces ++ interface ∷ [])
     ≡ interfaces_text texts first interfaces ++ described_text texts now interface
@@ -19,7 +19,7 @@ interfaces-push texts first now (one ∷ others) interface is =
     ap (λ text. described_text texts first one ++ text) (interfaces-push texts (first + 1) now others interface (omega (arith, is)))
     ∙ sym (append_assoc (described_text texts first one) (interfaces_text texts (first + 1) others) (described_text texts now interface))
 
--- the line of one more interface
+-- the lines of interfaces and of another interface
 pub one-more : (texts : List InterfaceTexts) (interfaces : List InterfaceDescription) (i : ℕ) (d : InterfaceDescription)
     (a b c : Option (List ℕ)) → i < length interfaces
     → Appends a b (interfaces_text texts 0 (take i interfaces)) → Appends b c (described_text texts i (get_or interfaces i d))
@@ -30,7 +30,7 @@ one-more texts interfaces i d a b c below before one =
     ∙ ap (interfaces_text texts 0) (sym (take_more interfaces i d below)))
     (Appends-trans a b c (interfaces_text texts 0 (take i interfaces)) (described_text texts i (get_or interfaces i d)) before one)
 
--- the parts of a pcapng file, one after the other
+-- the text of a pcapng file consists of these parts
 pub section_parts : (order count texts interfaces : List ℕ)
     → (codes "file type pcapng, byte order " ++ (order ++ (codes ", interfaces " ++ (count ++ codes "\n")))) ++ (texts ++ interfaces)
     ≡ codes "file type pcapng, byte order " ++ (order ++ (codes ", interfaces " ++ (count ++ (codes "\n" ++ (texts ++ interfaces)))))

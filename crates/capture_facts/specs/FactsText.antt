@@ -1,4 +1,4 @@
--- What a capture is, as text (draft-ietf-opsawg-pcap, section 4; draft-ietf-opsawg-pcapng, sections 4.1 and 4.2).
+-- The facts of a capture, as text (draft-ietf-opsawg-pcap, section 4; draft-ietf-opsawg-pcapng, sections 4.1 and 4.2).
 use Rattle.std.specs.Prelude.{ℕ, ◌+◌, List, [], ◌∷◌, ◌++◌, length, codes, decimal, slice_get, Option, Some, None}
 use Rattle.capture_file.specs.Packets.{power_of_ten}
 use Rattle.capture_texts.specs.declared.byte_order.ByteOrder.{ByteOrder}
@@ -29,7 +29,7 @@ abbrev pub limits_text : ℕ → TimeResolution → List ℕ
 limits_text snap_len resolution =
     codes ", snap length " ++ (decimal snap_len ++ (codes ", time resolution " ++ resolution_text resolution))
 
--- the lines of a classic capture with this header
+-- the line of a classic capture with this header
 abbrev pub classic_text : CaptureHeader → List ℕ
 classic_text header =
     codes "file type classic, byte order " ++ (byte_order_word header.byte_order
@@ -40,11 +40,11 @@ abbrev pub interface_text : ℕ → InterfaceDescription → List ℕ
 interface_text number interface =
     codes "interface " ++ (decimal number ++ (limits_text interface.snap_len interface.time_resolution ++ codes "\n"))
 
--- the lines of an interface with this number, and of its texts, if this list contains them
+-- the line of the interface with this number, and the lines of its texts if the list contains them
 abbrev pub described_text : List InterfaceTexts → ℕ → InterfaceDescription → List ℕ
 described_text texts number interface = interface_text number interface ++ interface_lines number (slice_get texts number)
 
--- the lines of these interfaces, one after the other; the first has this number
+-- the lines of these interfaces, one after the other; the first interface has this number
 abbrev pub interfaces_text : List InterfaceTexts → ℕ → List InterfaceDescription → List ℕ
 interfaces_text texts number [] = []
 interfaces_text texts number (interface ∷ interfaces) =

@@ -27,11 +27,11 @@ escaped_byte byte = if is_plain byte then byte ∷ [] else codes "\\x" ++ hex_pa
 abbrev pub shown_bytes : List ℕ → List ℕ
 shown_bytes bytes = if is_utf8 bytes then shown_text bytes else flat_map escaped_byte bytes
 
--- the mark after a text that was cut
+-- the mark after a text that was cut; nothing follows a whole text
 abbrev pub end_text : Bool → List ℕ
 end_text true = codes "..."
 end_text false = []
 
--- the form in which a text is shown, as far as it was kept
+-- the form in which a kept text is shown, with a mark if it was cut
 abbrev pub shown_kept : KeptText → List ℕ
 shown_kept text = shown_bytes text.bytes.items ++ end_text text.is_cut

@@ -5,7 +5,7 @@ use Rattle.capture_texts.specs.declared.file_texts.FileTexts.{FileTexts}
 use Rattle.capture_texts.specs.declared.file_texts.InterfaceTexts.{InterfaceTexts}
 use Rattle.capture_texts.specs.declared.kept_text.KeptText.{KeptText}
 
--- there is no such text
+-- the text is absent: it has no byte
 abbrev pub is_absent : KeptText → Bool
 is_absent text = length text.bytes.items == 0
 
@@ -13,11 +13,11 @@ is_absent text = length text.bytes.items == 0
 abbrev pub text_line : KeptText → List ℕ
 text_line text = shown_kept text ++ codes "\n"
 
--- a text after its label; there is no line without a text
+-- a label and a text in a line; without a text there is no line
 abbrev pub labelled_text : List ℕ → KeptText → List ℕ
 labelled_text label text = if is_absent text then [] else label ++ (codes " " ++ text_line text)
 
--- a text of an interface, after the number of the interface and a label
+-- the number of an interface, a label and a text in a line; without a text there is no line
 abbrev pub numbered_text : ℕ → List ℕ → KeptText → List ℕ
 numbered_text number label text =
     if is_absent text then [] else codes "interface " ++ (decimal number ++ (codes " " ++ (label ++ (codes " " ++ text_line text))))
@@ -39,7 +39,7 @@ kept_lines number texts =
     numbered_text number (codes "name") texts.name ++ (numbered_text number (codes "description") texts.description
     ++ numbered_text number (codes "comment") texts.comment)
 
--- the same, if they are kept
+-- the texts of the interface with this number, or nothing if they are not kept
 abbrev pub interface_lines : ℕ → Option InterfaceTexts → List ℕ
 interface_lines number None = []
 interface_lines number (Some texts) = kept_lines number texts

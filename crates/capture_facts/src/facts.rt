@@ -1,4 +1,4 @@
-//! What a capture is, as text.
+//! The facts of a capture, as text.
 
 ghost use Rattle.std.specs.Prelude.{OnOk};
 ghost use Rattle.std.specs.Io.KnownBytes.{Appends};
@@ -13,9 +13,11 @@ use capture_texts::InterfaceTexts;
 use std::io;
 use std::io::Write;
 
-/// Writes the facts of a capture, if there is one: the type of its file, its byte order, its snap length and its time resolution. In a
-/// pcapng file the last two belong to an interface, and there are texts of the section and of each interface. `capture` is the reader of
-/// the capture after its packets. Its section is the last section of a pcapng file, with the interfaces that were described so far.
+/// Writes the facts of a capture, or nothing if there is no capture. They are the type of its file, its byte order, its snap length and its
+/// time resolution. In a pcapng file, each interface has a snap length and a time resolution. The section and each interface have texts.
+///
+/// `capture` is the reader of the capture after its packets. For a pcapng file, the facts are those of the last section, with the
+/// interfaces that were described so far.
 ///
 /// # Errors
 ///
@@ -30,7 +32,7 @@ pub fn write_facts<W: Write>(output: &mut W, capture: &Option<CaptureReader>) ->
     }
 }
 
-/// Writes what a classic capture is, by its header.
+/// Writes the line of a classic capture with this header.
 fn write_classic<W: Write>(output: &mut W, header: CaptureHeader) -> io::Result<()>
     ensures { OnOk result (Appends (W.contents output.old) (W.contents output.new) (specs.classic_text header)) }
 {
@@ -40,7 +42,7 @@ fn write_classic<W: Write>(output: &mut W, header: CaptureHeader) -> io::Result<
     writeln!(output)
 }
 
-/// Writes what the section of this reader is, its texts, and its interfaces.
+/// Writes the lines of the section that this reader read last: its byte order, its texts, and its interfaces.
 fn write_section<W: Write>(output: &mut W, reader: &PcapngReader) -> io::Result<()>
     ensures { OnOk result (Appends (W.contents output.old) (W.contents output.new) (specs.section_text reader.now)) }
 {
@@ -95,7 +97,7 @@ fn write_interface<W: Write>(
     writeln!(output)
 }
 
-/// Writes the maximum number of captured bytes of a packet, and the unit of the times.
+/// Writes the snap length, which is the maximum number of captured bytes of a packet, and the unit of the times.
 fn write_limits<W: Write>(
     output: &mut W,
     snap_len: u32,

@@ -1,7 +1,7 @@
-//! What a capture is, as the summary of its report shows it: the type of its file, its byte order, its interfaces, and its texts.
+//! The facts of a capture, which the summary of a report shows: the type of its file, its byte order, its interfaces, and its texts.
 //!
-//! `write_facts` writes it as text. `capture_json` writes it as JSON, with the words of this crate. `ShownText` and `EscapedBytes` show any
-//! text of a capture or of a command line, so that it can't end a line or control a terminal.
+//! `write_facts` writes the facts as text. `capture_json` writes them as JSON, with the words of this crate. `ShownText` and `EscapedBytes`
+//! show any text of a capture or of a command line, so that it can't end a line or control a terminal.
 #![tactic(auto)]
 
 mod facts;

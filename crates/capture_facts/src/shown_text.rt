@@ -52,7 +52,7 @@ impl<'a> fmt::Display for EscapedBytes<'a> {
     }
 }
 
-/// Writes a byte, or its number if it is no printable character.
+/// Writes a plain byte, or the number of any other byte.
 fn write_byte<W: fmt::Write>(f: &mut fmt::Formatter<W>, byte: u8) -> fmt::Result
     ensures { WritesOnOk W.write_str_gives f.old result (specs.escaped_byte byte) f.new }
 {
@@ -82,7 +82,7 @@ pub fn write_shown<W: Write>(output: &mut W, text: &KeptText) -> io::Result<()>
     write_end(output, text.is_cut)
 }
 
-/// Writes what follows a text.
+/// Writes `...` if a text was cut.
 fn write_end<W: Write>(output: &mut W, is_cut: bool) -> io::Result<()>
     ensures { OnOk result (Appends (W.contents output.old) (W.contents output.new) (specs.end_text is_cut)) }
 {
@@ -92,7 +92,7 @@ fn write_end<W: Write>(output: &mut W, is_cut: bool) -> io::Result<()>
     Ok(())
 }
 
-/// Writes the bytes of a text.
+/// Writes the bytes of a text, whether the text is UTF-8 or not.
 fn write_bytes<W: Write>(output: &mut W, bytes: &[u8]) -> io::Result<()>
     ensures { OnOk result (Appends (W.contents output.old) (W.contents output.new) (specs.shown_bytes bytes.now)) }
 {

@@ -9,7 +9,7 @@ use capture_texts::{FileTexts, InterfaceTexts, KeptText};
 use std::io;
 use std::io::Write;
 
-/// Writes the texts of a section, and the number of packets with a comment, each in a line if there is one.
+/// Writes the texts of a section that are present, and the number of packets with a comment unless it is 0, each in a line.
 pub fn write_texts<W: Write>(output: &mut W, texts: &FileTexts) -> io::Result<()>
     ensures { OnOk result (Appends (W.contents output.old) (W.contents output.new) (specs.texts_text texts.now)) }
 {
@@ -20,7 +20,7 @@ pub fn write_texts<W: Write>(output: &mut W, texts: &FileTexts) -> io::Result<()
     write_commented(output, texts.commented_packets)
 }
 
-/// Writes the texts of the interface with this number, if they are kept.
+/// Writes the texts of the interface with this number, or nothing if they are not kept.
 pub fn write_interface_texts<W: Write>(
     output: &mut W,
     number: usize,
@@ -43,7 +43,7 @@ fn write_kept<W: Write>(output: &mut W, number: usize, texts: &InterfaceTexts) -
     write_numbered(output, number, "comment", &texts.comment)
 }
 
-/// Writes a text after its label, if there is one.
+/// Writes a label and a text in a line, or nothing if the text is empty.
 fn write_labelled<W: Write>(output: &mut W, label: &str, text: &KeptText) -> io::Result<()>
     ensures { OnOk result (Appends (W.contents output.old) (W.contents output.new) (specs.labelled_text label.now text.now)) }
 {
@@ -54,7 +54,7 @@ fn write_labelled<W: Write>(output: &mut W, label: &str, text: &KeptText) -> io:
     write_line(output, text)
 }
 
-/// Writes a text of an interface after the number of the interface and its label, if there is one.
+/// Writes the number of an interface, a label and a text in a line, or nothing if the text is empty.
 fn write_numbered<W: Write>(
     output: &mut W,
     number: usize,
@@ -78,7 +78,7 @@ fn write_line<W: Write>(output: &mut W, text: &KeptText) -> io::Result<()>
     writeln!(output)
 }
 
-/// Writes the number of packets with a comment, if there is one.
+/// Writes the number of packets with a comment, unless it is 0.
 fn write_commented<W: Write>(output: &mut W, count: u64) -> io::Result<()>
     ensures { OnOk result (Appends (W.contents output.old) (W.contents output.new) (specs.commented_text count)) }
 {

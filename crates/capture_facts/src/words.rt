@@ -19,7 +19,7 @@ pub fn byte_order_word(order: ByteOrder) -> &'static str
     }
 }
 
-/// The resolution of a classic capture in the form of the resolution of an interface.
+/// Converts the resolution of a classic capture to the type that an interface of a pcapng file uses.
 pub fn time_resolution(resolution: Resolution) -> TimeResolution
     ensures { result ≡ power_of_ten resolution }
 {

@@ -34,7 +34,7 @@ blank len = replicate len 0
 pub blank_len : (len : ℕ) → length (blank len) ≡ len
 blank_len len = length-replicate len 0
 
--- a step can be made from these bytes, and fewer bytes are left after it
+-- a step can be made from these bytes; fewer bytes are left after the step
 record Step (room : ℕ) (before : PcapngReader) (all : List ℕ) : Type 0 where
   after : PcapngReader
   rest : List ℕ
@@ -44,7 +44,7 @@ record Step (room : ℕ) (before : PcapngReader) (all : List ℕ) : Type 0 where
   step : ReadsStep before (Some all) (Some rest) after buffer next
   fewer : length rest < length all
 
--- a block for which the buffer has room
+-- a step can be made over a block with room in the buffer
 whole_step : (room : ℕ) (before : PcapngReader) (all block rest : List ℕ) → all ≡ block ++ rest → IsBlock before.section.byte_order block
     → length block ≤ room → Step room before all
 whole_step room before all block rest whole is within =
@@ -74,7 +74,7 @@ whole_step room before all block rest whole is within =
       fewer = omega (arith, ap length whole, length-append block rest, is.shortest);
     }
 
--- a block without room in the buffer
+-- a step can be made over a block without room in the buffer
 too_long_step : (room : ℕ) (before : PcapngReader) (all block rest : List ℕ) → all ≡ block ++ rest → IsBlock before.section.byte_order block
     → room < length block → Step room before all
 too_long_step room before all block rest whole is above = record {
@@ -92,7 +92,7 @@ too_long_step room before all block rest whole is above = record {
   fewer = omega (arith, ap length whole, length-append block rest, is.shortest);
 }
 
--- accepted bytes begin with a block
+-- a step can be made over the block with which accepted bytes begin
 next_step : (room : ℕ) (before : PcapngReader) (all : List ℕ) → block_refusal before.section.byte_order all ≡ None → Step room before all
 next_step room before all none =
     let section = before.section.byte_order in
@@ -112,7 +112,7 @@ pub first_step : (before : PcapngReader) (left still_left : Option (List ℕ)) (
 first_step before left still_left after buffer next step =
     record { count = 0; reader = before; middle = left; passed = (refl, refl); step = step }
 
--- a step that determines the next item is the end if there is no packet in it
+-- a step with a next item but without a packet ends the packets
 pub step_ends : (room : ℕ) (before after : PcapngReader) (left still_left : Option (List ℕ)) (buffer : List ℕ) (next : NextPacket)
     → length buffer ≡ room → ReadsStep before left still_left after buffer (Some next) → packet_in buffer next ≡ None
     → EndsWith room (Pcapng before) left next
@@ -125,7 +125,7 @@ step_ends room before after left still_left buffer next has_room step none = rec
   no_packet = none;
 }
 
--- no byte is the end
+-- without bytes, the packets end
 pub no_byte_ends : (room : ℕ) (before : PcapngReader) → EndsWith room (Pcapng before) (Some []) packets.End
 no_byte_ends room before =
     step_ends room before before (Some []) (Some []) (blank room) packets.End (blank_len room)
@@ -136,7 +136,7 @@ no_byte_ends room before =
       texts = refl;
     }) refl
 
--- refused bytes are the end
+-- with refused bytes, the packets end
 pub refusal_ends : (room : ℕ) (before : PcapngReader) (all : List ℕ) (error : BlockError) → all ≢ []
     → block_refusal before.section.byte_order all ≡ Some error
     → EndsWith room (Pcapng before) (Some all) (next_by_refusal before.offset error)
@@ -149,7 +149,7 @@ refusal_ends room before all error some refused =
 
 -- ---- a step before others
 
--- a block without a next item, before other blocks without a next item
+-- blocks without a next item, after another block without a next item
 passes_first : (room count : ℕ) (before reader after : PcapngReader) (left middle still_left : Option (List ℕ)) (passed : List ℕ)
     → length passed ≡ room → ReadsStep before left middle reader passed None → PassesBlocks room count reader middle still_left after
     → PassesBlocks room (suc count) before left still_left after
@@ -158,7 +158,7 @@ passes_first room (suc count) before reader after left middle still_left passed 
     let (last, last_left, buffer, last_room, others, last_step) = passes in
     (last, last_left, buffer, last_room, passes_first room count before reader last left middle last_left passed has_room step others, last_step)
 
--- a block without a next item, before the blocks up to the next packet
+-- the blocks up to the next packet, after a block without a next item
 step_before : (room : ℕ) (before reader : PcapngReader) (after : CaptureReader) (left middle still_left : Option (List ℕ))
     (passed buffer : List ℕ) (next : NextPacket) → length passed ≡ room → length buffer ≡ room
     → ReadsStep before left middle reader passed None → ReadsPacket (Pcapng reader) middle still_left after buffer next
@@ -169,16 +169,16 @@ step_before room before reader after left middle still_left passed buffer next h
     (has_room ∙ sym is_room) step blocks.passed in
     (last, is, record { count = suc blocks.count; reader = blocks.reader; middle = blocks.middle; passed = passes; step = blocks.step })
 
--- these bytes have packets
+-- the packets of these bytes exist
 abbrev Have : ℕ → PcapngReader → List ℕ → Type 0
 Have room reader all = (packets : List FilePacket) × (next : NextPacket) × HasPackets room (Pcapng reader) all packets next
 
--- the bytes have an empty list of packets
+-- if the packets end here, the list of packets is empty
 have_none : (room : ℕ) (reader : PcapngReader) (all : List ℕ) (next : NextPacket) → EndsWith room (Pcapng reader) (Some all) next
     → Have room reader all
 have_none room reader all next ends = ([], next, (Some all, Pcapng reader, (refl, refl), ends))
 
--- a block without a next item changes no packet
+-- the packets of all bytes are the packets after a block without a next item
 pub pass_on : (room : ℕ) (before after : PcapngReader) (all rest buffer : List ℕ) (packets : List FilePacket) (next : NextPacket)
     → length buffer ≡ room → ReadsStep before (Some all) (Some rest) after buffer None → HasPackets room (Pcapng after) rest packets next
     → HasPackets room (Pcapng before) all packets next
@@ -208,7 +208,7 @@ pass_on room before after all rest buffer (packet ∷ packets) next has_room ste
     } in
     (left, last, (mid, middle, before_one, others), ends)
 
--- a block with a next item adds a packet before the others, or ends the packets
+-- the packets of all bytes, given a block with a next item
 have_by_packet : (given : Option FilePacket) (room : ℕ) (before after : PcapngReader) (all rest buffer : List ℕ) (next : NextPacket)
     → packet_in buffer next ≡ given → length buffer ≡ room → ReadsStep before (Some all) (Some rest) after buffer (Some next)
     → Have room after rest → Have room before all
@@ -234,7 +234,7 @@ have_by_step (Some next) room before after all rest buffer has_room step have =
 
 -- ---- any bytes
 
--- bytes have packets if the bytes after their first block have packets
+-- the packets of all bytes exist if the packets after the first block exist
 have_by_refusal : (refusal : Option BlockError) (room : ℕ) (before : PcapngReader) (all : List ℕ)
     → block_refusal before.section.byte_order all ≡ refusal
     → ((after : PcapngReader) (rest : List ℕ) → length rest < length all → Have room after rest) → Have room before all
@@ -246,7 +246,7 @@ have_by_refusal None room before all is others =
     let step : Step room before all = next_step room before all is in
     have_by_step step.next room before step.after all step.rest step.buffer step.has_room step.step (others step.after step.rest step.fewer)
 
--- fewer bytes than this number have packets
+-- the packets of bytes exist if there are fewer bytes than this number
 have_below : (most room : ℕ) (before : PcapngReader) (all : List ℕ) → length all < most → Have room before all
 have_below zero room before all short = absurd (omega (arith, short))
 have_below (suc most) room before all short =

@@ -30,7 +30,7 @@ ReadsUpTo room (suc count) before all still_left after buffer next =
     (reader : PcapngReader) × (rest : List ℕ) × (passed : List ℕ) × (length passed ≡ room)
     × ReadsStep before (Some all) (Some rest) reader passed None × ReadsUpTo room count reader rest still_left after buffer next
 
--- the rest of known bytes is known
+-- if the bytes of a file are known, the bytes left after some blocks are known
 passes_known : (room count : ℕ) (before : PcapngReader) (all : List ℕ) (left : Option (List ℕ)) (after : PcapngReader)
     → PassesBlocks room count before (Some all) left after → (rest : List ℕ) × (left ≡ Some rest)
 passes_known room count before all (Some rest) after passes = (rest, refl)
@@ -39,7 +39,7 @@ passes_known room (suc count) before all None after passes =
     let (reader, middle, buffer, has_room, others, step) = passes in
     absurd (grind (arith, passes_known room count before all middle reader others, step.reads.consumed))
 
--- the same blocks, from the first one on
+-- blocks that are read one after the other are read in order, beginning with the first block
 in_order : (room count further : ℕ) (before reader after : PcapngReader) (all middle : List ℕ) (still_left : Option (List ℕ))
     (buffer : List ℕ) (next : NextPacket) → PassesBlocks room count before (Some all) (Some middle) reader
     → ReadsUpTo room further reader middle still_left after buffer next
@@ -51,7 +51,7 @@ in_order room (suc count) further before reader after all middle still_left buff
     in_order room count (suc further) before one after all rest still_left buffer next (grind (arith, is))
     (reader, middle, passed, has_room, grind (arith, is), reads)
 
--- the blocks up to the next packet, from the first one on
+-- the blocks up to the next packet are read in order, beginning with the first block
 pub up_to : (before after : PcapngReader) (all : List ℕ) (still_left : Option (List ℕ)) (buffer : List ℕ) (next : NextPacket)
     → ReadsBlockPacket before (Some all) still_left after buffer next
     → (count : ℕ) × ReadsUpTo (length buffer) count before all still_left after buffer next
@@ -60,12 +60,12 @@ up_to before after all still_left buffer next reads =
     in_order (length buffer) reads.count 0 before reads.reader after all middle still_left buffer next (grind (arith, is))
     (grind (arith, is))
 
--- the rest is not longer than the bytes
+-- the bytes left are known, and not more than all bytes
 left_of : (all : List ℕ) (left : Option (List ℕ)) (bytes : List ℕ) → Consumes (Some all) left bytes
     → (rest : List ℕ) × (left ≡ Some rest) × (length rest ≤ length all)
 left_of all left bytes consumed = grind (arith, length-append)
 
--- the rest after some blocks is not longer than the bytes
+-- the bytes left after some blocks are known, and not more than all bytes
 left_up_to : (room count : ℕ) (before after : PcapngReader) (all : List ℕ) (left : Option (List ℕ)) (buffer : List ℕ) (next : NextPacket)
     → ReadsUpTo room count before all left after buffer next → (rest : List ℕ) × (left ≡ Some rest) × (length rest ≤ length all)
 left_up_to room zero before after all left buffer next reads = left_of all left reads.reads.bytes reads.reads.consumed
@@ -73,12 +73,12 @@ left_up_to room (suc count) before after all left buffer next reads =
     let (reader, rest, passed, has_room, step, others) = reads in
     grind (arith, left_up_to room count reader after rest left buffer next others, left_of all (Some rest) step.reads.bytes step.reads.consumed)
 
--- a next item is something
+-- a next item is a packet or an end
 pub says_something : (packet : Option FilePacket) (next : NextPacket) → said_by packet next ≡ nothing → ⊥
 says_something None next is = cc is
 says_something (Some packet) next is = cc is
 
--- the bytes read from the whole file and from its beginning, up to the next block with an item
+-- what is read from the whole file and from its beginning, up to the next block with an item
 module _ (room : ℕ) (more : List ℕ) (left first_left : Option (List ℕ)) (after first_after : PcapngReader) (buffer first_buffer : List ℕ)
     (next first_next : NextPacket) (is_room : length buffer ≡ room) (first_is_room : length first_buffer ≡ room) where
   compared_up_to : (count first_count : ℕ) (before : PcapngReader) (first : List ℕ)
@@ -119,7 +119,7 @@ module _ (room : ℕ) (more : List ℕ) (left first_left : Option (List ℕ)) (a
 
 -- ---- packet by packet
 
--- the item that was read, up to the next block with an item
+-- this item was read, with the blocks before it
 pub record ReadsSaid (room : ℕ) (before : PcapngReader) (left still_left : Option (List ℕ)) (after : PcapngReader)
     (said : Said) : Type 0 where
   pub buffer : List ℕ
@@ -128,7 +128,7 @@ pub record ReadsSaid (room : ℕ) (before : PcapngReader) (left still_left : Opt
   pub reads : ReadsBlockPacket before left still_left after buffer next
   pub says : said_of buffer (Some next) ≡ said
 
--- a packet was read
+-- if a packet was read, the item that was read is the packet
 pub said_one : (room : ℕ) (before : PcapngReader) (left still_left : Option (List ℕ)) (after : CaptureReader) (packet : FilePacket)
     → ReadsOne room (Pcapng before) left still_left after packet
     → (reader : PcapngReader) × (after ≡ Pcapng reader) × ReadsSaid room before left still_left reader (given packet)
@@ -145,7 +145,7 @@ said_one room before left still_left after packet one = (
   },
 )
 
--- the items in the whole file and in its beginning
+-- what the items in the whole file and in its beginning have in common
 pub compared_said : (room : ℕ) (before : PcapngReader) (first more : List ℕ) (left first_left : Option (List ℕ))
     (after first_after : PcapngReader) (said first_said : Said) → ReadsSaid room before (Some (first ++ more)) left after said
     → ReadsSaid room before (Some first) first_left first_after first_said → Compared more after first_after left first_left said first_said
@@ -158,7 +158,7 @@ compared_said room before first more left first_left after first_after said firs
     subst (λ s. Compared more after first_after left first_left s first_said) reads.says
     (subst (λ s. Compared more after first_after left first_left (said_of reads.buffer (Some reads.next)) s) first_reads.says compared)
 
--- the rest is known, and is not longer than the bytes
+-- the bytes left after an item are known, and not more than all bytes
 known_said : (room : ℕ) (before after : PcapngReader) (all : List ℕ) (left : Option (List ℕ)) (said : Said)
     → ReadsSaid room before (Some all) left after said → (rest : List ℕ) × (left ≡ Some rest) × (length rest ≤ length all)
 known_said room before after all left said reads =
@@ -169,7 +169,7 @@ left_said : (room : ℕ) (before after : PcapngReader) (all : List ℕ) (left : 
     → left ≡ Some rest → ReadsSaid room before (Some all) left after said → length rest ≤ length all
 left_said room before after all left rest said is reads = grind (arith, known_said room before after all left said reads)
 
--- the next packet, if there is one, ends after the beginning of a file, which is shorter by these bytes
+-- the next packet, if there is one, ends after the beginning of a file; `more` are the bytes after this beginning
 abbrev NextBeyond : ℕ → CaptureReader → List ℕ → List ℕ → List FilePacket → Type 0
 NextBeyond room after rest more [] = Unit {0}
 NextBeyond room after rest more (packet ∷ others) =
@@ -189,7 +189,7 @@ record AreFirst (room : ℕ) (reader : PcapngReader) (first more : List ℕ) (pa
   beyond : NextBeyond room after rest more others
   same : more ≡ [] → (packets ≡ first_packets) × (next ≡ first_next)
 
--- no packet is left
+-- if no packet is left, the packets of the beginning are the first packets
 none_left : (room : ℕ) (reader : PcapngReader) (first more : List ℕ) (next first_next : NextPacket)
     → (more ≡ [] → next ≡ first_next) → AreFirst room reader first more [] [] next first_next
 none_left room reader first more next first_next same = record {
@@ -204,19 +204,19 @@ none_left room reader first more next first_next same = record {
   same = λ none. (refl, same none);
 }
 
--- the next item, if no packet was read
+-- the next item, if no packet was read, is the end of the packets
 last_of_none : (room : ℕ) (reader : PcapngReader) (all : List ℕ) (left : Option (List ℕ)) (after : CaptureReader) (next : NextPacket)
     → ReadsPackets room (Pcapng reader) (Some all) left after [] → EndsWith room after left next
     → (still_left : Option (List ℕ)) × (last_reader : PcapngReader) × ReadsSaid room reader (Some all) still_left last_reader (last next)
 last_of_none room reader all left after next read ends = grind (arith, nat_tests, said_by)
 
--- a packet that was read, with equal states and packets
+-- a packet that was read is also read if the states and the packets are equal to these
 same_one : (room : ℕ) (before after other : CaptureReader) (left middle still_left : Option (List ℕ)) (packet same : FilePacket)
     → after ≡ other
     → middle ≡ still_left → packet ≡ same → ReadsOne room before left middle after packet → ReadsOne room before left still_left other same
 same_one room before after other left middle still_left packet same is is_left is_packet one = grind (arith, nat_tests)
 
--- the next items after all packets of the whole file and of its beginning
+-- the ends after all packets of the whole file and of its beginning
 module _ (room : ℕ) (more : List ℕ) (left first_left : Option (List ℕ)) (after first_after : CaptureReader) (next first_next : NextPacket)
     (ends : EndsWith room after left next) (first_ends : EndsWith room first_after first_left first_next) where
   compared_packets : (reader : PcapngReader) (first : List ℕ) (packets first_packets : List FilePacket)
@@ -284,7 +284,7 @@ module _ (room : ℕ) (more : List ℕ) (left first_left : Option (List ℕ)) (a
 
 -- ---- there is one list of packets
 
--- packets and end are determined by the records, or by the same blocks
+-- the records, or the blocks, determine the packets and the end
 pub there_is_one_list : (room : ℕ) (reader : CaptureReader) (bytes : List ℕ) → AreUnique (HasPackets room reader bytes)
 there_is_one_list room (Classic reader) bytes packets other_packets next other_next has other =
     let (records, rest, reading, are, is_next) = has in
@@ -300,7 +300,7 @@ there_is_one_list room (Pcapng reader) bytes packets other_packets next other_ne
 
 -- ---- the packets at the start of bytes are the first packets of the bytes
 
--- the rest after packets of a pcapng file, and its reader
+-- after packets of a pcapng file, the bytes left are known, and the reader is a reader of a pcapng file
 left_after : (room : ℕ) (reader : PcapngReader) (all : List ℕ) (left : Option (List ℕ)) (after : CaptureReader) (packets : List FilePacket)
     → ReadsPackets room (Pcapng reader) (Some all) left after packets
     → (rest : List ℕ) × (last_reader : PcapngReader) × (left ≡ Some rest) × (after ≡ Pcapng last_reader)
@@ -354,7 +354,7 @@ each_first order zero records each = tt
 each_first order (suc count) [] each = tt
 each_first order (suc count) (record_bytes ∷ records) each = (each.0, each_first order count records each.1)
 
--- the packets of the first records end with these records
+-- the packets of the first records end where these records end
 first_records : (room : ℕ) (reader : ClassicReader) (bytes : List ℕ) (records : List (List ℕ)) (rest : List ℕ) (count : ℕ)
     → IsReading reader.header.byte_order bytes records rest
     → PacketsEndAt room (Classic reader) (take count (map (record_packet room reader.header) records)) bytes
@@ -370,7 +370,7 @@ first_records room reader bytes records rest count reading =
       refl,
     )
 
--- the records before a cut are the records of the packets before the cut
+-- the packets before a cut of a classic capture
 classic_before_cut : (room : ℕ) (reader : ClassicReader)
     → RemainAtCut (HasPackets room (Classic reader)) (ArePacketsBeforeCut room (Classic reader))
 classic_before_cut room reader bytes packets next cut cut_packets cut_next has cut_has =
@@ -399,7 +399,7 @@ classic_before_cut room reader bytes packets next cut cut_packets cut_next has c
       );
     }
 
--- one more packet ends after a cut
+-- the next packet, if there is one, ends after the cut
 next_beyond : (room : ℕ) (reader : PcapngReader) (bytes : List ℕ) (cut : ℕ) (packets cut_packets others : List FilePacket) (rest : List ℕ)
     (after : CaptureReader) → packets ≡ cut_packets ++ others
     → ReadsPackets room (Pcapng reader) (Some bytes) (Some rest) after cut_packets → NextBeyond room after rest (drop cut bytes) others
@@ -426,7 +426,7 @@ next_beyond room reader bytes cut packets cut_packets (packet ∷ others) rest a
       omega (arith, fewer, length-drop cut bytes),
     )
 
--- the blocks up to a cut are the beginning of a file
+-- the packets before a cut of a pcapng file
 pcapng_before_cut : (room : ℕ) (reader : PcapngReader)
     → RemainAtCut (HasPackets room (Pcapng reader)) (ArePacketsBeforeCut room (Pcapng reader))
 pcapng_before_cut room reader bytes packets next cut cut_packets cut_next has cut_has =

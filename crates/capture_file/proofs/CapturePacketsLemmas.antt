@@ -1,4 +1,4 @@
--- For the packets of a capture: the packets read from a stream are the packets of its bytes.
+-- Laws of the packets of a capture: the packets read from a stream are the packets of its bytes.
 use Rattle.std.proofs.lemmas.Bool.Decides.{nat_tests}
 use Rattle.std.proofs.Common.{◌≡◌, ℕ, List, [], ◌∷◌, ◌++◌, map, Option, Some, None, Ok, IfSome, arith, length, drop, refl, sym, ap, ◌∙◌, inr, subst}
 use Rattle.std.proofs.KnownBytes.{Consumes-nil, Consumes-trans}
@@ -18,7 +18,7 @@ use Rattle.capture_file.specs.declared.reader.capture_reader.CaptureReader.TheVa
 use Rattle.capture_file.specs.declared.reader.capture_reader.ClassicReader.{ClassicReader}
 use Rattle.capture_file.specs.declared.reader.next_packet.NextPacket.{NextPacket}
 
--- packets after others
+-- packets that are read after other packets
 pub packets_append : (room : ℕ) (a b c : CaptureReader) (left middle still_left : Option (List ℕ)) (packets others : List FilePacket)
     → ReadsPackets room a left middle b packets → ReadsPackets room b middle still_left c others
     → ReadsPackets room a left still_left c (packets ++ others)
@@ -27,7 +27,7 @@ packets_append room a b c left middle still_left [] others read more =
 packets_append room a b c left middle still_left (p ∷ ps) others read more =
     (read.0, read.1, read.2, packets_append room read.0 b c read.1 middle still_left ps others read.3 more)
 
--- a packet after others
+-- a packet that is read after other packets
 pub packets-push : (room : ℕ) (a b c : CaptureReader) (left middle still_left : Option (List ℕ)) (packets : List FilePacket)
     (packet : FilePacket)
     → ReadsPackets room a left middle b packets → ReadsOne room b middle still_left c packet
@@ -92,7 +92,7 @@ classic_packets room reader left still_left after (packet ∷ packets) read =
       same = more.same ∙ by_record.header;
     }
 
--- the next item after the last record
+-- the next item after the last record ends the packets
 record_ends : (room : ℕ) (capture : CaptureHeader) (left middle still_left : Option (List ℕ)) (buffer : List ℕ) (next : NextRecord)
     (records : List (List ℕ)) → ReadsRecords capture.byte_order left middle records
     → (reads : ReadsNext capture.byte_order middle still_left buffer next) → packet_in buffer (next_by_record capture next) ≡ None
@@ -152,7 +152,7 @@ begins_with_packets room (Classic reader) after (Some all) (Some rest) packets r
 
 -- ---- the beginning of a file
 
--- the header that was read is the header of the capture, and the rest follows it
+-- the header that was read is the header of the capture, and the other bytes follow the header
 begins_with : (all more : List ℕ) (header : CaptureHeader) → GivesHeader (Some all) (Some more) header
     → BeginsWith header all × (more ≡ drop 24 all)
 begins_with all more header gives = (
@@ -163,7 +163,7 @@ begins_with all more header gives = (
   grind (arith, drop_at gives.bytes more 24 gives.has_len),
 )
 
--- the packets are read from the rest
+-- the packets are read from the bytes after the header
 pub begins_input : (room : ℕ) (reader : CaptureReader) (left still_left : Option (List ℕ)) (buffer : List ℕ) → length buffer ≡ room
     → ReadsBeginning left still_left buffer (Ok reader) → BeginsInput room reader left still_left
 begins_input room reader None still_left buffer has_room begins = tt

@@ -8,7 +8,7 @@ use Rattle.capture_file.specs.declared.classic.capture_header_error.CaptureHeade
 use Rattle.capture_texts.specs.declared.link_type.LinkType.TheVariants.{Ethernet, LinuxCooked2}
 use Rattle.capture_file.specs.declared.classic.record_header.Resolution.TheVariants.{Microseconds, Nanoseconds}
 
--- version 2.4, 262,144 bytes of snap length, Ethernet, as written by a little-endian machine
+-- the header of a little-endian capture: version 2.4, a snap length of 262,144 bytes, Ethernet
 abbrev ethernet : List ℕ
 ethernet = 212 ∷ 195 ∷ 178 ∷ 161 ∷ 2 ∷ 0 ∷ 4 ∷ 0 ∷ 0 ∷ 0 ∷ 0 ∷ 0 ∷ 0 ∷ 0 ∷ 0 ∷ 0 ∷ 0 ∷ 0 ∷ 4 ∷ 0 ∷ 1 ∷ 0 ∷ 0 ∷ 0 ∷ []
 
@@ -46,7 +46,7 @@ no_byte = refl
 link_type_276 : link_type_with 276 ≡ Some LinuxCooked2
 link_type_276 = refl
 
--- captured at 1 second and 2 units, 3 of 4 bytes
+-- a record from second 1 and fraction 2, with 3 captured bytes of a packet of 4 bytes
 abbrev three_of_four : List ℕ
 three_of_four = 1 ∷ 0 ∷ 0 ∷ 0 ∷ 2 ∷ 0 ∷ 0 ∷ 0 ∷ 3 ∷ 0 ∷ 0 ∷ 0 ∷ 4 ∷ 0 ∷ 0 ∷ 0 ∷ 170 ∷ 187 ∷ 204 ∷ []
 
@@ -60,7 +60,7 @@ three_of_four_is_record = refl
 other_order : record_len BigEndian three_of_four ≡ 50331664
 other_order = refl
 
--- a record, and the first byte of another
+-- a record, and the first byte of another record
 one_record : IsReading LittleEndian (three_of_four ++ 1 ∷ []) (three_of_four ∷ []) (1 ∷ [])
 one_record = record { whole = refl; each = (refl, tt); partial = inl (omega arith) }
 

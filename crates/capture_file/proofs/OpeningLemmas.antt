@@ -1,4 +1,4 @@
--- For the opening of a capture: its first 12 bytes, and then the bytes after them.
+-- Laws of the opening of a capture: its first 12 bytes, and then the bytes after them.
 use Rattle.std.proofs.lemmas.Bool.Decides.{nat_tests}
 use Rattle.std.proofs.Common.{◌≡◌, ℕ, ◌≤◌, ◌<◌, true, false, List, [], ◌∷◌, ◌++◌, Option, Some, None, IfSome, Result, Ok, Err, arith, length, take, sym, ap, ◌∙◌, append-nil, ⊎_elim}
 use Rattle.std.proofs.lemmas.Bool.{cases_lt}
@@ -30,7 +30,7 @@ first_bytes (Some all) (Some more) bytes consumed within end =
     (λ all_there. sym (ap (take 24) consumed ∙ take_at bytes more 24 (omega (arith, within, all_there))))
     (cases_lt (length bytes) 24)
 
--- all bytes of the header, from its first bytes and the bytes after them
+-- the header is read from its first bytes and the bytes after them
 pub header_read : (left middle still_left : Option (List ℕ)) (first : List ℕ) (result : Result CaptureHeader CaptureHeaderError)
     → Consumes left middle first → ReadsRestOfHeader first middle still_left result → ReadsHeader left still_left result
 header_read left middle still_left first (Ok header) consumed reads = grind (arith, nat_tests, Consumes-trans)
@@ -68,7 +68,7 @@ type_len (a ∷ (b ∷ [])) is = grind (arith, nat_tests)
 type_len (a ∷ (b ∷ (c ∷ []))) is = grind (arith, nat_tests)
 type_len (a ∷ (b ∷ (c ∷ (d ∷ bytes)))) is = omega arith
 
--- the rest of the first block was read after its first bytes
+-- the beginning of a pcapng file is read from its first bytes and the bytes after them
 pub pcapng_beginning : (left middle still_left : Option (List ℕ)) (first buffer : List ℕ) (result : Result PcapngReader PacketError)
     → is_section_header first ≡ true → Consumes left middle first
     → ReadsRestOfBlock first middle still_left buffer result → ReadsFirstBlock left still_left buffer result

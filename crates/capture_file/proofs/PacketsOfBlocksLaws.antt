@@ -43,7 +43,7 @@ use Rattle.capture_texts.specs.declared.file_texts.FileTexts.{FileTexts}
 
 -- ---- one block
 
--- the reader after a block, by the fold, with these texts
+-- the reader after a block as the fold states it, with these texts
 abbrev reader_with : PcapngReader → List ℕ → FileTexts → PcapngReader
 reader_with before block texts =
     let header = block_header before.section.byte_order block in
@@ -58,11 +58,11 @@ whole_texts before block = texts_with (block_header before.section.byte_order bl
 abbrev texts_of : ℕ → PcapngReader → List ℕ → FileTexts
 texts_of room before block = if nat_lt room (length block) then before.texts else whole_texts before block
 
--- the reader after a block, by the fold
+-- the reader after a block as the fold states it
 abbrev reader_after : ℕ → PcapngReader → List ℕ → PcapngReader
 reader_after room before block = reader_with before block (texts_of room before block)
 
--- the item of a block is this result of the fold, and the reader after the block is as expected unless the result is an error
+-- the item of a block is this result of the fold; unless the result is an error, the reader after the block is as expected
 abbrev IsResult : ℕ → List ℕ → Option NextPacket → PcapngReader → PcapngReader → Result (Option FilePacket) PacketError → Type 0
 IsResult offset buffer next after expected (Err error) = next ≡ Some (refused_at offset error)
 IsResult offset buffer next after expected (Ok None) = (next ≡ None) × (after ≡ expected)
@@ -109,7 +109,7 @@ body_in_front block buffer len is front =
     in_front len 8 (len - 4) buffer (omega arith) ∙ ap (λ bytes. slice_range bytes 8 (len - 4)) front
     ∙ ap (λ n. slice_range block 8 (n - 4)) is
 
--- a block for which the buffer has room
+-- a block with room in the buffer is read with the result of the fold
 whole_step : (room : ℕ) (before : PcapngReader) (block rest : List ℕ) → IsBlock before.section.byte_order block → IsBytes block
     → length block ≤ room
     → BlockStep room before (block ++ rest) rest (reader_with before block (whole_texts before block))
@@ -150,7 +150,7 @@ whole_step room before block rest is fits within =
           (body_of block) buffer taken section before.texts (whole_texts before block) taken_so;
     }
 
--- the result of a block for which the buffer has no room, by the type of the block
+-- the result of a block without room in the buffer, given the type of the block
 long_by : (description packet : Bool) (header : BlockHeader) (offset : ℕ) (buffer : List ℕ) (after expected : PcapngReader)
     → (description ≡ false → after ≡ expected)
     → IsResult offset buffer
@@ -229,7 +229,7 @@ block_step room before block rest is fits =
 
 -- ---- all blocks
 
--- a block before others
+-- the contents of a file, given its first block and the contents after it
 has_block : (result : Result (Option FilePacket) PacketError) (room : ℕ) (before expected : PcapngReader) (all rest : List ℕ)
     (others : Contents) → BlockStep room before all rest expected result
     → HasPackets room (Pcapng expected) rest others.0 others.1
@@ -255,7 +255,7 @@ has_block (Ok (Some packet)) room before expected all rest others block has =
     record { buffer = block.buffer; has_room = block.has_room; next = item; reads = first; gives = is_packet } in
     (left, last, (Pcapng block.after, Some rest, one, read), ends)
 
--- a rest that is refused as a block
+-- the contents of a rest that is refused as a block
 rest_has : (refusal : Option BlockError) (rest : List ℕ) (room : ℕ) (reader : PcapngReader) → refusal ≢ None
     → block_refusal reader.section.byte_order rest ≡ refusal
     → HasPackets room (Pcapng reader) rest [] (item_after reader.offset rest refusal)
@@ -264,7 +264,7 @@ rest_has (Some error) [] room reader refused is = (Some [], Pcapng reader, (refl
 rest_has (Some error) (byte ∷ bytes) room reader refused is =
     (Some (byte ∷ bytes), Pcapng reader, (refl, refl), refusal_ends room reader (byte ∷ bytes) error (λ none. cc none) is)
 
--- the contents of a file by the fold
+-- the contents of a file as the fold states them
 abbrev contents : ℕ → PcapngReader → List (List ℕ) → List ℕ → Contents
 contents room reader blocks rest =
     packets_of_blocks room reader.section.byte_order reader.section.interfaces.items reader.offset blocks rest

@@ -1,4 +1,4 @@
--- For the packets of a pcapng file as a fold over its blocks: the bytes of a block, and the result of one block.
+-- Laws of the packets of a pcapng file as a fold over its blocks: the bytes of a block, and the result of one block.
 use Rattle.std.proofs.lemmas.Bool.Decides.{nat_tests}
 use Rattle.std.proofs.Common.{◌≡◌, ◌≢◌, ℕ, suc, true, ◌+◌, ◌-◌, ◌^◌, ◌<◌, List, [], ◌∷◌, ◌++◌, Option, Some, None, Ok, Err, Result, arith, inl, inr, length, take, drop, refl, sym, ap, ◌∙◌, subst, append_assoc, take-append-drop, ⊎_elim}
 use Rattle.std.proofs.lemmas.Bool.{cases_lt}
@@ -32,7 +32,7 @@ use Rattle.capture_file.specs.declared.reader.pcapng_reader.Section.{Section}
 
 -- ---- bytes
 
--- the first bytes are bytes, and so are the bytes after them
+-- if bytes are bytes, so are their first bytes, and so are the bytes after them
 pub bytes_front : (first more : List ℕ) → IsBytes (first ++ more) → IsBytes first
 bytes_front first more fits = λ place.
     ⊎_elim
@@ -44,7 +44,7 @@ pub bytes_after : (first more : List ℕ) → IsBytes (first ++ more) → IsByte
 bytes_after [] more fits = fits
 bytes_after (byte ∷ first) more fits = bytes_after first more (λ place. fits (suc place))
 
--- a number of four bytes
+-- a number of four bytes is below 2^32
 pub number_below : (order : ByteOrder) (bytes : List ℕ) → IsBytes bytes → number_at order bytes 4 < 2 ^ 32
 number_below BigEndian bytes fits = omega (arith, fits 4, fits 5, fits 6, fits 7)
 number_below LittleEndian bytes fits = omega (arith, fits 4, fits 5, fits 6, fits 7)
@@ -62,7 +62,7 @@ same_order section block fits other = grind (arith, nat_tests, both_orders block
 
 -- ---- a part of a part of some bytes
 
--- bytes without the first bytes of their beginning
+-- the first bytes without those before `start`
 drop_front : (start len : ℕ) (bytes : List ℕ) → drop start (take len bytes) ≡ take (len - start) (drop start bytes)
 drop_front start len bytes =
     ⊎_elim
@@ -97,7 +97,7 @@ part_of_body buffer from to start len =
 
 -- ---- a section header block
 
--- the first four bytes of a section header block
+-- the number in the first four bytes of a section header block
 pub section_number : (block : List ℕ) → is_section_header block ≡ true → be_number block 0 4 ≡ 168627466
 section_number block is = grind (arith, nat_tests)
 
@@ -116,7 +116,7 @@ section_clears header interfaces body is = grind (arith, nat_tests)
 
 -- ---- the result of a block for which the buffer has room
 
--- the section after a block is the section of the fold
+-- the section after a block is as the fold states it
 abbrev pub IsAfter : BlockHeader → List InterfaceDescription → List ℕ → Section → Type 0
 IsAfter header interfaces body after =
     (after.byte_order ≡ header.byte_order) × (after.interfaces.items ≡ interfaces_after header interfaces body)
@@ -166,7 +166,7 @@ module _ (before : Section) (header : BlockHeader) (body buffer : List ℕ)
       → after ≡ before → After after
   after_packet after section description unchanged = grind (arith, nat_tests, same section)
 
-  -- an enhanced or obsolete packet block, whose packet has this interface
+  -- the reader takes an enhanced or obsolete packet block with the result of the fold; its packet has this interface
   taken_timed : (after : Section) (given : Given) (interface : InterfaceDescription) (packet : PacketBlock) (number : ℕ)
       → packet_start header.block_type ≡ 28 → IsTimedPacket header.byte_order number body packet
       → given ≡ Ok (Some (packet_of_block header interface packet)) → After after
@@ -190,7 +190,7 @@ module _ (before : Section) (header : BlockHeader) (body buffer : List ℕ)
     unchanged,
   )
 
-  -- a packet block whose packet has this interface
+  -- the reader takes a packet block with the result of the fold; its packet has this interface
   taken_packet : (after : Section) (given : Given) (interface : InterfaceDescription) (packet : PacketBlock)
       → body_refusal header before.interfaces.items body ≡ None → IsBody header before.interfaces.items body (Packet packet)
       → slice_get before.interfaces.items packet.interface ≡ Some interface
@@ -216,7 +216,7 @@ module _ (before : Section) (header : BlockHeader) (body buffer : List ℕ)
       (subst (λ len. IsSimplePacketOf header.byte_order len body packet) snap is_packet) gives
       (after_packet after (λ section. cc (is.0, section)) (λ description. cc (is.0, description)) unchanged))
 
-  -- a block with an accepted body, by its content
+  -- the reader takes a block with an accepted body with the result of the fold
   taken_accepted : (said : BlockBody) (after : Section) (given : Given) → body_refusal header before.interfaces.items body ≡ None
       → IsBody header before.interfaces.items body said → TakesBody before header said after given → Taken given after result
   taken_accepted (SectionHeader said) after given accepted is takes = taken_section after given is.0 accepted takes.0 takes.1 takes.2
@@ -227,7 +227,7 @@ module _ (before : Section) (header : BlockHeader) (body buffer : List ℕ)
       let nothing : result ≡ Ok None = grind (arith, nat_tests) in
       subst (Taken given after) (sym nothing) (takes.0, after_packet after is.0 is.1 takes.1)
 
-  -- a block with any body
+  -- the reader takes a block with any body with the result of the fold
   taken_unless : (refusal : Option BodyError) (after : Section) (given : Given) → body_refusal header before.interfaces.items body ≡ refusal
       → TakesUnless refusal before header body after given → Taken given after result
   taken_unless (Some error) after given refused takes =

@@ -1,11 +1,11 @@
--- For the blocks of a file in memory: the results of `next` up to the end are the items of the file.
+-- Laws of the blocks of a file in memory: the results of `next` up to the end are the items of the file.
 use Rattle.std.proofs.Common.{◌≡◌, true, List, [], ◌∷◌, Ok, Err, refl, ap, ◌∙◌, subst}
 use Rattle.std.specs.Iterator.{Yields}
 use Rattle.std.specs.Iterator.Runs.{Run, YieldsRun}
 use Rattle.capture_file.specs.PcapngBlocks.{AreItems, BlockItem, GivesBlock, UnreadFile}
 use Rattle.capture_texts.specs.declared.byte_order.ByteOrder.{ByteOrder}
 
--- no bytes are no items
+-- without bytes there are no items
 none_left : (section : ByteOrder) (items : List BlockItem) → AreItems section [] items → items ≡ []
 none_left section [] are = refl
 none_left section (Ok block ∷ items) are = absurd (cc are.1)

@@ -142,7 +142,7 @@ simple_packet =
     kept (record { link_type = Ok Ethernet; byte_order = LittleEndian; time = None; start = 12; captured_len = 4; original_len = 4 })
     (5 ∷ 6 ∷ 7 ∷ 8 ∷ [])
 
--- two packets of the interface, which was described before them
+-- the two packets belong to the interface that was described before them
 two_packets : packets_of_blocks 64 BigEndian [] 0 (section ∷ interface ∷ enhanced ∷ simple ∷ []) []
     ≡ (enhanced_packet ∷ simple_packet ∷ [], packets.End)
 unfolding options_within
@@ -157,7 +157,7 @@ no_room : packets_of_blocks 32 BigEndian [] 0 (section ∷ interface ∷ enhance
 unfolding options_within
 no_room = refl
 
--- a second section has no interface so far, so its packet is refused, at byte 88 of the file
+-- the second section does not have an interface yet, so its packet is refused, at byte 88 of the file
 other_section : packets_of_blocks 64 BigEndian [] 0 (section ∷ interface ∷ section ∷ simple ∷ enhanced ∷ []) []
     ≡ ([], refused_at 88 (errors.Body (Interface 0 0)))
 unfolding options_within

@@ -18,7 +18,7 @@ refused_or_block None section bytes is =
     let len : ℕ = block_len section bytes in
     inr (len, omega (arith, length-take-le len bytes found.within, found.is_block.shortest), found.within, found.is_block)
 
--- the blocks of a section with this byte order, and of the sections after it
+-- the form of blocks; its state is the byte order of the section
 abbrev blocks : Form
 blocks = record {
   State = ByteOrder;

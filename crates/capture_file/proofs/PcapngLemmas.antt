@@ -55,12 +55,12 @@ pub accepted : (section : ByteOrder) (block more : List ℕ) → IsBlock section
 accepted section block more is =
     grind (arith, nat_tests, block_len_front, last_len_front, length-append, lacks_magic_front, is_short_section_front)
 
--- accepted bytes are at least as long as their block, and contain it
+-- accepted bytes begin with their block, which ends within them
 pub record Begins (section : ByteOrder) (bytes : List ℕ) : Type 0 where
   pub within : block_len section bytes ≤ length bytes
   pub is_block : IsBlock section (take (block_len section bytes) bytes)
 
--- the first bytes, up to the stated length, if the statement is true of all bytes
+-- the bytes up to the stated length are a block if all bytes are accepted
 first_block : (section : ByteOrder) (bytes first more : List ℕ) → first ++ more ≡ bytes → length first ≡ block_len section bytes
     → 12 ≤ block_len section bytes → block_len section bytes % 4 ≡ 0 → lacks_magic bytes ≡ false → is_short_section section bytes ≡ false
     → last_len section bytes (block_len section bytes) ≡ block_len section bytes → IsBlock section first

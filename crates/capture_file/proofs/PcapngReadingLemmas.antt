@@ -1,4 +1,4 @@
--- For reads of a block: its first 12 bytes, and then the bytes after them.
+-- Laws of reads of a block: its first 12 bytes, and then the bytes after them.
 use Rattle.std.proofs.lemmas.Bool.Decides.{nat_tests}
 use Rattle.std.specs.Prelude.{◌==◌, nat_lt, not}
 use Rattle.std.proofs.Common.{◌≡◌, ℕ, zero, suc, ◌+◌, ◌≤◌, ◌<◌, List, [], ◌∷◌, ◌++◌, Option, Some, None, arith, length, take, refl, sym, ap, ◌∙◌, append_assoc, append-nil, length-append}
@@ -35,14 +35,14 @@ block_header_refusal_front section first more within =
       length-append first more,
     )
 
--- the error of a block of this length after its header, by the number of its bytes and by its last total length
+-- the error of a block that is found after its header, given its length, the number of its bytes, and its last total length
 abbrev refusal_after : ℕ → ℕ → ℕ → Option BlockError
 refusal_after len its_len last = first_of (
     refused_if (nat_lt its_len len) (CutOff len its_len)
     ∷ refused_if (not (last == len)) (LastLength len last)
     ∷ [])
 
--- the error of a block whose first bytes are accepted
+-- the error of a block whose first bytes are accepted is found after its header
 refused_by : (section : ByteOrder) (first more : List ℕ) → 12 ≤ length first → block_header_refusal section first ≡ None
     → block_refusal section (first ++ more)
     ≡ refusal_after (block_len section first) (length (first ++ more)) (last_len section (first ++ more) (block_len section first))
@@ -104,7 +104,7 @@ pub last_by : (still_left : Option (List ℕ)) (error : BlockError) → ((requir
     → IsLastBlock (Refused error) still_left
 last_by still_left error at_end = grind arith
 
--- refused bytes
+-- the next item is the error of refused bytes
 abbrev pub refused_after : (section : ByteOrder) (first bytes : List ℕ) (left still_left : Option (List ℕ)) (buffer : List ℕ)
     (error : BlockError)
     → Consumes left still_left bytes → 1 ≤ length (first ++ bytes) → block_refusal section (first ++ bytes) ≡ Some error
@@ -117,7 +117,7 @@ refused_after section first bytes left still_left buffer error consumed some ref
   is_last = last_by still_left error at_end;
 }
 
--- refused first bytes
+-- the next item is the error of refused first bytes
 pub refused_first : (section : ByteOrder) (first : List ℕ) (left : Option (List ℕ)) (buffer : List ℕ) (error : BlockError)
     → AreFirst first left → 1 ≤ length first → block_header_refusal section first ≡ Some error
     → ReadsAfter section first left left buffer (Refused error)
@@ -126,7 +126,7 @@ refused_first section first left buffer error are some refused =
     (grind (arith, nat_tests, append-nil))
     (λ required len is. are.1 (grind (arith, nat_tests)))
 
--- all bytes of a block, from its first bytes and the bytes after them
+-- a whole block is read from its first bytes and the bytes after them
 pub whole_block : (section : ByteOrder) (first more : List ℕ) → 12 ≤ length first → length (first ++ more) ≤ block_len section first
     → block_refusal section (first ++ more) ≡ None → IsBlock section (first ++ more) × (length (first ++ more) ≡ block_len section first)
 whole_block section first more within most accepted =
@@ -134,7 +134,7 @@ whole_block section first more within most accepted =
 
 -- ---- a block that is skipped
 
--- a number after some bytes
+-- a number after other bytes is the number in the bytes themselves
 be_number_back : (count : ℕ) (first more : List ℕ) (place from : ℕ) → place ≡ length first + from
     → be_number (first ++ more) place count ≡ be_number more from count
 be_number_back zero first more place from is = refl
@@ -153,7 +153,7 @@ number_at_back order first more place is = grind (arith, be_number_back 4 first 
 
 -- ---- the bytes that were read after the first bytes of a block
 
--- the bytes read after first bytes were read together with them
+-- what was read after the first bytes of a block was read from the start of the block
 abbrev pub with_first : (section : ByteOrder) (left middle still_left : Option (List ℕ)) (first buffer : List ℕ) (next : NextBlock)
     → Consumes left middle first → ReadsAfter section first middle still_left buffer next
     → ReadsNextBlock section left still_left buffer next
@@ -164,7 +164,7 @@ with_first section left middle still_left first buffer next consumed reads = rec
   is_last = reads.is_last;
 }
 
--- a block in front of the buffer
+-- the next item is a block at the front of the buffer
 pub whole_after : (section : ByteOrder) (first : List ℕ) (left still_left : Option (List ℕ)) (part after : List ℕ) (header : BlockHeader)
     (len : ℕ)
     → 12 ≤ length first → header ≡ block_header section first → length part ≡ header.total_len → FillsAfter first left still_left part len
@@ -173,7 +173,7 @@ whole_after section first left still_left part after header len within is room f
     let front : take len (part ++ after) ≡ first ++ fills.bytes = take-append-le len part after fills.within ∙ fills.whole in
     grind (arith, nat_tests, front, length-append, whole_block, block_header_front)
 
--- the bytes at the front of the buffer are refused
+-- the next item is the error of the bytes at the front of the buffer
 pub refused_fill : (section : ByteOrder) (first : List ℕ) (left still_left : Option (List ℕ)) (part after : List ℕ) (header : BlockHeader)
     (len : ℕ)
     (error : BlockError) → 12 ≤ length first → block_header_refusal section first ≡ None → header ≡ block_header section first
@@ -189,7 +189,7 @@ refused_fill section first left still_left part after header len error within ac
     let short = cut_off_short section first fills.bytes required its_len within accepted (refuses ∙ ap Some cut) in
     fills.end (omega (arith, room, ap (λ h. h.total_len) is, fills.has_len, length-append first fills.bytes, short)))
 
--- a block without room in the buffer
+-- the next item is a block without room in the buffer
 pub too_long_after : (section : ByteOrder) (first bytes : List ℕ) (left still_left : Option (List ℕ)) (buffer : List ℕ)
     (header : BlockHeader)
     → 12 ≤ length first → header ≡ block_header section first → Consumes left still_left bytes → length (first ++ bytes) ≤ header.total_len
@@ -198,7 +198,7 @@ pub too_long_after : (section : ByteOrder) (first bytes : List ℕ) (left still_
 too_long_after section first bytes left still_left buffer header within is consumed most accepted room =
     grind (arith, nat_tests, whole_block, block_header_front)
 
--- a block that consists of its first bytes
+-- the next item is a block that consists of its first 12 bytes, and does not fit in the buffer
 pub short_too_long : (section : ByteOrder) (first : List ℕ) (left : Option (List ℕ)) (buffer : List ℕ) (header : BlockHeader)
     → length first ≡ 12 → header ≡ block_header section first → header.total_len ≡ 12 → block_refusal section first ≡ None
     → length buffer < header.total_len → ReadsAfter section first left left buffer (TooLong header)
@@ -213,7 +213,7 @@ short_refused section first left buffer header error has_len accepted is short r
     refused_after section first [] left left buffer error (Consumes-nil left) (grind (arith, append-nil)) (grind (arith, append-nil))
     (λ required its_len cut. grind (arith, append-nil first, cut_off_short section first []))
 
--- a block that is cut off after its header
+-- the next item is the error of a block that is cut off after its header
 cut_off_refusal : (section : ByteOrder) (first bytes : List ℕ) (header : BlockHeader) (len : ℕ) → 12 ≤ length first
     → block_header_refusal section first ≡ None → header ≡ block_header section first → len ≡ length (first ++ bytes)
     → len < header.total_len
@@ -263,7 +263,7 @@ fails_within section first left still_left header count within accepted is most 
       (omega (arith, length-append first fails.bytes, fails.fewer, most));
 }
 
--- the bytes read after first bytes were read together with them
+-- a read that failed after the first bytes of a block failed within the block
 abbrev pub fails_with_first : (section : ByteOrder) (left middle still_left : Option (List ℕ)) (first : List ℕ) → Consumes left middle first
     → FailsAfter section first middle still_left → FailsInBlock section left still_left
 fails_with_first section left middle still_left first consumed fails = record {
@@ -273,7 +273,7 @@ fails_with_first section left middle still_left first consumed fails = record {
   cut_off = fails.cut_off;
 }
 
--- some bytes were read, and then fewer than a number of bytes
+-- a read that failed after some bytes read fewer bytes than these and the requested bytes
 pub fewer_after : (left middle still_left : Option (List ℕ)) (bytes : List ℕ) (count : ℕ) → Consumes left middle bytes
     → ReadsFewer middle still_left count → ReadsFewer left still_left (length bytes + count)
 fewer_after left middle still_left bytes count consumed fails = record {
@@ -282,14 +282,14 @@ fewer_after left middle still_left bytes count consumed fails = record {
   fewer = omega (arith, length-append bytes fails.bytes, fails.fewer);
 }
 
--- the last total length of a block with these last four bytes, by its header
+-- the last total length of a block is the number in its last four bytes
 last_of : (section : ByteOrder) (first middle last : List ℕ) (header : BlockHeader) (number : ℕ) → 12 ≤ length first
     → header ≡ block_header section first → length (first ++ middle) + 4 ≡ header.total_len → number ≡ number_at header.byte_order last 0
     → last_len section (first ++ (middle ++ last)) (block_len section first) ≡ number
 last_of section first middle last header number within is counts ends =
     grind (arith, nat_tests, order_of_front, append_assoc, number_at_back, length-append)
 
--- a block without room in the buffer, by its last four bytes
+-- the next item is a block without room in the buffer, given its last four bytes
 pub passed_over : (section : ByteOrder) (first middle last : List ℕ) (left still_left : Option (List ℕ)) (buffer : List ℕ)
     (header : BlockHeader)
     (number : ℕ) → 12 ≤ length first → block_header_refusal section first ≡ None → header ≡ block_header section first

@@ -8,11 +8,11 @@ use Rattle.std.proofs.lemmas.List.{append_cancel_left, length-take}
 use Rattle.std.specs.List.{concat}
 use Rattle.capture_file.specs.Classic.{AreBeforeCut}
 
--- a cut after the first bytes
+-- the bytes before a cut that is after the first bytes
 take_beyond : (cut : ℕ) (first more : List ℕ) → length first ≤ cut → take cut (first ++ more) ≡ first ++ take (cut - length first) more
 take_beyond cut first more beyond = grind (arith, take-append-add first more (cut - length first))
 
--- one more piece before the cut
+-- the pieces before a cut, with another piece before them
 one_more_before : (cut : ℕ) (first : List ℕ) (pieces cut_pieces : List (List ℕ)) → length first ≤ cut
     → AreBeforeCut (cut - length first) pieces cut_pieces → AreBeforeCut cut (first ∷ pieces) (first ∷ cut_pieces)
 one_more_before cut first pieces cut_pieces within before = record {
@@ -42,7 +42,7 @@ pub record Form : Type 1 where
   pub same_piece : (state : State) (a b x y : List ℕ) → IsPiece state a → IsPiece state b → a ++ x ≡ b ++ y → (a ≡ b) × (x ≡ y)
 
 module _ (form : Form) where
-  -- a division of at most this number of bytes
+  -- a division of fewer bytes than this number exists
   exists_within : (most : ℕ) (state : form.State) (bytes : List ℕ) → length bytes < most
       → (pieces : List (List ℕ)) × (rest : List ℕ) × (bytes ≡ concat pieces ++ rest) × form.Are state pieces rest
   exists_within zero state bytes short = absurd (omega (arith, short))

@@ -23,7 +23,7 @@ use Rattle.capture_file.specs.declared.reader.capture_reader.CaptureReader.TheVa
 use Rattle.capture_file.specs.declared.reader.next_packet.NextPacket.{NextPacket}
 use Rattle.capture_file.specs.declared.reader.pcapng_reader.PcapngReader.{PcapngReader}
 
--- the place after some bytes
+-- the place of a reader after these bytes were read
 place_after : (file : List ℕ) (place after : ℕ) (left still_left : Option (List ℕ)) (bytes : List ℕ) → length file < 2 ^ 64
     → IsPlace file place left → Consumes left still_left bytes → after ≡ min (place + length bytes) (2 ^ 64 - 1)
     → IsPlace file after still_left
@@ -40,7 +40,7 @@ place_after file place after (Some all) (Some rest) bytes short at consumed is =
 
 -- ---- a pcapng file
 
--- the place after a block
+-- the place of a reader after a block was read
 block_after : (file : List ℕ) (before after : PcapngReader) (left still_left : Option (List ℕ)) (buffer : List ℕ) (next : Option NextPacket)
     (block : NextBlock) → length file < 2 ^ 64 → IsPlace file before.offset left
     → ReadsNextBlock before.section.byte_order left still_left buffer block → IsStep before buffer block after next
@@ -64,7 +64,7 @@ step_after : (file : List ℕ) (before after : PcapngReader) (left still_left : 
 step_after file before after left still_left buffer next short at step goes =
     block_after file before after left still_left buffer next step.block short at step.reads step.is_step goes
 
--- the place after blocks that are skipped
+-- the place of a reader after blocks were skipped
 blocks_after : (file : List ℕ) (room count : ℕ) (before after : PcapngReader) (left still_left : Option (List ℕ)) → length file < 2 ^ 64
     → IsPlace file before.offset left → PassesBlocks room count before left still_left after → IsPlace file after.offset still_left
 blocks_after file room zero before after left still_left short at passes =
@@ -76,7 +76,7 @@ blocks_after file room (suc count) before after left still_left short at passes 
 
 -- ---- packets
 
--- the place after a record with a packet
+-- the place of a reader after a record with a packet was read
 record_after : (file : List ℕ) (capture : CaptureHeader) (place after : ℕ) (left still_left : Option (List ℕ)) (buffer : List ℕ)
     (next : NextRecord) (packet : FilePacket) → length file < 2 ^ 64 → IsPlace file place left
     → ReadsNext capture.byte_order left still_left buffer next → packet_in buffer (next_by_record capture next) ≡ Some packet
@@ -91,7 +91,7 @@ record_after file capture place after left still_left buffer records.End packet 
 record_after file capture place after left still_left buffer (records.CutOff required len) packet short at reads gives is =
     absurd (cc gives)
 
--- the place after a packet
+-- the place of a reader after a packet was read
 packet_after : (file : List ℕ) (room : ℕ) (before after : CaptureReader) (left still_left : Option (List ℕ)) (packet : FilePacket)
     → length file < 2 ^ 64 → IsPlace file (offset_of before) left → ReadsOne room before left still_left after packet
     → IsPlace file (offset_of after) still_left

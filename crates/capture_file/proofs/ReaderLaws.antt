@@ -30,7 +30,7 @@ abbrev captured_len_of : FilePacket → ℕ
 captured_len_of (kept packet bytes) = packet.captured_len
 captured_len_of (too_long packet) = packet.required_len
 
--- the place after a packet
+-- the place of a classic reader after a packet
 offset_by_packet : (capture : CaptureHeader) (offset : ℕ) (buffer : List ℕ) (next : NextRecord) (packet : FilePacket)
     → packet_in buffer (next_by_record capture next) ≡ Some packet
     → offset_by_record offset next ≡ min (offset + (16 + captured_len_of packet)) (2 ^ 64 - 1)
@@ -39,7 +39,7 @@ offset_by_packet capture offset buffer (TooLong header) packet gives = grind (ar
 offset_by_packet capture offset buffer End packet gives = absurd (cc gives)
 offset_by_packet capture offset buffer (CutOff required len) packet gives = absurd (cc gives)
 
--- the reader after a packet
+-- the classic reader after a packet
 abbrev classic_after : ClassicReader → FilePacket → ClassicReader
 classic_after before packet = classic_of before.header (min (before.offset + (16 + captured_len_of packet)) (2 ^ 64 - 1))
 
@@ -68,7 +68,7 @@ after_classic room before left still_left other_left other_still after other (pa
     (subst (λ r. ReadsPackets room r other_middle other_still other packets)
     (after_classic_one room before other_left other_middle other_mid packet other_one) other_others)
 
--- the place after an item that is not a packet
+-- the place of a classic reader after an item that is not a packet
 offset_at_end : (capture : CaptureHeader) (offset : ℕ) (buffer : List ℕ) (next : NextRecord)
     → packet_in buffer (next_by_record capture next) ≡ None → offset_by_record offset next ≡ offset
 offset_at_end capture offset buffer (Whole header) none = absurd (cc none)
@@ -90,7 +90,7 @@ classic_end room before left next ends =
 
 -- ---- a pcapng file: its blocks, read twice from the same bytes
 
--- the reader after the next block with an item
+-- the readers after the next block with an item, read twice from the same bytes
 module _ (room : ℕ) (left other_left : Option (List ℕ)) (after other : PcapngReader) (buffer other_buffer : List ℕ)
     (next other_next : NextPacket) (is_room : length buffer ≡ room) (other_is_room : length other_buffer ≡ room) where
   one_up_to : (count other_count : ℕ) (before : PcapngReader) (all : List ℕ)
@@ -119,7 +119,7 @@ module _ (room : ℕ) (left other_left : Option (List ℕ)) (after other : Pcapn
       (compared_steps before all [] (Some rest) (Some other_rest) reader other_reader passed other_passed None None
       (has_room ∙ sym other_has_room) step other_step)
 
--- the reader after one packet, and the bytes that are left
+-- one packet read twice leads to the same reader, with the same bytes left
 one_said : (room : ℕ) (before after other : PcapngReader) (all : List ℕ) (left other_left : Option (List ℕ)) (packet : FilePacket)
     → ReadsSaid room before (Some all) left after (given packet) → ReadsSaid room before (Some all) other_left other (given packet)
     → (after ≡ other) × (rest : List ℕ) × (left ≡ Some rest) × (other_left ≡ Some rest)
@@ -130,7 +130,7 @@ one_said room before after other all left other_left packet reads other_reads =
     (λ here. absurd (cc here.first_ends))
     (compared_said room before all [] left other_left after other (given packet) (given packet) whole other_reads)
 
--- the same reader, and the same bytes that are left
+-- both reads lead to the same reader, with the same bytes left
 record IsOneState (after other : CaptureReader) (left other_left : Option (List ℕ)) : Type 0 where
   reader : PcapngReader
   rest : List ℕ
@@ -139,7 +139,7 @@ record IsOneState (after other : CaptureReader) (left other_left : Option (List 
   left_is : left ≡ Some rest
   other_left_is : other_left ≡ Some rest
 
--- the reader after packets, and the bytes that are left
+-- packets read twice lead to the same reader, with the same bytes left
 after_pcapng : (room : ℕ) (before : PcapngReader) (all : List ℕ) (left other_left : Option (List ℕ)) (after other : CaptureReader)
     (packets : List FilePacket) → ReadsPackets room (Pcapng before) (Some all) left after packets
     → ReadsPackets room (Pcapng before) (Some all) other_left other packets → IsOneState after other left other_left
@@ -163,7 +163,7 @@ after_pcapng room before all left other_left after other (packet ∷ packets) re
     (subst (λ l. ReadsPackets room (Pcapng now) l other_left other packets) other_left_is
     (subst (λ r. ReadsPackets room r other_middle other_left other packets) (other_is ∙ ap Pcapng (sym same)) other_others))
 
--- the reader after the item that ends the packets
+-- two ends of the packets lead to the same reader
 pcapng_ends : (room : ℕ) (before : PcapngReader) (all : List ℕ) (next : NextPacket)
     (ends other : EndsWith room (Pcapng before) (Some all) next)
     → ends.after ≡ other.after
@@ -182,7 +182,7 @@ pcapng_ends room before all next ends other =
 
 -- ---- either format
 
--- items that end the packets, after the same reader and with the same bytes left
+-- two ends of the packets have the same item if the reader and the bytes left are the same
 same_ends : (room : ℕ) (reader : PcapngReader) (rest : List ℕ) (next : NextPacket) (after other : CaptureReader)
     (left other_left : Option (List ℕ))
     → after ≡ Pcapng reader → other ≡ Pcapng reader → left ≡ Some rest → other_left ≡ Some rest
@@ -190,7 +190,7 @@ same_ends : (room : ℕ) (reader : PcapngReader) (rest : List ℕ) (next : NextP
 same_ends room reader rest next after other left other_left after_is other_is left_is other_left_is =
     rw (after_is, other_is, left_is, other_left_is) (pcapng_ends room reader rest next)
 
--- the same in a classic capture
+-- two ends of the packets of a classic capture have the same item if the reader is the same
 same_classic_ends : (room : ℕ) (reader : ClassicReader) (next : NextPacket) (after other : CaptureReader)
     (left other_left : Option (List ℕ))
     → after ≡ Classic reader → other ≡ Classic reader

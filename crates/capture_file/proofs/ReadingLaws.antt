@@ -1,5 +1,5 @@
--- The laws of the reading of a capture: it exists and is unique, and the reading of a truncated capture contains the records before the
--- cut.
+-- The laws of the reading of a capture: a reading exists and is unique, and the reading of a truncated capture contains the records before
+-- the cut.
 use Rattle.std.proofs.Common.{◌≡◌, ℕ, ◌≤◌, List, arith, inl, inr, length, take, drop, sym, ap, ◌∙◌, length-take-le, take-append-drop, ⊎_elim}
 use Rattle.std.proofs.lemmas.Bool.{cases_lt}
 use Rattle.std.specs.List.{AllByRecursion}
@@ -18,7 +18,7 @@ first_record order bytes long =
     has_len ∙ ap (record_len order) (sym (take-append-drop len bytes))
     ∙ record_len_front order (take len bytes) (drop len bytes) (omega (arith, has_len))
 
--- the records of a capture with numbers in this byte order
+-- the form of records; its numbers are in this byte order
 abbrev records : Form
 records = record {
   State = ByteOrder;

@@ -1,5 +1,5 @@
--- For loops that read a capture record by record: the bytes read so far are records. At the end they are the reading of all bytes that the
--- reader had.
+-- Laws of loops that read a capture record by record. The bytes read so far are records. At the end, the records are the reading of all
+-- bytes that the reader had.
 use Rattle.std.proofs.Common.{◌≡◌, ◌⊎◌, ℕ, ◌<◌, ◌≤◌, List, [], ◌∷◌, ◌++◌, None, Some, Option, IfSome, arith, inl, inr, length, take, sym, ap, ◌∙◌, append_assoc, append-nil, length-append, length-take-le}
 use Rattle.std.proofs.lemmas.Bool.Decides.{nat_tests}
 use Rattle.std.proofs.lemmas.List.{drop_at}
@@ -24,7 +24,7 @@ is_record : (order : ByteOrder) (first captured : List ℕ) → length first ≡
 is_record order first captured has_len counted =
     omega (arith, length-append first captured, record_len_front order first captured (omega (arith, has_len)), has_len, counted)
 
--- the next item, by a header and the captured bytes after it
+-- the next item, given a header and the captured bytes after it
 is_next : (order : ByteOrder) (first captured buffer : List ℕ) (next : NextRecord) → length first ≡ 16
     → IsCaptured (record_header order first) captured buffer next → IsNext order (first ++ captured) buffer next
 is_next order first captured buffer (Whole header) has_len is =
@@ -89,7 +89,7 @@ fails_after_header order left middle still_left first header has_len consumed is
 
 -- ---- a loop over records
 
--- records after others
+-- records and other records after them are records
 pub each_append : (order : ByteOrder) (records others : List (List ℕ)) → AllByRecursion (IsRecord order) records
     → AllByRecursion (IsRecord order) others → AllByRecursion (IsRecord order) (records ++ others)
 each_append order [] others each each_other = each_other
@@ -104,7 +104,7 @@ pub one_more : (order : ByteOrder) (left middle still_left : Option (List ℕ)) 
     → ReadsRecords order left still_left (records ++ bytes ∷ [])
 one_more order left middle still_left records bytes read is consumed = grind (arith, nat_tests, each_append, concat-push, Consumes-trans)
 
--- the same for one arm with two patterns
+-- the records after another record, which has room in the buffer or not
 pub after_record : (order : ByteOrder) (left middle still_left : Option (List ℕ)) (records : List (List ℕ)) (buffer : List ℕ)
     (next : NextRecord) → (((header : RecordHeader) × (next ≡ Whole header)) ⊎ ((header : RecordHeader) × (next ≡ TooLong header)))
     → ReadsRecords order left middle records → (reads : ReadsNext order middle still_left buffer next)
@@ -116,7 +116,7 @@ after_record order left middle still_left records buffer (TooLong header) is rea
 after_record order left middle still_left records buffer End is read reads = absurd (grind (arith, is))
 after_record order left middle still_left records buffer (CutOff required len) is read reads = absurd (grind (arith, is))
 
--- the reader has read all bytes: these records, and then a rest
+-- all bytes that the reader had are these records and then this rest
 pub reading : (order : ByteOrder) (left middle still_left : Option (List ℕ)) (records : List (List ℕ)) (rest : List ℕ)
     → ReadsRecords order left middle records → Consumes middle still_left rest → IsAtEnd still_left → IsPartial order rest
     → IfSome left (λ all. IsReading order all records rest)
@@ -125,7 +125,7 @@ reading order (Some all) None still_left records rest read consumed end partial 
 reading order (Some all) (Some more) None records rest read consumed end partial = absurd consumed
 reading order (Some all) (Some more) (Some none) records rest read consumed end partial = grind (arith, nat_tests, append-nil)
 
--- the same for one arm with two patterns
+-- the reading at the last item, which is the end or a record that is cut off
 pub reading_at_last : (order : ByteOrder) (left middle still_left : Option (List ℕ)) (records : List (List ℕ)) (buffer : List ℕ)
     (next : NextRecord) → ((next ≡ End) ⊎ ((required len : ℕ) × (next ≡ CutOff required len)))
     → ReadsRecords order left middle records → (reads : ReadsNext order middle still_left buffer next)

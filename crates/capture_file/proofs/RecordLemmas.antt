@@ -6,7 +6,7 @@ use Rattle.capture_file.specs.Classic.{record_header, record_len, IsPartial, IsR
 use Rattle.capture_texts.specs.Numbers.{le_number, number_at}
 use Rattle.capture_texts.specs.declared.byte_order.ByteOrder.{ByteOrder}
 
--- a number in the first bytes is the same number in all bytes
+-- a number in the first bytes is the number in all bytes at its place
 pub be_number_front : (count : ℕ) (first more : List ℕ) (from : ℕ) → from + count ≤ length first
     → be_number (first ++ more) from count ≡ be_number first from count
 be_number_front zero first more from within = refl

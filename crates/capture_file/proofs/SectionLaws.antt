@@ -24,7 +24,7 @@ use Rattle.capture_file.specs.declared.reader.packet_error.PacketError.{PacketEr
 use Rattle.capture_file.specs.declared.reader.packet_error.PacketError.TheVariants.{Body, Interfaces}
 use Rattle.capture_file.specs.declared.reader.pcapng_reader.Section.{Section}
 
--- the result of a block: a packet or none, or an error
+-- the result of a block: a packet, no packet, or an error
 abbrev pub Given : Type 0
 Given = Result (Option CapturedPacket) PacketError
 
@@ -38,7 +38,7 @@ section_of order interfaces = record { byte_order = order; interfaces = record {
 pub same_section : (a b : Section) → a.byte_order ≡ b.byte_order → a.interfaces.items ≡ b.interfaces.items → a ≡ b
 same_section a b order items = ap (λ o. section_of o a.interfaces.items) order ∙ ap (section_of b.byte_order) items
 
--- an interface determines the section after it, or the error
+-- two equal interfaces lead to the same section after the block, or to the same error
 same_description : (before : Section) (interface other : InterfaceDescription) (a b : Section) (s t : Given) → interface ≡ other
     → Describes before interface a s → Describes before other b t → (a ≡ b) × (s ≡ t)
 same_description before interface other a b (Ok found) t same p q = grind (arith, nat_tests, same_section)
@@ -53,7 +53,7 @@ kind (Description said) = 1
 kind (Packet packet) = 2
 kind Other = 3
 
--- the number for a body, by the type of its block
+-- the number of the kind of body that a block of this type has
 abbrev kind_by : ℕ → ℕ
 kind_by type =
     if type == section_header_type then 0
@@ -77,12 +77,12 @@ record SamePacket (a b : PacketBlock) : Type 0 where
   original_len : a.original_len ≡ b.original_len
   captured : a.captured.now ≡ b.captured.now
 
--- two packets in one body
+-- two packets in one body have the same fields and bytes
 same_packet : (header : BlockHeader) (interfaces : List InterfaceDescription) (body : List ℕ) (a b : PacketBlock)
     → IsBody header interfaces body (Packet a) → IsBody header interfaces body (Packet b) → SamePacket a b
 same_packet header interfaces body a b is is_other = grind (arith, nat_tests)
 
--- the captured packet
+-- two captured packets of one block are equal
 same_captured : (header : BlockHeader) (interface other : InterfaceDescription) (a b : PacketBlock) → interface ≡ other → SamePacket a b
     → packet_of_block header interface a ≡ packet_of_block header other b
 same_captured header interface other a b same is = cc (same, is.timestamp, is.original_len, ap length is.captured)
@@ -121,14 +121,14 @@ one_taken before header body a b s t p q = same_unless (body_refusal header befo
 range_len : (body : List ℕ) (from to : ℕ) → length (slice_range body from to) ≤ length body - from
 range_len body from to = omega (arith, length-take (to - from) (drop from body), length-drop from body)
 
--- the captured bytes of an enhanced or obsolete packet block
+-- the captured bytes of an enhanced or obsolete packet block end within its body
 within_timed : (header : BlockHeader) (interface : ℕ) (body : List ℕ) (packet : PacketBlock) → packet_start header.block_type ≡ 28
     → IsTimedPacket header.byte_order interface body packet
     → length packet.captured.now ≤ 8 + length body - packet_start header.block_type
 within_timed header interface body packet start is =
     omega (arith, start, ap length is.captured, range_len body 20 (20 + number_at header.byte_order body 12))
 
--- the captured bytes of any packet block
+-- the captured bytes of any packet block end within its body
 within_body : (header : BlockHeader) (interfaces : List InterfaceDescription) (body : List ℕ) (packet : PacketBlock)
     → IsBody header interfaces body (Packet packet)
     → length packet.captured.now ≤ 8 + length body - packet_start header.block_type
@@ -137,7 +137,7 @@ within_body header interfaces body packet (inr (inl is)) = within_timed header _
 within_body header interfaces body packet (inr (inr is)) =
     omega (arith, ap packet_start is.0, ap length is.1.2.captured, range_len body 4 (simple_end header.byte_order is.1.0 body))
 
--- the captured bytes of a packet in a body
+-- the captured bytes of a packet in an accepted body end within the body
 within_taken : (before : Section) (header : BlockHeader) (body : List ℕ) (said : BlockBody) (after : Section) (packet : CapturedPacket)
     → IsBody header before.interfaces.items body said → TakesBody before header said after (Ok (Some packet))
     → packet.captured_len ≤ 8 + length body - packet.start
@@ -146,13 +146,13 @@ within_taken before header body (Description said) after packet is takes = absur
 within_taken before header body (Packet said) after packet is takes = grind (arith, within_body header before.interfaces.items body said is)
 within_taken before header body Other after packet is takes = absurd (cc takes.0)
 
--- the same for accepted and refused bodies
+-- the captured bytes of a packet in any body end within the body
 within_unless : (refusal : Option BodyError) (before : Section) (header : BlockHeader) (body : List ℕ) (after : Section)
     (packet : CapturedPacket) → TakesUnless refusal before header body after (Ok (Some packet))
     → packet.captured_len ≤ 8 + length body - packet.start
 within_unless refusal before header body after packet takes = grind (arith, within_taken)
 
--- the captured bytes of a packet in a block are within its header and its body
+-- the captured bytes of a packet in a block end within its header and body
 pub packet_within : (before : Section) (header : BlockHeader) (body : List ℕ) (after : Section) (packet : CapturedPacket)
     → TakesBlock before header body after (Ok (Some packet)) → packet.captured_len ≤ 8 + length body - packet.start
 packet_within before header body after packet takes =
@@ -160,7 +160,7 @@ packet_within before header body after packet takes =
 
 -- ---- any block has a result for any section
 
--- a statement that holds whether or not two numbers are equal
+-- a statement holds if it holds for equal numbers and for different numbers
 by_type : {X : Type 0} (a b : ℕ) → (a ≡ b → X) → (a ≢ b → X) → X
 by_type a b same other =
     ⊎_elim same other (let either : (a ≡ b) ⊎ (a ≢ b) = grind (arith, nat_tests) in either)
@@ -169,7 +169,7 @@ by_type a b same other =
 abbrev TakenUnless : Option BodyError → Section → BlockHeader → List ℕ → Type 0
 TakenUnless refusal before header body = (after : Section) × (given : Given) × TakesUnless refusal before header body after given
 
--- an interface is added, or there is no room for it
+-- an interface is added to the section, or the section has no room for it
 described : (before : Section) (header : BlockHeader) (body : List ℕ) → header.block_type ≡ interface_description_type
     → TakenUnless None before header body
 described before header body is =
@@ -184,12 +184,12 @@ described before header body is =
     (λ full. (before, Err (Interfaces max_interfaces), (Description interface, (is, refl), (refl, full, refl))))
     (cases_lt (length items) max_interfaces)
 
--- an element within the list
+-- a place within a list has an element
 got : {X : Type 0} (items : List X) (place : ℕ) → place < length items → (item : X) × (slice_get items place ≡ Some item)
 got [] place within = absurd (omega (arith, within))
 got (item ∷ items) place within = (get_or (item ∷ items) place item, slice_get-get_or (item ∷ items) place item within)
 
--- a packet of an interface that exists
+-- a packet block has a result if the interface of its packet exists
 packet_taken : (before : Section) (header : BlockHeader) (body : List ℕ) (packet : PacketBlock)
     → IsBody header before.interfaces.items body (Packet packet) → packet.interface < length before.interfaces.items
     → TakenUnless None before header body
@@ -209,12 +209,12 @@ timed_packet order interface body = record {
 is_timed : (order : ByteOrder) (interface : ℕ) (body : List ℕ) → IsTimedPacket order interface body (timed_packet order interface body)
 is_timed order interface body = record { of_interface = refl; timestamp = refl; original_len = refl; captured = refl }
 
--- the interface exists if the packet is not refused
+-- the interface of an accepted packet exists
 timed_there : (order : ByteOrder) (interface count : ℕ) (body : List ℕ) → timed_refusal order interface count body ≡ None
     → interface < count
 timed_there order interface count body none = grind (arith, nat_tests)
 
--- the packet of a simple packet block
+-- an accepted simple packet block contains a packet
 simple_taken : (interfaces : List InterfaceDescription) (order : ByteOrder) (body : List ℕ) → simple_refusal order interfaces body ≡ None
     → (packet : PacketBlock) × IsSimplePacket order interfaces body packet × (packet.interface < length interfaces)
 simple_taken [] order body none = absurd (grind (arith, nat_tests))
@@ -233,12 +233,12 @@ simple_taken (interface ∷ interfaces) order body none = (
 abbrev of_type : BlockHeader → ℕ → BlockHeader
 of_type header type = record { byte_order = header.byte_order; block_type = type; total_len = header.total_len }
 
--- the body is accepted as a body of a block of this type
+-- an accepted body is also accepted in a block with the same type
 refusal_of_type : (header : BlockHeader) (type : ℕ) (interfaces : List InterfaceDescription) (body : List ℕ) → header.block_type ≡ type
     → body_refusal header interfaces body ≡ None → body_refusal (of_type header type) interfaces body ≡ None
 refusal_of_type header type interfaces body is none = cc
 
--- an accepted body has a result, by the type of its block
+-- a block with an accepted body has a result and a section after it
 accepted_taken : (before : Section) (header : BlockHeader) (body : List ℕ) → body_refusal header before.interfaces.items body ≡ None
     → TakenUnless None before header body
 accepted_taken before header body none =
@@ -263,13 +263,13 @@ accepted_taken before header body none =
     packet_taken before header body packet (inr (inr (simple, is))) there)
     (λ no_simple. (before, Ok None, (Other, (no_section, no_description, no_enhanced, no_obsolete, no_simple), (refl, refl))))))))
 
--- any other body is refused
+-- a block with any body has a result and a section after it
 taken_unless : (refusal : Option BodyError) (before : Section) (header : BlockHeader) (body : List ℕ)
     → body_refusal header before.interfaces.items body ≡ refusal → TakenUnless refusal before header body
 taken_unless (Some error) before header body is = (before, Err (Body error), (refl, refl))
 taken_unless None before header body is = accepted_taken before header body is
 
--- a block has a result for the section before it
+-- each section and each block have a result and a section after the block
 pub there_is_taken : (before : Section) (header : BlockHeader) (body : List ℕ)
     → (after : Section) × (given : Given) × TakesBlock before header body after given
 there_is_taken before header body = taken_unless (body_refusal header before.interfaces.items body) before header body refl

@@ -31,23 +31,23 @@ use Rattle.capture_texts.specs.declared.file_texts.FileTexts.{FileTexts}
 
 -- ---- the item of a block, whatever is in the buffer after it
 
--- the next item: nothing so far, a packet, or an end without a packet
+-- what is known about the next item: nothing so far, a packet, or an end without a packet
 pub data Said : Type 0 where
   nothing : Said
   given : FilePacket → Said
   last : NextPacket → Said
 
--- the next item, by the packet in it
+-- the packet in the next item; without a packet, the item is the end
 abbrev pub said_by : Option FilePacket → NextPacket → Said
 said_by None next = last next
 said_by (Some packet) next = given packet
 
--- the item of a block, with this content of the buffer
+-- what a block states about the next item, given the content of the buffer
 abbrev pub said_of : List ℕ → Option NextPacket → Said
 said_of buffer None = nothing
 said_of buffer (Some next) = said_by (packet_in buffer next) next
 
--- a part of the buffer that ends within its first bytes
+-- a range of the buffer that ends within its first bytes is a range of these bytes
 pub in_front : (len from to : ℕ) (buffer : List ℕ) → to - from ≤ len - from
     → slice_range buffer from to ≡ slice_range (take len buffer) from to
 in_front len from to buffer within =
@@ -55,7 +55,7 @@ in_front len from to buffer within =
     let whole : from < len → len ≡ from + (len - from) = λ short. omega (arith, short) in
     grind (arith, taken (drop from buffer), drop-take from (len - from) buffer, whole)
 
--- the item of a whole block
+-- a whole block states the same, whatever follows it in the buffer
 said_whole : (offset : ℕ) (header : BlockHeader) (buffer other : List ℕ) (taken : Given)
     → ((packet : CapturedPacket) → taken ≡ Ok (Some packet) → packet.captured_len ≤ header.total_len - packet.start)
     → take header.total_len buffer ≡ take header.total_len other
@@ -67,7 +67,7 @@ said_whole offset header buffer other (Ok (Some packet)) within same =
     grind (arith, in_front header.total_len packet.start end buffer inside, in_front header.total_len packet.start end other inside)
 said_whole offset header buffer other (Err error) within same = refl
 
--- the item of a block without room in the buffer
+-- a block without room in the buffer states the same, whatever the buffer contains
 said_too_long : (offset : ℕ) (header : BlockHeader) (buffer other : List ℕ)
     → said_of buffer (next_by_too_long offset header) ≡ said_of other (next_by_too_long offset header)
 said_too_long offset header buffer other = grind (arith, nat_tests)
@@ -87,7 +87,7 @@ refusal_of_all section all (Some rest) buffer (refusals.CutOff required len) rea
 refusal_of_all section all (Some rest) buffer error reads =
     cc (reads.consumed, refused_more section reads.bytes rest error (λ required len is. absurd (cc is)) reads.is_next.1)
 
--- the same step was made in the beginning of a file and in the whole file, which is longer by these bytes
+-- the beginning of a file and the whole file, which is longer by these bytes, make the same step
 pub record SameStep (more : List ℕ) (after first_after : PcapngReader) (left first_left : Option (List ℕ))
     (said first_said : Said) : Type 0 where
   pub readers : after ≡ first_after
@@ -106,19 +106,19 @@ GoesOn (last next) = ⊥
 abbrev pub IsBeyond : List ℕ → Option (List ℕ) → Type 0
 IsBeyond more left = (rest : List ℕ) × (left ≡ Some rest) × (length rest < length more)
 
--- the beginning of a file ends here; the whole file also ends here, or it continues after the beginning
+-- the beginning of a file ends here; the whole file ends here too, or it continues
 pub record EndsHere (more : List ℕ) (left : Option (List ℕ)) (said first_said : Said) : Type 0 where
   pub next : NextPacket
   pub first_ends : first_said ≡ last next
   pub ends : more ≡ [] → said ≡ last next
   pub beyond : GoesOn said → IsBeyond more left
 
--- a step in the whole file, and a step in its beginning
+-- how a step in the whole file and a step in its beginning compare
 abbrev pub Compared : List ℕ → PcapngReader → PcapngReader → Option (List ℕ) → Option (List ℕ) → Said → Said → Type 0
 Compared more after first_after left first_left said first_said =
     SameStep more after first_after left first_left said first_said ⊎ EndsHere more left said first_said
 
--- a block at the front of both
+-- blocks at the front of the whole file and of its beginning are the same block
 same_front : (section : ByteOrder) (first more : List ℕ) (left first_left : Option (List ℕ)) (a b : List ℕ) → IsBlock section a
     → IsBlock section b → Consumes (Some (first ++ more)) left a → Consumes (Some first) first_left b
     → (a ≡ b) × (rest : List ℕ) × (left ≡ Some (rest ++ more)) × (first_left ≡ Some rest)
@@ -128,7 +128,7 @@ same_front section first more (Some x) (Some y) a b is is_first consumed first_c
     let same = same_block section a b x (y ++ more) is is_first (grind (arith, append_assoc)) in
     (same.0, y, ap Some same.1, refl)
 
--- no block is at the front of these bytes: the block at the front of more bytes extends beyond them
+-- the block at the front of a file extends beyond the first bytes of the file if these do not begin with a block
 beyond_first : (section : ByteOrder) (first more : List ℕ) (left : Option (List ℕ)) (block : List ℕ) → IsBlock section block
     → (block_refusal section first ≡ None → ⊥) → Consumes (Some (first ++ more)) left block → IsBeyond more left
 beyond_first section first more None block is refused consumed = absurd consumed
@@ -144,13 +144,13 @@ beyond_first section first more (Some rest) block is refused consumed =
     ))))
     (cases_lt (length first) (length block))
 
--- no byte is read from no bytes
+-- from no bytes no byte is read
 none_read : (all : List ℕ) (left : Option (List ℕ)) (bytes : List ℕ) → all ≡ [] → Consumes (Some all) left bytes → bytes ≡ []
 none_read all None bytes none consumed = absurd consumed
 none_read all (Some rest) [] none consumed = refl
 none_read all (Some rest) (byte ∷ bytes) none consumed = absurd (cc (none, consumed))
 
--- no byte is left at the end
+-- if the end was read, no byte is left
 no_byte : (section : ByteOrder) (all : List ℕ) (left : Option (List ℕ)) (buffer : List ℕ)
     → ReadsNextBlock section (Some all) left buffer End → all ≡ []
 no_byte section all None buffer reads = absurd reads.consumed
@@ -162,7 +162,7 @@ read_accepted : (section : ByteOrder) (all : List ℕ) (left : Option (List ℕ)
 read_accepted section all None block is consumed = absurd consumed
 read_accepted section all (Some rest) block is consumed = ap (block_refusal section) consumed ∙ accepted section block rest is
 
--- the block is also accepted with more bytes after it
+-- a block that is accepted is also accepted if more bytes follow it
 more_accepted : (section : ByteOrder) (first more : List ℕ) (left : Option (List ℕ)) (block : List ℕ) → IsBlock section block
     → Consumes (Some first) left block → block_refusal section (first ++ more) ≡ None
 more_accepted section first more None block is consumed = absurd consumed
@@ -178,7 +178,7 @@ same_reader a b section offset texts =
     ap (λ s. reader_of s a.offset a.texts) section ∙ ap (λ o. reader_of b.section o a.texts) offset
     ∙ ap (reader_of b.section b.offset) texts
 
--- a whole block determines the reader and the item
+-- a whole block in two buffers leads to the same reader and the same item
 one_whole : (before : PcapngReader) (header : BlockHeader) (buffer other : List ℕ) (after other_after : PcapngReader)
     (next other_next : Option NextPacket) → 12 ≤ header.total_len → take header.total_len buffer ≡ take header.total_len other
     → IsStep before buffer (Whole header) after next → IsStep before other (Whole header) other_after other_next
@@ -221,11 +221,11 @@ module _ (before : PcapngReader) (first more : List ℕ) (left first_left : Opti
   abbrev FirstTexts : NextBlock → Type 0
   FirstTexts block = first_after.texts ≡ noted block first_buffer first_next before.texts
 
-  -- both make the same step
+  -- the whole file and its beginning make the same step
   abbrev StepAlike : Type 0
   StepAlike = SameStep more after first_after left first_left (said_of buffer next) (said_of first_buffer first_next)
 
-  -- both contain a block with room in the buffers
+  -- the whole file and its beginning make the same step if both begin with a block with room in the buffer
   same_whole : (header first_header : BlockHeader) → ReadsWhole (Whole header) → ReadsFirst (Whole first_header)
       → IsStep before buffer (Whole header) after next → IsStep before first_buffer (Whole first_header) first_after first_next
       → Texts (Whole header) → FirstTexts (Whole first_header) → StepAlike
@@ -238,14 +238,14 @@ module _ (before : PcapngReader) (first more : List ℕ) (left first_left : Opti
       (subst (λ h. first_after.texts ≡ noted (Whole h) first_buffer first_next before.texts) (sym same) first_texts) in
       record { readers = readers; says = saids; rest = rest; left_is = left_is; first_left_is = first_left_is }
 
-  -- both contain a block without room in the buffers
+  -- the whole file and its beginning make the same step if both begin with a block without room in the buffer
   same_too_long : (header first_header : BlockHeader) → ReadsWhole (TooLong header) → ReadsFirst (TooLong first_header)
       → IsStep before buffer (TooLong header) after next → IsStep before first_buffer (TooLong first_header) first_after first_next
       → Texts (TooLong header) → FirstTexts (TooLong first_header) → StepAlike
   same_too_long header first_header reads first_reads step first_step texts first_texts =
       grind (arith, nat_tests, same_front, same_reader, said_too_long)
 
-  -- the block has the same length in both
+  -- the blocks at the front of the whole file and of its beginning have the same length
   one_len : (a b : List ℕ) (header first_header : BlockHeader) → IsBlock before.section.byte_order a
       → IsBlock before.section.byte_order b → header ≡ block_header before.section.byte_order a
       → first_header ≡ block_header before.section.byte_order b → Consumes (Some (first ++ more)) left a
@@ -280,7 +280,7 @@ module _ (before : PcapngReader) (first more : List ℕ) (left first_left : Opti
   same_step (Refused error) first_header room reads first_reads step first_step texts first_texts =
       absurd (no_refusal first_reads.bytes error first_reads.is_next.0 first_reads.consumed reads)
 
-  -- the same for a block without room in the buffer
+  -- if the beginning contains a block without room in the buffer, the whole file makes the same step
   same_step_too_long : (block : NextBlock) (first_header : BlockHeader) → length buffer ≡ length first_buffer → ReadsWhole block
       → ReadsFirst (TooLong first_header) → IsStep before buffer block after next
       → IsStep before first_buffer (TooLong first_header) first_after first_next → Texts block → FirstTexts (TooLong first_header)
@@ -323,7 +323,7 @@ module _ (before : PcapngReader) (first more : List ℕ) (left first_left : Opti
   same_refusal (Refused other) error some refused reads step =
       grind (arith, refusal_of_all before.section.byte_order (first ++ more) left buffer other reads, said_refused before.offset buffer other)
 
-  -- the item of a block in the whole file, and the item of a block in its beginning
+  -- a block in the whole file and a block in its beginning, compared
   compared_blocks : (block first_block : NextBlock) → length buffer ≡ length first_buffer → ReadsWhole block → ReadsFirst first_block
       → IsStep before buffer block after next → IsStep before first_buffer first_block first_after first_next → Texts block
       → FirstTexts first_block → Compared more after first_after left first_left (said_of buffer next) (said_of first_buffer first_next)
@@ -349,7 +349,7 @@ module _ (before : PcapngReader) (first more : List ℕ) (left first_left : Opti
         beyond = goes_beyond block (λ is_none. cc (refused, is_none)) reads step;
       })
 
-  -- one step in both
+  -- a step in the whole file and a step in its beginning, compared
   pub compared_steps : length buffer ≡ length first_buffer → ReadsStep before (Some (first ++ more)) left after buffer next
       → ReadsStep before (Some first) first_left first_after first_buffer first_next
       → Compared more after first_after left first_left (said_of buffer next) (said_of first_buffer first_next)
@@ -357,18 +357,18 @@ module _ (before : PcapngReader) (first more : List ℕ) (left first_left : Opti
       compared_blocks step.block first_step.block room step.reads first_step.reads step.is_step first_step.is_step step.texts
       first_step.texts
 
-  -- a block that is read from bytes that end or are refused here
+  -- no block is read from bytes that end here or are refused here
   no_block : (block : List ℕ) → IsBlock before.section.byte_order block → more ≡ [] → Consumes (Some (first ++ more)) left block
       → (block_refusal before.section.byte_order first ≡ None → ⊥) → ⊥
   no_block block is no_more consumed refused =
       let none = read_accepted before.section.byte_order (first ++ more) left block is consumed in
       refused (ap (block_refusal before.section.byte_order) (sym (append-nil first) ∙ ap (λ l. first ++ l) (sym no_more)) ∙ none)
 
-  -- no block can be read from no bytes
+  -- without bytes, no block is accepted
   none_refused : first ≡ [] → block_refusal before.section.byte_order first ≡ None → ⊥
   none_refused none is_none = cc (ap (block_refusal before.section.byte_order) none, is_none)
 
-  -- the same bytes leave the same reader
+  -- if both files have the same bytes, the readers after the step are the same
   one_after : (block first_block : NextBlock) → more ≡ [] → length buffer ≡ length first_buffer → ReadsWhole block → ReadsFirst first_block
       → IsStep before buffer block after next → IsStep before first_buffer first_block first_after first_next → Texts block
       → FirstTexts first_block → after ≡ first_after
@@ -393,7 +393,7 @@ module _ (before : PcapngReader) (first more : List ℕ) (left first_left : Opti
   one_after End (Refused error) no_more room reads first_reads step first_step texts first_texts = step.0 ∙ sym first_step.0
   one_after (Refused other) (Refused error) no_more room reads first_reads step first_step texts first_texts = step.0 ∙ sym first_step.0
 
-  -- one step in the same bytes
+  -- two steps in the same bytes lead to the same reader
   pub one_step : more ≡ [] → length buffer ≡ length first_buffer → ReadsStep before (Some (first ++ more)) left after buffer next
       → ReadsStep before (Some first) first_left first_after first_buffer first_next → after ≡ first_after
   one_step no_more room step first_step =

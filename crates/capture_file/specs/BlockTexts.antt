@@ -13,12 +13,12 @@ use Rattle.capture_texts.specs.declared.file_texts.FileTexts.{FileTexts}
 abbrev pub texts_with : BlockHeader → List ℕ → FileTexts → FileTexts
 texts_with header body before = texts_after header.byte_order header.block_type body before
 
--- the texts `after` a block, or the texts `before` it if the block is refused
+-- the texts after a block: `before` if the block is refused, otherwise `after`
 abbrev pub unless_refused : Option NextPacket → FileTexts → FileTexts → FileTexts
 unless_refused (Some (Refused error)) before after = before
 unless_refused next before after = after
 
--- The texts after a block was read. `next` is the item that the block determines, if there is one. A block that is longer than the buffer
+-- The texts after a block was read. `next` is the item that the block gives, if it gives one. A block that is longer than the buffer
 -- changes no text.
 abbrev pub noted : NextBlock → List ℕ → Option NextPacket → FileTexts → FileTexts
 noted (Whole header) buffer next before =

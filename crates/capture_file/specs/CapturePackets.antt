@@ -16,7 +16,7 @@ use Rattle.capture_file.specs.declared.reader.next_packet.NextPacket.TheVariants
 use Rattle.capture_file.specs.declared.reader.pcapng_reader.PcapngReader.{PcapngReader}
 use Rattle.capture_file.specs.declared.reader.next_packet.TooLongPacket.{TooLongPacket}
 
--- a packet of a capture: its data and its captured bytes, or a packet that is longer than the buffer
+-- a packet of a capture: what the capture states about it and its captured bytes, or a packet that is longer than the buffer
 pub data FilePacket : Type 0 where
   kept : CapturedPacket → List ℕ → FilePacket
   too_long : TooLongPacket → FilePacket
@@ -27,19 +27,18 @@ packet_in buffer (packets.Whole packet) = Some (kept packet (slice_range buffer 
 packet_in buffer (packets.TooLong packet) = Some (too_long packet)
 packet_in buffer other = None
 
--- the start of the next record or block
+-- the place at which the next record or block begins
 abbrev pub offset_of : CaptureReader → ℕ
 offset_of (Classic reader) = reader.offset
 offset_of (Pcapng reader) = reader.offset
 
--- The reader `after` is at the start of a record or block. In a pcapng file this block may come later than the reader `before`, since
--- blocks without a packet were skipped.
+-- The reader `after` is at the start of a record or block. Blocks of a pcapng file without a packet may have been skipped since `before`.
 abbrev pub Seeks : ℕ → CaptureReader → Option (List ℕ) → CaptureReader → Type 0
 Seeks room (Classic before) left after = after ≡ Classic before
 Seeks room (Pcapng before) left after = (reader : PcapngReader) × (after ≡ Pcapng reader) × HasPassed room before left reader
 
--- Reading failed within a record or block, and the reader `after` is at its start. In a pcapng file this block may come later than the
--- reader `before`, since blocks without a packet were skipped.
+-- Reading failed within a record or block, and the reader `after` is at its start. Blocks of a pcapng file without a packet may have been
+-- skipped since `before`.
 abbrev pub FailsToRead : ℕ → CaptureReader → Option (List ℕ) → Option (List ℕ) → CaptureReader → Type 0
 FailsToRead room (Classic before) left still_left after = (after ≡ Classic before) × FailsInRecord before.header.byte_order left still_left
 FailsToRead room (Pcapng before) left still_left after =
@@ -79,7 +78,7 @@ pub record EndsWith (room : ℕ) (before : CaptureReader) (left : Option (List �
 
 -- ---- the packets of a file, with room for `room` bytes
 
--- the packet of a record of a classic capture; its captured bytes follow the header of 16 bytes
+-- the packet of a record of a classic capture; its captured bytes follow the record's header of 16 bytes
 abbrev pub record_packet : ℕ → CaptureHeader → List ℕ → FilePacket
 record_packet room capture bytes =
     let header = record_header capture.byte_order bytes in
@@ -111,7 +110,8 @@ HasPackets room (Pcapng reader) bytes packets next =
     (still_left : Option (List ℕ)) × (after : CaptureReader) × ReadsPackets room (Pcapng reader) (Some bytes) still_left after packets
     × EndsWith room after still_left next
 
--- If the bytes after the beginning of a capture begin with the packets `first`, then their list of all packets begins with `first` too.
+-- If the bytes after the beginning of a capture begin with the packets `first`, the list of all packets in these bytes begins with `first`
+-- too.
 abbrev pub AreFirstPackets : ℕ → CaptureReader → List ℕ → Type 0
 AreFirstPackets room reader bytes =
     (first packets : List FilePacket) (next : NextPacket) → BeginsWithPackets room reader first bytes
@@ -129,8 +129,8 @@ PacketsEndAt room (Pcapng reader) packets bytes len =
     (rest : List ℕ) × (after : CaptureReader) × ReadsPackets room (Pcapng reader) (Some bytes) (Some rest) after packets
     × (len + length rest ≡ length bytes)
 
--- A capture was cut after `cut` bytes. `cut_packets` are the first of these packets, up to the last packet that ends at or before the cut.
--- The next packet ends after the cut.
+-- A capture was cut after `cut` bytes. `cut_packets` are the packets that end at or before the cut: the first packets of the list
+-- `packets`.
 pub record ArePacketsBeforeCut (room : ℕ) (reader : CaptureReader) (bytes : List ℕ) (cut : ℕ)
     (packets cut_packets : List FilePacket) : Type 0 where
   pub count : ℕ
@@ -145,14 +145,14 @@ pub record BeginsWith (header : CaptureHeader) (bytes : List ℕ) : Type 0 where
   pub accepted : header_refusal (take capture_header_len bytes) ≡ None
   pub is_header : IsHeaderOf (take capture_header_len bytes) header
 
--- the bytes contain the beginning of a capture and then `rest`, from which this reader reads the packets
+-- the bytes are the beginning of a capture and then `rest`, and this reader reads the packets from `rest`
 abbrev pub Begins : ℕ → CaptureReader → List ℕ → List ℕ → Type 0
 Begins room (Classic reader) bytes rest =
     BeginsWith reader.header bytes × (reader ≡ begins_records reader.header) × (rest ≡ drop capture_header_len bytes)
 Begins room (Pcapng reader) bytes rest =
     (buffer : List ℕ) × (length buffer ≡ room) × ReadsFirstBlock (Some bytes) (Some rest) buffer (Ok reader)
 
--- The beginning of a capture was read from an input. The first `Option` contains the bytes of the input before, and the second contains the
+-- The beginning of a capture was read from an input. The first `Option` contains the bytes that the input had before, and the second the
 -- bytes that are left. If the bytes before are unknown, the statement always holds.
 abbrev pub BeginsInput : ℕ → CaptureReader → Option (List ℕ) → Option (List ℕ) → Type 0
 BeginsInput room reader None still_left = Unit {0}

@@ -24,11 +24,11 @@ use Rattle.capture_file.specs.declared.classic.record_header.Resolution.TheVaria
 abbrev pub capture_header_len : ℕ
 capture_header_len = 24
 
--- the magic numbers
+-- the magic numbers, and the resolution that each of them means
 abbrev pub magic_numbers : List (ℕ × Resolution)
 magic_numbers = (0xA1B2C3D4, Microseconds) ∷ (0xA1B23C4D, Nanoseconds) ∷ []
 
--- the resolution with this magic number
+-- the resolution that this magic number means
 abbrev pub resolution_with : ℕ → Option Resolution
 resolution_with magic = lookup (λ number. magic == number) magic_numbers
 
@@ -36,23 +36,24 @@ resolution_with magic = lookup (λ number. magic == number) magic_numbers
 abbrev pub link_type_or_number : ℕ → Result LinkType ℕ
 link_type_or_number number = ok_or (link_type_with number) number
 
--- the number of the link type: the low 16 bits of the number in bytes 20 to 23
+-- the number of the link type: the low 16 bits of bytes 20 to 23
 abbrev pub link_number : ByteOrder → List ℕ → ℕ
 link_number order bytes = number_at order bytes 20 % 65536
 
--- The header of the capture that begins with these bytes. In its byte order, bytes 0 to 3 are the magic number of its resolution. Its snap
--- length is in bytes 16 to 19. Its link type is the type with the number in bytes 20 to 23, or this number itself if the type is not read.
+-- The header of the capture that begins with these bytes. In the byte order of the header, bytes 0 to 3 are the magic number of its
+-- resolution, bytes 16 to 19 the snap length, and bytes 20 to 23 the number of its link type. If the type is not read, the header contains
+-- this number.
 pub record IsHeaderOf (bytes : List ℕ) (header : CaptureHeader) : Type 0 where
   pub resolution : resolution_with (number_at header.byte_order bytes 0) ≡ Some header.resolution
   pub snap_len : header.snap_len ≡ number_at header.byte_order bytes 16
   pub link_type : header.link_type ≡ link_type_or_number (link_number header.byte_order bytes)
 
--- if the first four bytes are a magic number in this byte order: the byte order, and the resolution of the number
+-- this byte order and the resolution, if the first four bytes are a magic number in this byte order
 abbrev pub form_in : ByteOrder → List ℕ → Option (ByteOrder × Resolution)
 form_in order bytes = option_map (λ resolution. (order, resolution)) (resolution_with (number_at order bytes 0))
 
--- The byte order in which the first four bytes are a magic number, and the resolution that this number means. None if they are not a magic
--- number in either byte order.
+-- The byte order in which the first four bytes are a magic number, and the resolution that this number means. `None` if they are not a
+-- magic number in either byte order.
 abbrev pub form_of : List ℕ → Option (ByteOrder × Resolution)
 form_of bytes = option_or (form_in BigEndian bytes) (form_in LittleEndian bytes)
 
@@ -66,19 +67,19 @@ magic_error bytes =
     if number_at BigEndian bytes 0 == modified_magic || number_at LittleEndian bytes 0 == modified_magic then Modified
     else Magic (be_number bytes 0 4)
 
--- a version that is read: the major version is 2, and the version is 2.4 or later
+-- the version is read: the major version is 2, and the version is 2.4 or later
 abbrev pub is_version_read : ℕ → ℕ → Bool
 is_version_read major minor = major == 2 && nat_le 4 minor
 
--- The error for a version that is not read. If there is no magic number, the result is `None`, since `magic_error` refuses the bytes.
+-- The error for a version that is not read. `None` if there is no magic number, since `magic_error` refuses these bytes.
 abbrev pub version_refusal : Option (ByteOrder × Resolution) → List ℕ → Option CaptureHeaderError
 version_refusal None bytes = None
 version_refusal (Some form) bytes =
     refused_if (not (is_version_read (short_at form.0 bytes 4) (short_at form.0 bytes 6)))
     (Version (short_at form.0 bytes 4) (short_at form.0 bytes 6))
 
--- Why the header of a capture is refused, if it is. If several errors apply, the first one counts. A pcapng file begins with
--- the type of its first block.
+-- The error that refuses the header of a capture, if there is one. If several errors apply, the first one counts. A pcapng file begins with
+-- the type of a section header block.
 abbrev pub header_refusal : List ℕ → Option CaptureHeaderError
 header_refusal bytes = first_of (
     refused_if (be_number bytes 0 4 == section_header_type) Pcapng
@@ -101,15 +102,15 @@ record_header order bytes = record {
   original_len = number_at order bytes 12;
 }
 
--- the length of the record at the front of these bytes: its header, and its captured length
+-- the length of the record at the front of these bytes: the length of its header plus its captured length
 abbrev pub record_len : ByteOrder → List ℕ → ℕ
 record_len order bytes = record_header_len + number_at order bytes 8
 
--- a record without bytes after it
+-- the bytes are exactly one record
 abbrev pub IsRecord : ByteOrder → List ℕ → Type 0
 IsRecord order bytes = length bytes ≡ record_len order bytes
 
--- bytes that do not begin with a whole record: they end within its header, or within its captured bytes
+-- the bytes do not begin with a whole record: they end within its header, or within its captured bytes
 abbrev pub IsPartial : ByteOrder → List ℕ → Type 0
 IsPartial order bytes = (length bytes < record_header_len) ⊎ (length bytes < record_len order bytes)
 
@@ -119,8 +120,8 @@ pub record IsReading (order : ByteOrder) (bytes : List ℕ) (records : List (Lis
   pub each : AllByRecursion (IsRecord order) records
   pub partial : IsPartial order rest
 
--- After a cut, only the first `cut` bytes are left. `cut_records` are the records that end within these bytes. The next record ends after
--- them.
+-- After a cut, only the first `cut` bytes are left. `cut_records` are the records that end at or before the cut. The next record ends after
+-- the cut.
 pub record AreBeforeCut (cut : ℕ) (records cut_records : List (List ℕ)) : Type 0 where
   pub count : ℕ
   pub first : cut_records ≡ take count records

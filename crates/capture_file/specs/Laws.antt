@@ -1,11 +1,11 @@
--- The forms of laws on bytes that are divided into parts, such as the records of a capture, and an end.
+-- Laws on bytes that are divided into parts, such as the records of a capture, and an end.
 use Rattle.std.specs.Prelude.{◌≡◌, ℕ, List, take}
 
--- at least one list of parts and one end are in this relation
+-- the relation holds for at least one list of parts and one end
 abbrev pub Exist : {Parts End : Type 0} → (Parts → End → Type 0) → Type 0
 Exist {Parts} {End} Are = (parts : Parts) × (end : End) × Are parts end
 
--- at most one list of parts and one end are in this relation
+-- the relation holds for at most one list of parts and one end
 abbrev pub AreUnique : {Parts End : Type 0} → (Parts → End → Type 0) → Type 0
 AreUnique {Parts} {End} Are =
     (parts other_parts : Parts) (end other_end : End) → Are parts end → Are other_parts other_end

@@ -30,20 +30,20 @@ use Rattle.capture_texts.specs.Texts.{no_texts}
 
 -- ---- a pcapng file
 
--- The reader after a section header block with this header and body at the start of a file. Its section has no interface so far, and the
--- next block follows. Its texts are the texts of the block.
+-- The reader after a section header block with this header and body at the start of a file. The section has no interface yet, and the texts
+-- are those of the block.
 pub record BeginsFile (header : BlockHeader) (body : List ℕ) (reader : PcapngReader) : Type 0 where
   pub byte_order : reader.section.byte_order ≡ header.byte_order
   pub interfaces : reader.section.interfaces.items ≡ []
   pub offset : reader.offset ≡ header.total_len
   pub texts : reader.texts ≡ texts_with header body no_texts
 
--- the result for a section header block at the start of a file: the reader after the block, or the error that refuses its body
+-- the result of a section header block at the start of a file: the reader after the block, or the error that refuses its body
 abbrev pub BeginsUnless : Option BodyError → BlockHeader → List ℕ → Result PcapngReader PacketError → Type 0
 BeginsUnless None header body result = (reader : PcapngReader) × (result ≡ Ok reader) × BeginsFile header body reader
 BeginsUnless (Some error) header body result = result ≡ Err (errors.Body error)
 
--- The result for the section header block at the start of a file. If the whole block was read, it is at the front of the buffer.
+-- The result of the section header block at the start of a file. If it is a whole block, it is at the front of the buffer.
 abbrev pub IsFirstBlock : List ℕ → NextBlock → Result PcapngReader PacketError → Type 0
 IsFirstBlock buffer (blocks.Whole header) result =
     let body = slice_range buffer body_at (header.total_len - trailer_len) in
@@ -52,14 +52,14 @@ IsFirstBlock buffer (blocks.TooLong header) result = result ≡ Err (errors.TooL
 IsFirstBlock buffer blocks.End result = result ≡ Err (errors.Block (CutOff min_block_len 0))
 IsFirstBlock buffer (blocks.Refused error) result = result ≡ Err (errors.Block error)
 
--- these first bytes of the first block were read before, and then its other bytes were read
+-- the first block was read; `first` are its first bytes, which were already read before
 pub record ReadsRestOfBlock (first : List ℕ) (left still_left : Option (List ℕ)) (buffer : List ℕ)
     (result : Result PcapngReader PacketError) : Type 0 where
   pub block : NextBlock
   pub reads : ReadsAfter BigEndian first left still_left buffer block
   pub is_first : IsFirstBlock buffer block result
 
--- The first block of a file was read. Its type is the type of a section header block, which is the same in both byte orders.
+-- The first block of a file was read. It begins with the type of a section header block. This type is the same number in both byte orders.
 pub record ReadsFirstBlock (left still_left : Option (List ℕ)) (buffer : List ℕ) (result : Result PcapngReader PacketError) : Type 0 where
   pub block : NextBlock
   pub reads : ReadsNextBlock BigEndian left still_left buffer block
@@ -68,13 +68,13 @@ pub record ReadsFirstBlock (left still_left : Option (List ℕ)) (buffer : List 
 
 -- ---- a classic capture
 
--- The header in these bytes, or the error that refuses them. There are 24 bytes, or fewer if the input ends before.
+-- The header in these bytes, or the error that refuses them. There are 24 bytes, or fewer if the input ends before the 24th byte.
 abbrev pub SaysHeader : List ℕ → Result CaptureHeader CaptureHeaderError → Type 0
 SaysHeader bytes (Ok header) = (length bytes ≡ capture_header_len) × (header_refusal bytes ≡ None) × IsHeaderOf bytes header
 SaysHeader bytes (Err error) = header_refusal bytes ≡ Some error
 
--- These first bytes of the header were read before, and then its other bytes were read. If there are fewer than 12 first bytes, no other
--- bytes were read.
+-- The header was read; `first` are its first bytes, which were already read before. If `first` has fewer than 12 bytes, the input is at its
+-- end, and no other bytes were read.
 pub record ReadsRestOfHeader (first : List ℕ) (left still_left : Option (List ℕ))
     (result : Result CaptureHeader CaptureHeaderError) : Type 0 where
   pub bytes : List ℕ

@@ -12,8 +12,7 @@ nanoseconds_per_second = 1000000000
 abbrev pub nanoseconds_in : TimeResolution → ℕ → ℕ
 nanoseconds_in resolution fraction = fraction * nanoseconds_per_second / units_per_second resolution
 
--- The sum of an offset and a number of seconds since the beginning of 1970. It is counted from 2^63 seconds before 1970, so that it is
--- never negative.
+-- the number of seconds since the beginning of 1970, plus the offset and 2^63, so that the sum is never negative
 abbrev pub shifted_seconds : ℕ → ℤ → ℕ
 shifted_seconds seconds (pos more) = seconds + 2 ^ 63 + more
 shifted_seconds seconds (negsuc less) = seconds + 2 ^ 63 - suc less

@@ -1,4 +1,4 @@
--- The packets of a capture in one form for both forms of files (draft-ietf-opsawg-pcap, section 5; draft-ietf-opsawg-pcapng, section 4).
+-- The packets of a capture in one form for both file formats (draft-ietf-opsawg-pcap, section 5; draft-ietf-opsawg-pcapng, section 4).
 use Rattle.std.specs.Prelude.{◌≡◌, ℕ, ◌+◌, ◌-◌, ◌^◌, ◌/◌, ◌%◌, ◌==◌, ◌≤◌, if◌then◌else◌, min, pos, List, length, Option, Some, None}
 use Rattle.std.specs.Option.{option_map}
 use Rattle.capture_file.specs.Classic.{capture_header_len, link_type_or_number, record_header_len}
@@ -36,7 +36,7 @@ abbrev pub classic_time : Resolution → Time → PacketTime
 classic_time resolution time =
     record { seconds = time.seconds; fraction = time.fraction; resolution = power_of_ten resolution; offset = pos 0 }
 
--- the time of a packet of this interface: its timestamp counts units of the interface's resolution
+-- the time of a packet of this interface; its timestamp is in units of the interface's resolution
 abbrev pub timestamp_time : InterfaceDescription → ℕ → PacketTime
 timestamp_time interface timestamp = record {
   seconds = timestamp / units_per_second interface.time_resolution;
@@ -47,7 +47,7 @@ timestamp_time interface timestamp = record {
 
 -- ---- a classic capture
 
--- the reader of a capture after its header; its records begin after 24 bytes
+-- the reader after the header of a capture; the records begin after 24 bytes
 abbrev pub begins_records : CaptureHeader → ClassicReader
 begins_records capture = record { header = capture; offset = capture_header_len }
 
@@ -71,24 +71,24 @@ long_record capture header = record {
   original_len = Some header.original_len;
 }
 
--- the next item of a capture, according to its next record
+-- the next item of a capture whose next record this is
 abbrev pub next_by_record : CaptureHeader → NextRecord → NextPacket
 next_by_record capture (records.Whole header) = packets.Whole (packet_of_record capture header)
 next_by_record capture (records.TooLong header) = packets.TooLong (long_record capture header)
 next_by_record capture records.End = packets.End
 next_by_record capture (records.CutOff required_len len) = packets.CutOff required_len len
 
--- the place after a record that begins at `offset`; the number saturates at 2^64 - 1
+-- the place after a record that begins at `offset`, or 2^64 - 1 if the place is greater
 abbrev pub offset_after_record : ℕ → RecordHeader → ℕ
 offset_after_record offset header = min (offset + (record_header_len + header.captured_len)) (2 ^ 64 - 1)
 
--- the place of the reader after this item; it does not change at the end of the input or if the record is cut off
+-- the place of the reader after this item; at the end of the input, or if the record is cut off, it does not change
 abbrev pub offset_by_record : ℕ → NextRecord → ℕ
 offset_by_record offset (records.Whole header) = offset_after_record offset header
 offset_by_record offset (records.TooLong header) = offset_after_record offset header
 offset_by_record offset other = offset
 
--- the next record was read, and `next` is the item that this record determines
+-- the next record was read, and `next` is the item of this record
 pub record ReadsRecordPacket (before : ClassicReader) (left still_left : Option (List ℕ)) (after : ClassicReader) (buffer : List ℕ)
     (next : NextPacket) : Type 0 where
   pub next_record : NextRecord
@@ -103,8 +103,7 @@ pub record ReadsRecordPacket (before : ClassicReader) (left still_left : Option 
 abbrev pub packet_start : ℕ → ℕ
 packet_start type = if type == simple_packet_type then body_at + simple_captured_at else body_at + timed_captured_at
 
--- A packet of this interface, with the byte order in the header of its block, its timestamp, and its captured and original length. The
--- whole block is at the front of the buffer.
+-- A packet of this interface. Its byte order is that of its block. The whole block is at the front of the buffer.
 abbrev pub interface_packet : BlockHeader → InterfaceDescription → Option ℕ → ℕ → ℕ → CapturedPacket
 interface_packet header interface timestamp captured_len original_len = record {
   link_type = link_type_or_number interface.link_type;

@@ -1,6 +1,6 @@
--- The packets of a pcapng file as a fold over its blocks (draft-ietf-opsawg-pcapng, section 4 and appendix A). A section header block
--- begins a section without interfaces. An interface description block adds an interface to the section. A packet block contains a packet of
--- one of these interfaces. A block of another type changes nothing.
+-- The packets of a pcapng file, computed block by block (draft-ietf-opsawg-pcapng, section 4 and appendix A). A section header block begins
+-- a section without interfaces. An interface description block adds an interface to the section. A packet block contains a packet of one of
+-- these interfaces. A block of another type changes nothing.
 use Rattle.std.specs.Prelude.{◌≡◌, ℕ, ◌+◌, ◌-◌, ◌*◌, ◌^◌, ◌==◌, ◌&&◌, nat_le, nat_lt, if◌then◌else◌, List, [], ◌∷◌, ◌++◌, length, slice_get, slice_range, Option, Some, None, Result, Ok, Err}
 use Rattle.std.specs.Option.{option_map}
 use Rattle.net_base.specs.Bytes.{IsBytes}
@@ -48,8 +48,8 @@ simple_packet header body interface =
     let captured = slice_range body simple_captured_at (simple_end header.byte_order interface.snap_len body) in
     kept (interface_packet header interface None (length captured) (number_at header.byte_order body 0)) captured
 
--- The packet in the body of a packet block. The body contains the number of its interface. In a simple packet block the interface is always
--- 0.
+-- The packet in the body of a packet block. The body states the number of the packet's interface. The interface of a simple packet block is
+-- always interface 0.
 abbrev pub packet_in_body : BlockHeader → List InterfaceDescription → List ℕ → Option FilePacket
 packet_in_body header interfaces body =
     let order = header.byte_order in
@@ -76,23 +76,23 @@ block_error header interfaces body = first_of (
     (errors.Interfaces max_interfaces)
     ∷ [])
 
--- the result of a block: the error if there is one, otherwise the packet if there is one
+-- the result of a block: this error if there is one, otherwise this packet or no packet
 abbrev pub result_by : Option PacketError → Option FilePacket → Result (Option FilePacket) PacketError
 result_by (Some error) packet = Err error
 result_by None packet = Ok packet
 
--- the result of a block for which the buffer has room
+-- the result of a block that fits in the buffer
 abbrev pub whole_result : BlockHeader → List InterfaceDescription → List ℕ → Result (Option FilePacket) PacketError
 whole_result header interfaces body = result_by (block_error header interfaces body) (packet_in_body header interfaces body)
 
--- The result of a block for which the buffer has no room. The packets after a section header or an interface description can't be read
--- without it.
+-- The result of a block that is longer than the buffer. It is refused if it is a section header or an interface description, since later
+-- packets can't be read without it.
 abbrev pub long_result : BlockHeader → Result (Option FilePacket) PacketError
 long_result header =
     result_by (refused_if (is_description header.block_type) (errors.TooLong header.block_type header.total_len))
     (if is_packet header.block_type then Some (too_long (long_block header)) else None)
 
--- the result of a block, with room for `room` bytes in the buffer
+-- the result of a block, read into a buffer of `room` bytes
 abbrev pub block_result : ℕ → BlockHeader → List InterfaceDescription → List ℕ → Result (Option FilePacket) PacketError
 block_result room header interfaces body =
     if nat_lt room header.total_len then long_result header else whole_result header interfaces body
@@ -103,20 +103,21 @@ block_result room header interfaces body =
 abbrev pub Contents : Type 0
 Contents = List FilePacket × NextPacket
 
--- The contents of a file, from two parts: the result of its first block, and the contents `others` after this block. The block begins at
--- the place `offset`. If its result is an error, no packet follows.
+-- The contents of a file whose first block has this result, and whose other blocks have the contents `others`. The block begins at the
+-- place `offset`. After an error no packet follows.
 abbrev pub before_others : ℕ → Result (Option FilePacket) PacketError → Contents → Contents
 before_others offset (Err error) others = ([], refused_at offset error)
 before_others offset (Ok None) others = others
 before_others offset (Ok (Some packet)) others = (packet ∷ others.0, others.1)
 
--- the item after the last block: the end of the file, or an error if these bytes at the place `offset` are not a block
+-- The item after the last block. `bytes` follow the last block, at the place `offset`. If there are none it is the end of the file, and
+-- otherwise the error that refuses them as a block.
 abbrev pub item_after : ℕ → List ℕ → Option BlockError → NextPacket
 item_after offset (byte ∷ bytes) (Some error) = next_by_refusal offset error
 item_after offset bytes refusal = packets.End
 
 -- The packets of these blocks, and the item after them. The first block begins at the place `offset`, in a section with this byte order and
--- these interfaces. The rest follows the last block.
+-- these interfaces. `rest` are the bytes after the last block.
 abbrev pub packets_of_blocks : ℕ → ByteOrder → List InterfaceDescription → ℕ → List (List ℕ) → List ℕ → Contents
 packets_of_blocks room section interfaces offset [] rest = ([], item_after offset rest (block_refusal section rest))
 packets_of_blocks room section interfaces offset (block ∷ blocks) rest =
@@ -127,16 +128,16 @@ packets_of_blocks room section interfaces offset (block ∷ blocks) rest =
 
 -- ---- the laws
 
--- If bytes consist of blocks and a rest that is refused as a block, a reader reads exactly the packets of the fold. The fold begins with
--- the byte order, the interfaces and the place of the reader.
+-- If bytes consist of blocks and a rest that is refused as a block, a reader reads exactly the packets of these blocks. They are computed
+-- from the byte order, the interfaces and the place of the reader.
 abbrev pub ReadPacketsOfBlocks : ℕ → Type 0
 ReadPacketsOfBlocks room =
     (reader : PcapngReader) (bytes : List ℕ) (blocks : List (List ℕ)) (rest : List ℕ) (packets : List FilePacket) (next : NextPacket)
     → IsBytes bytes → IsBlockReading reader.section.byte_order bytes blocks rest → HasPackets room (Pcapng reader) bytes packets next
     → (packets, next) ≡ packets_of_blocks room reader.section.byte_order reader.section.interfaces.items reader.offset blocks rest
 
--- A reader of a whole file reads exactly the packets of the fold over all blocks of the file. The first block is a section header block.
--- The fold begins at the start of the file, without an interface.
+-- A reader of a whole file reads exactly the packets of all blocks of the file. They are computed from the start of the file, without an
+-- interface.
 abbrev pub FilesHavePacketsOfBlocks : ℕ → Type 0
 FilesHavePacketsOfBlocks room =
     (reader : PcapngReader) (file bytes : List ℕ) (blocks : List (List ℕ)) (rest : List ℕ) (packets : List FilePacket) (next : NextPacket)

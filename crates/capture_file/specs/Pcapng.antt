@@ -14,7 +14,7 @@ use Rattle.capture_file.specs.declared.pcapng.block.BlockHeader.{BlockHeader}
 
 -- ---- the byte order of a block
 
--- the type of a section header block, which is the same number in both byte orders (section 4.1)
+-- the bytes begin with the type of a section header block; this type is the same number in both byte orders (section 4.1)
 abbrev pub is_section_header : List ℕ → Bool
 is_section_header bytes = be_number bytes 0 4 == section_header_type
 
@@ -29,7 +29,7 @@ order_by_magic bytes =
     else if number_at LittleEndian bytes 8 == byte_order_magic then Some LittleEndian
     else None
 
--- a section header block without a byte-order magic
+-- the bytes begin a section header block, and contain no byte-order magic
 abbrev pub lacks_magic : List ℕ → Bool
 lacks_magic bytes = is_section_header bytes && is_none (order_by_magic bytes)
 
@@ -39,7 +39,7 @@ order_of section bytes = if is_section_header bytes then unwrap_or (order_by_mag
 
 -- ---- a block (section 3.1): type, total length, body, and total length again
 
--- the length of a block is at least 12 bytes, and a multiple of 4
+-- this number is the length of a block: at least 12, and a multiple of 4
 abbrev pub is_block_len : ℕ → Bool
 is_block_len len = nat_le min_block_len len && len % 4 == 0
 
@@ -47,7 +47,7 @@ is_block_len len = nat_le min_block_len len && len % 4 == 0
 abbrev pub block_len : ByteOrder → List ℕ → ℕ
 block_len section bytes = number_at (order_of section bytes) bytes 4
 
--- the number in the last bytes of a block of this length
+-- the number in the last four bytes of a block of this length
 abbrev pub last_len : ByteOrder → List ℕ → ℕ → ℕ
 last_len section bytes len = number_at (order_of section bytes) bytes (len - trailer_len)
 
@@ -59,12 +59,12 @@ block_header section bytes = record {
   total_len = block_len section bytes;
 }
 
--- a section header block that is too short for its fields (section 4.1)
+-- the bytes begin a section header block that is too short for its fields (section 4.1)
 abbrev pub is_short_section : ByteOrder → List ℕ → Bool
 is_short_section section bytes = is_section_header bytes && nat_lt (block_len section bytes) (min_block_len + section_header_len)
 
--- Why the header of a block is refused, if it is. If several errors apply, the first one counts. The header is the first 12 bytes of the
--- block.
+-- The error that refuses the header of a block, if there is one. The header is the first 12 bytes of the block. If several errors apply,
+-- the first one counts.
 abbrev pub block_header_refusal : ByteOrder → List ℕ → Option BlockError
 block_header_refusal section bytes = first_of (
     refused_if (nat_lt (length bytes) min_block_len) (CutOff min_block_len (length bytes))
@@ -73,7 +73,8 @@ block_header_refusal section bytes = first_of (
     ∷ refused_if (is_short_section section bytes) (SectionLength (block_len section bytes))
     ∷ [])
 
--- Why a block is refused, if it is. If several errors apply, the first one counts. The two total lengths of a block are equal.
+-- The error that refuses a block, if there is one. If several errors apply, the first one counts. The last check is that both total lengths
+-- of the block are equal.
 abbrev pub block_refusal : ByteOrder → List ℕ → Option BlockError
 block_refusal section bytes =
     let len = block_len section bytes in
@@ -100,12 +101,12 @@ pub record IsBlock (section : ByteOrder) (bytes : List ℕ) : Type 0 where
   pub begins : block_len section bytes ≡ length bytes
   pub ends : last_len section bytes (length bytes) ≡ length bytes
 
--- blocks one after the other; the blocks after a section header block have its byte order
+-- blocks, one after the other; a section header block states the byte order of the blocks after it
 abbrev pub AreBlocks : ByteOrder → List (List ℕ) → Type 0
 AreBlocks section [] = Unit {0}
 AreBlocks section (block ∷ blocks) = IsBlock section block × AreBlocks (order_of section block) blocks
 
--- the byte order of the section in which these blocks end
+-- the byte order of the section after these blocks
 abbrev pub order_after : ByteOrder → List (List ℕ) → ByteOrder
 order_after section [] = section
 order_after section (block ∷ blocks) = order_after (order_of section block) blocks

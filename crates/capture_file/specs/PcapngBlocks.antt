@@ -15,7 +15,8 @@ pub record UnreadFile : Type 0 where
 abbrev pub BlockItem : Type 0
 BlockItem = Result Block PlacedBlockError
 
--- one call of `next`: the file before it, the returned item, and the file after it; the place of an error is the start of the rest
+-- One call of `next` changed the state of reading from `before` to `after`, and returned this item. The place of an error is the start of
+-- the bytes that are left.
 abbrev pub GivesBlock : UnreadFile → Option BlockItem → UnreadFile → Type 0
 GivesBlock before None after = (before.rest ≡ []) × (after ≡ before)
 GivesBlock before (Some (Ok block)) after =
@@ -25,7 +26,7 @@ GivesBlock before (Some (Err error)) after =
     (before.rest ≢ []) × (block_refusal before.section before.rest ≡ Some error.error)
     × (error.offset ≡ before.file_len - length before.rest) × (after.rest ≡ [])
 
--- The items of some bytes: blocks, one after the other, up to the end or to an error. Each block is in the byte order of its section. An
+-- The items of some bytes: blocks, one after the other, up to the end or to an error. Each block has the byte order of its section. An
 -- error states why the next bytes are not a block.
 abbrev pub AreItems : ByteOrder → List ℕ → List BlockItem → Type 0
 AreItems section bytes [] = bytes ≡ []

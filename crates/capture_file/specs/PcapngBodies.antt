@@ -13,7 +13,7 @@ use Rattle.capture_file.specs.declared.pcapng.block_body.SectionHeader.{SectionH
 use Rattle.capture_file.specs.declared.pcapng.time_resolution.TimeResolution.{TimeResolution}
 use Rattle.capture_file.specs.declared.pcapng.time_resolution.TimeResolution.TheVariants.{PowerOfTen, PowerOfTwo}
 
--- the error for a body with fewer bytes than it requires
+-- the error for a body that has fewer bytes than this length
 abbrev pub below : ℕ → List ℕ → Option BodyError
 below required_len body = refused_if (nat_lt (length body) required_len) (CutOff required_len (length body))
 
@@ -27,7 +27,7 @@ section_header order body = record { major_version = short_at order body 4; mino
 abbrev pub read_major_version : ℕ
 read_major_version = 1
 
--- why the body is refused, if it is: it is too short, or else its major version is not read
+-- the error that refuses the body, if there is one: it is too short, or its major version is not read
 abbrev pub section_header_refusal : ByteOrder → List ℕ → Option BodyError
 section_header_refusal order body = first_of (
     below section_header_len body
@@ -36,15 +36,15 @@ section_header_refusal order body = first_of (
 
 -- ---- an interface description block (section 4.2)
 
--- the code of the option with the unit of the timestamps
+-- the code of the option that states the unit of the timestamps
 abbrev pub if_tsresol : ℕ
 if_tsresol = 9
 
--- the code of the option with the seconds to add to each timestamp
+-- the code of the option that states the seconds to add to each timestamp
 abbrev pub if_tsoffset : ℕ
 if_tsoffset = 14
 
--- the resolution in the byte of if_tsresol: a power of ten below 128, otherwise a power of two
+-- the resolution that the byte of `if_tsresol` states: a power of ten if the byte is below 128, otherwise a power of two
 abbrev pub time_resolution : ℕ → TimeResolution
 time_resolution byte = if nat_lt byte 128 then PowerOfTen byte else PowerOfTwo (byte - 128)
 
@@ -53,17 +53,17 @@ abbrev pub units_per_second : TimeResolution → ℕ
 units_per_second (PowerOfTen exponent) = 10 ^ exponent
 units_per_second (PowerOfTwo exponent) = 2 ^ exponent
 
--- the resolution in the option if_tsresol, with a value of one byte; without the option, microseconds
+-- the resolution that the value of the option `if_tsresol` states, which has one byte; microseconds without the option
 abbrev pub resolution_by : Option (List ℕ) → TimeResolution
 resolution_by None = PowerOfTen 6
 resolution_by (Some value) = time_resolution (slice_index value 0)
 
--- the seconds to add to each timestamp: the signed number in the option if_tsoffset, with a value of eight bytes; without the option, 0
+-- the seconds to add to each timestamp: the signed number of eight bytes in the option `if_tsoffset`, or 0 without the option
 abbrev pub offset_by : ByteOrder → Option (List ℕ) → ℤ
 offset_by order None = pos 0
 offset_by order (Some value) = cast_signed w64 (long_at order value 0)
 
--- the interface in a body: the number of the link type, the snap length, and two options
+-- the interface that a body describes: the number of the link type, the snap length, and the values of two options
 abbrev pub interface_description : ByteOrder → List ℕ → InterfaceDescription
 interface_description order body = record {
   link_type = short_at order body 0;

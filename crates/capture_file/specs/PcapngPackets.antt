@@ -14,16 +14,15 @@ use Rattle.capture_file.specs.declared.pcapng.block_body.PacketBlock.{PacketBloc
 -- ---- an enhanced packet block (section 4.3) or an obsolete packet block (appendix A); an enhanced packet block contains the number of its
 -- interface in bytes 0 to 3, and an obsolete packet block in bytes 0 and 1
 
--- The packet in a body. From byte 4 on, the body contains the upper and the lower half of the timestamp, the captured length, the original
--- length, and the captured bytes.
+-- The packet in a body. After the number of the interface, the body contains the upper and the lower half of the timestamp (from byte 4),
+-- the captured length, the original length, and the captured bytes.
 pub record IsTimedPacket (order : ByteOrder) (interface : ℕ) (body : List ℕ) (packet : PacketBlock) : Type 0 where
   pub of_interface : packet.interface ≡ interface
   pub timestamp : packet.timestamp ≡ Some (number_at order body 4 * 2 ^ 32 + number_at order body 8)
   pub original_len : packet.original_len ≡ number_at order body 16
   pub captured : packet.captured.now ≡ slice_range body timed_captured_at (timed_captured_at + number_at order body timed_captured_len_at)
 
--- The errors, in this order: the number of the interface is not below `count`, the number of interfaces before the packet; the body
--- contains fewer captured bytes than its captured length.
+-- The first error that applies: the section has only `count` interfaces before the packet, or the body ends within the captured bytes.
 abbrev pub captured_refusal : ByteOrder → ℕ → ℕ → List ℕ → Option BodyError
 captured_refusal order interface count body = first_of (
     refused_if (nat_le count interface) (Interface interface count)
@@ -45,11 +44,11 @@ first_snap_len interfaces = option_map (λ interface. interface.snap_len) (slice
 abbrev pub captured_len : ℕ → ℕ → ℕ
 captured_len original_len snap_len = if snap_len == 0 then original_len else min original_len snap_len
 
--- the end of the captured bytes
+-- the end of the captured bytes in the body
 abbrev pub simple_end : ByteOrder → ℕ → List ℕ → ℕ
 simple_end order snap_len body = simple_captured_at + captured_len (number_at order body 0) snap_len
 
--- the packet in a body, for this snap length
+-- the packet in a body, if the first interface has this snap length
 pub record IsSimplePacketOf (order : ByteOrder) (snap_len : ℕ) (body : List ℕ) (packet : PacketBlock) : Type 0 where
   pub of_interface : packet.interface ≡ 0
   pub timestamp : packet.timestamp ≡ None
@@ -61,7 +60,7 @@ abbrev pub IsSimplePacket : ByteOrder → List InterfaceDescription → List ℕ
 IsSimplePacket order interfaces body packet =
     (snap_len : ℕ) × (first_snap_len interfaces ≡ Some snap_len) × IsSimplePacketOf order snap_len body packet
 
--- the error if the section has no interface, or if the body is too short for the captured bytes
+-- the error if the section has no interface, or if the body ends within the captured bytes
 abbrev pub simple_captured_refusal : ByteOrder → Option ℕ → List ℕ → Option BodyError
 simple_captured_refusal order None body = Some (Interface 0 0)
 simple_captured_refusal order (Some snap_len) body = below (simple_end order snap_len body) body

@@ -1,4 +1,4 @@
--- The next block of a pcapng file in a stream, by the bytes that the reader had left before and has left afterwards.
+-- Reading the next block of a pcapng file from a stream. The statements compare the bytes that are left before and after the read.
 use Rattle.std.specs.Prelude.{◌≡◌, ◌≢◌, ℕ, ◌%◌, ◌<◌, ◌≤◌, List, [], ◌++◌, length, take, Option, Some, None}
 use Rattle.std.specs.Io.KnownBytes.{Consumes, IsAtEnd}
 use Rattle.capture_texts.specs.Blocks.{min_block_len}
@@ -20,13 +20,13 @@ IsNextBlock section bytes buffer (TooLong header) =
 IsNextBlock section bytes buffer End = bytes ≡ []
 IsNextBlock section bytes buffer (Refused error) = (bytes ≢ []) × (block_refusal section bytes ≡ Some error)
 
--- if no whole block was read, the input is at its end
+-- if the next item is the end of the file or a block that is cut off, the input is at its end
 abbrev pub IsLastBlock : NextBlock → Option (List ℕ) → Type 0
 IsLastBlock End still_left = IsAtEnd still_left
 IsLastBlock (Refused (CutOff required len)) still_left = IsAtEnd still_left
 IsLastBlock other still_left = Unit {0}
 
--- these bytes were read after the first bytes, and together they determine the next item
+-- these bytes were read after the first bytes of a block, and both together determine the next item
 pub record ReadsAfter (section : ByteOrder) (first : List ℕ) (left still_left : Option (List ℕ)) (buffer : List ℕ)
     (next : NextBlock) : Type 0 where
   pub bytes : List ℕ
@@ -38,8 +38,8 @@ pub record ReadsAfter (section : ByteOrder) (first : List ℕ) (left still_left 
 abbrev pub ReadsNextBlock : ByteOrder → Option (List ℕ) → Option (List ℕ) → List ℕ → NextBlock → Type 0
 ReadsNextBlock section left still_left buffer next = ReadsAfter section [] left still_left buffer next
 
--- Reading failed within a block. The first bytes of the block were read before, and other bytes after them. Together they are only a part
--- of the block.
+-- Reading failed within a block. `first` are its first bytes, which were read before. These bytes and those read now are only a part of the
+-- block.
 pub record FailsAfter (section : ByteOrder) (first : List ℕ) (left still_left : Option (List ℕ)) : Type 0 where
   pub bytes : List ℕ
   pub consumed : Consumes left still_left bytes
@@ -50,11 +50,11 @@ pub record FailsAfter (section : ByteOrder) (first : List ℕ) (left still_left 
 abbrev pub FailsInBlock : ByteOrder → Option (List ℕ) → Option (List ℕ) → Type 0
 FailsInBlock section left still_left = FailsAfter section [] left still_left
 
--- the first bytes of a block or of a capture were read: 12 bytes, or all bytes of the input if there are fewer
+-- the first bytes of a block or of a capture were read: 12 bytes, or fewer if the input ends before
 abbrev pub AreFirst : List ℕ → Option (List ℕ) → Type 0
 AreFirst first left = (length first ≤ min_block_len) × (length first < min_block_len → IsAtEnd left)
 
--- these are the first 12 bytes of a block, whose header is accepted
+-- these are the first 12 bytes of a block, and its header is accepted
 pub record BeginsBlock (section : ByteOrder) (first : List ℕ) (header : BlockHeader) : Type 0 where
   pub has_len : length first ≡ min_block_len
   pub accepted : block_header_refusal section first ≡ None

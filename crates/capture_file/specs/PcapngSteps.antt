@@ -1,4 +1,4 @@
--- The packets of a pcapng file in a stream, read block by block, up to the next block with a packet or an error.
+-- The packets of a pcapng file in a stream. Blocks are read up to the next packet or an error.
 use Rattle.std.specs.Prelude.{◌≡◌, ℕ, zero, suc, ◌+◌, ◌-◌, ◌^◌, ◌==◌, Bool, ◌||◌, if◌then◌else◌, min, List, length, slice_range, Option, Some, None, Result, Ok, Err}
 use Rattle.capture_file.specs.BlockTexts.{noted}
 use Rattle.capture_file.specs.Packets.{ReadsRecordPacket, long_block}
@@ -20,42 +20,42 @@ use Rattle.capture_file.specs.declared.reader.packet_error.PacketError.{PacketEr
 use Rattle.capture_file.specs.declared.reader.packet_error.PacketError.TheVariants as errors
 use Rattle.capture_file.specs.declared.reader.pcapng_reader.PcapngReader.{PcapngReader}
 
--- the block at this place can't be read
+-- the item for a refused block at this place
 abbrev pub refused_at : ℕ → PacketError → NextPacket
 refused_at offset error = packets.Refused (record { offset = offset; error = error })
 
--- The next item after a block was read: the packet of the block, or an error. None if the block contains no packet.
+-- The item after a block was read: the packet of the block, or an error. `None` if the block contains no packet.
 abbrev pub next_by_taken : ℕ → Result (Option CapturedPacket) PacketError → Option NextPacket
 next_by_taken offset (Ok None) = None
 next_by_taken offset (Ok (Some packet)) = Some (packets.Whole packet)
 next_by_taken offset (Err error) = Some (refused_at offset error)
 
--- the next item if the bytes are not a block
+-- the item if the next bytes are refused as a block
 abbrev pub next_by_refusal : ℕ → BlockError → NextPacket
 next_by_refusal offset (CutOff required_len len) = packets.CutOff required_len len
 next_by_refusal offset error = refused_at offset (errors.Block error)
 
--- a block that is needed to read the packets after it
+-- a block of this type is needed to read the packets after it
 abbrev pub is_description : ℕ → Bool
 is_description type = type == section_header_type || type == interface_description_type
 
--- a packet block
+-- a block of this type contains a packet
 abbrev pub is_packet : ℕ → Bool
 is_packet type = type == enhanced_packet_type || (type == obsolete_packet_type || type == simple_packet_type)
 
--- The next item if the buffer has no room for a block. None if the block is neither a description nor a packet block, since such a block is
--- skipped.
+-- The item after a block that is longer than the buffer. `None` if the block is skipped, since it neither contains a packet nor is needed
+-- for later packets.
 abbrev pub next_by_too_long : ℕ → BlockHeader → Option NextPacket
 next_by_too_long offset header =
     if is_description header.block_type then Some (refused_at offset (errors.TooLong header.block_type header.total_len))
     else if is_packet header.block_type then Some (packets.TooLong (long_block header))
     else None
 
--- the start of the next block; the number saturates at 2^64 - 1
+-- the place after a block that begins at `offset`, or 2^64 - 1 if the place is greater
 abbrev pub offset_after : ℕ → BlockHeader → ℕ
 offset_after offset header = min (offset + header.total_len) (2 ^ 64 - 1)
 
--- The reader after a block, and the next item. None if the block contains no packet and is not refused.
+-- The reader after this block, and the item. The item is `None` if the block contains no packet and is not refused.
 abbrev pub IsStep : PcapngReader → List ℕ → NextBlock → PcapngReader → Option NextPacket → Type 0
 IsStep before buffer (blocks.Whole header) after next =
     (after.offset ≡ offset_after before.offset header)
@@ -75,7 +75,7 @@ pub record ReadsStep (before : PcapngReader) (left still_left : Option (List ℕ
   pub is_step : IsStep before buffer block after next
   pub texts : after.texts ≡ noted block buffer next before.texts
 
--- A number of blocks were read into a buffer of `room` bytes. None of these blocks contains a packet or is refused.
+-- `count` blocks were read into a buffer of `room` bytes. Each of them contains no packet and is not refused.
 abbrev pub PassesBlocks : ℕ → ℕ → PcapngReader → Option (List ℕ) → Option (List ℕ) → PcapngReader → Type 0
 PassesBlocks room zero before left still_left after = (after ≡ before) × (still_left ≡ left)
 PassesBlocks room (suc count) before left still_left after =
@@ -89,7 +89,7 @@ pub record FailsToPass (room : ℕ) (before : PcapngReader) (left still_left : O
   pub passed : PassesBlocks room count before left middle after
   pub fails : FailsInBlock after.section.byte_order middle still_left
 
--- some blocks were skipped
+-- any number of blocks was skipped
 abbrev pub HasPassed : ℕ → PcapngReader → Option (List ℕ) → PcapngReader → Type 0
 HasPassed room before left after = (count : ℕ) × (middle : Option (List ℕ)) × PassesBlocks room count before left middle after
 

@@ -5,12 +5,11 @@ use Rattle.capture_file.specs.PcapngSteps.{PassesBlocks}
 use Rattle.capture_file.specs.declared.reader.capture_reader.CaptureReader.{CaptureReader}
 use Rattle.capture_file.specs.declared.reader.pcapng_reader.PcapngReader.{PcapngReader}
 
--- exactly the bytes of the file from this place on are left
+-- the bytes that are left are exactly the bytes of the file from this place on
 abbrev pub IsPlace : List ℕ → ℕ → Option (List ℕ) → Type 0
 IsPlace file place left = (place ≤ length file) × (left ≡ Some (drop place file))
 
--- The offset of a reader is its place in the file. This holds after the beginning of the file was read, after each packet, and after each
--- skipped block.
+-- The offset of a reader is its place in the file: after the beginning of the file, after each packet, and after each skipped block.
 pub record OffsetsArePlaces (room : ℕ) (file : List ℕ) : Type 0 where
   pub begins : (reader : CaptureReader) (rest : List ℕ) → Begins room reader file rest → IsPlace file (offset_of reader) (Some rest)
   pub packets : (reader after : CaptureReader) (left still_left : Option (List ℕ)) (packets : List FilePacket)

@@ -21,7 +21,7 @@ pub record GivesHeader (left still_left : Option (List ℕ)) (header : CaptureHe
   pub accepted : header_refusal bytes ≡ None
   pub is_header : IsHeaderOf bytes header
 
--- The first 24 bytes are refused with this error. If the input has fewer than 24 bytes, all of its bytes are refused.
+-- The first 24 bytes are refused with this error. If the input has fewer than 24 bytes, all its bytes are refused.
 pub record RefusesHeader (left still_left : Option (List ℕ)) (error : CaptureHeaderError) : Type 0 where
   pub bytes : List ℕ
   pub first : IfSome left (λ all. bytes ≡ take capture_header_len all)
@@ -34,7 +34,7 @@ ReadsHeader left still_left (Err error) = RefusesHeader left still_left error
 
 -- ---- a record
 
--- the length of a record, or the length of its header if the header is not complete
+-- the least length of a record that begins with these bytes: the length of its header if the header is incomplete, otherwise its own length
 abbrev pub required_len : ByteOrder → List ℕ → ℕ
 required_len order bytes = if nat_lt (length bytes) record_header_len then record_header_len else record_len order bytes
 
@@ -50,7 +50,7 @@ IsNext order bytes buffer End = bytes ≡ []
 IsNext order bytes buffer (CutOff required len) =
     (bytes ≢ []) × IsPartial order bytes × (required ≡ required_len order bytes) × (len ≡ length bytes)
 
--- if no whole record was read, the input is at its end
+-- if the next item is the end of the capture or a record that is cut off, the input is at its end
 abbrev pub IsLast : NextRecord → Option (List ℕ) → Type 0
 IsLast End still_left = IsAtEnd still_left
 IsLast (CutOff required len) still_left = IsAtEnd still_left
@@ -63,7 +63,7 @@ pub record ReadsNext (order : ByteOrder) (left still_left : Option (List ℕ)) (
   pub is_next : IsNext order bytes buffer next
   pub is_last : IsLast next still_left
 
--- The captured bytes of a record were read, after its header. If fewer bytes are left, all of them were read.
+-- The captured bytes of a record were read, after its header. If fewer bytes were left, all of them were read.
 abbrev pub IsCaptured : RecordHeader → List ℕ → List ℕ → NextRecord → Type 0
 IsCaptured header bytes buffer (Whole same) =
     (same ≡ header) × (length bytes ≡ header.captured_len) × (header.captured_len ≤ length buffer)
@@ -80,7 +80,7 @@ pub record ReadsCaptured (header : RecordHeader) (left still_left : Option (List
   pub is_captured : IsCaptured header bytes buffer next
   pub is_last : IsLast next still_left
 
--- reading failed within a record, of which only a part was read
+-- reading failed within a record, after a part of the record was read
 pub record FailsInRecord (order : ByteOrder) (left still_left : Option (List ℕ)) : Type 0 where
   pub bytes : List ℕ
   pub consumed : Consumes left still_left bytes

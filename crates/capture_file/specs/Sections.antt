@@ -17,8 +17,8 @@ use Rattle.capture_file.specs.declared.reader.pcapng_reader.Section.{Section}
 abbrev pub max_interfaces : ℕ
 max_interfaces = 1024
 
--- The result of an interface description. The interface is added to the section, unless the section already has the maximum number of
--- interfaces.
+-- The result of an interface description. The interface is added to the section, or refused if the section already has the maximum number
+-- of interfaces.
 abbrev pub Describes : Section → InterfaceDescription → Section → Result (Option CapturedPacket) PacketError → Type 0
 Describes before interface after (Ok found) =
     (found ≡ None) × (length before.interfaces.items < max_interfaces) × (after.byte_order ≡ before.byte_order)
@@ -36,7 +36,7 @@ TakesBody before header (bodies.Packet packet) after result =
     × (result ≡ Ok (Some (packet_of_block header interface packet))) × (after ≡ before)
 TakesBody before header bodies.Other after result = (result ≡ Ok None) × (after ≡ before)
 
--- the section after a block whose body has this error, or after an accepted block if there is no error; a refused block changes nothing
+-- The section and the result after a block. If its body has this error, the block is refused, and the section does not change.
 abbrev pub TakesUnless : Option BodyError → Section → BlockHeader → List ℕ → Section → Result (Option CapturedPacket) PacketError → Type 0
 TakesUnless (Some error) before header body after result = (result ≡ Err (errors.Body error)) × (after ≡ before)
 TakesUnless None before header body after result =
@@ -47,12 +47,12 @@ abbrev pub TakesBlock : Section → BlockHeader → List ℕ → Section → Res
 TakesBlock before header body after result =
     TakesUnless (body_refusal header before.interfaces.items body) before header body after result
 
--- if the block contains a packet, the number of its interface is below this number
+-- if the block contains a packet, the number of the packet's interface is below `count`
 abbrev pub IsInterfaceThere : ℕ → BlockBody → Type 0
 IsInterfaceThere count (bodies.Packet packet) = packet.interface < count
 IsInterfaceThere count _ = Unit {0}
 
--- If the block contains a packet, its captured bytes end within the block. The body of the block begins after 8 bytes and has this length.
+-- If the block contains a packet, its captured bytes end within the block. The body of the block begins after 8 bytes and has `len` bytes.
 abbrev pub IsBodyWithin : ℕ → ℕ → BlockBody → Type 0
 IsBodyWithin type len (bodies.Packet packet) = packet_start type + length packet.captured.now ≤ body_at + len
 IsBodyWithin type len _ = Unit {0}

@@ -8,17 +8,18 @@ use crate::pcapng::{InterfaceDescription, TimeResolution};
 /// The number of nanoseconds in a second.
 pub const NANOSECONDS_PER_SECOND: u128 = 1_000_000_000;
 
-/// The time of the capture of a packet. The sum of the seconds and the offset is in seconds since the beginning of 1970, UTC.
+/// The time at which a packet was captured. The sum of the seconds and the offset is the number of seconds since the beginning of 1970,
+/// UTC.
 #[derive(Clone, Copy, Debug, PartialEq, Eq)]
 pub struct PacketTime {
     /// Whole seconds, before the offset is added.
     pub seconds: u64,
-    /// The remaining fraction of a second, in units of the resolution. In a malformed record of a classic capture it can be more than a
+    /// The remaining fraction of a second, in units of the resolution. A malformed record of a classic capture can state more than a
     /// second.
     pub fraction: u64,
     /// The unit of the fraction.
     pub resolution: TimeResolution,
-    /// The number of seconds to add, which is 0 in a classic capture.
+    /// The number of seconds to add. It is 0 in a classic capture.
     pub offset: i64,
 }
 
@@ -65,8 +66,7 @@ pub fn nanoseconds_of(time: PacketTime) -> u128
         + nanoseconds_in(time.resolution, time.fraction)
 }
 
-/// The sum of an offset and a number of seconds since the beginning of 1970. It is counted from 2^63 seconds before 1970, so that it is
-/// never negative.
+/// The number of seconds since the beginning of 1970, plus the offset and 2^63, so that the sum is never negative.
 fn shifted_seconds(seconds: u64, offset: i64) -> u128
     ensures value { result ≡ shifted_seconds seconds offset }
     ensures bound { result < 2 ^ 65 }
@@ -74,7 +74,7 @@ fn shifted_seconds(seconds: u64, offset: i64) -> u128
     (u128::from(seconds) + (1 << 63)).saturating_add_signed(i128::from(offset))
 }
 
-/// A fraction of a second in whole nanoseconds.
+/// The number of whole nanoseconds in a fraction of a second.
 fn nanoseconds_in(resolution: TimeResolution, fraction: u64) -> u128
     ensures value { result ≡ nanoseconds_in resolution fraction }
     ensures bound { result < 2 ^ 94 }

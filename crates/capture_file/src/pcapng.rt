@@ -1,7 +1,8 @@
 //! The pcapng format of capture files, as written by Wireshark and dumpcap (draft-ietf-opsawg-pcapng): blocks, one after the other.
 //!
 //! `Blocks` iterates over the blocks of a file in memory, and `read_block` reads blocks from a stream. A section header block begins a
-//! section, whose blocks have its byte order. `BlockBody` is the content of a block. Interfaces are numbered from 0 in each section.
+//! section, and states the byte order of all blocks in the section. `BlockBody` is the content of a block. Interfaces are numbered from 0
+//! in each section.
 //!
 //! ```
 //! for block in Blocks::new(file) {

@@ -45,7 +45,7 @@ one_content (contents.NotIp protocol) members others are also = are ∙ sym also
 one_content (contents.Ip addresses protocol proto transport payload_len) members others are also =
     one_of _ _ (one_transport transport) members others are also
 
--- equal packets with the same number, time and length have the same line
+-- if two packets are equal, and their numbers, times and lengths too, their lines are equal
 pub one_json_line : (times : Times) (number : ℕ) (first time : Option PacketTime) (len : Option FrameLen) (packet : Packet)
     → HasOneJsonLine times number first time len packet
 one_json_line times number first time len packet line other is also =

@@ -13,7 +13,7 @@ use Rattle.capture_words.proofs.TcpTextLaws.{one_of}
 use Rattle.capture_json.specs.JsonOptions.{AreOptionFields, AreOptionMembers, AreOptionObjects, IsOptionObject, data_fields, element_fields, fault_members, kind_object, option_object}
 use Rattle.capture_json.specs.Members.{Member, array_of}
 
--- if some bytes are one element, nothing follows it
+-- bytes that consist of one element consist of only this element
 one_element : (bytes : List ℕ) (element other : TcpOptionElement) → BeginsWith bytes element [] → BeginsWith bytes other [] → element ≡ other
 one_element bytes element other begins again =
     ap (first_or element) (one_reading bytes (Ok element ∷ []) (Ok other ∷ []) ([], begins, inl refl) ([], again, inl refl))
@@ -38,11 +38,11 @@ same_fields_by option fields others (Some error) first second = first ∙ sym se
 one_fields : (option : RawOption) (fields others : List Member) → AreOptionFields option fields → AreOptionFields option others → fields ≡ others
 one_fields option fields others = same_fields_by option fields others (element_refusal option)
 
--- an option has one object
+-- the object of an option is unique
 one_object : (option : RawOption) (value other : Data) → IsOptionObject option value → IsOptionObject option other → value ≡ other
 one_object option = one_of _ (option_object option.kind) (one_fields option)
 
--- the objects of some bytes and the fault after them, by the items in the bytes
+-- the objects of bytes and the fault after them, given the items in the bytes
 abbrev AreItemObjects : List ℕ → List RawItem → List Data → Option TcpRawOptionError → Type 0
 AreItemObjects bytes [] [] fault = (bytes ≡ []) × (fault ≡ None)
 AreItemObjects bytes [] (value ∷ values) fault = (0 < length bytes) × (value ≡ kind_object 0) × (values ≡ []) × (fault ≡ None)
@@ -89,7 +89,7 @@ one_option_list bytes values others fault another are also =
     let same = one_raw_reading bytes second.0 first.0 second.1 first.1 in
     same_objects bytes first.0 values others fault another first.2 (subst (λ items. AreItemObjects bytes items others another) same second.2)
 
--- the options have one array, and the same fault
+-- the array of the options is unique, and so is the fault
 pub one_options : (bytes : List ℕ) (members others : List Member) → AreOptionMembers bytes members → AreOptionMembers bytes others → members ≡ others
 one_options bytes members others is also =
     let same = one_option_list bytes is.0 also.0 is.1 also.1 is.2 also.2 in

@@ -26,13 +26,13 @@ pub items_append : (first second : List Data) (before : List Token)
 items_append [] second before = refl
 items_append (one ∷ first) second before = items_append first second (push one before)
 
--- some members, and then others
+-- members and then other members were written
 pub then_put : (first second : List Member) (before between after : List Token) → between ≡ with_members first before
     → after ≡ with_members second between → after ≡ with_members (first ++ second) before
 then_put first second before between after is_first is_second =
     is_second ∙ ap (with_members second) is_first ∙ sym (with_append first second before)
 
--- one more row
+-- the rows after another row
 pub rows_more : {X : Type 0} (xs : List X) (row : X → Member) (i : ℕ) (d : X) (before between after : List Token) → i < length xs
     → between ≡ with_members (map row (take i xs)) before → after ≡ put (row (get_or xs i d)).0 (row (get_or xs i d)).1 between
     → after ≡ with_members (map row (take (i + 1) xs)) before
@@ -40,7 +40,7 @@ rows_more xs row i d before between after below is_first is_second =
     then_put (map row (take i xs)) (row (get_or xs i d) ∷ []) before between after is_first is_second
     ∙ sym (ap (λ rows. with_members rows before) (map_more row xs i d below))
 
--- the same value under the same name
+-- a member with an equal name and an equal value
 pub same_put : {name other : List ℕ} {value stored : Data} (others : List Token) → name ≡ other → value ≡ stored
     → put name value others ≡ put other stored others
 same_put {name} {other} {value} {stored} others is_name is_value =
@@ -63,7 +63,7 @@ closed_items [] before = refl
 closed_items (first ∷ more) before =
     closed_items more (push first before) ∙ append_assoc before (value_tokens first) (items_tokens (items_outline (items_of more)))
 
--- an object under a name
+-- an object under a name was written
 pub nested : (name : List ℕ) (members : List Member) (before : List Token)
     → object_ended (with_members members (object_begun name before)) ≡ put name (object_of members) before
 unfolding put
@@ -71,7 +71,7 @@ nested name members before =
     closed members (object_begun name before)
     ∙ append_assoc before (token.key name ∷ token.begin_object ∷ []) (members_tokens (members_outline (members_of members)))
 
--- an array under a name
+-- an array under a name was written
 pub listed : (name : List ℕ) (items : List Data) (before : List Token)
     → array_ended (with_items items (array_begun name before)) ≡ put name (array_of items) before
 unfolding put
@@ -79,7 +79,7 @@ listed name items before =
     closed_items items (array_begun name before)
     ∙ append_assoc before (token.key name ∷ token.begin_array ∷ []) (items_tokens (items_outline (items_of items)))
 
--- an object as an item
+-- an object as an item was written
 pub pushed : (members : List Member) (before : List Token)
     → object_ended (with_members members (before ++ token.begin_object ∷ [])) ≡ push (object_of members) before
 unfolding push
@@ -112,28 +112,28 @@ table_put name member named rows before begun filled after is_begun is_filled is
 
 -- ---- the text
 
--- the whole line
+-- the text of a line with these members is their line of JSON
 pub line_is : (members : List Member) → line_text (with_members members (token.begin_object ∷ [])) ≡ json_line members
 line_is members =
     ap (λ text. text ++ codes "\n") (ap print (closed members (token.begin_object ∷ [])) ∙ print-outline (object_of members))
 
--- the text of a value that is the whole line
+-- the text of a value as a line
 pub row_is : (value : Data) → print (push value []) ≡ compact_text value
 unfolding push
 row_is value = print-outline value
 
--- an object ends a value
+-- the tokens of an object end a value
 ends_object : (later : Bool) (members : List Member) → fold (λ _ one. ends one) later (value_tokens (object_of members)) ≡ true
 ends_object later members =
     ap (fold (λ _ one. ends one) later) (sym (closed members (token.begin_object ∷ [])))
     ∙ ends_push later (with_members members (token.begin_object ∷ [])) token.end_object
 
--- an object after a value
+-- a comma precedes an object after a value
 later_object : (members : List Member) → print_from true (value_tokens (object_of members)) ≡ 44 ∷ compact_text (object_of members)
 unfolding print_from
 later_object members = ap (λ text. 44 ∷ text) (print-outline (object_of members))
 
--- rows after a row
+-- a comma precedes each row after a row
 later_rows : {X : Type 0} (members : X → List Member) (rows : List X)
     → print_from true (flat_map (λ row. value_tokens (object_of (members row))) rows) ≡ flat_map (later_row (λ row. object_of (members row))) rows
 unfolding print_from
@@ -145,7 +145,7 @@ later_rows members (first ∷ more) =
     ∙ ap (λ text. 44 ∷ compact_text (object_of (members first)) ++ text)
     (ap (λ later. print_from later rest) (ends_object true (members first)) ∙ later_rows members more)
 
--- rows, with commas between them
+-- the text of rows has commas between them
 rows_are : {X : Type 0} (members : X → List Member) (rows : List X)
     → print (flat_map (λ row. value_tokens (object_of (members row))) rows) ≡ rows_text (λ row. object_of (members row)) rows
 unfolding print_from
@@ -158,7 +158,7 @@ rows_are members (first ∷ more) =
     ∙ ap (λ text. compact_text (object_of (members first)) ++ text)
     (ap (λ later. print_from later rest) (ends_object false (members first)) ∙ later_rows members more)
 
--- the tokens of rows, and then the closing bracket
+-- the tokens of an array of rows are the tokens of the rows and the closing bracket
 items_are : {X : Type 0} (value : X → Data) (rows : List X)
     → items_tokens (items_outline (items_of (map value rows))) ≡ flat_map (λ row. value_tokens (value row)) rows ++ token.end_array ∷ []
 items_are value [] = refl
@@ -178,7 +178,7 @@ begun_open name before =
     ap (fold (λ _ one. ends one) false) (sym (append_assoc before (token.key name ∷ []) (token.begin_array ∷ [])))
     ∙ ends_push false (before ++ token.key name ∷ []) token.begin_array
 
--- the texts of three parts
+-- the text of three parts is the texts of the parts
 three_parts : (name : List ℕ) (before middle more : List Token)
     → print (array_begun name before ++ (middle ++ token.end_array ∷ more))
     ≡ print (array_begun name before) ++ (print middle ++ print (token.end_array ∷ more))
@@ -208,7 +208,7 @@ parts name value first more rows =
     ∙ ap (λ items. head ++ token.key name ∷ token.begin_array ∷ items) (append_assoc middle (token.end_array ∷ []) end)
     ∙ sym (append_assoc head (token.key name ∷ token.begin_array ∷ []) (middle ++ token.end_array ∷ end))
 
--- a line whose rows are written in order
+-- the text of a line whose rows are written in order
 pub line_by_rows : {X : Type 0} (name : List ℕ) (members : X → List Member) (first more : List Member) (rows : List X)
     → print (array_begun name (with_members first (token.begin_object ∷ [])))
     ++ (rows_text (λ row. object_of (members row)) rows ++ line_text (with_members more (token.end_array ∷ [])))

@@ -16,7 +16,7 @@ use Rattle.serde_json.specs.Data.{Data, string}
 abbrev pub form_members : List ℕ → ByteOrder → List Member
 form_members type order = (codes "file_type", string type) ∷ (codes "byte_order", string (byte_order_word order)) ∷ []
 
--- the greatest number of bytes that are captured of a packet, and the unit of the times
+-- the snap length, which limits the captured bytes of a packet, and the unit of the times
 abbrev pub limits_members : ℕ → TimeResolution → List Member
 limits_members snap_len resolution =
     (codes "snap_length", whole_number snap_len) ∷ (codes "time_resolution", string (resolution_text resolution)) ∷ []
@@ -26,13 +26,13 @@ abbrev pub interface_data : List InterfaceTexts → ℕ → InterfaceDescription
 interface_data texts number interface =
     object_of (limits_members interface.snap_len interface.time_resolution ++ interface_members (slice_get texts number))
 
--- interfaces as objects in their order; the first has this number
+-- these interfaces as objects, in their order; the first interface has this number
 abbrev pub interfaces_data : List InterfaceTexts → ℕ → List InterfaceDescription → List Data
 interfaces_data texts number [] = []
 interfaces_data texts number (interface ∷ interfaces) =
     interface_data texts number interface ∷ interfaces_data texts (number + 1) interfaces
 
--- the facts of a capture, if there is one
+-- the facts of a capture, or nothing if there is no capture
 abbrev pub facts_members : Option CaptureReader → List Member
 facts_members None = []
 facts_members (Some (Classic reader)) =

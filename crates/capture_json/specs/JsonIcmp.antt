@@ -13,7 +13,7 @@ use Rattle.serde_json.specs.Data.{string}
 abbrev pub echo_fields : ℕ → ℕ → List Member
 echo_fields identifier sequence = (codes "identifier", whole_number identifier) ∷ (codes "sequence", whole_number sequence) ∷ []
 
--- a number that only some messages of a type contain
+-- a member with a number, or no member if the message does not contain the number
 abbrev pub optional_number : List ℕ → Option ℕ → List Member
 optional_number name None = []
 optional_number name (Some value) = (name, whole_number value) ∷ []

@@ -17,7 +17,7 @@ use Rattle.tcp_part.specs.declared.tcp_raw_option_error.TcpRawOptionError.{TcpRa
 abbrev pub block_data : ℕ × ℕ → Data
 block_data block = object_of ((codes "left", whole_number block.0) ∷ (codes "right", whole_number block.1) ∷ [])
 
--- a block, if there is one
+-- a block as an item, or no item if there is no block
 abbrev pub other_block : Option (ℕ × ℕ) → List Data
 other_block None = []
 other_block (Some block) = block_data block ∷ []

@@ -52,13 +52,13 @@ use Rattle.capture_words.specs.TcpText.{tcp_flags}
 use Rattle.capture_words.specs.TimeText.{time_text}
 use Rattle.capture_words.specs.declared.times.Times.{Times}
 
--- the time as in the line of text, and as seconds since 1970 and nanoseconds; if the time is unknown, the only member is `null`
+-- the time as the text that a line of text shows, and as seconds since 1970 and nanoseconds; if it is unknown, the only member is `null`
 abbrev pub time_members : Times → Option PacketTime → Option PacketTime → List Member
 time_members times first None = (codes "time", null) ∷ []
 time_members times first (Some time) =
     (codes "time", string (time_text times first (Some time))) ∷ instant_members (codes "seconds") (codes "nanoseconds") time
 
--- the length of a frame in bytes, and how many of them were captured; there are no members if the capture does not contain the length
+-- the length of a frame and its captured length, in bytes; no members if the capture does not state the length
 abbrev pub frame_members : Option FrameLen → List Member
 frame_members None = []
 frame_members (Some len) = (codes "length", whole_number len.original) ∷ (codes "captured_length", whole_number len.captured) ∷ []
@@ -84,12 +84,12 @@ port_members source destination =
 abbrev pub header_port_members : List ℕ → List Member
 header_port_members header = port_members (be_number header 0 2) (be_number header 2 2)
 
--- the number of bytes of a payload that were captured, unless all were captured
+-- the number of captured bytes of a payload; no member if all bytes were captured
 abbrev pub captured_members : ℕ → ℕ → List Member
 captured_members payload_len captured_len =
     if captured_len == payload_len then [] else (codes "payload_captured_length", whole_number captured_len) ∷ []
 
--- the length of a payload, in bytes, and how many of them were captured
+-- the length of a payload in bytes, and the number of captured bytes if not all were captured
 abbrev pub payload_members : ℕ → List ℕ → List Member
 payload_members payload_len payload =
     (codes "payload_length", whole_number payload_len) ∷ captured_members payload_len (length payload)
@@ -102,7 +102,7 @@ udp_members datagram =
     header_port_members datagram
     ++ ((codes "udp", object_of ((codes "length", whole_number (be_number datagram 4 2)) ∷ [])) ∷ [])
 
--- the name of a flag, if it is set
+-- a list with the name of a flag; it is empty if the flag is not set
 abbrev pub name_if_set : NamedFlag → List (List ℕ)
 name_if_set flag = if flag.0 then flag.1 ∷ [] else []
 
@@ -264,11 +264,11 @@ word_member name kind = (name, string (with_underscores (verdict_word kind)))
 abbrev pub refused_member : Refusal → Member
 refused_member refusal = (codes "refused", string (refusal_text refusal))
 
--- the members for a checksum that is not tested, with the reason
+-- the members for a checksum that is not tested for this reason
 abbrev pub not_tested_members : VerdictKind → List Member
 not_tested_members reason = (codes "checksum", string (codes "not_looked_at")) ∷ word_member (codes "reason") reason ∷ []
 
--- the reason why the packet is refused if it is, and otherwise the reason why the checksum is not tested
+-- the members for a refused packet; without a refusal, the members for a checksum that is not tested for this reason
 abbrev pub members_by : Option Refusal → VerdictKind → List Member
 members_by None reason = not_tested_members reason
 members_by (Some refusal) reason = refused_member refusal ∷ []
@@ -322,7 +322,7 @@ abbrev pub IsJsonLine : Times → ℕ → Option PacketTime → Option PacketTim
 IsJsonLine times number first time len packet line =
     (members : List Member) × ArePacketMembers times number first time len packet members × (line ≡ json_line members)
 
--- equal packets with the same number, time and length have the same line
+-- if two packets are equal, and their numbers, times and lengths too, their lines are equal
 abbrev pub HasOneJsonLine : Times → ℕ → Option PacketTime → Option PacketTime → Option FrameLen → Packet → Type 0
 HasOneJsonLine times number first time len packet = (line other : List ℕ)
     → IsJsonLine times number first time len packet line → IsJsonLine times number first time len packet other → line ≡ other

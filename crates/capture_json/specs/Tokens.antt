@@ -58,20 +58,20 @@ array_ended before = before ++ token.end_array ∷ []
 
 -- ---- statements
 
--- members for which this statement holds were written
+-- members for which `Are` holds were written
 abbrev pub PutsOne : (List Member → Type 0) → List Token → List Token → Type 0
 PutsOne Are before after = (members : List Member) × Are members × (after ≡ with_members members before)
 
--- a value for which this statement holds was written as an item
+-- a value for which `IsItem` holds was written as an item
 abbrev pub PushesItem : (Data → Type 0) → List Token → List Token → Type 0
 PushesItem IsItem before after = (value : Data) × IsItem value × (after ≡ push value before)
 
--- the objects of the options in some bytes were written as items, up to this fault
+-- the objects of the options in these bytes were written as items, up to this fault
 abbrev pub PushesOptions : List ℕ → Option TcpRawOptionError → List Token → List Token → Type 0
 PushesOptions bytes fault before after =
     (values : List Data) × AreOptionObjects bytes values fault × (after ≡ with_items values before)
 
--- the text of a line whose object lacks only its closing brace: the brace and a line feed are added
+-- the text of a line, given the tokens of its object without the closing brace; the brace and a line feed are added
 abbrev pub line_text : List Token → List ℕ
 line_text tokens = print (object_ended tokens) ++ codes "\n"
 

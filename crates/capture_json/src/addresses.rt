@@ -53,7 +53,7 @@ pub fn put_ports(line: &mut Line, source: u16, destination: u16) -> Result<(), A
     line.put_number("destination_port", u64::from(destination))
 }
 
-/// Writes the length of a payload in bytes. If not all of them were captured, it also writes how many were.
+/// Writes the length of a payload in bytes. If not all bytes were captured, it also writes the number of captured bytes.
 pub fn put_payload_len(
     line: &mut Line,
     payload_len: usize,

@@ -18,7 +18,7 @@ use capture_texts::InterfaceTexts;
 use std::alloc::AllocError;
 use std::io;
 
-/// Writes the facts of a capture, if there is one. They are the same as in `capture_facts::write_facts`.
+/// Writes the facts that `capture_facts::write_facts` writes, or nothing if there is no capture.
 pub fn put_facts(
     line: &mut Line,
     room: &mut Vec<u8>,
@@ -55,7 +55,7 @@ fn put_form(line: &mut Line, file_type: &str, order: ByteOrder) -> Result<(), Al
     line.put_text("byte_order", byte_order_word(order))
 }
 
-/// Writes the greatest number of bytes that are captured of a packet, and the unit of the times.
+/// Writes the snap length, which limits the captured bytes of a packet, and the unit of the times.
 fn put_limits(
     line: &mut Line,
     room: &mut Vec<u8>,

@@ -108,7 +108,7 @@ fn put_echo(line: &mut Line, identifier: u16, sequence: u16) -> Result<(), Alloc
     line.put_number("sequence", u64::from(sequence))
 }
 
-/// Writes the MTU of the next hop, if fragmentation is needed.
+/// Writes the MTU of the next hop, if the message reports that fragmentation is needed.
 fn put_mtu(line: &mut Line, header: &DestUnreachableHeader) -> Result<(), AllocError>
     ensures { OnOk result (tokens_in line.new ≡ with_members (optional_number (codes "mtu") (mtu_of header.now)) (tokens_in line.old)) }
 {
@@ -120,7 +120,7 @@ fn put_mtu(line: &mut Line, header: &DestUnreachableHeader) -> Result<(), AllocE
     }
 }
 
-/// Writes the pointer, if it indicates the error.
+/// Writes the pointer, if the message contains a pointer to the error.
 fn put_pointer(line: &mut Line, header: &ParameterProblemHeader) -> Result<(), AllocError>
     ensures { OnOk result (tokens_in line.new ≡ with_members (optional_number (codes "pointer") (pointer_of header.now)) (tokens_in line.old)) }
 {

@@ -77,7 +77,7 @@ fn put_packet(
     put_verdict(line, room, &packet.verdict)
 }
 
-/// Writes the time of a packet, as a text like in a line of text, and as numbers.
+/// Writes the time of a packet as numbers, and as the text that a line of text shows.
 fn put_time(
     line: &mut Line,
     room: &mut Vec<u8>,
@@ -96,7 +96,7 @@ fn put_time(
     Ok(put_instant(line, "seconds", "nanoseconds", known)?)
 }
 
-/// Writes the length of a frame in bytes, and how many of them were captured. It writes nothing if the capture does not contain the length.
+/// Writes the length of a frame and its captured length, in bytes. It writes nothing if the capture does not state the length.
 fn put_frame_len(line: &mut Line, len: Option<FrameLen>) -> Result<(), AllocError>
     ensures { OnOk result (tokens_in line.new ≡ with_members (frame_members len) (tokens_in line.old)) }
 {

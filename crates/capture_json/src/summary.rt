@@ -1,4 +1,4 @@
-//! The tables after the last line.
+//! The summary, which follows the last line of a packet.
 
 ghost use Rattle.std.specs.Prelude.{◌≡◌, ◌∷◌, [], OnOk, codes, map};
 ghost use Rattle.std.specs.Io.KnownBytes.{Appends};
@@ -20,8 +20,8 @@ use std::alloc::Global;
 use std::io;
 use std::io::Write;
 
-/// Writes the summary as a JSON object of the type `summary`, on its own line. The object contains the facts of the capture if `capture` is
-/// one, the numbers of packets, bytes and conversations, the times of the packets, and each table under its name. The conversations are
+/// Writes the summary as a JSON object of the type `summary`, on its own line. The object contains the facts of `capture` if it is not
+/// `None`, the numbers of packets, bytes and conversations, the times of the packets, and each table under its name. The conversations are
 /// written row by row, so that the memory does not grow with their number.
 ///
 /// # Errors

@@ -45,7 +45,7 @@ fn push_options(
     if rest.is_empty() {
         return Ok(None);
     }
-    // Bytes are left, so that an option of kind 0 ends the list.
+    // The list does not end with the bytes, so an option of kind 0 ends it.
     push_kind(line, tcp_option::KIND_END)?;
     Ok(None)
 }

@@ -13,7 +13,7 @@ use std::alloc::AllocError;
 use std::io::{ErrorKind, Write};
 use std::{io, str};
 
-/// Writes the closing brace of the object that is the line. Then writes the line and a line feed.
+/// Ends the object of the line. Then writes the line and a line feed to the output.
 pub fn write_line<W: Write>(output: &mut W, mut line: Line) -> Result<(), WriteError>
     ensures { OnOk result (Appends (W.contents output.old) (W.contents output.new) (line_text (tokens_in line))) }
 {
@@ -25,7 +25,7 @@ pub fn write_line<W: Write>(output: &mut W, mut line: Line) -> Result<(), WriteE
     }
 }
 
-/// Writes the part of a line that is in memory.
+/// Writes the part of a line that is in memory to the output.
 pub fn write_part<W: Write>(output: &mut W, line: Line) -> Result<(), WriteError>
     ensures { OnOk result (Appends (W.contents output.old) (W.contents output.new) (print (tokens_in line))) }
 {
@@ -33,7 +33,7 @@ pub fn write_part<W: Write>(output: &mut W, line: Line) -> Result<(), WriteError
     write_bytes(output, bytes.as_slice())
 }
 
-/// Writes bytes.
+/// Writes these bytes to the output.
 pub fn write_bytes<W: Write>(output: &mut W, bytes: &[u8]) -> Result<(), WriteError>
     ensures { OnOk result (Appends (W.contents output.old) (W.contents output.new) bytes.now) }
 {
@@ -47,8 +47,8 @@ pub fn put_written(line: &mut Line, name: &str, text: &[u8]) -> io::Result<()>
     Ok(line.put_text(name, as_text(text)?)?)
 }
 
-/// Returns these bytes as a text. The bytes are UTF-8, since they come from `write!` or are a word with underscores. Hence there is no
-/// error.
+/// Returns these bytes as a text. The bytes are UTF-8, since they come from `write!` or are a word with underscores. So the call never
+/// fails.
 pub fn as_text(bytes: &[u8]) -> io::Result<&str>
     ensures { IfOk result (λ text. text.now ≡ bytes.now) }
 {

@@ -11,7 +11,7 @@ use capture_texts::{FileTexts, InterfaceTexts, KeptText};
 use std::alloc::AllocError;
 use std::io;
 
-/// Writes the texts of a section, and the number of packets with a comment. They are the same as in `capture_facts::write_facts`.
+/// Writes the texts of a section and the number of packets with a comment, which `capture_facts::write_facts` writes too.
 pub fn put_texts(line: &mut Line, room: &mut Vec<u8>, texts: &FileTexts) -> io::Result<()>
     ensures { OnOk result (tokens_in line.new ≡ with_members (texts_members texts.now) (tokens_in line.old)) }
 {

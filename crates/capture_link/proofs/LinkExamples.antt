@@ -19,7 +19,7 @@ addresses = replicate 6 2 ++ replicate 6 3
 
 -- ---- headers with an ether type
 
--- a header without tags
+-- the link header of a frame without tags
 no_tag : (header : EtherHeader) (frame : List ℕ) (len : ℕ) (next : Option NetworkProtocol) (end : Option ℕ)
     → is_vlan_tag (ether_type_after header frame 0) ≡ false → tagged_len header 0 ≤ length frame
     → after_tags header frame (tagged_len header 0) (ether_type_after header frame 0) ≡ Ok (record { len = len; next = next; end = end })
@@ -30,7 +30,7 @@ no_tag header frame len next end last there says = record {
   says = says;
 }
 
--- a statement about the first of one tag
+-- a statement about each of one tags is the statement about tag 0
 of_first : (P : ℕ → Type 0) → P 0 → (tag : ℕ) → tag < 1 → P tag
 of_first P first zero within = first
 of_first P first (suc tag) within = absurd (omega (arith, within))
@@ -45,23 +45,23 @@ ethernet_with_tag = record {
   says = refl;
 }
 
--- ARP
+-- an Ethernet frame with ARP
 ethernet_without_ip : HasLinkHeader Ethernet LittleEndian (addresses ++ 0x08 ∷ 0x06 ∷ []) 14 (Some (EtherType 0x0806)) None
 ethernet_without_ip = no_tag _ _ 14 _ _ refl (omega arith) refl
 
--- the spanning tree protocol, after a length of 38 bytes
+-- an Ethernet frame with a length of 38 bytes and the spanning tree protocol
 ethernet_with_llc : HasLinkHeader Ethernet LittleEndian (addresses ++ 0 ∷ 38 ∷ 0x42 ∷ 0x42 ∷ 0x03 ∷ []) 17 (Some (Llc 0x42 0x42)) None
 ethernet_with_llc = (refl, refl, refl)
 
 ip_after_llc : HasLinkHeader Ethernet LittleEndian (addresses ++ 0 ∷ 5 ∷ 0x06 ∷ 0x06 ∷ 0x03 ∷ packet) 17 None None
 ip_after_llc = (refl, refl, refl)
 
--- the organization code of a bridge, and the ether type of IPv4
+-- an Ethernet frame with the organization code of a bridge and the ether type of IPv4
 ip_after_bridge : HasLinkHeader Ethernet LittleEndian
     (addresses ++ 0 ∷ 10 ∷ 0xAA ∷ 0xAA ∷ 0x03 ∷ 0x00 ∷ 0x00 ∷ 0xF8 ∷ 0x08 ∷ 0x00 ∷ packet) 22 None None
 ip_after_bridge = no_tag _ _ 22 None _ refl (omega arith) refl
 
--- the frame ends within the tag, whose end is at 18 bytes
+-- an Ethernet frame that ends within its tag, which would end at 18 bytes
 ends_in_tag : NeedsLinkHeader Ethernet LittleEndian (addresses ++ 0x81 ∷ 0x00 ∷ 0 ∷ []) 18
 ends_in_tag =
     inr (inl (record {
@@ -76,25 +76,25 @@ linux_cooked = no_tag _ _ 16 None _ refl (omega arith) refl
 linux_cooked_2 : HasLinkHeader LinuxCooked2 LittleEndian (0x86 ∷ 0xDD ∷ (replicate 18 0 ++ packet)) 20 None None
 linux_cooked_2 = no_tag _ _ 20 None _ refl (omega arith) refl
 
--- the device type 824, and the protocol 16, generic netlink
+-- a Linux cooked frame with the device type 824 of netlink, and the protocol 16, generic netlink
 netlink : HasLinkHeader LinuxCooked LittleEndian (0 ∷ 4 ∷ 0x03 ∷ 0x38 ∷ (replicate 10 0 ++ 0 ∷ 16 ∷ [])) 16 (Some (LinkType 253)) None
 netlink = (refl, refl, refl)
 
--- the protocol 4 before an LLC header is a protocol of netlink too
+-- a Linux cooked frame with the device type 824 of netlink, and the protocol 4, which would be an LLC header on another device
 netlink_2 : HasLinkHeader LinuxCooked2 LittleEndian (0 ∷ 4 ∷ (replicate 6 0 ++ 0x03 ∷ 0x38 ∷ replicate 10 0)) 20 (Some (LinkType 253)) None
 netlink_2 = (refl, refl, refl)
 
 cisco_hdlc : HasLinkHeader CiscoHdlc LittleEndian (0x0F ∷ 0x00 ∷ 0x08 ∷ 0x00 ∷ packet) 4 None None
 cisco_hdlc = no_tag _ _ 4 None _ refl (omega arith) refl
 
--- SLARP, which as an ether type would be RARP, and CDP
+-- Cisco HDLC with SLARP, which as an ether type would be RARP, and with CDP
 cisco_hdlc_without_ether_type : HasLinkHeader CiscoHdlc LittleEndian (0x8F ∷ 0x00 ∷ 0x80 ∷ 0x35 ∷ []) 4 (Some (LinkType 104)) None
 cisco_hdlc_without_ether_type = (refl, refl, refl)
 
 cisco_discovery : HasLinkHeader PppHdlc LittleEndian (0x8F ∷ 0x00 ∷ 0x20 ∷ 0x00 ∷ []) 4 (Some (LinkType 104)) None
 cisco_discovery = (refl, refl, refl)
 
--- the ether type after a global routing header, and two reserved bytes that are not 0
+-- IP over InfiniBand, with two reserved bytes that are not 0
 infiniband : HasLinkHeader InfiniBand LittleEndian (0x60 ∷ (replicate 39 0 ++ 0x86 ∷ 0xDD ∷ 0 ∷ 1 ∷ packet)) 44 None None
 infiniband = no_tag _ _ 44 None _ refl (omega arith) refl
 
@@ -108,42 +108,42 @@ session_frame len bytes = addresses ++ 0x88 ∷ 0x64 ∷ 0x11 ∷ 0x00 ∷ 0 ∷
 session : HasLinkHeader Ethernet LittleEndian (session_frame 4 packet) 22 None (Some 24)
 session = no_tag _ _ 22 None _ refl (omega arith) refl
 
--- three bytes of padding follow the payload
+-- a PPPoE session frame in which three bytes of padding follow the payload
 session_with_padding : HasLinkHeader Ethernet LittleEndian (session_frame 4 (packet ++ replicate 3 0)) 22 None (Some 24)
 session_with_padding = no_tag _ _ 22 None _ refl (omega arith) refl
 
--- they are no part of the packet
+-- the bytes of padding do not belong to the packet
 padding_is_left_out : slice_range (session_frame 4 (packet ++ replicate 3 0)) 22
     (end_in (session_frame 4 (packet ++ replicate 3 0)) (Some 24))
     ≡ packet
 padding_is_left_out = refl
 
--- the frame ends one byte before the payload
+-- a PPPoE session frame that ends one byte before its payload
 cut_session : HasLinkHeader Ethernet LittleEndian (session_frame 5 packet) 22 None None
 cut_session = no_tag _ _ 22 None _ refl (omega arith) refl
 
--- a payload of one byte contains no Protocol field of two bytes
+-- a PPPoE session frame whose payload of one byte does not contain a Protocol field of two bytes
 session_without_protocol : HasLinkHeader Ethernet LittleEndian (session_frame 1 packet) 20 (Some (EtherType 0x8864)) None
 session_without_protocol = no_tag _ _ 20 _ _ refl (omega arith) refl
 
--- the first session, without the header of Ethernet
+-- the first session frame, without its Ethernet header
 ppp_over_ethernet : HasLinkHeader PppOverEthernet LittleEndian (0x11 ∷ 0x00 ∷ 0 ∷ 1 ∷ 0 ∷ 4 ∷ 0x00 ∷ 0x21 ∷ packet) 8 None (Some 10)
 ppp_over_ethernet = (refl, refl, refl)
 
--- PADI, a discovery packet
+-- a PPPoE discovery packet (PADI)
 pppoe_discovery : HasLinkHeader PppOverEthernet LittleEndian (0x11 ∷ 0x09 ∷ 0 ∷ 0 ∷ 0 ∷ 0 ∷ []) 6 (Some (EtherType 0x8863)) None
 pppoe_discovery = (refl, refl, refl)
 
 -- ---- stacks of MPLS labels
 
--- label 16, and label 17, which is the last label; the time to live is 64
+-- a stack of label 16, and label 17, which is the last; the time to live is 64
 abbrev two_labels : List ℕ
 two_labels = 0 ∷ 1 ∷ 0x00 ∷ 64 ∷ 0 ∷ 1 ∷ 0x11 ∷ 64 ∷ []
 
 mpls : HasLinkHeader Ethernet LittleEndian (addresses ++ 0x88 ∷ 0x47 ∷ (two_labels ++ packet)) 22 None None
 mpls = no_tag _ _ 22 None _ refl (omega arith) refl
 
--- the first byte after the stack is the first byte of a pseudowire
+-- a stack of labels, followed by the first byte of a pseudowire
 mpls_with_pseudowire : HasLinkHeader Ethernet LittleEndian (addresses ++ 0x88 ∷ 0x47 ∷ (two_labels ++ 0 ∷ [])) 22
     (Some (EtherType 0x8847)) None
 mpls_with_pseudowire = no_tag _ _ 22 _ _ refl (omega arith) refl
@@ -151,7 +151,7 @@ mpls_with_pseudowire = no_tag _ _ 22 _ _ refl (omega arith) refl
 mpls_over_ppp : HasLinkHeader Ppp LittleEndian (0xFF ∷ 0x03 ∷ 0x02 ∷ 0x81 ∷ (two_labels ++ packet)) 12 None None
 mpls_over_ppp = (refl, refl, refl)
 
--- the frame ends within the second label, whose end is at 22 bytes
+-- a stack of labels in a frame that ends within the second label, which would end at 22 bytes
 ends_in_label : NeedsLinkHeader Ethernet LittleEndian (addresses ++ 0x88 ∷ 0x47 ∷ 0 ∷ 1 ∷ 0x00 ∷ 64 ∷ 0 ∷ []) 22
 ends_in_label =
     inr (inr (record {
@@ -167,11 +167,11 @@ ends_in_label =
 ppp : HasLinkHeader Ppp LittleEndian (0xFF ∷ 0x03 ∷ 0x00 ∷ 0x21 ∷ packet) 4 None None
 ppp = (refl, refl, refl)
 
--- without the Address and Control fields, and with a Protocol field of one byte
+-- a PPP frame without Address and Control fields, and with a Protocol field of one byte
 short_ppp : HasLinkHeader Ppp LittleEndian (0x21 ∷ packet) 1 None None
 short_ppp = (refl, refl, refl)
 
--- the Link Control Protocol
+-- a PPP frame with the Link Control Protocol
 ppp_without_ip : HasLinkHeader Ppp LittleEndian (0xFF ∷ 0x03 ∷ 0xC0 ∷ 0x21 ∷ []) 4 (Some (PppProtocol 0xC021)) None
 ppp_without_ip = (refl, refl, refl)
 
@@ -184,7 +184,7 @@ cisco_hdlc_as_ppp = no_tag _ _ 4 None _ refl (omega arith) refl
 frame_relay : HasLinkHeader FrameRelay LittleEndian (0x18 ∷ 0x41 ∷ 0x03 ∷ 0xCC ∷ packet) 4 None None
 frame_relay = (refl, refl, refl)
 
--- a pad byte, and the network layer protocol ID of IS-IS
+-- a Frame Relay frame with a pad byte, and the network layer protocol ID of IS-IS
 frame_relay_without_ip : HasLinkHeader FrameRelay LittleEndian (0x18 ∷ 0x41 ∷ 0x03 ∷ 0x00 ∷ 0x83 ∷ []) 5 (Some (Nlpid 0x83)) None
 frame_relay_without_ip = (refl, refl, refl)
 
@@ -193,7 +193,7 @@ frame_relay_without_ip = (refl, refl, refl)
 bsd_loopback : HasLinkHeader BsdLoopback LittleEndian (2 ∷ 0 ∷ 0 ∷ 0 ∷ packet) 4 None None
 bsd_loopback = (refl, refl, refl)
 
--- a capture that a machine with the other byte order wrote
+-- a loopback frame that a machine with the other byte order wrote
 other_order : HasLinkHeader BsdLoopback LittleEndian (0 ∷ 0 ∷ 0 ∷ 2 ∷ packet) 4 None None
 other_order = (refl, refl, refl)
 
@@ -215,7 +215,7 @@ data_frame = 0x08 ∷ 0x01 ∷ (replicate 22 0 ++ 0xAA ∷ 0xAA ∷ 0x03 ∷ 0 �
 ieee80211 : HasLinkHeader Ieee80211 LittleEndian data_frame 32 None None
 ieee80211 = no_tag _ _ 32 None _ refl (omega arith) refl
 
--- a beacon
+-- an IEEE 802.11 frame with a beacon
 ieee80211_without_data : HasLinkHeader Ieee80211 LittleEndian (0x80 ∷ 0x00 ∷ replicate 22 0) 2 (Some (OtherFrame 0x8000)) None
 ieee80211_without_data = (refl, refl, refl)
 
@@ -225,62 +225,62 @@ radiotap = no_tag _ _ 40 None _ refl (omega arith) refl
 avs : HasLinkHeader Avs LittleEndian (0x80 ∷ 0x21 ∷ 0x10 ∷ 0x01 ∷ 0 ∷ 0 ∷ 0 ∷ 12 ∷ (replicate 4 0 ++ data_frame)) 44 None None
 avs = no_tag _ _ 44 None _ refl (omega arith) refl
 
--- the length does not count the first eight bytes
+-- an AVS header whose length does not count the first eight bytes
 avs_without_length : HasLinkHeader Avs LittleEndian (0x80 ∷ 0x21 ∷ 0x10 ∷ 0x01 ∷ 0 ∷ 0 ∷ 0 ∷ 7 ∷ []) 8 (Some (LinkType 163)) None
 avs_without_length = (refl, refl, refl)
 
--- 144 bytes, which begin with a message code of the Prism header
+-- a Prism header of 144 bytes, which begin with a message code of the Prism header
 prism : HasLinkHeader Prism LittleEndian (0 ∷ 0 ∷ 0 ∷ 0x44 ∷ (replicate 140 0 ++ data_frame)) 176 None None
 prism = no_tag _ _ 176 None _ refl (omega arith) refl
 
--- a header of AVS instead
+-- an AVS header in a frame of LINKTYPE_IEEE802_11_PRISM
 avs_as_prism : HasLinkHeader Prism LittleEndian (0x80 ∷ 0x21 ∷ 0x10 ∷ 0x02 ∷ 0 ∷ 0 ∷ 0 ∷ 8 ∷ data_frame) 40 None None
 avs_as_prism = no_tag _ _ 40 None _ refl (omega arith) refl
 
 -- ---- a frame of a link type that the header states
 
--- a frame of IEEE 802.11, whose link type has the number 105, after a header of 8 bytes
+-- a PPI header of 8 bytes, and a frame of IEEE 802.11, whose link type has the number 105
 ppi : HasLinkHeader Ppi BigEndian (0 ∷ 0 ∷ 8 ∷ 0 ∷ 105 ∷ 0 ∷ 0 ∷ 0 ∷ data_frame) 40 None None
 ppi = no_tag _ _ 40 None _ refl (omega arith) refl
 
--- an IP packet without a link header, whose link type has the number 101, after a header of 12 bytes; the record is a packet
+-- a PKTAP header of 12 bytes, and a packet of raw IP, whose link type has the number 101
 pktap : HasLinkHeader Pktap BigEndian (12 ∷ 0 ∷ 0 ∷ 0 ∷ 1 ∷ 0 ∷ 0 ∷ 0 ∷ 101 ∷ 0 ∷ 0 ∷ 0 ∷ packet) 12 None None
 pktap = (refl, refl, refl)
 
--- a record that is no packet
+-- a PKTAP header of a record that is not a packet
 pktap_without_packet : HasLinkHeader Pktap BigEndian (12 ∷ 0 ∷ 0 ∷ 0 ∷ 2 ∷ 0 ∷ 0 ∷ 0 ∷ 101 ∷ 0 ∷ 0 ∷ 0 ∷ []) 12 (Some (LinkType 258)) None
 pktap_without_packet = (refl, refl, refl)
 
 -- ---- packets that were logged
 
--- a length of 61 bytes, which does not count the padding of 3 bytes, and IPv4
+-- a PFLOG header of 61 bytes and 3 bytes of padding, which its length does not count, and an IPv4 packet
 pflog : HasLinkHeader Pflog LittleEndian (61 ∷ 2 ∷ (replicate 62 0 ++ packet)) 64 None None
 pflog = (refl, refl, refl)
 
--- IPv6 on Solaris
+-- an IPv6 packet on Solaris
 ipnet : HasLinkHeader Ipnet LittleEndian (1 ∷ 26 ∷ (replicate 22 0 ++ packet)) 24 None None
 ipnet = (refl, refl, refl)
 
--- an attribute of four bytes, and the packet
+-- an NFLOG header with an attribute of four bytes, and the packet
 nflog : HasLinkHeader Nflog BigEndian (2 ∷ 0 ∷ 0 ∷ 5 ∷ 8 ∷ 0 ∷ 1 ∷ 0 ∷ 8 ∷ 0 ∷ 3 ∷ 0 ∷ 6 ∷ 0 ∷ 9 ∷ 0 ∷ packet) 16 None (Some 18)
 nflog = (refl, refl, refl)
 
--- two bytes of padding, and another attribute, follow the packet
+-- an NFLOG frame in which two bytes of padding and another attribute follow the packet
 nflog_with_padding : HasLinkHeader Nflog BigEndian (2 ∷ 0 ∷ 0 ∷ 5 ∷ 6 ∷ 0 ∷ 9 ∷ 0 ∷ (packet ++ 0 ∷ 0 ∷ 4 ∷ 0 ∷ 10 ∷ 0 ∷ [])) 8 None (Some 10)
 nflog_with_padding = (refl, refl, refl)
 
--- the frame ends one byte before the attribute
+-- an NFLOG frame that ends one byte before the end of the attribute with the packet
 nflog_with_cut_packet : HasLinkHeader Nflog BigEndian (2 ∷ 0 ∷ 0 ∷ 5 ∷ 7 ∷ 0 ∷ 9 ∷ 0 ∷ packet) 8 None None
 nflog_with_cut_packet = (refl, refl, refl)
 
--- an attribute with padding, on a machine with the other byte order
+-- an NFLOG attribute with padding, on a machine with the other byte order
 nflog_other_order : HasLinkHeader Nflog BigEndian (10 ∷ 0 ∷ 0 ∷ 5 ∷ 0 ∷ 5 ∷ 0 ∷ 10 ∷ 0 ∷ 0 ∷ 0 ∷ 0 ∷ 0 ∷ 6 ∷ 0 ∷ 9 ∷ packet) 16 None (Some 18)
 nflog_other_order = (refl, refl, refl)
 
--- a bridged packet
+-- an NFLOG frame with a bridged packet
 nflog_without_ip : HasLinkHeader Nflog BigEndian (7 ∷ 0 ∷ 0 ∷ 5 ∷ 6 ∷ 0 ∷ 9 ∷ 0 ∷ packet) 8 (Some (AddressFamily 7)) (Some 10)
 nflog_without_ip = (refl, refl, refl)
 
--- the frame ends within the first attribute, whose end is at 12 bytes
+-- an NFLOG frame that ends within the first attribute, which would end at 12 bytes
 nflog_cut_off : NeedsLinkHeader Nflog BigEndian (2 ∷ 0 ∷ 0 ∷ 5 ∷ 8 ∷ 0 ∷ 1 ∷ 0 ∷ 8 ∷ []) 12
 nflog_cut_off = refl

@@ -15,7 +15,7 @@ one_count : (header : EtherHeader) (frame : List ℕ) (tags other : ℕ) → Has
     → tags ≡ other
 one_count header frame tags other has its_has = grind (arith, has.last, its_has.last, has.tagged, its_has.tagged, true≢false)
 
--- all tags of a frame are present, or it ends within a tag
+-- if all tags of a frame are present, the frame does not end within a tag
 not_both : (header : EtherHeader) (frame : List ℕ) (tags other : ℕ) → HasTags header frame tags → EndsInTag header frame other → ⊥
 not_both header frame tags other has in_tag = grind (arith, has.last, has.there, in_tag.tagged, in_tag.ends, true≢false)
 

@@ -7,12 +7,12 @@ use Rattle.capture_link.specs.declared.link.LinkHeaderCutOff.{LinkHeaderCutOff}
 use Rattle.capture_link.specs.declared.link.header.EtherHeader.{EtherHeader}
 use Rattle.capture_link.specs.declared.link.header.LinkHeader.{LinkHeader}
 
--- one more tag
+-- the tags after another tag
 pub tagged_next : (header : EtherHeader) (frame : List ℕ) (tags : ℕ) → IsTagged header frame tags
     → is_vlan_tag (ether_type_after header frame tags) ≡ true → IsTagged header frame (suc tags)
 tagged_next header frame tags tagged is = λ tag less. grind (arith, tagged, is, less)
 
--- the part read so far: a header and some tags, all present, and the ether type after them
+-- the part of the frame that was read: a header and some whole tags, and the ether type after them
 pub record IsRead (header : EtherHeader) (frame : List ℕ) (len ether_type : ℕ) : Type 0 where
   pub tags : ℕ
   pub tagged : IsTagged header frame tags

@@ -1,4 +1,4 @@
--- For the loop over the labels of a stack.
+-- Laws of the loop over the labels of a stack.
 use Rattle.std.proofs.Common.{◌≡◌, ℕ, zero, suc, ◌+◌, ◌-◌, ◌*◌, ◌<◌, ◌≤◌, true, false, if◌then◌else◌, List, length, Err, refl, ◌∙◌, arith}
 use Rattle.std.proofs.lemmas.Bool.{le-ltb, lt-ltb}
 use Rattle.net_base.specs.Bytes.{flag}
@@ -6,13 +6,13 @@ use Rattle.capture_link.specs.LinkHeaders.{cut_off}
 use Rattle.capture_link.specs.Mpls.{after_stack, stack_at, stack_within}
 use Rattle.capture_link.specs.declared.network_protocol.NetworkProtocol.{NetworkProtocol}
 
--- the stack determines the same header as the labels from this label on
+-- the labels from this label on determine the same header as the whole stack
 pub record IsLeft (frame : List ℕ) (other : NetworkProtocol) (place label : ℕ) : Type 0 where
   pub more : ℕ
   pub room : length frame ≤ label + 4 * more
   pub same : stack_at frame other place ≡ stack_within more frame other label
 
--- a whole label determines what follows it
+-- a whole label determines the header after it
 whole_label : (more : ℕ) (frame : List ℕ) (other : NetworkProtocol) (label : ℕ) → length frame ≤ label + 4 * more → label + 4 ≤ length frame
     → stack_within more frame other label
     ≡ (if flag frame (label + 2) 1 then after_stack frame other (label + 4) else stack_within (more - 1) frame other (label + 4))
@@ -36,7 +36,7 @@ pub label_last : (frame : List ℕ) (other : NetworkProtocol) (place label : ℕ
 label_last frame other place label left there last =
     left.same ∙ whole_label left.more frame other label left.room there ∙ rw last refl
 
--- an incomplete label
+-- an incomplete label determines the error
 label_cut : (more : ℕ) (frame : List ℕ) (other : NetworkProtocol) (label : ℕ) → length frame < label + 4
     → stack_within more frame other label ≡ Err (cut_off frame (label + 4))
 label_cut zero frame other label ends = refl

@@ -7,14 +7,14 @@ use Rattle.capture_link.specs.declared.link.LinkHeaderCutOff.{LinkHeaderCutOff}
 use Rattle.capture_link.specs.declared.link.header.FirstHeader.{FirstHeader}
 use Rattle.capture_link.specs.declared.link.nflog.Attribute.TheVariants.{Last, Other}
 
--- all attributes determine the same header as the attributes from this place on
+-- the attributes from this place on determine the same header as all attributes
 pub record IsLeft (order : ByteOrder) (frame : List ℕ) (place : ℕ) : Type 0 where
   pub more : ℕ
   pub room : length frame ≤ place + more
   pub there : place ≤ length frame
   pub same : attributes order frame ≡ attributes_within more order frame place
 
--- an attribute determines what follows it
+-- a whole attribute determines the header after it
 first_attribute : (more : ℕ) (order : ByteOrder) (frame : List ℕ) (place : ℕ) → length frame ≤ place + more → place < length frame
     → attributes_within more order frame place
     ≡ after_attribute (λ next. attributes_within (more - 1) order frame next) (attribute_at order frame place)
@@ -45,7 +45,7 @@ pub attribute_cut : (order : ByteOrder) (frame : List ℕ) (place : ℕ) (error 
 attribute_cut order frame place error left within is =
     left.same ∙ first_attribute left.more order frame place left.room within ∙ rw is refl
 
--- no attribute is left
+-- without another attribute, the packet is not in the log
 none_left : (more : ℕ) (order : ByteOrder) (frame : List ℕ) (place : ℕ) → length frame ≤ place
     → attributes_within more order frame place ≡ Ok (unread_log place)
 none_left zero order frame place ends = refl

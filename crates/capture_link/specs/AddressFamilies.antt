@@ -10,7 +10,7 @@ use Rattle.capture_link.specs.declared.link.header.FirstHeader.TheVariants.{Whol
 use Rattle.capture_link.specs.declared.network_protocol.NetworkProtocol.{NetworkProtocol}
 use Rattle.capture_link.specs.declared.network_protocol.NetworkProtocol.TheVariants.{AddressFamily}
 
--- the address families of IP: 2 is IPv4, and 24, 28 and 30 are IPv6 (LINKTYPE_NULL)
+-- this is an address family of IP: 2 is IPv4, and 24, 28 and 30 are IPv6 (LINKTYPE_NULL)
 abbrev pub is_ip_family : ℕ → Bool
 is_ip_family number = number == 2 || (number == 24 || (number == 28 || number == 30))
 
@@ -22,7 +22,7 @@ by_family order frame place =
     if is_ip_family (number_at BigEndian frame place) || is_ip_family (number_at LittleEndian frame place) then None
     else Some (AddressFamily (number_at order frame place))
 
--- a loopback frame at this place: the address family, four bytes
+-- the header of a loopback frame at this place: the address family, four bytes
 abbrev pub family_at : ByteOrder → List ℕ → ℕ → Result FirstHeader LinkHeaderCutOff
 family_at order frame place = with_bytes frame (place + 4) (
     Ok (Whole (record { len = place + 4; next = by_family order frame place; end = None })))

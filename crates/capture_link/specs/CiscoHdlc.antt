@@ -7,7 +7,8 @@ use Rattle.capture_link.specs.declared.link.header.EtherHeader.{EtherHeader}
 use Rattle.capture_link.specs.declared.link.header.FirstHeader.{FirstHeader}
 use Rattle.capture_link.specs.declared.link.header.FirstHeader.TheVariants.{EtherType}
 
--- An address, a control byte, and the number of a protocol. The number is an ether type, except for two protocols.
+-- The layout of the header: an address, a control byte, and the number of a protocol. The number is an ether type, except for SLARP and
+-- CDP.
 abbrev pub cisco_hdlc : EtherHeader
 cisco_hdlc = record { len = 4; ether_type_at = 2 }
 
@@ -15,15 +16,16 @@ cisco_hdlc = record { len = 4; ether_type_at = 2 }
 abbrev pub is_cisco_hdlc : List ℕ → Bool
 is_cisco_hdlc frame = nat_le 1 (length frame) && (slice_index frame 0 == 0x0F || slice_index frame 0 == 0x8F)
 
--- SLARP, the address resolution and the keepalives of serial lines (RFC 1547, section 4.3.1); as an ether type this number is RARP
+-- the protocol number of SLARP, which resolves addresses and sends keepalives on serial lines (RFC 1547, section 4.3.1); as an ether type
+-- this number is RARP
 abbrev pub slarp : ℕ
 slarp = 0x8035
 
--- CDP, the Cisco Discovery Protocol, by the number that it also has in a SNAP header with Cisco's organization code, 00000C
+-- the protocol number of CDP, the Cisco Discovery Protocol; it has the same number in a SNAP header with Cisco's organization code, 00000C
 abbrev pub cdp : ℕ
 cdp = 0x2000
 
--- the numbers of protocols that are not ether types
+-- this number is the number of a protocol, but not an ether type
 abbrev pub is_cisco_protocol : ℕ → Bool
 is_cisco_protocol number = number == slarp || number == cdp
 

@@ -21,7 +21,7 @@ ethernet_type_at = 12
 abbrev pub ethernet : ℕ → EtherHeader
 ethernet place = record { len = place + ethernet_len; ether_type_at = place + ethernet_type_at }
 
--- an Ethernet frame at this place, with an ether type, or with a length and an LLC header (IEEE 802.3, clause 3.2.6)
+-- the header of an Ethernet frame at this place: it contains an ether type, or a length and then an LLC header (IEEE 802.3, clause 3.2.6)
 abbrev pub ethernet_at : List ℕ → ℕ → Result FirstHeader LinkHeaderCutOff
 ethernet_at frame place = with_bytes frame (place + ethernet_len) (
     if nat_lt (be_number frame (place + ethernet_type_at) 2) least_ether_type then llc_at frame (place + ethernet_len)

@@ -5,42 +5,42 @@ use Rattle.std.specs.Prelude.{ℕ}
 abbrev pub least_ether_type : ℕ
 least_ether_type = 0x0600
 
--- IPv4 (RFC 894)
+-- the ether type of IPv4 (RFC 894)
 abbrev pub ipv4_ether_type : ℕ
 ipv4_ether_type = 0x0800
 
--- IPv6 (RFC 2464, section 3)
+-- the ether type of IPv6 (RFC 2464, section 3)
 abbrev pub ipv6_ether_type : ℕ
 ipv6_ether_type = 0x86DD
 
--- the VLAN tag of a customer (IEEE 802.1Q, clause 9.5)
+-- the ether type of a customer's VLAN tag (IEEE 802.1Q, clause 9.5)
 abbrev pub customer_tag : ℕ
 customer_tag = 0x8100
 
--- the VLAN tag of a service (IEEE 802.1Q, clause 9.5)
+-- the ether type of a service's VLAN tag (IEEE 802.1Q, clause 9.5)
 abbrev pub service_tag : ℕ
 service_tag = 0x88A8
 
--- the VLAN tag of a service, as older equipment writes it
+-- the ether type of a service's VLAN tag, as older equipment writes it
 abbrev pub old_service_tag : ℕ
 old_service_tag = 0x9100
 
--- the VLAN tag of a service, as other older equipment writes it
+-- the ether type of a service's VLAN tag, as other older equipment writes it
 abbrev pub other_old_service_tag : ℕ
 other_old_service_tag = 0x9200
 
--- a stack of MPLS labels (RFC 3032, section 5)
+-- the ether type of a stack of MPLS labels (RFC 3032, section 5)
 abbrev pub mpls : ℕ
 mpls = 0x8847
 
--- a stack of MPLS labels of a multicast packet (RFC 5332, section 3)
+-- the ether type of a stack of MPLS labels of a multicast packet (RFC 5332, section 3)
 abbrev pub mpls_multicast : ℕ
 mpls_multicast = 0x8848
 
--- PPPoE discovery (RFC 2516, section 4)
+-- the ether type of PPPoE discovery (RFC 2516, section 4)
 abbrev pub pppoe_discovery : ℕ
 pppoe_discovery = 0x8863
 
--- a PPPoE session (RFC 2516, section 4)
+-- the ether type of a PPPoE session (RFC 2516, section 4)
 abbrev pub pppoe_session : ℕ
 pppoe_session = 0x8864

@@ -18,7 +18,7 @@ use Rattle.capture_link.specs.declared.network_protocol.NetworkProtocol.TheVaria
 abbrev pub carries_data : List ℕ → ℕ → Bool
 carries_data frame place = bit_and (slice_index frame place) 0x4F == 0x08 && bit_and (slice_index frame (place + 1)) 0x44 == 0
 
--- a QoS Control field is present: bit 7 of the first byte of Frame Control is set, which is a bit of the subtype
+-- a QoS Control field is present: bit 7 of the first byte of Frame Control, which is a bit of the subtype, is set
 abbrev pub has_qos_control : List ℕ → ℕ → Bool
 has_qos_control frame place = flag frame place 0x80
 
@@ -43,7 +43,7 @@ abbrev pub body_at : List ℕ → ℕ → ℕ
 body_at frame place = qos_at frame place + len_if (has_qos_control frame place) 2 + len_if (has_ht_control frame place) 4
 
 -- The body is one whole data unit. The fragment number, in the low bits of byte 22, is 0. The bit A-MSDU Present of the QoS Control field,
--- which announces several data units, is 0.
+-- which means that there are several data units, is 0.
 abbrev pub has_whole_unit : List ℕ → ℕ → Bool
 has_whole_unit frame place =
     bit_and (slice_index frame (place + 22)) 0x0F == 0
@@ -55,7 +55,7 @@ has_whole_unit frame place =
 abbrev pub other_frame : List ℕ → ℕ → FirstHeader
 other_frame frame place = Whole (record { len = place + 2; next = Some (Ieee80211 (be_number frame place 2)); end = None })
 
--- the header of a data frame: an LLC header follows, if the body is one whole data unit
+-- the header of a data frame; if the body is one whole data unit, an LLC header follows
 abbrev pub data_frame : List ℕ → ℕ → Result FirstHeader LinkHeaderCutOff
 data_frame frame place = with_bytes frame (body_at frame place) (
     if has_whole_unit frame place then llc_at frame (body_at frame place) else Ok (other_frame frame place))

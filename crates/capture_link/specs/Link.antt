@@ -31,12 +31,12 @@ use Rattle.capture_link.specs.declared.network_protocol.NetworkProtocol.TheVaria
 
 -- ---- headers with an ether type
 
--- LINKTYPE_IPOIB: a global routing header of 40 bytes, and then the encapsulation header of IP over InfiniBand (RFC 4391, section 6). The
--- encapsulation header consists of the ether type and two reserved bytes.
+-- The layout of a LINKTYPE_IPOIB header: a global routing header of 40 bytes, and then the encapsulation header of IP over InfiniBand (RFC
+-- 4391, section 6). The encapsulation header consists of the ether type and two reserved bytes.
 abbrev pub infiniband : EtherHeader
 infiniband = record { len = 44; ether_type_at = 40 }
 
--- the ether types before a VLAN tag
+-- a VLAN tag follows this ether type
 abbrev pub is_vlan_tag : ℕ → Bool
 is_vlan_tag ether_type =
     ether_type == customer_tag || (ether_type == service_tag || (ether_type == old_service_tag || ether_type == other_old_service_tag))
@@ -55,11 +55,11 @@ abbrev pub ether_type_after : EtherHeader → List ℕ → ℕ → ℕ
 ether_type_after header frame zero = be_number frame header.ether_type_at 2
 ether_type_after header frame (suc tags) = be_number frame (tagged_len header tags + 2) 2
 
--- the first ether types, this number of them, all announce tags
+-- each of the first `tags` ether types is followed by a tag
 abbrev pub IsTagged : EtherHeader → List ℕ → ℕ → Type 0
 IsTagged header frame tags = (tag : ℕ) → tag < tags → is_vlan_tag (ether_type_after header frame tag) ≡ true
 
--- the ether types of IP
+-- this is an ether type of IP
 abbrev pub is_ip : ℕ → Bool
 is_ip ether_type = ether_type == ipv4_ether_type || ether_type == ipv6_ether_type
 
@@ -74,15 +74,15 @@ after_ether_type frame place ether_type =
     else if ether_type == mpls || ether_type == mpls_multicast then stack_at frame (UnknownEtherType ether_type) place
     else Ok (record { len = place; next = by_ether_type ether_type; end = None })
 
--- The header that ends with an LLC header. If a SNAP header with an ether type follows, the header ends after that ether type, like
--- `after_ether_type`.
+-- The header that ends with an LLC header. If a SNAP header with an ether type follows, the header ends as `after_ether_type` states for
+-- that ether type.
 abbrev pub after_llc : List ℕ → Result FirstHeader LinkHeaderCutOff → Result LinkHeader LinkHeaderCutOff
 after_llc frame (Ok (Whole header)) = Ok header
 after_llc frame (Ok (EtherType header)) = after_ether_type frame header.len (be_number frame header.ether_type_at 2)
 after_llc frame (Err error) = Err error
 
--- The header that ends after the last ether type of a header and its tags. The last ether type ends at this place. After a tag, a number
--- below the least ether type is a length, and an LLC header follows (IEEE 802.3, clause 3.2.6).
+-- The header that ends after a header, its tags, and what follows them. The last ether type ends at this place. After a tag, a number below
+-- the least ether type is a length, and an LLC header follows (IEEE 802.3, clause 3.2.6).
 abbrev pub after_tags : EtherHeader → List ℕ → ℕ → ℕ → Result LinkHeader LinkHeaderCutOff
 after_tags header frame place ether_type =
     if nat_lt header.len place && nat_lt ether_type least_ether_type then after_llc frame (llc_at frame place)
@@ -94,8 +94,8 @@ pub record HasTags (header : EtherHeader) (frame : List ℕ) (tags : ℕ) : Type
   pub last : is_vlan_tag (ether_type_after header frame tags) ≡ false
   pub there : tagged_len header tags ≤ length frame
 
--- The frame has a whole link header with an ether type. `len` is its length, with the tags and the header after them. `next` is the
--- protocol after it. `end` is the end of what follows, if the header states it.
+-- The frame has a whole link header with an ether type. `len` is its length, including the tags and the header after them. `next` is the
+-- protocol after it. `end` is the end of what follows, if the header states this end.
 pub record HasEtherHeader (header : EtherHeader) (frame : List ℕ) (len : ℕ) (next : Option NetworkProtocol) (end : Option ℕ) : Type 0 where
   pub tags : ℕ
   pub has : HasTags header frame tags
@@ -108,13 +108,14 @@ pub record EndsInTag (header : EtherHeader) (frame : List ℕ) (tags : ℕ) : Ty
   pub there : tagged_len header tags ≤ length frame
   pub ends : length frame < tagged_len header (suc tags)
 
--- the frame ends within a tag, whose end is at byte `required_len`
+-- the frame ends within a tag; the tag ends after `required_len` bytes of the frame
 pub record NeedsTag (header : EtherHeader) (frame : List ℕ) (required_len : ℕ) : Type 0 where
   pub tags : ℕ
   pub in_tag : EndsInTag header frame tags
   pub is_required_len : required_len ≡ tagged_len header (suc tags)
 
--- the frame has all its tags, and ends within the header after the last ether type; that header needs `required_len` bytes of the frame
+-- the frame contains all its tags, and ends within the header after the last ether type; this header needs `required_len` bytes of the
+-- frame
 pub record NeedsAfterTags (header : EtherHeader) (frame : List ℕ) (required_len : ℕ) : Type 0 where
   pub tags : ℕ
   pub has : HasTags header frame tags
@@ -122,8 +123,8 @@ pub record NeedsAfterTags (header : EtherHeader) (frame : List ℕ) (required_le
   pub says : after_tags header frame (tagged_len header tags) (ether_type_after header frame tags) ≡ Err error
   pub is_required_len : required_len ≡ error.required_len
 
--- The frame ends within a header with an ether type, within a tag, or within the header after the last ether type. It needs at least this
--- number of bytes.
+-- The frame ends within a header with an ether type, within a tag, or within the header after the last ether type. `required_len` is the
+-- least number of bytes that it needs.
 abbrev pub NeedsEtherHeader : EtherHeader → List ℕ → ℕ → Type 0
 NeedsEtherHeader header frame required_len =
     ((length frame < header.len) × (required_len ≡ header.len))
@@ -131,7 +132,7 @@ NeedsEtherHeader header frame required_len =
 
 -- ---- all link types
 
--- a frame with a whole header at its front
+-- the first header of a frame that begins with this whole header
 abbrev pub whole : Result LinkHeader LinkHeaderCutOff → Result FirstHeader LinkHeaderCutOff
 whole (Ok header) = Ok (Whole header)
 whole (Err error) = Err error
@@ -161,7 +162,7 @@ first_header Pktap order frame = after_tap frame
 first_header LinuxCooked2 order frame = cooked_header linux_cooked_2 device_type_at_2 frame
 
 -- A frame with this first header has a whole link header. `len` is the length of the link header. `next` is the protocol after it, where
--- `None` is IP. `end` is the end of what follows, if the header states it. Otherwise what follows ends with the frame.
+-- `None` is IP. `end` is the end of what follows, if the header states this end. Otherwise what follows ends with the frame.
 abbrev pub HasWhole : List ℕ → ℕ → Option NetworkProtocol → Option ℕ → Result FirstHeader LinkHeaderCutOff → Type 0
 HasWhole frame len next end (Ok (Whole header)) = (len ≡ header.len) × (next ≡ header.next) × (end ≡ header.end)
 HasWhole frame len next end (Ok (EtherType header)) = HasEtherHeader header frame len next end
@@ -171,7 +172,7 @@ HasWhole frame len next end (Err error) = ⊥
 abbrev pub HasLinkHeader : LinkType → ByteOrder → List ℕ → ℕ → Option NetworkProtocol → Option ℕ → Type 0
 HasLinkHeader link_type order frame len next end = HasWhole frame len next end (first_header link_type order frame)
 
--- A frame with this first header ends within its link header. `required_len` is the length of the link header, as far as it is known.
+-- A frame with this first header ends within its link header. `required_len` is the least length of the link header.
 abbrev pub NeedsWhole : List ℕ → ℕ → Result FirstHeader LinkHeaderCutOff → Type 0
 NeedsWhole frame required_len (Ok (Whole header)) = ⊥
 NeedsWhole frame required_len (Ok (EtherType header)) = NeedsEtherHeader header frame required_len
@@ -181,7 +182,7 @@ NeedsWhole frame required_len (Err error) = required_len ≡ error.required_len
 abbrev pub NeedsLinkHeader : LinkType → ByteOrder → List ℕ → ℕ → Type 0
 NeedsLinkHeader link_type order frame required_len = NeedsWhole frame required_len (first_header link_type order frame)
 
--- The bytes of a frame after a header of this length. They end at the place `end`, if the header states it, and otherwise at the end of the
+-- The bytes of a frame after a header of this length. They end at the place `end` if the header states an end, otherwise at the end of the
 -- frame.
 pub record AreBytesAfter (frame : List ℕ) (len : ℕ) (end : Option ℕ) (found : IpBytes) : Type 0 where
   pub start : found.start ≡ len
@@ -198,7 +199,7 @@ IsCutAfter frame len (Some protocol) end (Other other) = other ≡ protocol
 IsCutAfter frame len None end (Other other) = ⊥
 IsCutAfter frame len (Some protocol) end (Ip found) = ⊥
 
--- the content of a frame after its header
+-- the content of a frame after a link header for which `HasHeader` holds
 pub record IsFoundAfter (HasHeader : ℕ → Option NetworkProtocol → Option ℕ → Type 0) (frame : List ℕ) (found : Frame) : Type 0 where
   pub len : ℕ
   pub next : Option NetworkProtocol

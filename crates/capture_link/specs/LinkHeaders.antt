@@ -6,11 +6,11 @@ use Rattle.capture_link.specs.declared.link.header.FirstHeader.TheVariants.{Ethe
 use Rattle.capture_link.specs.declared.link.header.LinkHeader.{LinkHeader}
 use Rattle.capture_link.specs.declared.network_protocol.NetworkProtocol.TheVariants.{LinkType}
 
--- the error for a frame that is shorter than its header; the header has this length
+-- the error for a frame that is shorter than its header, whose length is `required_len`
 abbrev pub cut_off : List ℕ → ℕ → LinkHeaderCutOff
 cut_off frame required_len = record { required_len = required_len; len = length frame }
 
--- this result if the frame has at least this number of bytes, otherwise the error
+-- this result, or the error if the frame has fewer bytes than this number
 abbrev pub with_bytes : {A : Type 0} → List ℕ → ℕ → Result A LinkHeaderCutOff → Result A LinkHeaderCutOff
 with_bytes frame required_len says = if nat_lt (length frame) required_len then Err (cut_off frame required_len) else says
 
@@ -19,22 +19,22 @@ abbrev pub end_in : List ℕ → Option ℕ → ℕ
 end_in frame None = length frame
 end_in frame (Some end) = end
 
--- the frame contains the whole header, and the bytes after it up to their stated end
+-- the frame contains the whole header, and all bytes after it up to their end
 abbrev pub IsHeaderWithin : List ℕ → LinkHeader → Type 0
 IsHeaderWithin frame header = (header.len ≤ end_in frame header.end) × (end_in frame header.end ≤ length frame)
 
--- The frame contains a whole header. If the header contains an ether type, only its place is known so far. Then the ether type is within
--- the header, but the frame may end before.
+-- The frame contains a whole header. If the header contains an ether type, this ether type is within the header, but the frame may be
+-- shorter than the header.
 abbrev pub Fits : List ℕ → FirstHeader → Type 0
 Fits frame (Whole header) = IsHeaderWithin frame header
 Fits frame (EtherType header) = header.ether_type_at + 2 ≤ header.len
 
--- The result for a header with an unknown version or a wrong length, so that what follows it can't be found. The next protocol is the
--- number of the link type. The length is the number of bytes that were examined.
+-- The header for an unknown version or a wrong length, after which the next protocol can't be found. The next protocol is the number of the
+-- link type. The length is the number of bytes that were examined.
 abbrev pub unread : ℕ → ℕ → FirstHeader
 unread len number = Whole (record { len = len; next = Some (LinkType number); end = None })
 
--- the length of the first header, without VLAN tags and headers after them
+-- the length of the first header, excluding VLAN tags and headers after them
 abbrev pub first_len : FirstHeader → ℕ
 first_len (Whole header) = header.len
 first_len (EtherType header) = header.len

@@ -8,11 +8,11 @@ use Rattle.capture_link.specs.declared.link.header.EtherHeader.{EtherHeader}
 use Rattle.capture_link.specs.declared.link.header.FirstHeader.{FirstHeader}
 use Rattle.capture_link.specs.declared.link.header.FirstHeader.TheVariants.{EtherType}
 
--- the length of a LINKTYPE_LINUX_SLL header without tags, and the place of its protocol
+-- the layout of a LINKTYPE_LINUX_SLL header without tags: its length, and the place of its protocol
 abbrev pub linux_cooked : EtherHeader
 linux_cooked = record { len = 16; ether_type_at = 14 }
 
--- the length of a LINKTYPE_LINUX_SLL2 header without tags, and the place of its protocol
+-- the layout of a LINKTYPE_LINUX_SLL2 header without tags: its length, and the place of its protocol
 abbrev pub linux_cooked_2 : EtherHeader
 linux_cooked_2 = record { len = 20; ether_type_at = 0 }
 
@@ -36,8 +36,8 @@ netlink_number = 253
 abbrev pub cooked_llc : ℕ
 cooked_llc = 0x0004
 
--- The header with this protocol, from a device of this type. From a netlink device the protocol is one of netlink, which is not read, so
--- the next protocol is the number of LINKTYPE_NETLINK. From another device an LLC header follows, or the protocol is an ether type.
+-- The header with this protocol, from a device of this type. A protocol of a netlink device is not read, so the next protocol is the number
+-- of LINKTYPE_NETLINK. From another device an LLC header follows, or the protocol is an ether type.
 abbrev pub by_device : EtherHeader → List ℕ → ℕ → ℕ → Result FirstHeader LinkHeaderCutOff
 by_device header frame device_type protocol =
     if device_type == netlink_device then Ok (unread header.len netlink_number)

@@ -7,12 +7,12 @@ use Rattle.capture_link.specs.declared.link.header.FirstHeader.{FirstHeader}
 use Rattle.capture_link.specs.declared.link.header.FirstHeader.TheVariants.{EtherType, Whole}
 use Rattle.capture_link.specs.declared.network_protocol.NetworkProtocol.TheVariants.{Llc, Nlpid, Snap}
 
--- the organization codes that an ether type follows: 000000 (RFC 1042), and 0000F8 from a bridge (IEEE 802.1H)
+-- an ether type follows this organization code: 000000 (RFC 1042), or 0000F8 from a bridge (IEEE 802.1H)
 abbrev pub is_ether_code : ℕ → Bool
 is_ether_code organization_code = organization_code == 0 || organization_code == 0x0000F8
 
--- A SNAP header: an organization code of three bytes, and a protocol number of two bytes. After some organization codes the number is an
--- ether type.
+-- A SNAP header: an organization code of three bytes, and a protocol number of two bytes. After the organization codes of `is_ether_code`,
+-- the protocol number is an ether type.
 abbrev pub by_organization_code : List ℕ → ℕ → ℕ → FirstHeader
 by_organization_code frame place organization_code =
     if is_ether_code organization_code then EtherType (record { len = place + 5; ether_type_at = place + 3 })
@@ -22,7 +22,7 @@ by_organization_code frame place organization_code =
 abbrev pub snap_at : List ℕ → ℕ → Result FirstHeader LinkHeaderCutOff
 snap_at frame place = with_bytes frame (place + 5) (Ok (by_organization_code frame place (be_number frame place 3)))
 
--- The greatest place at which an LLC header begins. No frame has more bytes.
+-- The greatest place at which an LLC header can begin. No frame has more bytes.
 abbrev pub max_llc_place : ℕ
 max_llc_place = 2 ^ 63
 

@@ -19,23 +19,23 @@ use Rattle.capture_link.specs.declared.network_protocol.NetworkProtocol.TheVaria
 
 -- ---- a packet after its address family
 
--- the next protocol according to an address family: IP if `is_ip` is true, otherwise the number of the family
+-- the next protocol according to an address family: `None`, which is IP, if `is_ip` is true, otherwise the number of the family
 abbrev pub family_protocol : ℕ → Bool → Option NetworkProtocol
 family_protocol family is_ip = if is_ip then None else Some (AddressFamily family)
 
--- a whole header of this length with this address family, which is a family of IP if `is_ip` is true
+-- a whole header of this length with this address family; `is_ip` states whether it is a family of IP
 abbrev pub with_family : ℕ → ℕ → Bool → FirstHeader
 with_family len family is_ip = Whole (record { len = len; next = family_protocol family is_ip; end = None })
 
--- a length with the padding up to a multiple of four
+-- the length after padding to a multiple of four
 abbrev pub padded : ℕ → ℕ
 padded len = (len + 3) / 4 * 4
 
--- the first fields of a LINKTYPE_PFLOG header: its length and the address family, in one byte each
+-- the length of the first fields of a LINKTYPE_PFLOG header: its length and the address family, in one byte each
 abbrev pub filter_fields_len : ℕ
 filter_fields_len = 2
 
--- the least length of a LINKTYPE_PFLOG header: its fields up to the direction of the packet
+-- the least length of a LINKTYPE_PFLOG header, which ends with the direction of the packet
 abbrev pub least_filter_len : ℕ
 least_filter_len = 45
 
@@ -46,7 +46,7 @@ by_filter_len frame len =
     if nat_lt len least_filter_len then Ok (unread filter_fields_len pflog_number)
     else with_bytes frame (padded len) (Ok (with_family (padded len) (slice_index frame 1) (is_ip_family (slice_index frame 1))))
 
--- LINKTYPE_PFLOG, of the packet filter of OpenBSD: the first fields, and more fields
+-- the header of LINKTYPE_PFLOG, from the packet filter of OpenBSD: the first fields, and then more fields
 abbrev pub filter_header : List ℕ → Result FirstHeader LinkHeaderCutOff
 filter_header frame = with_bytes frame filter_fields_len (by_filter_len frame (slice_index frame 0))
 
@@ -58,7 +58,7 @@ solaris_ipv4 = 2
 abbrev pub solaris_ipv6 : ℕ
 solaris_ipv6 = 26
 
--- the address families of IP on Solaris
+-- this is an address family of IP on Solaris
 abbrev pub is_solaris_ip : ℕ → Bool
 is_solaris_ip family = family == solaris_ipv4 || family == solaris_ipv6
 
@@ -66,8 +66,8 @@ is_solaris_ip family = family == solaris_ipv4 || family == solaris_ipv6
 abbrev pub ipnet_len : ℕ
 ipnet_len = 24
 
--- LINKTYPE_IPNET, of Solaris. The header contains a version and the address family in one byte each, and the kind of the frame in two
--- bytes. The length of the packet, two interfaces and two zones follow in four bytes each.
+-- The header of LINKTYPE_IPNET, from Solaris. It contains a version and the address family in one byte each, and the kind of the frame in
+-- two bytes. The length of the packet, two interfaces and two zones follow in four bytes each.
 abbrev pub ipnet_header : List ℕ → Result FirstHeader LinkHeaderCutOff
 ipnet_header frame = with_bytes frame ipnet_len (Ok (with_family ipnet_len (slice_index frame 1) (is_solaris_ip (slice_index frame 1))))
 
@@ -85,7 +85,7 @@ avs_2 = 0x80211002
 abbrev pub is_avs : ℕ → Bool
 is_avs magic = magic == avs_1 || magic == avs_2
 
--- the first fields of a header of AVS: the number that identifies it, and its length
+-- the length of the first fields of a header of AVS: the number that begins it, and its length
 abbrev pub avs_fields_len : ℕ
 avs_fields_len = 8
 
@@ -99,7 +99,8 @@ by_avs_len frame number len = if nat_le avs_fields_len len then frame_at frame l
 abbrev pub after_avs : List ℕ → Result FirstHeader LinkHeaderCutOff
 after_avs frame = with_bytes frame avs_fields_len (by_avs_len frame avs_number (be_number frame 4 4))
 
--- a Prism header: a message code and a message length of four bytes each, the name of a device in 16 bytes, and ten items of 12 bytes each
+-- the length of a Prism header: a message code and a message length of four bytes each, the name of a device in 16 bytes, and ten items of
+-- 12 bytes each
 abbrev pub prism_len : ℕ
 prism_len = 144
 
@@ -124,7 +125,7 @@ enclosed_in frame place number other = Ok (unread place number)
 abbrev pub enclosed_at : List ℕ → ℕ → ℕ → Result FirstHeader LinkHeaderCutOff
 enclosed_at frame place number = with_bytes frame place (enclosed_in frame place number (link_type_with number))
 
--- the first fields of a LINKTYPE_PPI header: version, flags, length and link type
+-- the length of the first fields of a LINKTYPE_PPI header: version, flags, length and link type
 abbrev pub ppi_fields_len : ℕ
 ppi_fields_len = 8
 
@@ -140,7 +141,7 @@ by_ppi frame version len =
 abbrev pub after_ppi : List ℕ → Result FirstHeader LinkHeaderCutOff
 after_ppi frame = with_bytes frame ppi_fields_len (by_ppi frame (slice_index frame 0) (short_at LittleEndian frame 2))
 
--- the first fields of a LINKTYPE_PKTAP header: length, type of the record, and link type
+-- the length of the first fields of a LINKTYPE_PKTAP header: length, type of the record, and link type
 abbrev pub tap_fields_len : ℕ
 tap_fields_len = 12
 

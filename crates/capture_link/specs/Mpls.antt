@@ -7,7 +7,8 @@ use Rattle.capture_link.specs.declared.link.header.LinkHeader.{LinkHeader}
 use Rattle.capture_link.specs.declared.network_protocol.NetworkProtocol.{NetworkProtocol}
 
 -- A packet with this first byte is an IP packet: of version 4 with a header of at least five words (RFC 791, section 3.1), or of version 6.
--- The labels do not name the next protocol, so its first byte decides. A pseudowire begins with other bytes (RFC 4928, section 3).
+-- The labels do not contain the number of the next protocol, so the first byte after them decides. A pseudowire begins with other bytes
+-- (RFC 4928, section 3).
 abbrev pub begins_ip : ℕ → Bool
 begins_ip first = first / 16 == 4 && nat_le 5 (first % 16) || first / 16 == 6
 
@@ -21,13 +22,13 @@ after_stack frame other place = with_bytes frame (place + 1) (
     Ok (record { len = place; next = by_first_byte other (slice_index frame place); end = None }))
 
 -- The header that ends with the label stack at this place, which has at most this number of labels. A label has four bytes. The lowest bit
--- of its third byte is set in the last label (section 2.1).
+-- of its third byte is 1 in the last label (section 2.1).
 abbrev pub stack_within : ℕ → List ℕ → NetworkProtocol → ℕ → Result LinkHeader LinkHeaderCutOff
 stack_within zero frame other place = Err (cut_off frame (place + 4))
 stack_within (suc more) frame other place = with_bytes frame (place + 4) (
     if flag frame (place + 2) 0x01 then after_stack frame other (place + 4) else stack_within more frame other (place + 4))
 
--- The header that ends with the label stack at this place. `protocol` is the protocol whose number precedes the stack. There are fewer
--- labels than bytes in the frame.
+-- The header that ends with the label stack at this place. The number of the protocol `other` precedes the stack. The stack has fewer
+-- labels than the frame has bytes.
 abbrev pub stack_at : List ℕ → NetworkProtocol → ℕ → Result LinkHeader LinkHeaderCutOff
 stack_at frame other place = stack_within (length frame) frame other place

@@ -16,11 +16,11 @@ use Rattle.capture_link.specs.declared.link.nflog.Attribute.TheVariants.{Last, O
 abbrev pub attributes_at : ℕ
 attributes_at = 4
 
--- the first fields of an attribute: its length and its type, in two bytes each
+-- the length of the first fields of an attribute: its length and its type, in two bytes each
 abbrev pub attribute_fields_len : ℕ
 attribute_fields_len = 4
 
--- the shortest header, which ends after the fields of its first attribute
+-- the length of the shortest header, which ends after the fields of its first attribute
 abbrev pub shortest_len : ℕ
 shortest_len = attributes_at + attribute_fields_len
 
@@ -36,7 +36,7 @@ linux_ipv4 = 2
 abbrev pub linux_ipv6 : ℕ
 linux_ipv6 = 10
 
--- the address families of IP on Linux
+-- this is an address family of IP on Linux
 abbrev pub is_linux_ip : ℕ → Bool
 is_linux_ip family = family == linux_ipv4 || family == linux_ipv6
 
@@ -51,7 +51,7 @@ attribute_order frame =
     if slice_index frame 6 == 0 then (if slice_index frame 7 == 0 then None else Some BigEndian)
     else (if slice_index frame 7 == 0 then Some LittleEndian else None)
 
--- the end of a packet, if it is within the frame; otherwise none, so that the packet ends with the frame
+-- the end of a packet; `None` if the frame ends before, so that the packet ends with the frame
 abbrev pub end_within : List ℕ → ℕ → Option ℕ
 end_within frame end = if nat_le end (length frame) then Some end else None
 
@@ -64,30 +64,31 @@ payload_at frame place len = Whole (record {
   end = end_within frame (place + len);
 })
 
--- The attribute at this place: its fields, and a value. Its length counts the fields and the value, but not the padding up to a multiple of
--- four. If the length is shorter than the fields, the header is not read.
+-- The result of reading the attribute at this place, which consists of its fields and a value. Its length counts the fields and the value,
+-- but not the padding to a multiple of four. If the length is below the length of the fields, the header is not read.
 abbrev pub attribute_at : ByteOrder → List ℕ → ℕ → Result Attribute LinkHeaderCutOff
 attribute_at order frame place = with_bytes frame (place + attribute_fields_len) (
     if nat_lt (short_at order frame place) attribute_fields_len then Ok (Last (unread_log (place + attribute_fields_len)))
     else if short_at order frame (place + 2) == payload_type then Ok (Last (payload_at frame place (short_at order frame place)))
     else with_bytes frame (place + padded (short_at order frame place)) (Ok (Other (place + padded (short_at order frame place)))))
 
--- The header after this attribute. If the attribute is not the last one, `next` returns the header from the place of the next attribute.
+-- The header, after this attribute was read. If it is not the last attribute, `next` returns the header for the place of the next
+-- attribute.
 abbrev pub after_attribute : (ℕ → Result FirstHeader LinkHeaderCutOff) → Result Attribute LinkHeaderCutOff
     → Result FirstHeader LinkHeaderCutOff
 after_attribute next (Ok (Last header)) = Ok header
 after_attribute next (Ok (Other end)) = next end
 after_attribute next (Err error) = Err error
 
--- The header whose attributes continue at this place. At most this number of attributes is read. Without an attribute that contains a
--- packet, the header is not read.
+-- The header whose attributes continue at this place. At most this number of attributes is read. If no attribute contains a packet, the
+-- header is not read.
 abbrev pub attributes_within : ℕ → ByteOrder → List ℕ → ℕ → Result FirstHeader LinkHeaderCutOff
 attributes_within zero order frame place = Ok (unread_log place)
 attributes_within (suc more) order frame place =
     if nat_lt place (length frame) then after_attribute (λ next. attributes_within more order frame next) (attribute_at order frame place)
     else Ok (unread_log place)
 
--- the header with all its attributes; there are fewer attributes than bytes in the frame
+-- The header with all its attributes. The frame has more bytes than attributes, so their number is no limit.
 abbrev pub attributes : ByteOrder → List ℕ → Result FirstHeader LinkHeaderCutOff
 attributes order frame = attributes_within (length frame) order frame attributes_at
 
@@ -102,7 +103,7 @@ abbrev pub log_header : List ℕ → Result FirstHeader LinkHeaderCutOff
 log_header frame = with_bytes frame shortest_len (
     if slice_index frame 1 == 0 then by_order frame (attribute_order frame) else Ok (unread_log shortest_len))
 
--- the frame contains the attribute at this place; if it is the last attribute, the frame contains the header
+-- the frame contains the attribute at this place; after the last attribute, it contains the header
 abbrev pub IsWithin : List ℕ → ℕ → Attribute → Type 0
 IsWithin frame place (Last header) = Fits frame header
 IsWithin frame place (Other end) = (place + attribute_fields_len ≤ end) × (end ≤ length frame)

@@ -40,8 +40,8 @@ ppp_header frame = protocol_at frame (if has_address frame then 2 else 0)
 abbrev pub unread_session : ℕ → LinkHeader
 unread_session place = record { len = place; next = Some (EtherType pppoe_session); end = None }
 
--- The header up to the packet in a PPPoE payload with this start and this end. The PPP header in the payload was read with this result. If
--- the payload is too short for its PPP header, it is not read.
+-- The header up to the packet in a PPPoE payload with this start and this end. The last argument is the result of reading the PPP header in
+-- the payload. If the payload is too short for its PPP header, it is not read.
 abbrev pub in_payload : ℕ → ℕ → Result LinkHeader LinkHeaderCutOff → LinkHeader
 in_payload start end (Ok header) = record { len = header.len; next = header.next; end = Some end }
 in_payload start end (Err error) = unread_session start
@@ -60,16 +60,16 @@ session_at frame place = with_bytes frame (place + 6) (
     if be_number frame place 2 == 0x1100 then session_payload frame (place + 6) (place + 6 + be_number frame (place + 4) 2)
     else Ok (unread_session (place + 6)))
 
--- The header begins a discovery packet. Its first byte contains version 1 and type 1. Its code is not 0, which is the code of a session
--- (RFC 2516, sections 5 and 6).
+-- The frame begins with the PPPoE header of a discovery packet. Its first byte contains version 1 and type 1. Its code is not 0, which is
+-- the code of a session (RFC 2516, sections 5 and 6).
 abbrev pub is_discovery : List ℕ → Bool
 is_discovery frame = slice_index frame 0 == 0x11 && not (be_number frame 0 2 == 0x1100)
 
--- the header of a discovery packet, whose tags are not read; the next protocol is the ether type of such packets
+-- the header of a discovery packet, whose tags are not read; the next protocol is the ether type of discovery packets
 abbrev pub discovery : LinkHeader
 discovery = record { len = 6; next = Some (EtherType pppoe_discovery); end = None }
 
--- A LINKTYPE_PPP_ETHER frame begins with a PPPoE header. No ether type precedes the header, so its code tells a session from a discovery
--- packet.
+-- A LINKTYPE_PPP_ETHER frame begins with a PPPoE header. No ether type precedes the header, so its code distinguishes a session from a
+-- discovery packet.
 abbrev pub pppoe_frame : List ℕ → Result LinkHeader LinkHeaderCutOff
 pppoe_frame frame = with_bytes frame 6 (if is_discovery frame then Ok discovery else session_at frame 0)

@@ -64,7 +64,7 @@ pub struct IpBytes<'a> {
 /// The frame ends within its link header.
 #[derive(Clone, Copy, Debug, PartialEq, Eq)]
 pub struct LinkHeaderCutOff {
-    /// The length of the link header in bytes, as far as it is known.
+    /// The least length of the link header, in bytes.
     pub required_len: usize,
     /// The length of the frame, in bytes.
     pub len: usize,
@@ -76,7 +76,8 @@ const ETHER_TYPE_AT: usize = 12;
 /// The length of the header of an Ethernet frame, in bytes.
 const ETHERNET_LEN: usize = 14;
 
-/// LINKTYPE_IPOIB: a global routing header, and the encapsulation header with the protocol and two reserved bytes (RFC 4391, section 6).
+/// The layout of a LINKTYPE_IPOIB header: a global routing header, and the encapsulation header with the protocol and two reserved bytes
+/// (RFC 4391, section 6).
 const INFINIBAND: EtherHeader = EtherHeader {
     len: 44,
     ether_type_at: 40,
@@ -91,21 +92,23 @@ const FAMILY_LEN: usize = 4;
 /// The address family of IPv4 in a loopback header (LINKTYPE_NULL).
 const IPV4_FAMILY: u32 = 2;
 
-/// The address families of IPv6 in a loopback header: on NetBSD and OpenBSD, on FreeBSD, and on Darwin.
+/// The address family of IPv6 in a loopback header on NetBSD and OpenBSD.
 const IPV6_FAMILY_NETBSD: u32 = 24;
 
+/// The address family of IPv6 in a loopback header on FreeBSD.
 const IPV6_FAMILY_FREEBSD: u32 = 28;
 
+/// The address family of IPv6 in a loopback header on Darwin.
 const IPV6_FAMILY_DARWIN: u32 = 30;
 
-/// The network packet in a frame with the link type of its capture. `order` is the byte order of the numbers in the capture.
+/// The network packet in a frame of this link type. `order` is the byte order of the numbers in the capture.
 ///
 /// The call skips these headers:
 /// - Ethernet, 14 bytes
 /// - LINKTYPE_LINUX_SLL, 16 bytes, and LINKTYPE_LINUX_SLL2, 20 bytes
 /// - Cisco HDLC, 4 bytes, and IP over InfiniBand, 44 bytes
 /// - radiotap, the header of an IEEE 802.11 data frame, and the LLC and SNAP headers after it
-/// - a Prism header or a header of AVS, and the same headers after it
+/// - a Prism header or a header of AVS, and the IEEE 802.11 data frame's headers after it
 /// - PPP, PPP over Ethernet, and Frame Relay
 /// - LINKTYPE_PFLOG, LINKTYPE_NFLOG, and LINKTYPE_IPNET, 24 bytes
 /// - LINKTYPE_PPI and LINKTYPE_PKTAP, and the header of the Ethernet, raw IP, loopback or IEEE 802.11 frame after it
@@ -116,8 +119,8 @@ const IPV6_FAMILY_DARWIN: u32 = 30;
 /// A raw IP frame is the packet itself.
 ///
 /// After an ether type the call skips VLAN tags of 4 bytes each. A tag follows the ether types 8100 and 88A8 (IEEE 802.1Q, clause 9), and
-/// 9100 and 9200, older forms of 88A8. After a tag, a number below 1536 is a length, and LLC and SNAP headers follow. Then the call skips
-/// the header of a PPPoE session (RFC 2516) or a stack of MPLS labels (RFC 3032). A stack of MPLS labels is also skipped after the PPP
+/// their older forms 9100 and 9200. After a tag, a number below 1536 is a length, and LLC and SNAP headers follow. Then the call skips the
+/// header of a PPPoE session (RFC 2516) or a stack of MPLS labels (RFC 3032). A stack of MPLS labels is also skipped after the PPP
 /// protocols 0281 and 0283.
 ///
 /// A PPPoE header states the length of its payload, and LINKTYPE_NFLOG states the length of the packet. Bytes after this length do not
@@ -242,7 +245,7 @@ fn tagged_header(header: EtherHeader, frame: &[u8]) -> Result<LinkHeader, LinkHe
     after_tags(header, frame, len, ether_type)
 }
 
-/// The header that ends after the last ether type of a header and its tags. The last ether type ends at this place. After a tag, a number
+/// The header that ends after a header, its tags, and what follows them. The last ether type ends at this place. After a tag, a number
 /// below 1536 is the length of a frame with an LLC header.
 fn after_tags(
     header: EtherHeader,
@@ -266,7 +269,7 @@ fn after_tags(
     }
 }
 
-/// The header that ends after this ether type, or after the PPPoE header or the MPLS label stack that comes next.
+/// The header that ends after this ether type, or after the PPPoE header or the MPLS label stack that follows the ether type.
 fn after_ether_type(
     frame: &[u8],
     len: usize,
@@ -304,7 +307,7 @@ fn family_at(order: ByteOrder, frame: &[u8], place: usize) -> Result<FirstHeader
     }))
 }
 
-/// The network protocol of the loopback frame at this place. `None` is IP, whose address families count in either byte order.
+/// The network protocol of the loopback frame at this place. `None` is IP. An address family of IP counts in either byte order.
 fn by_family(order: ByteOrder, frame: &[u8], place: usize) -> Option<NetworkProtocol>
     requires { place + 4 ≤ length frame.now }
     ensures { result ≡ families.by_family order frame.now place }
@@ -353,7 +356,7 @@ fn protocol_of(ether_type: u16) -> Option<NetworkProtocol>
     }
 }
 
-/// Whether a VLAN tag follows this ether type: the tag of a customer, or of a service in its current form or an older form.
+/// Whether a VLAN tag follows this ether type. It is the ether type of a customer tag or of a service tag, in its current or an older form.
 fn is_vlan_tag(ether_type: u16) -> bool
     ensures { result ≡ specs.is_vlan_tag ether_type }
 {

@@ -34,7 +34,7 @@ use Rattle.capture_packet.specs.declared.verdict.Verdict.TheVariants.{Checksum, 
 abbrev pub datagram : List ℕ
 datagram = 0 ∷ 7 ∷ 0 ∷ 9 ∷ 0 ∷ 9 ∷ 0x19 ∷ 0xC8 ∷ 0x62 ∷ []
 
--- this datagram from 192.0.2.1 to 192.0.2.2
+-- an IPv4 packet from 192.0.2.1 to 192.0.2.2 with this datagram
 abbrev pub frame : List ℕ
 frame = 0x45 ∷ 0 ∷ 0 ∷ 29 ∷ 0 ∷ 1 ∷ 0x40 ∷ 0 ∷ 64 ∷ 17 ∷ 0 ∷ 0 ∷ 192 ∷ 0 ∷ 2 ∷ 1 ∷ 192 ∷ 0 ∷ 2 ∷ 2 ∷ datagram
 
@@ -147,7 +147,7 @@ is_read = inl (record {
 
 -- ---- a packet that is refused
 
--- the packet in a frame with one byte, with IP version 5
+-- the packet in a frame of one byte, with IP version 5
 abbrev pub rejected : Packet
 rejected = in_no_tunnel Unread (Refused (refusals.Ip (Version 5)))
 

@@ -14,11 +14,11 @@ ipv4_packet total flags protocol after =
 outer_of : ℕ → Outer
 outer_of protocol = record { addresses = Ipv4 (10 ∷ 0 ∷ 0 ∷ 3 ∷ []) (10 ∷ 0 ∷ 0 ∷ 4 ∷ []); protocol = protocol }
 
--- a packet without another packet in it
+-- a packet that contains no other packet
 inner : List ℕ
 inner = ipv4_packet 21 0 17 (7 ∷ [])
 
--- this packet in tunnels with these protocols
+-- `inner` in tunnels with these outer packets
 in_tunnels : List Outer → Nested
 in_tunnels outers = record { outers = outers; bytes = inner; is_cut = false }
 
@@ -26,17 +26,17 @@ no_tunnel : innermost false inner ≡ in_tunnels []
 unfolding nested_in headers_to_transport options_within ipv4_packet inner in_tunnels
 no_tunnel = refl
 
--- RFC 2003: a byte of padding after the outer packet
+-- IPv4 in IPv4 (RFC 2003), with a byte of padding after the outer packet
 ipv4_in_ipv4 : innermost false (ipv4_packet 41 0 4 (inner ++ 0 ∷ [])) ≡ in_tunnels (outer_of 4 ∷ [])
 unfolding nested_in headers_to_transport options_within ipv4_packet inner in_tunnels outer_of
 ipv4_in_ipv4 = refl
 
--- RFC 2784: no optional field
+-- IPv4 in GRE without an optional field (RFC 2784)
 in_gre : innermost false (ipv4_packet 45 0 47 (0 ∷ 0 ∷ 8 ∷ 0 ∷ inner)) ≡ in_tunnels (outer_of 47 ∷ [])
 unfolding nested_in headers_to_transport options_within ipv4_packet inner in_tunnels outer_of
 in_gre = refl
 
--- RFC 2890: a key
+-- IPv4 in GRE with a key (RFC 2890)
 in_gre_with_key : innermost false (ipv4_packet 49 0 47 (0x20 ∷ 0 ∷ 8 ∷ 0 ∷ 0 ∷ 0 ∷ 0 ∷ 42 ∷ inner)) ≡ in_tunnels (outer_of 47 ∷ [])
 unfolding nested_in headers_to_transport options_within ipv4_packet inner in_tunnels outer_of
 in_gre_with_key = refl
@@ -46,12 +46,12 @@ gre_in_ipv4 : innermost false (ipv4_packet 65 0 4 (ipv4_packet 45 0 47 (0 ∷ 0 
 unfolding nested_in headers_to_transport options_within ipv4_packet inner in_tunnels outer_of
 gre_in_ipv4 = refl
 
--- a first fragment
+-- a first fragment, whose packet is not read
 in_fragment : innermost false (ipv4_packet 41 0x20 4 inner) ≡ alone false (ipv4_packet 41 0x20 4 inner)
 unfolding nested_in headers_to_transport options_within ipv4_packet inner
 in_fragment = refl
 
--- RFC 2637: version 1
+-- GRE of version 1 (RFC 2637), whose packet is not read
 in_gre_of_version_1 : innermost false (ipv4_packet 45 0 47 (0 ∷ 1 ∷ 8 ∷ 0 ∷ inner)) ≡ alone false (ipv4_packet 45 0 47 (0 ∷ 1 ∷ 8 ∷ 0 ∷ inner))
 unfolding nested_in headers_to_transport options_within ipv4_packet inner
 in_gre_of_version_1 = refl

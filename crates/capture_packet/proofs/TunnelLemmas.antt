@@ -21,7 +21,7 @@ outer_of found = record { addresses = addresses.by_value found.addresses; protoc
 abbrev opened_in : Bool → TransportInIp → Option Opened
 opened_in is_cut found = opened_with (outer_of found) found.is_fragment (is_transport_cut_off is_cut found) found.payload.now
 
--- equal outer packets contain equal packets
+-- equal outer packets have equal tunnels
 same_opened : (outer other : Outer) (is_fragment is_other_fragment is_cut is_other_cut : Bool) (payload other_payload : List ℕ)
     → outer ≡ other → is_fragment ≡ is_other_fragment → is_cut ≡ is_other_cut → payload ≡ other_payload
     → opened_with outer is_fragment is_cut payload ≡ opened_with other is_other_fragment is_other_cut other_payload
@@ -29,7 +29,7 @@ same_opened outer other is_fragment is_other_fragment is_cut is_other_cut payloa
     ap (λ each. opened_with each is_fragment is_cut payload) outers ∙ ap (λ each. opened_with other each is_cut payload) fragments
     ∙ ap (λ each. opened_with other is_other_fragment each payload) cuts ∙ ap (opened_with other is_other_fragment is_other_cut) payloads
 
--- the tunnel in an outer packet with accepted headers, by its transport
+-- the tunnel in an outer packet with accepted headers, given its transport
 opened_is : (is_cut : Bool) (packet : List ℕ) (found : TransportInIp) → lax_refusal packet ≡ None → Carries packet found
     → found.is_length_missing ≡ lacks_len packet → opened is_cut packet ≡ opened_in is_cut found
 opened_is is_cut packet found accepted carries stated =
@@ -80,17 +80,17 @@ unfolding nested_in
 one_more more is_cut packet tunnel is =
     ap (λ tunnel. inside tunnel (λ tunnel. nested_in more tunnel.is_cut tunnel.bytes) (alone is_cut packet)) is
 
--- a packet in these tunnels, and in its own
+-- a packet in these tunnels and in its own tunnels
 abbrev pub around : List Outer → Nested → Nested
 around outers nested = record { outers = outers ++ nested.outers; bytes = nested.bytes; is_cut = nested.is_cut }
 
--- one more tunnel
+-- the tunnels around a packet after another tunnel is opened
 around_more : (outers : List Outer) (outer : Outer) (nested : Nested)
     → around outers (in_tunnel outer nested) ≡ around (outers ++ outer ∷ []) nested
 around_more outers outer nested =
     ap (λ outers. record { outers = outers; bytes = nested.bytes; is_cut = nested.is_cut }) (sym (append_assoc outers (outer ∷ []) nested.outers))
 
--- the tunnels so far, and the next tunnel
+-- the tunnels that were opened, and the next tunnel
 pub continues : (whole : Nested) (before after : List Tunnel) (next : Tunnel) (is_cut : Bool) (packet : List ℕ) (tunnel : Opened)
     → length before < max_tunnels → after ≡ before ++ next ∷ [] → tunnel.outer ≡ by_value next → opened is_cut packet ≡ Some tunnel
     → whole ≡ around (map by_value before) (nested_in (max_tunnels - length before) is_cut packet)

@@ -5,15 +5,15 @@ use Rattle.std.specs.Net.Text.{ipv4_text, ipv6_text}
 use Rattle.std.specs.declared.net.ip_addr.IpAddr.{IpAddr}
 use Rattle.ip_part.specs.Addresses.{Addresses, Ipv4, Ipv6}
 
--- an IPv4 address with these octets
+-- this is the IPv4 address with these octets
 abbrev pub IsIpv4Address : List ℕ → IpAddr → Type 0
 IsIpv4Address octets address = IsV4And address (λ ip. ipv4_octets ip ≡ octets)
 
--- an IPv6 address with these octets
+-- this is the IPv6 address with these octets
 abbrev pub IsIpv6Address : List ℕ → IpAddr → Type 0
 IsIpv6Address octets address = IsV6And address (λ ip. ipv6_segments ip ≡ segments_of octets)
 
--- the address of the sender
+-- this is the address of the sender
 abbrev pub IsSource : Addresses → IpAddr → Type 0
 IsSource (Ipv4 source destination) address = IsIpv4Address source address
 IsSource (Ipv6 source destination) address = IsIpv6Address source address
@@ -24,7 +24,7 @@ has_destination (Ipv4 source destination) = true
 has_destination (Ipv6 source (Some destination)) = true
 has_destination (Ipv6 source None) = false
 
--- the address of the final receiver, if it is known
+-- this is the address of the final receiver, or `None` if it is not known
 abbrev pub IsDestination : Addresses → Option IpAddr → Type 0
 IsDestination (Ipv4 source destination) (Some address) = IsIpv4Address destination address
 IsDestination (Ipv4 source destination) None = ⊥

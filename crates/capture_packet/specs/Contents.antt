@@ -20,16 +20,16 @@ use Rattle.capture_packet.specs.declared.transport.Transport.TheVariants as tran
 use Rattle.capture_packet.specs.Verdicts.{is_length_refused}
 use Rattle.capture_packet.specs.declared.verdict.Verdict.{Verdict}
 
--- the transport, or none if an error refuses it
+-- the transport, or `None` if an error refuses it
 abbrev pub unless_refused : Option HeaderSliceError → Option TransportSlice → Option TransportSlice
 unless_refused None transport = transport
 unless_refused (Some error) transport = None
 
--- the transport with a header that is read
+-- the transport of a packet, if its header is read
 abbrev pub read_in : TransportInIp → Option TransportSlice
 read_in found = unless_refused (refusal found) (kept found)
 
--- the protocols with ports
+-- this protocol has ports
 abbrev pub has_ports : Option Proto → Bool
 has_ports (Some protos.Udp) = true
 has_ports (Some protos.Tcp) = true
@@ -53,7 +53,7 @@ abbrev pub ports_at : Bool → Option Proto → List ℕ → Option (ℕ × ℕ)
 ports_at is_later_fragment proto bytes =
     if begins_with_ports_by is_later_fragment proto bytes then Some (be_number bytes 0 2, be_number bytes 2 2) else None
 
--- the ports of a transport
+-- the ports of a transport, if it begins with ports
 abbrev pub ports_in : TransportInIp → Option (ℕ × ℕ)
 ports_in found = ports_at found.is_later_fragment (proto_over (by_value found.addresses) found.protocol.0) found.payload.now
 
@@ -82,16 +82,16 @@ Shows bytes found verdict (Ip addresses protocol proto transport len) =
     × ((proto ≡ proto_over (by_value found.addresses) found.protocol.0)
     × (Holds found verdict transport × (len ≡ payload_len (counted_payload_len bytes found) transport))))
 
--- source and destination of an IP header
+-- the source and the destination in an IP header
 abbrev pub addresses_in : Fixed → Addresses
 addresses_in (fixed.Ipv4 source destination time_to_live protocol) = Ipv4 source destination
 addresses_in (fixed.Ipv6 source destination hop_limit next_header) = Ipv6 source (Some destination)
 
--- source and destination of the IP header at the front of a packet, if its fixed part is complete
+-- the source and the destination in the IP header at the front of a packet, if its fixed part is complete
 abbrev pub fixed_addresses : List ℕ → Option Addresses
 fixed_addresses packet = option_map addresses_in (fixed_header packet)
 
--- the content of an IP packet with refused headers: the addresses of its fixed header, if it is complete
+-- the content of an IP packet whose headers are refused: the addresses in the fixed part of its header, if that is complete
 abbrev pub ShowsRefused : List ℕ → Content → Type 0
 ShowsRefused packet Unread = fixed_addresses packet ≡ None
 ShowsRefused packet (IpHeader addresses) = fixed_addresses packet ≡ Some (by_value addresses)

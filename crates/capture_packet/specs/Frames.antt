@@ -27,11 +27,11 @@ max_packet_len = 524288
 
 -- ---- IP packets
 
--- the packet has this transport
+-- the packet has this transport: its content, and the verdict on its checksum
 abbrev pub IsInPacket : Bool → List ℕ → TransportInIp → Packet → Type 0
 IsInPacket is_cut bytes found packet = Shows bytes found packet.verdict packet.content × JudgesTransport is_cut found packet.verdict
 
--- the packet has a transport after its IP headers
+-- the IP headers of the packet are accepted, and a transport follows them
 pub record IsCarried (is_cut : Bool) (bytes : List ℕ) (packet : Packet) : Type 0 where
   pub found : TransportInIp
   pub carries : Carries bytes found
@@ -43,7 +43,7 @@ pub record IsCarried (is_cut : Bool) (bytes : List ℕ) (packet : Packet) : Type
 abbrev pub IsUnread : Bool → List ℕ → IpError → Packet → Type 0
 IsUnread is_cut_off bytes error packet = ShowsRefused bytes packet.content × (packet.verdict ≡ unread_verdict is_cut_off error)
 
--- An IP packet. Its headers are accepted or refused. A packet without an end or without a length is not refused for that.
+-- An IP packet. Its headers are accepted or refused. A packet that is cut off or states no length is not refused for that reason.
 abbrev pub IsIpPacket : Bool → List ℕ → Packet → Type 0
 IsIpPacket is_cut bytes packet = (packet.hop_limit ≡ hop_limit_of bytes)
     × MatchOption (lax_refusal bytes) (IsCarried is_cut bytes packet)
@@ -55,17 +55,17 @@ IsInTunnels nested packet = (map by_value packet.tunnels.items ≡ nested.outers
 
 -- ---- frames
 
--- Whether the capture cut the bytes after a link header. If the link header states where these bytes end, the frame contains all of them.
--- Then none was cut, even if the frame was cut after them.
+-- The capture cut bytes after a link header. If the link header states the end of these bytes, none of them was cut, even if the frame was
+-- cut after them.
 abbrev pub are_bytes_cut : Bool → Bool → Bool
 are_bytes_cut is_cut is_end_stated = is_cut && not is_end_stated
 
--- the packet in the frame: another protocol, or an IP packet, which is the innermost packet if there are tunnels
+-- the packet in the frame: another protocol, or an IP packet, or the innermost IP packet if there are tunnels
 abbrev pub IsInFrame : Bool → Frame → Packet → Type 0
 IsInFrame is_cut (Ip found) packet = IsInTunnels (innermost (are_bytes_cut is_cut found.is_end_stated) found.bytes.now) packet
 IsInFrame is_cut (Other protocol) packet = packet ≡ in_no_tunnel (NotIp protocol) (untested OtherProtocol)
 
--- the packet after a whole link header
+-- the packet in a frame that has a whole link header
 pub record IsAfterHeader (link_type : LinkType) (order : ByteOrder) (frame : List ℕ) (is_cut : Bool) (packet : Packet) : Type 0 where
   pub found : Frame
   pub after_header : IsFoundAfter (HasLinkHeader link_type order frame) frame found
@@ -76,14 +76,14 @@ abbrev pub link_verdict : Bool → LinkHeaderCutOff → Verdict
 link_verdict true error = untested CutOff
 link_verdict false error = Refused (refusals.Link error)
 
--- the result for a frame that ends within its link header
+-- the packet in a frame that ends within its link header
 pub record IsHeaderCutOff (link_type : LinkType) (order : ByteOrder) (frame : List ℕ) (is_cut : Bool) (packet : Packet) : Type 0 where
   pub error : LinkHeaderCutOff
   pub needs : NeedsLinkHeader link_type order frame error.required_len
   pub len : error.len ≡ length frame
   pub is : packet ≡ in_no_tunnel Unread (link_verdict is_cut error)
 
--- the packet in a frame; `is_cut` is true if the capture contains only the first bytes of the frame
+-- the packet that is read from a frame; `is_cut` is true if the capture contains only the first bytes of the frame
 abbrev pub IsRead : LinkType → ByteOrder → List ℕ → Bool → Packet → Type 0
 IsRead link_type order frame is_cut packet =
     IsAfterHeader link_type order frame is_cut packet ⊎ IsHeaderCutOff link_type order frame is_cut packet

@@ -4,6 +4,6 @@ use Rattle.capture_packet.specs.declared.content.Content.{Content}
 use Rattle.capture_packet.specs.declared.packet.Packet.{Packet}
 use Rattle.capture_packet.specs.declared.verdict.Verdict.{Verdict}
 
--- the packet with this content and this verdict, and without a hop limit
+-- a packet with this content and this verdict, without tunnels and without a hop limit
 abbrev pub in_no_tunnel : Content → Verdict → Packet
 in_no_tunnel content verdict = record { tunnels = record { items = [] }; content = content; verdict = verdict; hop_limit = None }

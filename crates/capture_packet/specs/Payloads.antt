@@ -10,7 +10,7 @@ use Rattle.transport_part.specs.declared.transport_slice.TransportSlice.TheVaria
 use Rattle.capture_packet.specs.declared.transport.Transport.{Transport}
 use Rattle.capture_packet.specs.declared.transport.Transport.TheVariants.{Ports, Read, Unread}
 
--- the bytes after the transport header, as far as they are present; if no transport header is read, the bytes after the IP headers
+-- the bytes after the transport header, or after the IP headers if no transport header is read, as far as they are present
 abbrev pub payload_in : Transport → List ℕ
 payload_in (Read transport) = payload_of transport
 payload_in (Ports source destination payload) = payload.now
@@ -20,12 +20,12 @@ payload_in (Unread payload) = payload.now
 abbrev pub counted_payload_len : List ℕ → TransportInIp → ℕ
 counted_payload_len packet found = counted_len found.is_length_missing packet - found.payload_offset
 
--- The length of a UDP datagram (RFC 768). It is the length field, if the field is at least 8 and at most the number of bytes that the IP
--- header counts. Otherwise it is that number of bytes.
+-- The length of a UDP datagram (RFC 768). If the length field is at least 8 and at most `counted_len`, it is the length field. Otherwise it
+-- is `counted_len`, the number of bytes after the IP headers that the IP header counts.
 abbrev pub datagram_len : ℕ → ℕ → ℕ
 datagram_len counted_len length = if nat_lt length 8 then counted_len else min counted_len length
 
--- the length of a transport with its header; the IP header counts this number of bytes after the IP headers
+-- the length of a transport with its header; `counted_len` is the number of bytes after the IP headers that the IP header counts
 abbrev pub transport_len : ℕ → TransportSlice → ℕ
 transport_len counted_len (Udp packet) = datagram_len counted_len (length_field packet)
 transport_len counted_len (Tcp segment) = counted_len

@@ -21,12 +21,12 @@ pub record Quoted : Type 0 where
   pub proto : Option Proto
   pub ports : Option (ℕ × ℕ)
 
--- the value of a quoted packet, wherever its bytes are stored
+-- the value of a quoted packet; where its bytes are stored does not matter
 abbrev pub by_value : QuotedPacket → Quoted
 by_value packet =
     record { addresses = addresses.by_value packet.addresses; protocol = packet.protocol.0; proto = packet.proto; ports = packet.ports }
 
--- the quoted packet with these addresses, this protocol number, and these bytes after its IP headers
+-- the quoted packet with these addresses and this protocol number; `bytes` follow its IP headers
 abbrev pub quoted_with : Addresses → ℕ → Bool → List ℕ → Quoted
 quoted_with between number is_later_fragment bytes = record {
   addresses = between;
@@ -39,18 +39,18 @@ quoted_with between number is_later_fragment bytes = record {
 abbrev pub quoted_by : TransportInIp → Quoted
 quoted_by found = quoted_with (addresses.by_value found.addresses) found.protocol.0 found.is_later_fragment found.payload.now
 
--- The quoted packet with these IP headers. None if the headers are refused. `bytes` are the bytes that the IP header counts.
+-- The quoted packet with these IP headers. `None` if the headers are refused. `bytes` are the bytes that the IP header counts.
 abbrev pub quoted_after : Result Headers IpError → List ℕ → Option Quoted
 quoted_after (Err error) bytes = None
 quoted_after (Ok headers) bytes =
     Some (quoted_with headers.addresses headers.protocol.0 headers.is_later_fragment (drop headers.len bytes))
 
--- The quoted packet with these IP headers. None if there is an error, which refuses the packet.
+-- The quoted packet with these IP headers. `None` if an error refuses the packet.
 abbrev pub quoted_unless : Option IpError → Result Headers IpError → List ℕ → Option Quoted
 quoted_unless (Some error) headers bytes = None
 quoted_unless None headers bytes = quoted_after headers bytes
 
--- The quoted packet at the front of these bytes. It may be cut off or state no length, like a packet of a capture. None if its IP headers
+-- The quoted packet at the front of these bytes. It may be cut off or state no length, like a packet of a capture. `None` if its IP headers
 -- are refused or cut off.
 abbrev pub quoted_at : List ℕ → Option Quoted
 quoted_at bytes = quoted_unless (lax_refusal bytes) (headers_of (lacks_len bytes) bytes) (counted (lacks_len bytes) bytes)

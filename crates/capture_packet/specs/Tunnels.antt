@@ -1,4 +1,4 @@
--- Tunnels: IP packets in IP packets (RFC 2003; RFC 4213, section 3; RFC 2473), also after a GRE header (RFC 2784).
+-- Tunnels: IP packets in IP packets (RFC 2003; RFC 4213, section 3; RFC 2473), with or without a GRE header between them (RFC 2784).
 use Rattle.std.specs.Prelude.{ℕ, zero, suc, ◌==◌, Bool, ◌&&◌, ◌||◌, nat_le, if◌then◌else◌, List, [], ◌∷◌, length, drop, Option, Some, None, Result, Ok, Err}
 use Rattle.std.specs.Option.{option_map}
 use Rattle.net_base.specs.IpHeaders.{version}
@@ -12,7 +12,7 @@ use Rattle.capture_packet.specs.declared.tunnel.Tunnel.{Tunnel}
 
 -- ---- the packet in a payload
 
--- the length of the fixed part of an IP header: 20 bytes of version 4 (RFC 791, section 3.1), or 40 bytes of version 6 (RFC 8200, section 3)
+-- the length of the fixed part of an IP header: 20 bytes in version 4 (RFC 791, section 3.1), 40 bytes in version 6 (RFC 8200, section 3)
 abbrev pub fixed_len : ℕ → ℕ
 fixed_len number = if number == 4 then 20 else 40
 
@@ -34,7 +34,7 @@ abbrev pub packet_after_gre : List ℕ → Option (List ℕ)
 packet_after_gre bytes =
     if gre.is_read bytes then packet_of_type (gre.protocol_type bytes) (drop (gre.header_len bytes) bytes) else None
 
--- The packet in a payload with this protocol number: 4 is IPv4 (RFC 2003, section 3.1), 41 is IPv6 (RFC 4213, section 3.5), and 47 is GRE
+-- The packet in a payload with this protocol number. 4 is IPv4 (RFC 2003, section 3.1), 41 is IPv6 (RFC 4213, section 3.5), and 47 is GRE
 -- (RFC 2784, section 5).
 abbrev pub packet_in : ℕ → List ℕ → Option (List ℕ)
 packet_in number payload =
@@ -54,11 +54,11 @@ pub record Outer : Type 0 where
   pub addresses : Addresses
   pub protocol : ℕ
 
--- the value of an outer packet, wherever its addresses are stored
+-- the value of an outer packet; where its addresses are stored does not matter
 abbrev pub by_value : Tunnel → Outer
 by_value tunnel = record { addresses = addresses.by_value tunnel.addresses; protocol = tunnel.protocol.0 }
 
--- one tunnel: its outer packet, the bytes of the inner packet, and whether the end of the outer packet is missing
+-- a tunnel: its outer packet, the bytes of the inner packet, and whether the end of the outer packet is missing
 pub record Opened : Type 0 where
   pub outer : Outer
   pub bytes : List ℕ
@@ -69,23 +69,23 @@ abbrev pub opened_with : Outer → Bool → Bool → List ℕ → Option Opened
 opened_with outer is_fragment is_cut payload =
     option_map (λ bytes. record { outer = outer; bytes = bytes; is_cut = is_cut }) (payload_packet is_fragment outer.protocol payload)
 
--- The end of an IP packet is missing. There are two cases. The header states a length, and fewer bytes are present. Or the header states no
--- length, and `is_cut` is true, since the capture or an outer packet is cut off.
+-- The end of an IP packet is missing. Either its header states a length, and fewer bytes are present. Or its header states no length, and
+-- `is_cut` is true, since the capture or an outer packet is cut off.
 abbrev pub is_end_missing : Bool → List ℕ → Bool
 is_end_missing is_cut packet = is_cut_off (lacks_len packet) packet || (is_cut && lacks_len packet)
 
--- the tunnel in an outer packet with these IP headers; if they are refused, there is no tunnel
+-- the tunnel in an outer packet with these IP headers; if they are refused, the packet contains no tunnel
 abbrev pub opened_after : Bool → List ℕ → Result Headers IpError → Option Opened
 opened_after is_cut packet (Err error) = None
 opened_after is_cut packet (Ok headers) = opened_with (record { addresses = headers.addresses; protocol = headers.protocol.0 })
     headers.is_fragment (is_end_missing is_cut packet) (drop headers.len (counted (lacks_len packet) packet))
 
--- the tunnel in an outer packet; if an error refuses the packet, there is no tunnel
+-- the tunnel in an outer packet; if this error refuses the packet, it contains no tunnel
 abbrev pub opened_unless : Option IpError → Bool → List ℕ → Option Opened
 opened_unless (Some error) is_cut packet = None
 opened_unless None is_cut packet = opened_after is_cut packet (headers_of (lacks_len packet) packet)
 
--- The tunnel in an IP packet. None if the packet contains no other IP packet, if it is a fragment, or if its IP headers are refused.
+-- The tunnel in an IP packet. `None` if the packet contains no other IP packet, if it is a fragment, or if its IP headers are refused.
 abbrev pub opened : Bool → List ℕ → Option Opened
 opened is_cut packet = opened_unless (lax_refusal packet) is_cut packet
 
@@ -101,16 +101,16 @@ pub record Nested : Type 0 where
 abbrev pub alone : Bool → List ℕ → Nested
 alone is_cut packet = record { outers = []; bytes = packet; is_cut = is_cut }
 
--- the same packet with one more outer packet, which is the outermost
+-- a packet in tunnels, after a tunnel around all of them is added
 abbrev pub in_tunnel : Outer → Nested → Nested
 in_tunnel outer nested = record { outers = outer ∷ nested.outers; bytes = nested.bytes; is_cut = nested.is_cut }
 
--- if there is a tunnel, the packet that `read` returns for it, and otherwise `outside`
+-- the packet in this tunnel, which `read` returns, or `outside` if there is no tunnel
 abbrev pub inside : Option Opened → (Opened → Nested) → Nested → Nested
 inside None read outside = outside
 inside (Some tunnel) read outside = in_tunnel tunnel.outer (read tunnel)
 
--- The innermost packet in an IP packet, after at most this number of tunnels. A further tunnel is not opened.
+-- The innermost packet in an IP packet, after at most this number of tunnels. A tunnel after these is not opened.
 unfoldable pub nested_in : ℕ → Bool → List ℕ → Nested
 nested_in zero is_cut packet = alone is_cut packet
 nested_in (suc more) is_cut packet =

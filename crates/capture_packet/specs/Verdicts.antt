@@ -22,11 +22,11 @@ use Rattle.capture_packet.specs.declared.refusal.Refusal.TheVariants as refusals
 use Rattle.capture_packet.specs.declared.verdict.Verdict.{Verdict}
 use Rattle.capture_packet.specs.declared.verdict.Verdict.TheVariants.{Checksum, LengthMissing, Refused, TooLong}
 
--- the checksum is not tested, for this reason
+-- the verdict that the checksum is not tested, for this reason
 abbrev pub untested : Untested → Verdict
 untested reason = Checksum (checksums.Untested reason)
 
--- the error of a UDP packet with a length field of 0: the field counts less than a header (RFC 768)
+-- the error for a UDP packet whose length field is 0, since the field counts less than a header (RFC 768)
 abbrev pub zero_length : Refusal
 zero_length = refusals.Transport Udp (Len (record {
   required_len = 8;
@@ -36,7 +36,7 @@ zero_length = refusals.Transport Udp (Len (record {
   layer_start_offset = 0;
 }))
 
--- the error of a packet whose checksum is not tested for this reason, if the reason is an error
+-- the error for a packet whose checksum is not tested for this reason, if the packet is malformed for this reason
 abbrev pub refusal_if_untested : Untested → Option Refusal
 refusal_if_untested ZeroLength = Some zero_length
 refusal_if_untested Fragment = None
@@ -63,27 +63,27 @@ refusal_of (Refused refusal) = Some refusal
 
 -- ---- the transport
 
--- the verdict is the verdict on the checksum of the transport
+-- the verdict of the report is the verdict on the checksum of this transport
 abbrev pub IsOnChecksum : TransportInIp → Verdict → Type 0
 IsOnChecksum found (Checksum verdict) = JudgesFound found verdict
 IsOnChecksum found LengthMissing = ⊥
 IsOnChecksum found (TooLong required_len) = ⊥
 IsOnChecksum found (Refused refusal) = ⊥
 
--- The verdict on an accepted transport of one of the four protocols. If the packet states no length, its checksum is not tested, since the
--- number of covered bytes is unknown. For a fragment the verdict is always `Fragment`.
+-- The verdict on an accepted transport of UDP, TCP or ICMP. If the packet states no length, its checksum is not tested, since the number of
+-- covered bytes is unknown. For a fragment the verdict is always `Fragment`.
 abbrev pub JudgesRead : TransportInIp → Verdict → Type 0
 JudgesRead found verdict =
     MatchBool (found.is_length_missing && not found.is_fragment) (verdict ≡ LengthMissing) (IsOnChecksum found verdict)
 
--- The verdict on an accepted transport. The checksum of any other protocol is not read. The verdict is then `OtherProtocol`, even for a
--- fragment, for a packet that is cut off, and for a packet without a length.
+-- The verdict on an accepted transport. The checksum of a protocol other than UDP, TCP and ICMP is not read. The verdict is then
+-- `OtherProtocol`, even for a fragment, for a packet that is cut off, and for a packet without a length.
 abbrev pub JudgesAccepted : TransportInIp → Verdict → Type 0
 JudgesAccepted found verdict =
     MatchOption (proto_over (by_value found.addresses) found.protocol.0) (verdict ≡ untested OtherProtocol) (λ proto. JudgesRead found verdict)
 
--- Only the first bytes of a transport are present. There are two cases. The IP header counts more bytes than are present. Or the IP header
--- states no length, so that the packet ends with its frame, and the capture cut the frame.
+-- Only the first bytes of a transport are present. Either the IP header counts more bytes than are present. Or the IP header states no
+-- length, so that the packet ends with its frame, and the capture cut the frame.
 abbrev pub is_transport_cut_off : Bool → TransportInIp → Bool
 is_transport_cut_off is_cut found = found.is_cut_off || (is_cut && found.is_length_missing)
 
@@ -93,7 +93,7 @@ refused true proto (Len error) = untested CutOff
 refused true proto (Content error) = Refused (refusals.Transport proto (Content error))
 refused false proto error = Refused (refusals.Transport proto error)
 
--- The verdict on the transport of an IP packet. Only a transport of one of the four protocols can be refused.
+-- The verdict on the transport of an IP packet. Only a transport of UDP, TCP or ICMP can be refused.
 abbrev pub JudgesTransport : Bool → TransportInIp → Verdict → Type 0
 JudgesTransport is_cut found verdict = MatchOption (transports.refusal found) (JudgesAccepted found verdict)
     (λ error. IfSome (transports.proto_in found) (λ proto. verdict ≡ refused (is_transport_cut_off is_cut found) proto error))
@@ -104,9 +104,8 @@ JudgesTransport is_cut found verdict = MatchOption (transports.refusal found) (J
 abbrev pub counts_no_payload : List ℕ → ℕ → ℕ → Bool
 counts_no_payload packet offset len = version packet == 6 && (offset == 40 && len == 0)
 
--- Only the first bytes of a packet are present. The error that refuses its headers shows this. There are two cases. The header counts more
--- bytes than are present, whether the capture cut the frame or not. Or the capture cut the frame, and the header is incomplete or states no
--- length.
+-- Only the first bytes of a packet are present, as the error that refuses its headers shows. Either the header counts more bytes than are
+-- present, whether the capture cut the frame or not. Or the capture cut the frame, and the header is incomplete or states no length.
 abbrev pub is_cut_off : Bool → List ℕ → Option IpError → Bool
 is_cut_off is_cut packet (Some (PacketCutOff required_len len)) = true
 is_cut_off is_cut packet (Some (HeaderCutOff required_len len)) = is_cut
@@ -120,7 +119,7 @@ is_cut_off is_cut packet (Some (JumboPayloadUnexpected payload_len)) = false
 is_cut_off is_cut packet (Some (JumboPayloadFragment offset)) = false
 is_cut_off is_cut packet None = false
 
--- The verdict on a packet with this error in its IP headers. If the packet is cut off and its headers are incomplete, the verdict is
+-- The verdict on a packet whose IP headers have this error. If the packet is cut off and its headers are incomplete, the verdict is
 -- `CutOff`.
 abbrev pub unread_verdict : Bool → IpError → Verdict
 unread_verdict true (HeaderCutOff required_len len) = untested CutOff

@@ -6,7 +6,7 @@ ghost use Rattle.capture_packet.specs.Addresses.{IsDestination, IsSource, destin
 use ip_part::IpAddresses;
 use std::net::IpAddr;
 
-/// The address of the sender.
+/// The address of the sender of a packet.
 pub fn source_of(addresses: IpAddresses<'_>) -> IpAddr
     ensures is { IsSource (by_value addresses.entry) result }
     ensures text { ip_text result ≡ source_text (by_value addresses.entry) }
@@ -17,7 +17,7 @@ pub fn source_of(addresses: IpAddresses<'_>) -> IpAddr
     }
 }
 
-/// The address of the final receiver, or `None` if it is not known.
+/// The address of the final receiver of a packet, or `None` if it is not known.
 pub fn destination_of(addresses: IpAddresses<'_>) -> Option<IpAddr>
     ensures known { is_some result ≡ has_destination (by_value addresses.entry) }
     ensures is { IsDestination (by_value addresses.entry) result }

@@ -3,14 +3,14 @@ use capture_link::NetworkProtocol;
 use ip_part::{IpAddresses, Proto};
 use net_base::IpNumber;
 
-/// The content of a packet, as far as it can be read.
+/// The part of a packet that can be read.
 #[derive(Debug, PartialEq, Eq, Drop)]
 pub enum Content<'a> {
-    /// Nothing is read. The record is too long, the link header is cut off, or the fixed part of the IP header is incomplete (20 bytes of
-    /// version 4, or 40 bytes of version 6).
+    /// Nothing is read. The packet does not fit in the buffer, the link header is cut off, or the fixed part of the IP header is incomplete
+    /// (20 bytes of version 4, or 40 bytes of version 6).
     Unread,
-    /// The IP headers of a packet are refused or cut off. But the fixed part of the IP header (20 bytes of version 4, or 40 bytes of
-    /// version 6) is present, and contains these addresses.
+    /// The IP headers of a packet are refused or cut off. The fixed part of the IP header (20 bytes of version 4, or 40 bytes of version 6)
+    /// is present, and contains these addresses.
     IpHeader(IpAddresses<'a>),
     /// The frame contains no IP packet.
     NotIp(NetworkProtocol),
@@ -20,14 +20,13 @@ pub enum Content<'a> {
         addresses: IpAddresses<'a>,
         /// The protocol number of the payload.
         protocol: IpNumber,
-        /// The protocol of the payload, if it is one of the four. A fragment also has a protocol.
+        /// The protocol of the payload, if it is UDP, TCP, or ICMP of the IP version. A fragment also has a protocol.
         proto: Option<Proto>,
-        /// The transport.
+        /// What is read of the transport.
         transport: Transport<'a>,
         /// The length of the payload, in bytes. The payload begins after the transport header, or after the IP headers if no transport
-        /// header is read. Its end follows from the IP header. In a UDP datagram it follows from the length field, if the field counts at
-        /// least a header (RFC 768). If no length is stated, the payload ends with the frame. If the packet is cut off, fewer bytes are
-        /// present.
+        /// header is read. The IP header states where the payload ends. In a UDP datagram the length field states it, if it counts at least
+        /// a header (RFC 768). If no length is stated, the payload ends with the frame. If the packet is cut off, fewer bytes are present.
         payload_len: usize,
     },
 }

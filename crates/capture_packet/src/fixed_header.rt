@@ -16,7 +16,7 @@ const IPV4_LEN: usize = Ipv4Header::MIN_LEN;
 /// The length of an IPv6 header, in bytes (RFC 8200, section 3).
 pub(crate) const IPV6_LEN: usize = Ipv6Header::LEN;
 
-/// Source and destination of an IP header.
+/// The source and the destination in an IP header.
 pub(crate) fn addresses_in(header: FixedHeader<'_>) -> IpAddresses<'_>
     ensures { by_value result ≡ specs.addresses_in (fixed_by_value header.entry) }
 {
@@ -40,7 +40,7 @@ pub(crate) fn addresses_in(header: FixedHeader<'_>) -> IpAddresses<'_>
     }
 }
 
-/// The hop limit of an IP header.
+/// The hop limit or time to live in an IP header.
 pub(crate) fn hop_limit_in(header: FixedHeader<'_>) -> HopLimit
     ensures { result ≡ hop_limits.hop_limit_in (fixed_by_value header.entry) }
 {
@@ -50,7 +50,7 @@ pub(crate) fn hop_limit_in(header: FixedHeader<'_>) -> HopLimit
     }
 }
 
-/// These bytes as an IPv4 packet. None if they do not begin with the fixed part of its header.
+/// These bytes as an IPv4 packet. `None` if they do not begin with the fixed part of an IPv4 header.
 pub(crate) fn ipv4_packet(bytes: &[u8]) -> Option<&[u8]>
     ensures { option_map (λ packet. packet.now) result ≡ packet_of_version 4 bytes.now }
 {
@@ -60,7 +60,7 @@ pub(crate) fn ipv4_packet(bytes: &[u8]) -> Option<&[u8]>
     Some(bytes)
 }
 
-/// These bytes as an IPv6 packet. None if they do not begin with its header.
+/// These bytes as an IPv6 packet. `None` if they do not begin with an IPv6 header.
 pub(crate) fn ipv6_packet(bytes: &[u8]) -> Option<&[u8]>
     ensures { option_map (λ packet. packet.now) result ≡ packet_of_version 6 bytes.now }
 {

@@ -14,13 +14,13 @@ const SHORTEST_LEN: usize = 4;
 /// The length of an optional field, in bytes.
 const FIELD_LEN: usize = 4;
 
-/// A checksum is present, and two reserved bytes after it (RFC 2784, section 2.2).
+/// The bit that is set if a checksum is present, and two reserved bytes after it (RFC 2784, section 2.2).
 const CHECKSUM: u16 = 0x8000;
 
-/// A key is present (RFC 2890, section 2.1).
+/// The bit that is set if a key is present (RFC 2890, section 2.1).
 const KEY: u16 = 0x2000;
 
-/// A sequence number is present (RFC 2890, section 2.2).
+/// The bit that is set if a sequence number is present (RFC 2890, section 2.2).
 const SEQUENCE_NUMBER: u16 = 0x1000;
 
 /// The bits that are 0 in each header that is read: the reserved bits that a receiver checks, and the version (RFC 2784, section 2.3).
@@ -32,7 +32,7 @@ const IPV4: u16 = ether_type::IPV4;
 /// The protocol type of IPv6 (RFC 7676, section 3.1).
 const IPV6: u16 = ether_type::IPV6;
 
-/// The IP packet after the GRE header at the front of these bytes. None if the header is cut off, has another version or a reserved bit
+/// The IP packet after the GRE header at the front of these bytes. `None` if the header is cut off, has another version or a reserved bit
 /// that a receiver refuses, or if another protocol follows.
 pub(crate) fn packet_after_gre(bytes: &[u8]) -> Option<&[u8]>
     ensures { option_map (λ packet. packet.now) result ≡ packet_after_gre bytes.now }
@@ -70,8 +70,8 @@ fn field_len(first_bits: u16, bit: u16) -> usize
     if first_bits & bit == 0 { 0 } else { FIELD_LEN }
 }
 
-/// These bytes as a packet of a protocol with this ether type. None if the protocol is not IP, or if the bytes do not begin with the fixed
-/// part of its header.
+/// These bytes as a packet of the protocol with this ether type. `None` if the protocol is not IP, or if the bytes do not begin with the
+/// fixed part of an IP header of this version.
 fn packet_of_type(ether_type: u16, bytes: &[u8]) -> Option<&[u8]>
     ensures { option_map (λ packet. packet.now) result ≡ packet_of_type ether_type bytes.now }
 {

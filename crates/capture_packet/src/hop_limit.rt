@@ -1,4 +1,4 @@
-/// How many more hops a packet may take, by the fixed part of its IP header.
+/// The number of further hops that a packet may take, read from the fixed part of its IP header.
 #[derive(Clone, Copy, Debug, PartialEq, Eq)]
 pub enum HopLimit {
     /// The time to live of an IPv4 packet: byte 8 of the header (RFC 791, section 3.1).

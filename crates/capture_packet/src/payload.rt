@@ -15,7 +15,7 @@ pub(crate) fn counted_payload_len(found: &TransportInIp<'_>) -> usize
     found.counted_len.saturating_sub(found.payload_offset)
 }
 
-/// The length of the payload of a transport. The IP header counts this number of bytes after the IP headers.
+/// The length of the payload of a transport. `counted_len` is the number of bytes after the IP headers that the IP header counts.
 pub(crate) fn payload_len(transport: &Transport<'_>, counted_len: usize) -> usize
     ensures { result ≡ specs.payload_len counted_len transport.now }
 {
@@ -39,7 +39,7 @@ fn transport_len(transport: &TransportSlice<'_>, counted_len: usize) -> usize
     }
 }
 
-/// The length of a UDP datagram by its length field (RFC 768).
+/// The length of a UDP datagram, as its length field states it (RFC 768).
 fn datagram_len(length: usize, counted_len: usize) -> usize
     ensures { result ≡ specs.datagram_len counted_len length }
 {

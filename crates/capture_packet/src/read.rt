@@ -23,17 +23,18 @@ use transport_part::Untested;
 pub const MAX_PACKET_LEN: usize = 524_288;
 
 /// The packet in a frame of this link type, as far as it can be read, and the verdict on its checksum. `order` is the byte order of the
-/// numbers in the capture. If `is_cut` is true, the capture contains only the first bytes of the frame.
+/// capture. If `is_cut` is true, the capture contains only the first bytes of the frame.
 ///
 /// A packet is cut off if its IP header counts more bytes than are present, whatever the capture states about its frame. It is also cut off
 /// if its IP header is incomplete in a frame with `is_cut`. A packet that is cut off is not refused for an incomplete header. Its checksum
 /// is not tested. A frame may contain padding after its packet. If only the padding was cut, the packet is whole. Bytes after the payload
 /// of PPPoE do not count as present. If the frame contains that payload, the packet is read as in a frame without `is_cut`.
 ///
-/// If an IP packet contains another IP packet, the inner packet is read, and the outer packet is one of `tunnels`. An IPv4 packet follows an
-/// IP header with protocol 4 (RFC 2003), and an IPv6 packet follows protocol 41 (RFC 4213, section 3.5; RFC 2473). Protocol 47 is GRE,
-/// version 0, with IPv4 or IPv6 after it, and with or without a checksum, a key and a sequence number (RFC 2784; RFC 2890). The checksum of
-/// GRE is not checked. The inner packet is not read, and the payload of the outer packet is of another protocol, if one of these is true:
+/// If an IP packet contains another IP packet, the inner packet is read, and the outer packet is one of `tunnels`. An IPv4 packet follows
+/// an IP header with protocol 4 (RFC 2003), and an IPv6 packet follows protocol 41 (RFC 4213, section 3.5; RFC 2473). Protocol 47 is GRE,
+/// version 0, followed by IPv4 or IPv6. The GRE header may contain a checksum, a key and a sequence number (RFC 2784; RFC 2890). The
+/// checksum of GRE is not checked. If one of these statements is true, the inner packet is not read, and the payload of the outer packet
+/// counts as another protocol:
 /// - The outer packet is a fragment.
 /// - The fixed part of the inner IP header, 20 bytes of version 4 or 40 bytes of version 6, is not present.
 /// - A GRE header has another version, another protocol, or one of the reserved bits that a receiver refuses (RFC 2784, section 2.3).
@@ -61,14 +62,14 @@ pub fn read_packet<'a>(
     }
 }
 
-/// Whether the capture cut the bytes after a link header. It cut none of them if the link header states their end.
+/// Whether the capture cut the bytes after a link header. If the link header states the end of these bytes, none of them was cut.
 fn are_bytes_cut(is_cut: bool, is_end_stated: bool) -> bool
     ensures { result ≡ are_bytes_cut is_cut is_end_stated }
 {
     is_cut && !is_end_stated
 }
 
-/// The verdict on a frame that ends within its link header. The packet is refused, unless the capture cut the frame.
+/// The verdict on a frame that ends within its link header. The frame is refused, unless the capture cut it.
 fn link_verdict(error: LinkHeaderCutOff, is_cut: bool) -> Verdict
     ensures { result ≡ link_verdict is_cut error }
 {
@@ -79,8 +80,8 @@ fn link_verdict(error: LinkHeaderCutOff, is_cut: bool) -> Verdict
     }
 }
 
-/// Reads the IP packet at the front of these bytes, or the innermost packet in its tunnels. If `is_cut` is true, the capture contains only
-/// the first bytes of its frame.
+/// Reads the IP packet at the front of these bytes, or the innermost packet in its tunnels. If `is_cut` is true, the capture cut the frame
+/// of the packet.
 fn read_ip_packet<'a>(packet: &'a [u8], is_cut: bool) -> Packet<'a>
     ensures { IsInTunnels (innermost is_cut packet.now) result }
 {
@@ -104,7 +105,7 @@ fn read_ip_packet<'a>(packet: &'a [u8], is_cut: bool) -> Packet<'a>
     }
 }
 
-/// The packet in an outer packet, if there is one and `tunnels` has room for one more tunnel.
+/// The packet in an outer packet. `None` if there is no inner packet, or if `tunnels` has no room for another tunnel.
 fn next_packet<'a>(tunnels: &Tunnels<'_>, outer: &TransportInIp<'a>) -> Option<&'a [u8]>
     ensures full { array_vec_len tunnels.now ≡ max_tunnels → result ≡ None }
     ensures room { array_vec_len tunnels.now < max_tunnels → option_map (λ packet. packet.now) result
@@ -116,8 +117,8 @@ fn next_packet<'a>(tunnels: &Tunnels<'_>, outer: &TransportInIp<'a>) -> Option<&
     packet_in_payload(outer)
 }
 
-/// Whether a packet with refused headers is cut off. There are two cases. The header counts more bytes than are present. Or the capture cut
-/// the frame, and the header is incomplete or states no length.
+/// Whether a packet with refused headers is cut off. Either its header counts more bytes than are present. Or the capture cut the frame,
+/// and the header is incomplete or states no length.
 fn is_cut_off(packet: &[u8], is_cut: bool) -> bool
     ensures { result ≡ specs.is_cut_off is_cut packet.now (refusal packet.now) }
 {
@@ -140,14 +141,14 @@ fn is_cut_off(packet: &[u8], is_cut: bool) -> bool
 }
 
 /// Whether the payload length of an IPv6 packet is 0, so that no byte of its first extension header is counted. `len` is the number of
-/// counted bytes from `offset` on.
+/// counted bytes that begin at `offset`.
 fn counts_no_payload(packet: &[u8], offset: usize, len: usize) -> bool
     ensures { result ≡ specs.counts_no_payload packet.now offset len }
 {
     !packet.is_empty() && packet[0] >> 4 == 6 && offset == IPV6_LEN && len == 0
 }
 
-/// An IP packet in these tunnels, with this transport.
+/// An IP packet in these tunnels that carries this transport.
 fn carried<'a>(
     tunnels: Tunnels<'a>,
     packet: &'a [u8],
@@ -177,7 +178,7 @@ fn carried<'a>(
     }
 }
 
-/// An IP packet in these tunnels, with refused headers.
+/// An IP packet in these tunnels whose headers are refused.
 fn unread<'a>(
     tunnels: Tunnels<'a>,
     packet: &'a [u8],
@@ -203,7 +204,7 @@ fn unread<'a>(
     }
 }
 
-/// The verdict on an IP packet with this error in its headers. If the packet is cut off and its headers are incomplete, the verdict is
+/// The verdict on an IP packet whose headers have this error. If the packet is cut off and its headers are incomplete, the verdict is
 /// `CutOff`.
 fn unread_verdict(error: IpError, is_cut_off: bool) -> Verdict
     ensures { result ≡ specs.unread_verdict is_cut_off error }

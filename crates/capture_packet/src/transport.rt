@@ -17,7 +17,7 @@ use transport_part::{TransportSlice, Untested};
 /// The transport of an IP packet.
 #[derive(Debug, PartialEq, Eq, Drop)]
 pub enum Transport<'a> {
-    /// A transport with a header that is read.
+    /// A transport whose header is read.
     Read(TransportSlice<'a>),
     /// Only the ports of a UDP or TCP header are read (RFC 768; RFC 9293, section 3.1). The header is refused or incomplete, its length
     /// field is refused, or the packet is the first fragment.
@@ -29,8 +29,8 @@ pub enum Transport<'a> {
         /// The bytes after the IP headers.
         payload: &'a [u8],
     },
-    /// The bytes after the IP headers. Neither a header nor ports are read: the protocol is another one, fewer than four bytes are present,
-    /// or the packet is a later fragment.
+    /// The bytes after the IP headers. No header and no ports are read: the protocol is another one, fewer than four bytes are present, or
+    /// the packet is a later fragment.
     Unread(&'a [u8]),
 }
 
@@ -51,7 +51,7 @@ impl<'a> Transport<'a> {
         }
     }
 
-    /// The packet that an ICMP error quotes, as `QuotedPacket` describes it. None for any other transport, and if the IP headers of the
+    /// The packet that an ICMP error quotes, as `QuotedPacket` describes it. `None` for any other transport, or if the IP headers of the
     /// quoted packet are refused or cut off.
     pub fn quoted_packet(&self) -> Option<QuotedPacket<'a>>
         ensures { option_map quoted_by_value result ≡ quoted_in self.now }
@@ -66,8 +66,8 @@ impl<'a> Transport<'a> {
 /// The length of the ports at the front of a UDP or TCP header, in bytes (RFC 768; RFC 9293, section 3.1).
 const PORTS_LEN: usize = 4;
 
-/// The transport of an IP packet, as far as its header is read, and the verdict on it. If `is_cut` is true, the capture contains only the
-/// first bytes of the frame.
+/// The transport of an IP packet, as far as its header is read, and the verdict on its checksum. If `is_cut` is true, the capture cut the
+/// frame of the packet.
 #[inline(always)]
 pub(crate) fn read_transport<'a>(
     found: &TransportInIp<'a>,
@@ -89,8 +89,8 @@ pub(crate) fn read_transport<'a>(
     }
 }
 
-/// The verdict on the checksum of a transport with a header that is read. It is not tested if bytes are missing, since the checksum covers
-/// all bytes.
+/// The verdict on the checksum of a transport whose header is read. The checksum is not tested if bytes are missing, since it covers all
+/// bytes.
 #[inline(always)]
 fn tested(found: &TransportInIp<'_>, transport: &TransportSlice<'_>) -> Verdict
     requires { kept found.now ≡ Some transport.now }
@@ -105,7 +105,7 @@ fn tested(found: &TransportInIp<'_>, transport: &TransportSlice<'_>) -> Verdict
     Verdict::Checksum(transport.checksum_verdict(found.addresses))
 }
 
-/// The verdict on a packet without a transport that is read: a fragment of one of the four protocols, or any packet of another protocol.
+/// The verdict on a packet whose transport is not read: a fragment of UDP, TCP or ICMP, or a packet of another protocol.
 fn untested(found: &TransportInIp<'_>) -> Verdict
     requires { kept found.now ≡ None }
     ensures { JudgesAccepted found.now result }
@@ -117,7 +117,7 @@ fn untested(found: &TransportInIp<'_>) -> Verdict
     }
 }
 
-/// A transport with a header that is not read, and its ports if they are present.
+/// A transport whose header is not read, and its ports if they are present.
 fn unread_transport<'a>(found: &TransportInIp<'a>) -> Transport<'a>
     ensures { (verdict : _) → LacksHeader found.now verdict → Holds found.now verdict result }
 {
@@ -131,7 +131,7 @@ fn unread_transport<'a>(found: &TransportInIp<'a>) -> Transport<'a>
     }
 }
 
-/// The ports of source and destination at the front of the bytes after the IP headers, if these bytes begin with ports.
+/// The source port and the destination port at the front of the bytes after the IP headers. `None` if these bytes do not begin with ports.
 pub fn ports_in(found: &TransportInIp<'_>) -> Option<(u16, u16)>
     ensures { result ≡ contents.ports_in found.now }
 {
@@ -144,7 +144,7 @@ pub fn ports_in(found: &TransportInIp<'_>) -> Option<(u16, u16)>
     Some((source, destination))
 }
 
-/// Whether a transport is of a protocol with ports.
+/// Whether the protocol of a transport has ports.
 fn has_ports(found: &TransportInIp<'_>) -> bool
     ensures { result ≡ contents.has_ports (proto_over (by_value found.now.addresses) found.now.protocol.0) }
 {

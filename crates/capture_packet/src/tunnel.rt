@@ -26,7 +26,7 @@ pub struct Tunnel<'a> {
     pub protocol: IpNumber,
 }
 
-/// Zeros. An `ArrayVec` holds this value in its unused places.
+/// A tunnel in which every number is 0. The unused places of an `ArrayVec` contain this value.
 impl<'a> Default for Tunnel<'a> {
     ghost is_default = { λ tunnel. tunnel.protocol.0 ≡ 0 };
 
@@ -50,8 +50,8 @@ const IPV6: u8 = 41;
 /// The protocol number of GRE (RFC 2784, section 5).
 const GRE: u8 = 47;
 
-/// The packet in an outer packet. None if the outer packet is a fragment, if its protocol is not a tunnel, or if its payload does not
-/// contain the fixed part of an inner IP header.
+/// The inner packet in an outer packet. `None` if the outer packet is a fragment, if its protocol is not a tunnel, or if its payload does
+/// not contain the fixed part of an inner IP header.
 pub(crate) fn packet_in_payload<'a>(outer: &TransportInIp<'a>) -> Option<&'a [u8]>
     ensures { option_map (λ packet. packet.now) result ≡ payload_packet outer.now.is_fragment outer.now.protocol.0 outer.now.payload.now }
 {

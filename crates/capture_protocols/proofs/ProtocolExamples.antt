@@ -14,18 +14,18 @@ ospf = refl
 udp : ip_protocol_name 17 (Some protos.Udp) ≡ Some (codes "UDP")
 udp = refl
 
--- ICMPv4 in IPv6
+-- ICMPv4 over IPv6 has no name
 icmpv4_over_ipv6 : ip_protocol_name 1 None ≡ None
 icmpv4_over_ipv6 = refl
 
--- not assigned
+-- protocol 200, which is not assigned, has no name
 protocol_200 : ip_protocol_name 200 None ≡ None
 protocol_200 = refl
 
 lldp : network_protocol_name (EtherType 0x88CC) ≡ Some (codes "LLDP")
 lldp = refl
 
--- Wake-on-LAN, which has no row
+-- Wake-on-LAN has no name
 wake_on_lan : network_protocol_name (EtherType 0x0842) ≡ None
 wake_on_lan = refl
 

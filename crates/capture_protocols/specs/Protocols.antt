@@ -37,27 +37,27 @@ ppp_protocols =
 abbrev pub nlpids : List (ℕ × Protocol)
 nlpids = (0x81, Clnp) ∷ (0x82, EsIs) ∷ (0x83, IsIs) ∷ []
 
--- the protocol of this number, if the list has it
+-- the protocol with this number, or `None` if the list does not contain it
 abbrev pub protocol_in : List (ℕ × Protocol) → ℕ → Option Protocol
 protocol_in protocols number = lookup (λ known. number == known) protocols
 
--- a transport protocol
+-- the row of a transport protocol
 abbrev pub protocol_of : Proto → Protocol
 protocol_of protos.Udp = Udp
 protocol_of protos.Tcp = Tcp
 protocol_of protos.Icmpv4 = Icmpv4
 protocol_of protos.Icmpv6 = Icmpv6
 
--- a protocol over IP: a transport protocol, or another one in the list
+-- the row of a protocol over IP: a transport protocol, or another protocol in the list; `None` if it has no row of its own
 abbrev pub ip_protocol : ℕ → Option Proto → Option Protocol
 ip_protocol number (Some proto) = Some (protocol_of proto)
 ip_protocol number None = protocol_in ip_protocols number
 
--- the spanning tree protocol, with the service access point 42 on both sides (IEEE 802.1D, clause 7.12.3)
+-- the spanning tree protocol, with the service access point 0x42 on both sides (IEEE 802.1D, clause 7.12.3)
 abbrev pub llc_protocol : ℕ → ℕ → Option Protocol
 llc_protocol dsap ssap = if dsap == 0x42 && ssap == 0x42 then Some Stp else None
 
--- the protocol of a frame without an IP packet, if its number has a name
+-- the row of the protocol of a frame without an IP packet, or `None` if it has no row of its own
 abbrev pub network_protocol : NetworkProtocol → Option Protocol
 network_protocol (EtherType number) = protocol_in ether_types number
 network_protocol (AddressFamily number) = None
@@ -70,7 +70,7 @@ network_protocol (PppProtocol number) = protocol_in ppp_protocols number
 network_protocol (FrameRelay header) = None
 network_protocol (Nlpid number) = protocol_in nlpids number
 
--- the row of a packet
+-- the row of a packet with this content
 abbrev pub content_protocol : Content → Protocol
 content_protocol contents.Unread = Unknown
 content_protocol (contents.IpHeader addresses) = Unknown
@@ -199,10 +199,10 @@ protocol_word Unknown = codes "unknown"
 
 -- ---- names
 
--- the name of a protocol over IP, if it has a name
+-- the name of a protocol over IP, or `None` if it has no name
 abbrev pub ip_protocol_name : ℕ → Option Proto → Option (List ℕ)
 ip_protocol_name number proto = option_map protocol_word (ip_protocol number proto)
 
--- the name of the protocol of a frame without an IP packet, if its number has a name
+-- the name of the protocol of a frame without an IP packet, or `None` if its number has no name
 abbrev pub network_protocol_name : NetworkProtocol → Option (List ℕ)
 network_protocol_name protocol = option_map protocol_word (network_protocol protocol)

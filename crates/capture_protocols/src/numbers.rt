@@ -1,4 +1,4 @@
-//! The protocols of numbers in headers.
+//! The protocols that numbers in headers identify.
 
 ghost use Rattle.std.specs.Prelude.{◌≡◌};
 ghost use Rattle.std.specs.Option.{option_map};
@@ -13,22 +13,22 @@ use net_base::IpNumber;
 /// The service access point of the spanning tree protocol (IEEE 802.1D, clause 7.12.3).
 const STP: u8 = 0x42;
 
-/// The name of a protocol over IP, if it has a name: UDP, TCP and ICMP of the right IP version, and other protocols in the registry
-/// "Protocol Numbers" of IANA.
+/// The name of a protocol over IP, or `None` if it has no name. UDP, TCP and ICMP of the right IP version have names, and some other
+/// protocols in the registry "Protocol Numbers" of IANA.
 pub fn ip_protocol_name(protocol: IpNumber, proto: Option<Proto>) -> Option<&'static str>
     ensures { option_map (λ name. name.now) result ≡ specs.ip_protocol_name protocol.0 proto }
 {
     Some(ip_protocol(protocol, proto)?.name())
 }
 
-/// The name of the protocol of a frame without an IP packet, if its number has a name.
+/// The name of the protocol of a frame without an IP packet, or `None` if its number has no name.
 pub fn network_protocol_name(protocol: NetworkProtocol) -> Option<&'static str>
     ensures { option_map (λ name. name.now) result ≡ specs.network_protocol_name protocol }
 {
     Some(network_protocol(protocol)?.name())
 }
 
-/// A protocol over IP, if it has a row of its own.
+/// The row of a protocol over IP, or `None` if it has no row of its own.
 pub(crate) fn ip_protocol(protocol: IpNumber, proto: Option<Proto>) -> Option<Protocol>
     ensures { result ≡ specs.ip_protocol protocol.0 proto }
 {
@@ -38,7 +38,7 @@ pub(crate) fn ip_protocol(protocol: IpNumber, proto: Option<Proto>) -> Option<Pr
     }
 }
 
-/// The protocol of a frame without an IP packet, if it has a row of its own.
+/// The row of the protocol of a frame without an IP packet, or `None` if it has no row of its own.
 pub(crate) fn network_protocol(protocol: NetworkProtocol) -> Option<Protocol>
     ensures { result ≡ specs.network_protocol protocol }
 {
@@ -56,7 +56,7 @@ pub(crate) fn network_protocol(protocol: NetworkProtocol) -> Option<Protocol>
     }
 }
 
-/// A protocol over IP (the registry "Protocol Numbers" of IANA).
+/// The protocol with this number in the list of protocols over IP (the registry "Protocol Numbers" of IANA).
 fn other_over_ip(number: u8) -> Option<Protocol>
     ensures { result ≡ protocol_in ip_protocols number }
 {
@@ -84,7 +84,7 @@ fn other_over_ip(number: u8) -> Option<Protocol>
     }
 }
 
-/// A protocol with this ether type (the registry "IEEE 802 Numbers" of IANA, and the registry of IEEE).
+/// The protocol with this ether type (the registry "IEEE 802 Numbers" of IANA, and the registry of IEEE).
 fn by_ether_type(number: u16) -> Option<Protocol>
     ensures { result ≡ protocol_in ether_types number }
 {
@@ -107,7 +107,7 @@ fn by_ether_type(number: u16) -> Option<Protocol>
     }
 }
 
-/// A protocol with this number in PPP (the registry "PPP Numbers" of IANA).
+/// The protocol with this number in PPP (the registry "PPP Numbers" of IANA).
 fn over_ppp(number: u16) -> Option<Protocol>
     ensures { result ≡ protocol_in ppp_protocols number }
 {
@@ -124,7 +124,7 @@ fn over_ppp(number: u16) -> Option<Protocol>
     }
 }
 
-/// A protocol with this network layer protocol ID (ISO/IEC TR 9577).
+/// The protocol with this network layer protocol ID (ISO/IEC TR 9577).
 fn by_nlpid(number: u8) -> Option<Protocol>
     ensures { result ≡ protocol_in nlpids number }
 {
@@ -136,7 +136,7 @@ fn by_nlpid(number: u8) -> Option<Protocol>
     }
 }
 
-/// A protocol with these service access points in an LLC header.
+/// The protocol with these service access points in an LLC header.
 fn by_access_points(dsap: u8, ssap: u8) -> Option<Protocol>
     ensures { result ≡ specs.llc_protocol dsap ssap }
 {

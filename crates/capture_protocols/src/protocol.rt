@@ -200,7 +200,7 @@ impl Protocol {
         }
     }
 
-    /// The row of a transport protocol.
+    /// Returns the row of a transport protocol.
     pub fn of_proto(proto: Proto) -> Protocol
         ensures { result ≡ protocol_of proto }
     {

@@ -1,10 +1,10 @@
--- For the lines after the packets that are written.
+-- Laws of the lines that follow the packets that are written.
 use Rattle.std.proofs.Common.{◌≡◌, ◌∙◌, ℕ, List, [], ◌∷◌, ◌++◌, Err, IsErr, IsOk, Ok, Option, Result, ap, arith, refl, subst}
 use Rattle.std.proofs.KnownBytes.{Appends-nil}
 use Rattle.capture_request.proofs.LineLemmas.{writes-more, writes-weaker}
 use Rattle.capture_request.specs.ErrorLines.{IsOneLine, WritesLines, WritesSome}
 
--- a result is no error
+-- a result is not both an error and a success
 pub not_both : {T E : Type 0} (result : Result T E) → IsErr result → IsOk result → ⊥
 not_both (Ok done) fails ok = absurd (grind (arith, fails))
 not_both (Err error) fails ok = absurd (grind (arith, ok))
@@ -15,17 +15,17 @@ pub writes_weaker : (a b : Option (List ℕ)) (AreWhole Stronger : Type 0) (AreL
 writes_weaker a b AreWhole Stronger AreLines weaker (lines, are, writes) =
     (lines, are, writes-weaker a b AreWhole Stronger lines weaker writes)
 
--- the same lines, and then one more
+-- lines for which `AreLines` holds, followed by this line
 abbrev AreFollowedBy : List ℕ → (List (List ℕ) → Type 0) → List (List ℕ) → Type 0
 AreFollowedBy line AreLines all = (lines : List (List ℕ)) × AreLines lines × (all ≡ lines ++ line ∷ [])
 
--- one more line was written
+-- the lines after another line was written
 one_more : (a b c : Option (List ℕ)) (First Second Both : Type 0) (AreLines : List (List ℕ) → Type 0) (line : List ℕ) → (Both → First)
     → (Both → Second) → WritesSome a b First AreLines → WritesLines b c Second (line ∷ []) → WritesSome a c Both (AreFollowedBy line AreLines)
 one_more a b c First Second Both AreLines line to_first to_second (lines, are, first) second =
     (lines ++ line ∷ [], (lines, are, refl), writes-more a b c First Second Both lines (line ∷ []) to_first to_second first second)
 
--- the same of a line that is this line
+-- the lines after another line was written, which is equal to this line
 pub writes_more : (a b c : Option (List ℕ)) (First Second Both : Type 0) (AreLines : List (List ℕ) → Type 0) (line : List ℕ) → (Both → First)
     → (Both → Second) → WritesSome a b First AreLines → WritesSome b c Second (IsOneLine (λ one. one ≡ line))
     → WritesSome a c Both (AreFollowedBy line AreLines)
@@ -33,7 +33,7 @@ writes_more a b c First Second Both AreLines line to_first to_second first (more
     one_more a b c First Second Both AreLines line to_first to_second first
     (subst (λ lines. WritesLines b c Second lines) (single ∙ ap (λ text. text ∷ []) is) second)
 
--- one more line was not written
+-- the lines after another line was not written
 pub lacks_more : (a b : Option (List ℕ)) (First Both : Type 0) (AreLines : List (List ℕ) → Type 0) (line : List ℕ) → (Both → ⊥)
     → WritesSome a b First AreLines → WritesSome a b Both (AreFollowedBy line AreLines)
 lacks_more a b First Both AreLines line never first =

@@ -63,8 +63,7 @@ no_counts = record { read = 0; chosen = 0; written = 0 }
 
 -- The packets of a capture that have a line in a report with these options were written, up to the end of the capture or an error. Then the
 -- output was flushed. At least a beginning of the lines for standard error was written, and all of them if the result is no error. `name`
--- is the name of the capture in these lines. If the result is an error, it may be the error of writing a packet, and then nothing is stated
--- of the output.
+-- is the name of the capture in these lines. If the result is the error of writing a packet, nothing is stated about the output.
 pub record WritesSelection (options : Parts) (name left still_left held now_held told now_told : Option (List ℕ)) (result : Result ℕ Error) : Type 0 where
   pub ended : Result Reached SelectionError
   pub counts : Counts

@@ -22,15 +22,15 @@ next_of progress = progress.next
 abbrev pub is_written : {R : Type 0} → Progress R → Bool
 is_written progress = progress.is_written
 
--- The line is shown for a file of more than 100 MB if standard error is a terminal, and no other output is written to the terminal while
--- the file is read.
+-- The progress line is shown for a file of more than 100 MB if standard error is a terminal, and no other output is written to the terminal
+-- while the file is read.
 abbrev pub is_shown : ℕ → Bool → Bool → Bool
 is_shown len stderr_is_terminal lines_on_terminal = nat_lt 100000000 len && (stderr_is_terminal && not lines_on_terminal)
 
--- the whole percent of a length that was read, at most 100
+-- the percentage of the length that was read, as a whole number, at most 100
 abbrev pub percent_of : ℕ → ℕ → ℕ
 percent_of read len = if nat_le len read then 100 else read * 100 / len
 
--- the number of bytes of each percent, rounded up to the next whole number
+-- the number of bytes after which the percentage is shown again: the next whole number above a hundredth of the length
 abbrev pub step_of : ℕ → ℕ
 step_of len = len / 100 + 1

@@ -1,4 +1,4 @@
-//! The source of captures.
+//! The input from which a capture is read.
 
 ghost use Rattle.std.specs.Prelude.{◌≡◌, IfOk};
 ghost use Rattle.capture_report.specs.Inputs.{IsFileLen, IsRequestedBy, is_escaped};
@@ -67,7 +67,7 @@ impl Input {
     }
 }
 
-/// The number of a device and of a file on it, which together identify the file.
+/// The number of a device, and the number of a file on it. Together they identify the file.
 #[derive(Clone, Copy)]
 pub struct FileId {
     /// The number of the device that contains the file.

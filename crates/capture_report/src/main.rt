@@ -177,7 +177,7 @@ fn unopened<E: Write>(
 }
 
 /// Writes the packets of a capture, and then writes their numbers to standard error. Returns the exit status. If the capture has a name,
-/// errors contain it.
+/// errors contain the name.
 fn write_packets<W: Write + Drop>(
     rt: &HostRuntime,
     parts: &Parts,
@@ -194,7 +194,7 @@ fn write_packets<W: Write + Drop>(
 }
 
 /// Writes the packets of a capture to the output, and then writes their numbers to `errors`. Returns the exit status. If the capture can't
-/// be read to its end, the error is written before the numbers. If the capture has a name, errors contain it.
+/// be read to its end, the error is written before the numbers. If the capture has a name, errors contain the name.
 ///
 /// # Errors
 ///
@@ -234,7 +234,7 @@ struct Written {
 }
 
 /// Writes the error of a capture if there is one, and then the numbers of packets. Returns the exit status. The numbers are left out if the
-/// output could not be flushed. If the capture has a name, the error contains it.
+/// output could not be flushed. If the capture has a name, the error contains the name.
 fn finished<E: Write>(
     errors: &mut E,
     alloc: Global,
@@ -253,7 +253,7 @@ fn finished<E: Write>(
     Ok(status.number())
 }
 
-/// Writes the error of a capture if there is one, and returns the exit status. If the capture has a name, the error contains it.
+/// Writes the error of a capture if there is one, and returns the exit status. If the capture has a name, the error contains the name.
 fn written_status<E: Write>(
     errors: &mut E,
     alloc: Global,
@@ -314,7 +314,7 @@ fn with_progress(rt: &HostRuntime, input: Input, lines_on_terminal: bool) -> Pro
     Progress::new(input, len, shown, rt.stderr())
 }
 
-/// The files of the computer, and standard input.
+/// The source of captures: the files of the computer, and standard input.
 #[derive(Drop)]
 struct Files<'a> {
     rt: &'a HostRuntime,

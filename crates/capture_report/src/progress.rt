@@ -37,7 +37,7 @@ pub fn is_shown(len: u64, stderr_is_terminal: bool, lines_on_terminal: bool) -> 
     len > LONG && stderr_is_terminal && !lines_on_terminal
 }
 
-/// The whole percent of a length that was read. It is 100 if the file has become longer since it was opened.
+/// The percentage of the length that was read, as a whole number. It is 100 if the file has become longer since it was opened.
 fn percent(read: u64, len: u64) -> u8
     ensures { result ≡ percent_of read len }
 {
@@ -47,7 +47,7 @@ fn percent(read: u64, len: u64) -> u8
     (u128::from(read) * 100 / u128::from(len)) as u8
 }
 
-/// The number of bytes in each percent, rounded up to the next whole number.
+/// The number of bytes after which the percentage is shown again: the next whole number above a hundredth of the length.
 fn step(len: u64) -> u64
     ensures { result ≡ step_of len }
 {

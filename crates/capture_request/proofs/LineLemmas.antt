@@ -1,4 +1,4 @@
--- For the lines of errors.
+-- Laws of the lines of errors.
 use Rattle.std.proofs.Common.{◌≡◌, ◌∙◌, ℕ, List, [], ◌∷◌, ◌++◌, Err, IsOk, None, Ok, OnOk, Option, Result, Some, MatchOption, append-nil, append_assoc, ap, arith, codes, refl, sym}
 use Rattle.std.proofs.KnownBytes.{Appends-nil, Appends-trans}
 use Rattle.std.proofs.lemmas.List.Folds.{concat-append}
@@ -12,11 +12,11 @@ use Rattle.capture_request.specs.declared.capture_error.CaptureError.{CaptureErr
 
 -- ---- what is written of several lines
 
--- nothing was written, of no line
+-- if no line is to be written, nothing was written
 pub writes-nothing : (a : Option (List ℕ)) (AreWhole : Type 0) → WritesLines a a AreWhole []
 writes-nothing a AreWhole = record { written = []; appends = Appends-nil a; begun = refl; whole = λ holds. refl }
 
--- beginnings of further lines
+-- a beginning of lines is a beginning of these lines and more lines
 begun-append : (lines more : List (List ℕ)) (written others : List ℕ) → AreBegun lines written → AreBegun more others
     → AreBegun (lines ++ more) (written ++ others)
 begun-append [] more written others none are = rw none are
@@ -86,7 +86,7 @@ loses_one a AreWhole IsLine line lost is = (
   },
 )
 
--- there is a text for each error
+-- each error has a text
 some_text : (compression : Option Compression) → (text : List ℕ) × MatchOption compression (Unit {0}) (λ c. text ≡ compressed_text c)
 some_text None = ([], tt)
 some_text (Some compression) = (compressed_text compression, refl)

@@ -1,4 +1,4 @@
--- Compressed files, by their first bytes.
+-- Compressed files, recognised by their first bytes.
 use Rattle.std.specs.Prelude.{ℕ, ◌==◌, ◌&&◌, ◌/◌, nat_le, if◌then◌else◌, List, codes, Option, Some, None}
 use Rattle.capture_request.specs.declared.compression.Compression.{Compression}
 use Rattle.capture_request.specs.declared.compression.Compression.TheVariants.{Bzip2, Compress, Gzip, Lz4, Xz, Zstandard}
@@ -33,7 +33,7 @@ compression_name Xz = codes "xz"
 compression_name Bzip2 = codes "bzip2"
 compression_name Lz4 = codes "lz4"
 
--- the compression of the capture, if the capture is refused because it is compressed
+-- the compression of the input, if its first bytes are those of a compressed file
 abbrev pub compression_of : CaptureError → Option Compression
 compression_of (Header (refusals.Classic (Magic magic))) = compression_with magic
 compression_of other = None

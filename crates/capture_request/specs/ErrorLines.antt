@@ -9,13 +9,12 @@ use Rattle.capture_request.specs.declared.compression.Compression.{Compression}
 use Rattle.capture_request.specs.declared.capture_error.CaptureError.{CaptureError}
 use Rattle.capture_request.specs.declared.reached.Reached.{Reached}
 
--- the text for a compressed capture, which contains the command that reads it
+-- the text for a compressed capture, which contains the command that decompresses it
 abbrev pub compressed_text : Compression → List ℕ
 compressed_text compression =
     codes "The capture is compressed, and is read by " ++ (compression_name compression ++ codes " -dc FILE | capture_report.")
 
--- The text of an error. If the capture is compressed, this is the text for a compressed capture. For any other error the statement holds
--- for every text.
+-- The text of an error. For a compressed capture it is the text with the command. For any other error nothing is stated about the text.
 abbrev pub IsErrorText : CaptureError → List ℕ → Type 0
 IsErrorText error text = MatchOption (compression_of error) (Unit {0}) (λ compression. text ≡ compressed_text compression)
 
@@ -24,7 +23,7 @@ abbrev pub line_start : Option (List ℕ) → List ℕ
 line_start None = codes "capture_report: "
 line_start (Some name) = codes "capture_report: " ++ (name ++ codes ": ")
 
--- a line that consists of this start and a text for which the statement holds
+-- a line that consists of its start and of a text for which `IsText` holds
 abbrev pub IsLineOf : Option (List ℕ) → (List ℕ → Type 0) → List ℕ → Type 0
 IsLineOf name IsText line = (text : List ℕ) × IsText text × (line ≡ line_start name ++ (text ++ codes "\n"))
 
@@ -42,23 +41,23 @@ space = 32
 abbrev pub first_word : List ℕ → List ℕ
 first_word name = before_first (λ byte. byte == space) name
 
--- The hint at the options that select packets. It is empty unless the name of the capture begins with a word of a filter, as in `tcp port
+-- The hint at the options that select packets. It is empty, unless the name of the capture begins with a word of a filter, as in `tcp port
 -- 80`.
 abbrev pub hint_of : List ℕ → List ℕ
 hint_of name =
     if list_any (λ word. bytes_eq word (first_word name)) filter_words then codes "; filters are --host, --port and --protocol" else []
 
--- the text for a capture that can't be opened: it ends with the hint at the options that select packets
+-- the text for a capture that can't be opened; it ends with the hint at the options that select packets
 abbrev pub EndsInHint : List ℕ → List ℕ → Type 0
 EndsInHint name text = (cause : List ℕ) × (text ≡ cause ++ hint_of name)
 
 -- ---- the lines of a run
 
--- there is exactly one line, and this statement holds for it
+-- there is exactly one line, and `IsLine` holds for it
 abbrev pub IsOneLine : (List ℕ → Type 0) → List (List ℕ) → Type 0
 IsOneLine IsLine lines = (line : List ℕ) × IsLine line × (lines ≡ line ∷ [])
 
--- the line of a capture that can't be opened
+-- the line for a capture that can't be opened
 abbrev pub IsOpenErrorLine : List ℕ → List ℕ → Type 0
 IsOpenErrorLine name line = IsLineOf (Some (shown_name name)) (EndsInHint name) line
 
@@ -68,26 +67,26 @@ abbrev pub AreEndLines : Option (List ℕ) → Result Reached CaptureError → L
 AreEndLines name (Ok reached) lines = lines ≡ []
 AreEndLines name (Err error) lines = IsOneLine (IsLineOf name (IsErrorText error)) lines
 
--- The name that the line of an error within a capture contains. `count` is the number of named captures. If it is 0, standard input is
--- read, and the line contains no name.
+-- The name of the capture in the line of an error. `count` is the number of named captures. If it is 0, standard input is read, and the
+-- line contains no name.
 abbrev pub line_name : ℕ → List ℕ → Option (List ℕ)
 line_name count name = if count == 0 then None else Some (shown_name name)
 
 -- ---- what is written of the lines
 
--- the whole or a beginning of each line was written, in the order of the lines
+-- of each line, the whole line or its beginning was written, in the order of the lines
 abbrev pub AreBegun : List (List ℕ) → List ℕ → Type 0
 AreBegun [] written = written ≡ []
 AreBegun (line ∷ lines) written =
     (begun : List ℕ) × (rest : List ℕ) × (others : List ℕ) × (line ≡ begun ++ rest) × AreBegun lines others × (written ≡ begun ++ others)
 
--- A beginning of each line was written, in the order of the lines. If `AreWhole` holds, each line was written completely.
+-- The beginnings of the lines were written, in the order of the lines. If `AreWhole` holds, each line was written completely.
 pub record WritesLines (before after : Option (List ℕ)) (AreWhole : Type 0) (lines : List (List ℕ)) : Type 0 where
   pub written : List ℕ
   pub appends : Appends before after written
   pub begun : AreBegun lines written
   pub whole : AreWhole → written ≡ concat lines
 
--- there are lines for which `AreLines` holds, and `WritesLines` holds for these lines
+-- lines for which `AreLines` holds were written as `WritesLines` states
 abbrev pub WritesSome : Option (List ℕ) → Option (List ℕ) → Type 0 → (List (List ℕ) → Type 0) → Type 0
 WritesSome before after AreWhole AreLines = (lines : List (List ℕ)) × AreLines lines × WritesLines before after AreWhole lines

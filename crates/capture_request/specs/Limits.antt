@@ -14,7 +14,7 @@ abbrev pub is_full : Option ℕ → ℕ → Bool
 is_full None counted = false
 is_full (Some limit) counted = not (nat_lt counted limit)
 
--- the number of counted packets is at most the requested number, if a number is requested
+-- the number of counted packets does not exceed the requested number
 abbrev pub IsWithin : Option ℕ → ℕ → Type 0
 IsWithin None counted = Unit {0}
 IsWithin (Some limit) counted = counted ≤ limit
@@ -36,7 +36,7 @@ abbrev pub EndsWithoutLimit : Result Reached CaptureError → Type 0
 EndsWithoutLimit (Ok Limit) = ⊥
 EndsWithoutLimit other = Unit {0}
 
--- Before the last of these packets, fewer packets were counted than are requested. If there is no packet, the statement always holds.
+-- The requested number of packets was not reached before the last of these packets. If there is no packet, nothing is stated.
 abbrev pub EndsWithRequested : Option ℕ → Choice → SummaryTables → List FilePacket → Type 0
 EndsWithRequested limit choice before packets =
     (packets ≡ [])

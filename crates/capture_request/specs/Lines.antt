@@ -20,16 +20,16 @@ has_line lines.All verdict = true
 has_line lines.Wrong verdict = is_fault (verdict_kind verdict)
 has_line lines.None verdict = false
 
--- a packet has no line: it is not chosen, or packets with its verdict have no line
+-- the packet has no line: it is not chosen, or no packet with its verdict has a line
 abbrev pub HasNoLine : Parts → Packet → Type 0
 HasNoLine parts packet = (IsChosen parts.choice packet → ⊥) ⊎ (has_line parts.lines packet.verdict ≡ false)
 
--- if the packet for which `IsPacket` holds has no line, the statement holds
+-- if the packet for which `IsPacket` holds has no line, `Statement` holds
 pub record IfNoLine (IsPacket : Packet → Type 0) (parts : Parts) (Statement : Type 0) : Type 0 where
   pub packet : Packet
   pub is_packet : IsPacket packet
   pub holds : HasNoLine parts packet → Statement
 
--- Which packets have a line. If only the summary is requested, no packet has a line.
+-- which packets have a line, by two options: only the summary, and only packets with a fault
 abbrev pub lines_by : Bool → Bool → Lines
 lines_by summary_alone wrong_alone = if summary_alone then lines.None else if wrong_alone then lines.Wrong else lines.All

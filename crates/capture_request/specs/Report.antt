@@ -31,8 +31,8 @@ use Rattle.capture_request.specs.declared.reached.Reached.TheVariants.{End, Limi
 use Rattle.capture_summary.specs.declared.capture_info.CaptureInfo.{CaptureInfo}
 use Rattle.capture_summary.specs.declared.flow.Flow.{Flow}
 
--- A packet was counted in every table. It was counted once by its protocol, once by its verdict and once by its flow. `info` is the data
--- that the capture contains about the packet.
+-- A packet was counted once in every table: by its protocol, its verdict, its flow, and the other facts. `info` is what the capture states
+-- about the packet.
 pub record CountsRead (packet : Packet) (info : CaptureInfo) (before after : SummaryTables) : Type 0 where
   pub flow : Option Flow
   pub is_flow : IsFlowOf packet.content flow
@@ -51,23 +51,23 @@ pub record CountsPacket (choice : Choice) (IsPacket : Packet → Type 0) (info :
 
 -- ---- how a packet is read
 
--- the packet was not read, since the buffer has no room for its bytes
+-- the packet was not read, since it does not fit in the buffer
 abbrev pub IsTooLong : ℕ → Packet → Type 0
 IsTooLong required_len packet = packet ≡ in_no_tunnel Unread (TooLong required_len)
 
--- The result of reading a frame of this link type. The packet is truncated if fewer bytes were captured than the frame had.
+-- The packet that is read from a frame of this link type. It is truncated if the captured length is below the original length.
 abbrev pub IsReadAs : Result LinkType ℕ → CapturedPacket → List ℕ → Packet → Type 0
 IsReadAs (Ok link_type) captured frame packet =
     IsRead link_type captured.byte_order frame (nat_lt captured.captured_len captured.original_len) packet
 IsReadAs (Err number) captured frame packet =
     packet ≡ in_no_tunnel (NotIp (protocols.LinkType number)) (untested OtherProtocol)
 
--- the result of reading a packet of a capture
+-- the packet that is read from a packet of a capture
 abbrev pub IsPacketOf : FilePacket → Packet → Type 0
 IsPacketOf (kept captured frame) packet = IsReadAs captured.link_type captured frame packet
 IsPacketOf (too_long captured) packet = IsTooLong captured.required_len packet
 
--- the time at which a packet was captured, if the capture contains it
+-- the time at which a packet was captured, if the capture states it
 abbrev pub packet_time : FilePacket → Option PacketTime
 packet_time (kept packet frame) = packet.time
 packet_time (too_long packet) = packet.time
@@ -89,7 +89,7 @@ too_long_info packet = record {
   len = option_map (λ original. record { original = original; captured = packet.required_len }) packet.original_len;
 }
 
--- the data that the capture contains about a packet
+-- what the capture states about a packet
 abbrev pub info_of : FilePacket → CaptureInfo
 info_of (kept packet frame) = captured_info packet
 info_of (too_long packet) = too_long_info packet
@@ -134,7 +134,7 @@ IsAnsweredBy next number (Err (RecordCutOff its_number offset required len)) = (
 IsAnsweredBy next number (Err (Refused error)) = next ≡ packets.Refused error
 IsAnsweredBy next number other = ⊥
 
--- The next item was read. It is `next`, and it is not a packet. `after` is the reader after it.
+-- The next item `next` was read, and is not a packet. `after` is the reader after it.
 abbrev pub ReadsEnd : CaptureReader → Option (List ℕ) → NextPacket → Option (List ℕ) → CaptureReader → Type 0
 ReadsEnd before left next still_left after =
     (ends : EndsWith max_packet_len before left next) × (still_left ≡ ends.still_left) × (after ≡ ends.after)

@@ -20,7 +20,7 @@ use thiserror::Error;
 /// The reason why a capture can't be read further.
 #[derive(Debug, Error, Drop)]
 pub enum CaptureError {
-    /// The input is not a capture, or it is a capture of another format.
+    /// The input is not a capture, or it is a capture of a format that is not read.
     #[error(transparent)]
     Header(OpenError),
     /// The input ends within a record, or within a block of a pcapng file.
@@ -30,7 +30,7 @@ pub enum CaptureError {
         number: u64,
         /// The start of the record or block, in bytes from the start of the capture.
         offset: u64,
-        /// The length of the record or block in bytes. It is a lower bound if the input ends before the length field is complete.
+        /// The length of the record or block in bytes, or its least length if the length field is incomplete.
         required_len: usize,
         /// The number of bytes that are left in the input.
         len: usize,
@@ -79,7 +79,7 @@ impl CaptureError {
         }
     }
 
-    /// The compression of the capture, if the capture is refused because it is compressed.
+    /// The compression of the input, if its first bytes are those of a compressed file.
     fn compression(&self) -> Option<Compression>
         ensures { result ≡ compression_of self.now }
     {
@@ -91,8 +91,8 @@ impl CaptureError {
     }
 }
 
-/// Writes the line of the error with which the report of a capture ended. It writes nothing if the capture was read to its end, or to the
-/// last requested packet.
+/// Writes the line of the error that ended the report of a capture. Writes nothing if the capture was read to its end, or to the last
+/// requested packet.
 pub fn write_end<E: Write>(
     errors: &mut E,
     alloc: Global,
@@ -108,11 +108,12 @@ pub fn write_end<E: Write>(
     }
 }
 
-/// Writes the line of an error. It contains the name of the program, the name of the capture if there is one, and the text of the error.
+/// Writes the line of an error: the name of the program, the name of the capture if it has a name, and the text of the error.
 ///
 /// # Errors
 ///
-/// The error of the first write that fails, and `OutOfMemory` if no memory is left. Then at most a beginning of the line was written.
+/// The error of the first write that fails, and `OutOfMemory` if no memory is left. Then only the beginning of the line may have been
+/// written.
 pub fn write_error<E: Write>(
     errors: &mut E,
     alloc: Global,
@@ -126,7 +127,7 @@ pub fn write_error<E: Write>(
     write_whole(errors, line.as_bytes())
 }
 
-/// Returns the line of an error. It contains the name of the program, the name of the capture if there is one, and the text of the error.
+/// Returns the line of an error: the name of the program, the name of the capture if it has a name, and the text of the error.
 fn error_line(alloc: Global, name: Option<&str>, error: &CaptureError) -> Result<String, AllocError>
     ensures { IfOk result (λ line. IsLineOf (option_map (λ text. shown_name text.now) name.entry) (IsErrorText error.now) (string_bytes line)) }
 {
@@ -140,7 +141,7 @@ fn error_line(alloc: Global, name: Option<&str>, error: &CaptureError) -> Result
     }
 }
 
-/// The text of an error. For a compressed capture it contains the command that decompresses it.
+/// The text of an error. If the capture is compressed, the text contains the command that decompresses it.
 fn text_of(alloc: Global, error: &CaptureError) -> Result<String, AllocError>
     ensures { IfOk result (λ text. IsErrorText error.now (string_bytes text)) }
 {
@@ -175,15 +176,16 @@ static FILTER_WORDS: [&str; 16] = [
     "proto",
 ];
 
-/// The hint that follows an error if the name of the capture begins like a filter.
+/// The hint after an error, if the name of the capture begins like a filter of tcpdump.
 const FILTER_HINT: &str = "; filters are --host, --port and --protocol";
 
-/// Writes the line of a capture that can't be opened. It contains the name of the program, the name of the capture, and the text of the
-/// error. If the name begins like a filter, for example `tcp port 80`, the line also lists the options that select packets.
+/// Writes the line for a capture that can't be opened: the name of the program, the name of the capture, and the text of the error. If the
+/// name begins like a filter, for example `tcp port 80`, the line also lists the options that select packets.
 ///
 /// # Errors
 ///
-/// The error of the first write that fails, and `OutOfMemory` if no memory is left. Then at most a beginning of the line was written.
+/// The error of the first write that fails, and `OutOfMemory` if no memory is left. Then only the beginning of the line may have been
+/// written.
 pub fn write_open_error<E: Write>(
     errors: &mut E,
     alloc: Global,
@@ -196,7 +198,7 @@ pub fn write_open_error<E: Write>(
     write_whole(errors, line.as_bytes())
 }
 
-/// Returns the line of a capture that can't be opened. If the name begins like a filter, the line also lists the options that select
+/// Returns the line for a capture that can't be opened. If the name begins like a filter, the line also lists the options that select
 /// packets.
 fn open_error_line(alloc: Global, name: &str, error: &io::Error) -> Result<String, AllocError>
     ensures { IfOk result (λ line. IsOpenErrorLine name.now (string_bytes line)) }
@@ -207,7 +209,7 @@ fn open_error_line(alloc: Global, name: &str, error: &io::Error) -> Result<Strin
     format!(in alloc; "capture_report: {shown}: {text}{hint}\n")
 }
 
-/// The options that select packets, if the first word of the name of a capture is a word of a filter. Otherwise the text is empty.
+/// The hint at the options that select packets. It is empty, unless the name of the capture begins with a word of a filter.
 fn hint_of(name: &str) -> &'static str
     ensures { result.now ≡ hint_of name.now }
 {

@@ -6,15 +6,14 @@ use capture_file::reader::CapturedPacket;
 use capture_packet::{Content, NetworkProtocol, Packet, Verdict, read_packet};
 use transport_part::Untested;
 
-/// Returns the result for a packet that is not read, since the buffer has no room for its `required_len` bytes.
+/// Returns a packet that is not read, since its `required_len` bytes do not fit in the buffer.
 pub fn packet_without_room<'a>(required_len: u32) -> Packet<'a>
     ensures { IsTooLong required_len result }
 {
     Packet::in_no_tunnel(Content::Unread, Verdict::TooLong { required_len })
 }
 
-/// Returns the packet in a frame. The frame is read by the link type of its capture or interface. If the link type is unknown, the packet
-/// is not an IP packet.
+/// Reads the packet in a frame. If the link type of the capture or interface is unknown, the packet is not an IP packet.
 pub fn packet_in_frame<'a>(captured: &CapturedPacket, frame: &'a [u8]) -> Packet<'a>
     ensures { IsReadAs captured.now.link_type captured.now frame.now result }
 {

@@ -39,8 +39,8 @@ const FIRST_BZIP2_MAGIC: u32 = 0x425A_6831;
 const LAST_BZIP2_MAGIC: u32 = 0x425A_6839;
 
 impl Compression {
-    /// Returns the compression of a file. `magic` contains its first four bytes as a big-endian number. The result is `None` if no
-    /// compression begins with these bytes.
+    /// Returns the compression of a file. `magic` contains its first four bytes as a big-endian number. `None` if they begin no compressed
+    /// file.
     pub fn from_magic(magic: u32) -> Option<Compression>
         ensures { result ≡ compression_with magic }
     {

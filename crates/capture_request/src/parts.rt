@@ -20,7 +20,7 @@ pub struct Parts {
     pub lines: Lines,
     /// How a line shows the time of its packet.
     pub times: Times,
-    /// Whether a line of text also shows the hop limit or the time to live of its packet. A line of JSON always does.
+    /// Whether a line of text also shows the details, such as the hop limit of the packet. A line of JSON always shows them.
     pub verbose: bool,
     /// Whether the summary is written.
     pub summary: bool,
@@ -30,12 +30,12 @@ pub struct Parts {
     pub top: usize,
     /// Whether the exit status reports that a packet has a wrong checksum or was refused.
     pub check: bool,
-    /// The number of chosen packets after which the report ends, if a number is requested. No packet is read after them.
+    /// The requested number of chosen packets, if a number is requested. The report ends after them, and reads no further packet.
     pub limit: Option<u64>,
 }
 
 impl Parts {
-    /// Returns the options that these flags request. All packets are chosen without a limit. The report is text without details, shows
+    /// Returns the options that these flags request. All packets are chosen, without a limit. The report is text without details. It shows
     /// times since the first packet, and lists the ten busiest conversations.
     pub fn from_flags(
         summary_alone: bool,
@@ -81,7 +81,7 @@ pub enum Format {
     Json,
 }
 
-/// The packets that have a line in the report.
+/// Which packets have a line in the report.
 #[derive(Clone, Copy, Debug, PartialEq, Eq)]
 pub enum Lines {
     /// Every packet.

@@ -1,4 +1,4 @@
--- For a requested number of packets.
+-- Laws of a limit of the number of packets.
 use Rattle.std.proofs.Common.{◌≡◌, ◌≤◌, ◌+◌, ℕ, List, [], ◌∷◌, false, Err, None, Ok, Option, Result, Some, arith, refl}
 use Rattle.capture_run.proofs.ReportLemmas.{counts_at_most}
 use Rattle.capture_request.specs.Limits.{EndsByLimit, EndsWithoutLimit, IsWithin, is_full}
@@ -12,7 +12,7 @@ use Rattle.capture_request.specs.declared.capture_error.CaptureError.TheVariants
 use Rattle.capture_request.specs.declared.reached.Reached.{Reached}
 use Rattle.capture_request.specs.declared.reached.Reached.TheVariants.{End, Limit}
 
--- one more packet, before the limit is reached
+-- a number is within the limit after another packet, if the limit was not reached before
 within_more : (limit : Option ℕ) (counted now : ℕ) → is_full limit counted ≡ false → now ≤ counted + 1 → IsWithin limit now
 within_more None counted now more most = tt
 within_more (Some limit) counted now more most = grind (arith, more, most)

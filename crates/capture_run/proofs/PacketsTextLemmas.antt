@@ -1,4 +1,4 @@
--- For the text of the packets of a capture: the text of one more packet follows the text of the others.
+-- Laws of the text of the packets of a capture: the text of another packet follows the text of the packets before it.
 use Rattle.std.proofs.Common.{◌≡◌, ◌+◌, ℕ, List, [], ◌∷◌, ◌++◌, ◌∙◌, Option, ap, append-nil, append_assoc, arith, length, refl, subst, sym}
 use Rattle.std.proofs.KnownBytes.{Appends-trans}
 use Rattle.std.specs.Io.KnownBytes.{Appends}
@@ -10,7 +10,7 @@ use Rattle.capture_request.specs.Report.{packet_time}
 use Rattle.capture_words.specs.Written.{AppendsOne}
 use Rattle.capture_request.specs.declared.parts.Parts.{Parts}
 
--- a packet after others
+-- the text of packets and of a packet after them
 pub text-push : (parts : Parts) (number now : ℕ) (first : Option PacketTime) (packets : List FilePacket) (packet : FilePacket) (text line : List ℕ)
     → IsPacketsText parts number first packets text → now ≡ number + length packets
     → IsPacketText parts now (first_time first packets) packet line → IsPacketsText parts number first (packets ++ packet ∷ []) (text ++ line)
@@ -29,13 +29,13 @@ text-push parts number now first (p ∷ ps) packet text line is same one = (
   ap (λ t. t ++ line) is.4 ∙ append_assoc is.0 is.1 line,
 )
 
--- the first time after one more packet
+-- the first time of packets and of another packet
 pub first-push : (first : Option PacketTime) (packets : List FilePacket) (packet : FilePacket)
     → first_time first (packets ++ packet ∷ []) ≡ option_or (first_time first packets) (packet_time packet)
 first-push first [] packet = refl
 first-push first (p ∷ ps) packet = first-push (option_or first (packet_time p)) ps packet
 
--- the text of one more packet was written after the text of the others
+-- the text of another packet was written after the text of the packets before it
 pub written-push : (parts : Parts) (now : ℕ) (first : Option PacketTime) (packets : List FilePacket) (packet : FilePacket) (line : List ℕ) (a b c : Option (List ℕ))
     → AppendsOne a b (IsPacketsText parts 1 first packets) → now ≡ 1 + length packets
     → IsPacketText parts now (first_time first packets) packet line

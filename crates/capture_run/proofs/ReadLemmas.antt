@@ -1,4 +1,4 @@
--- For the end of the packets of a capture, and the reader after them.
+-- Laws of the end of the packets of a capture, and the reader after them.
 use Rattle.std.proofs.Common.{◌≡◌, ◌+◌, List, Err, None, Ok, Option, Result, Some, IfSome, length, refl, subst, ℕ}
 use Rattle.capture_file.proofs.CapturePacketsLemmas.{has_packets}
 use Rattle.capture_file.specs.CapturePackets.{EndsWith, FilePacket, HasPackets, ReadsPackets, packet_in}

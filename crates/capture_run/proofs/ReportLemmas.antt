@@ -1,4 +1,4 @@
--- For the loop over the packets of a capture: one more packet is counted.
+-- Laws of the loop over the packets of a capture: another packet is counted.
 use Rattle.std.proofs.Common.{◌≡◌, ◌+◌, ◌≤◌, ℕ, List, [], ◌∷◌, ◌++◌, Some, Option, Result, IfSome, ap, arith, length, refl, subst, take}
 use Rattle.capture_file.proofs.CapturePacketsLaws.{packets_before_cut}
 use Rattle.capture_file.specs.CapturePackets.{ArePacketsBeforeCut, HasPackets, FilePacket}
@@ -11,7 +11,7 @@ use Rattle.capture_summary.specs.declared.choice.Choice.{Choice}
 use Rattle.capture_request.specs.declared.capture_error.CaptureError.{CaptureError}
 use Rattle.capture_request.specs.declared.reached.Reached.{Reached}
 
--- a packet after others
+-- the counts of packets and of a packet after them
 pub counts-push : (choice : Choice) (before between after : SummaryTables) (packets : List FilePacket) (packet : FilePacket)
     → CountsEach choice before packets between → CountsCaptured choice packet between after
     → CountsEach choice before (packets ++ packet ∷ []) after
@@ -20,7 +20,7 @@ counts-push choice before between after [] packet counted one =
 counts-push choice before between after (p ∷ ps) packet counted one =
     (counted.0, counted.1, counts-push choice counted.0 between after ps packet counted.2 one)
 
--- no more packets were counted than there are
+-- at most as many packets were counted as there are packets
 pub counts_at_most : (choice : Choice) (before : SummaryTables) (packets : List FilePacket) (after : SummaryTables)
     → CountsEach choice before packets after → after.packets ≤ before.packets + length packets
 counts_at_most choice before [] after counted = omega (arith, ap (λ tables. tables.packets) counted)

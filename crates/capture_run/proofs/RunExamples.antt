@@ -69,7 +69,7 @@ interface_is_block = record { has_order = refl; shortest = omega arith; words = 
 abbrev ethernet : InterfaceDescription
 ethernet = record { link_type = 1; snap_len = 262144; time_resolution = PowerOfTen 9; time_offset = pos 0 }
 
--- the reader after the first block, which knows no interface
+-- the reader after the first block, which does not have an interface yet
 abbrev begun : PcapngReader
 begun = record {
   section = record { byte_order = LittleEndian; interfaces = record { items = [] } };
@@ -124,7 +124,7 @@ module _ (first second : List ℕ) (first_room : length (section ++ first) ≡ m
   passes : PassesBlocks (length (interface ++ second)) 1 begun (Some interface) (Some []) described
   passes = (begun, Some interface, interface ++ second, refl, (refl, refl), describes)
 
-  -- then the file is at its end
+  -- the file is at its end after the interface
   abbrev ends : EndsWith max_packet_len (Pcapng begun) (Some interface) packets.End
   ends = record {
     still_left = Some [];
@@ -188,7 +188,7 @@ summary_alone = record {
   limit = None;
 }
 
--- each name gives the file
+-- each name opens the file
 abbrev ReadsFile : List ℕ → Given → Type 0
 ReadsFile name given = given ≡ Some (Some (section ++ interface))
 
@@ -232,11 +232,11 @@ summary_of_file = record {
 abbrev file_header : List ℕ
 file_header = 212 ∷ 195 ∷ 178 ∷ 161 ∷ 2 ∷ 0 ∷ 4 ∷ 0 ∷ 0 ∷ 0 ∷ 0 ∷ 0 ∷ 0 ∷ 0 ∷ 0 ∷ 0 ∷ 0 ∷ 0 ∷ 4 ∷ 0 ∷ 147 ∷ 0 ∷ 0 ∷ 0 ∷ []
 
--- the only byte of a packet, captured at 1 second and 2 microseconds
+-- a record with the only byte of a packet, captured at 1 second and 2 microseconds
 abbrev one_byte : List ℕ
 one_byte = 1 ∷ 0 ∷ 0 ∷ 0 ∷ 2 ∷ 0 ∷ 0 ∷ 0 ∷ 1 ∷ 0 ∷ 0 ∷ 0 ∷ 1 ∷ 0 ∷ 0 ∷ 0 ∷ 170 ∷ []
 
--- its header, and the readers before and after the packet
+-- the header of the capture, and the readers before and after the packet
 abbrev capture : CaptureHeader
 capture = record { byte_order = LittleEndian; resolution = Microseconds; snap_len = 262144; link_type = Err 147 }
 

@@ -1,4 +1,4 @@
--- For the report of several captures: the report of one more capture follows the reports of the others.
+-- Laws of the report of several captures: the report of another capture follows the reports of the captures before it.
 use Rattle.std.proofs.Common.{◌≡◌, ◌<◌, ◌+◌, ◌==◌, ◌∙◌, ℕ, false, true, List, [], ◌∷◌, ◌++◌, Err, IfErr, IfOk, IsNone, OnErr, None, Ok, Option, Result, ap, append-nil, append_assoc, arith, codes, drop, get_or, if◌then◌else◌, length, map, refl, subst, sym, take, take-append-drop}
 use Rattle.std.proofs.KnownBytes.{Appends-nil, Appends-trans}
 use Rattle.std.proofs.lemmas.List.{length-map, length-take-le, map-append, map_more}
@@ -17,7 +17,7 @@ use Rattle.capture_request.specs.declared.exit_status.ExitStatus.{ExitStatus}
 use Rattle.capture_request.specs.declared.exit_status.ExitStatus.TheVariants.{Success}
 use Rattle.capture_request.specs.declared.parts.Parts.{Parts}
 
--- the reports of some captures, and then of one more capture
+-- the reports of some captures and of another capture
 reports-push : (Reads : List ℕ → Given → Type 0) (parts : Parts) (count place now : ℕ) (names : List (List ℕ)) (name : List ℕ)
     (before between after : Progress) (text headed : List ℕ) (lines more : List (List ℕ))
     → ReportsEach Reads parts count place names before between text lines → now ≡ place + length names
@@ -49,7 +49,7 @@ reports-push Reads parts count place now (first ∷ names) name before between a
       simp (all_lines, append_assoc) refl,
     )
 
--- the report of standard input, which has no name
+-- the report of standard input, without a name
 reports_one : (Reads : List ℕ → Given → Type 0) (parts : Parts) (before after : Progress) (text : List ℕ) (lines : List (List ℕ))
     → ReportsHeaded Reads parts 0 0 (codes "-") before after text lines
     → ReportsEach Reads parts 0 0 (captures_of []) before after text lines
@@ -83,7 +83,7 @@ headed Reads parts count place name before a b c e f (Ok after) more head one = 
   tells = one.tells;
 }
 
--- the report after one more capture
+-- the report after another capture
 pub one-more : {X : Type 0} (Reads : List ℕ → Given → Type 0) (parts others : Parts) (count : ℕ) (xs : List X) (named : X → List ℕ) (i : ℕ) (d : X)
     (before between after : Progress) (a b c e f h : Option (List ℕ)) (Between After : Type 0) → i < length xs → others ≡ parts → (After → Between)
     → WritesReport a b e f Between (ReportsEach Reads parts count 0 (map named (take i xs)) before between)
@@ -105,7 +105,7 @@ one-more Reads parts others count xs named i d before between after a b c e f h 
       tells = writes-more e f h Between After After each.lines one.lines told (λ whole. whole) each.tells one.tells;
     }
 
--- if nothing more can be reported, the report of the captures so far remains
+-- if nothing more can be reported, the report of the captures before it remains
 pub tells_first : {X : Type 0} (Reads : List ℕ → Given → Type 0) (parts : Parts) (count : ℕ) (xs : List X) (named : X → List ℕ) (i : ℕ)
     (before between : Progress) (a b e f : Option (List ℕ)) (AreWhole : Type 0)
     → WritesReport a b e f AreWhole (ReportsEach Reads parts count 0 (map named (take i xs)) before between)
@@ -179,7 +179,7 @@ pub all_named : {X : Type 0} (names : List X) (named : X → List ℕ) → (leng
 all_named [] named some = absurd (grind (arith, some))
 all_named (name ∷ names) named some = refl
 
--- the start of a run
+-- the state at the start of a run
 at_first : (start : CaptureReports) → start.summary ≡ empty_tables → start.status ≡ Success → start.is_empty ≡ true → start.capture ≡ None
     → progress_of start ≡ at_start
 at_first start tables status empty no_capture = cc (tables, status, empty, no_capture)

@@ -25,8 +25,8 @@ use Rattle.capture_request.specs.declared.reached.Reached.{Reached}
 
 -- ---- one capture
 
--- The state that is kept from capture to capture. `summary` contains the counts, and `status` is the greatest exit status. `is_empty` is
--- true if no beginning of a capture was accepted. `capture` is the reader of the only capture whose beginning was accepted.
+-- What is kept from one capture to the next. `summary` contains the counts, and `status` is the greatest exit status. `is_empty` is true if
+-- no beginning of a capture was accepted. `capture` is the reader of the only capture whose beginning was accepted.
 pub record Progress : Type 0 where
   pub summary : SummaryTables
   pub status : ExitStatus
@@ -50,17 +50,16 @@ unopened before = record {
   capture = before.capture;
 }
 
--- The reader that is kept for the summary, after one more capture. It is kept only while one capture has an accepted beginning. `before` is
--- the reader kept before. The last argument is the reader of the new capture, or `None` if its beginning was refused. `is_empty` is true if
--- no beginning was accepted before.
+-- The reader that is kept for the summary after another capture, if only one beginning of a capture was accepted. `before` was kept before
+-- this capture. The last argument is the reader of this capture, or `None` if its beginning was refused. `is_empty` is true if no beginning
+-- was accepted before.
 abbrev pub only_capture : Bool → Option CaptureReader → Option CaptureReader → Option CaptureReader
 only_capture is_empty before None = before
 only_capture true before (Some reader) = Some reader
 only_capture false before (Some reader) = None
 
--- A capture was reported. `left` contains its bytes, or is `None` if they are unknown. `text` is the text of its packets. `lines` is the
--- line of its error, if there is one, which contains the name `shown`. `reader` is the reader after the packets. It is kept for the summary
--- if no other capture has an accepted beginning.
+-- A capture was reported. `left` contains its bytes, or is `None` if they are unknown. `text` is the text of its packets. `lines` contains
+-- the line of its error, if there is one, with the name `shown`. `reader` is the reader after the packets.
 pub record ReportsOpened (parts : Parts) (shown : Option (List ℕ)) (left : Option (List ℕ)) (before after : Progress) (text : List ℕ) (lines : List (List ℕ)) : Type 0 where
   pub ended : Result Reached CaptureError
   pub still_left : Option (List ℕ)
@@ -97,7 +96,7 @@ ReportsNamed Reads parts shown name before after text lines =
 
 -- ---- all captures
 
--- the heading as text: the name of the capture, after an empty line if it is not the first capture
+-- the heading as text: the name of the capture between arrows, with an empty line before it unless it is the first capture
 abbrev pub text_heading : ℕ → List ℕ → List ℕ
 text_heading place name = (if place == 0 then [] else codes "\n") ++ (codes "==> " ++ (shown_name name ++ codes " <==\n"))
 
@@ -116,17 +115,17 @@ has_lines lines.None = false
 abbrev pub heading_of : Parts → ℕ → ℕ → List ℕ → List ℕ
 heading_of parts count place name = if nat_lt 1 count && has_lines parts.lines then heading_in parts.format place name else []
 
--- The capture with this name was reported. `count` is the number of named captures, and `place` is the place of this capture. `text` is its
--- heading and then the text of its packets, and `lines` are the lines of its error. If the requested number of packets was counted before,
--- the capture is skipped.
+-- The capture with this name was reported. `count` is the number of named captures, and `place` is the place of this capture among them.
+-- `text` is its heading and the text of its packets, and `lines` are the lines of its errors. If the requested number of packets was
+-- counted before, the capture is skipped.
 abbrev pub ReportsHeaded : (List ℕ → Given → Type 0) → Parts → ℕ → ℕ → List ℕ → Progress → Progress → List ℕ → List (List ℕ) → Type 0
 ReportsHeaded Reads parts count place name before after text lines =
     MatchBool (is_full parts.limit before.summary.packets) ((after ≡ before) × (text ≡ []) × (lines ≡ []))
     ((packets : List ℕ) × ReportsNamed Reads parts (line_name count name) name before after packets lines
     × (text ≡ heading_of parts count place name ++ packets))
 
--- The captures with these names were reported in their order. `place` is the place of the first of them among all named captures, and
--- `count` is the number of all named captures. `text` is the text of these captures, and `lines` are the lines of their errors.
+-- The captures with these names were reported in their order. `count` is the number of all named captures, and `place` is the place of the
+-- first of these captures among them. `text` is the text of these captures, and `lines` are the lines of their errors.
 abbrev pub ReportsEach : (List ℕ → Given → Type 0) → Parts → ℕ → ℕ → List (List ℕ) → Progress → Progress → List ℕ → List (List ℕ) → Type 0
 ReportsEach Reads parts count place [] before after text lines = (after ≡ before) × (text ≡ []) × (lines ≡ [])
 ReportsEach Reads parts count place (name ∷ names) before after text lines =
@@ -135,13 +134,13 @@ ReportsEach Reads parts count place (name ∷ names) before after text lines =
     × ReportsEach Reads parts count (place + 1) names between after others other_lines
     × (text ≡ first ++ others) × (lines ≡ first_lines ++ other_lines)
 
--- the names of the captures that are read: if no capture is named, only the name of standard input
+-- the names of the captures that are read: the given names, or else the name of standard input
 abbrev pub captures_of : List (List ℕ) → List (List ℕ)
 captures_of [] = codes "-" ∷ []
 captures_of (name ∷ names) = name ∷ names
 
 -- The report of a run with this exit status. `text` is the text of each capture, and then the summary if the beginning of a capture was
--- accepted. `lines` are the lines of errors, in the order of the captures.
+-- accepted. `lines` are the lines of all errors, in the order of the captures.
 pub record IsRun (Reads : List ℕ → Given → Type 0) (parts : Parts) (names : List (List ℕ)) (status : ExitStatus) (text : List ℕ) (lines : List (List ℕ)) : Type 0 where
   pub after : Progress
   pub captures : List ℕ
@@ -151,8 +150,8 @@ pub record IsRun (Reads : List ℕ → Given → Type 0) (parts : Parts) (names 
 
 -- ---- what is written of a report
 
--- A report was written to one writer, and the lines of its errors were written to another writer. If `AreWhole` holds, each line was
--- written completely. Otherwise perhaps only a beginning of a line was written.
+-- A report was written to one writer, and the lines of its errors to another writer. If `AreWhole` holds, the lines were written
+-- completely. Otherwise only the beginning of each line may have been written.
 pub record WritesReport (before after errors_before errors_after : Option (List ℕ)) (AreWhole : Type 0) (IsReport : List ℕ → List (List ℕ) → Type 0) : Type 0 where
   pub text : List ℕ
   pub lines : List (List ℕ)
@@ -160,14 +159,14 @@ pub record WritesReport (before after errors_before errors_after : Option (List 
   pub appends : Appends before after text
   pub tells : WritesLines errors_before errors_after AreWhole lines
 
--- a report was written to one writer, and all lines of its errors were written to another writer
+-- a report was written to one writer, and all lines of its errors to another writer
 abbrev pub WritesRun : Option (List ℕ) → Option (List ℕ) → Option (List ℕ) → Option (List ℕ) → (List ℕ → List (List ℕ) → Type 0) → Type 0
 WritesRun before after errors_before errors_after IsReport =
     (text : List ℕ) × (lines : List (List ℕ)) × IsReport text lines × Appends before after text
     × Appends errors_before errors_after (concat lines)
 
--- Some of these captures were reported, from the first one on. A beginning of each line of their errors was written, and nothing else was
--- written to that writer.
+-- The first of these captures were reported. The beginnings of the lines of their errors were written, and nothing else was written to that
+-- writer.
 pub record TellsFirst (Reads : List ℕ → Given → Type 0) (parts : Parts) (count : ℕ) (names : List (List ℕ)) (before : Progress) (errors_before errors_after : Option (List ℕ)) : Type 0 where
   pub first : List (List ℕ)
   pub others : List (List ℕ)

@@ -22,12 +22,11 @@ use Rattle.capture_request.specs.declared.capture_error.CaptureError.{CaptureErr
 use Rattle.capture_request.specs.declared.reached.Reached.{Reached}
 use Rattle.capture_request.specs.declared.reached.Reached.TheVariants.{Limit}
 
--- the text of a packet of a capture: the line with its number, its time and its length, if it is chosen and has a line
+-- the text of a packet of a capture: its line if it is chosen and has a line, otherwise nothing
 abbrev pub IsPacketText : Parts → ℕ → Option PacketTime → FilePacket → List ℕ → Type 0
 IsPacketText parts number first packet text = IsTextOfOne (IsPacketOf packet) parts number first (info_of packet) text
 
--- The first time that a packet has. `first` is the first time of the packets before these, if there is one. Otherwise the first time of
--- these packets counts.
+-- The first time of these packets and of the packets before them. `first` is the first time of the packets before them, if there is one.
 abbrev pub first_time : Option PacketTime → List FilePacket → Option PacketTime
 first_time first [] = first
 first_time first (packet ∷ packets) = first_time (option_or first (packet_time packet)) packets
@@ -39,7 +38,7 @@ IsPacketsText parts number first (packet ∷ packets) text =
     (line : List ℕ) × (others : List ℕ) × IsPacketText parts number first packet line
     × IsPacketsText parts (number + 1) (option_or first (packet_time packet)) packets others × (text ≡ line ++ others)
 
--- a packet was read, it was counted if it is chosen, and `text` is its text
+-- a packet was read, and it was counted if it is chosen; `text` is the text of this packet
 pub record WritesPacket (parts : Parts) (number : ℕ) (first now_first : Option PacketTime) (reader : CaptureReader) (left still_left : Option (List ℕ)) (still_reader : CaptureReader) (before after : SummaryTables) (text : List ℕ) : Type 0 where
   pub reports : ReportsOne parts.choice reader left still_left still_reader before after
   pub is_first : now_first ≡ option_or first (packet_time reports.packet)

@@ -27,24 +27,25 @@ use std::hash::RandomState;
 use std::io;
 use std::io::{Read, Write};
 
-/// The state that is kept from capture to capture.
+/// What is kept from one capture to the next.
 #[derive(Drop)]
 pub(crate) struct CaptureReports {
     parts: Parts,
     summary: Summary,
     /// The greatest exit status of the reports so far.
     status: ExitStatus,
-    /// Whether no header of a capture was accepted so far.
+    /// Whether the beginning of every capture so far was refused, or no capture was read.
     is_empty: bool,
-    /// The reader of the only capture whose header was accepted, after its packets. `None` if no header was accepted, or if several were.
+    /// The reader of the only capture whose beginning was accepted, after its packets. `None` if no beginning was accepted, or several
+    /// were.
     capture: Option<CaptureReader>,
     /// The last failure to write the line of an error.
     unwritten: Option<io::Error>,
 }
 
 impl CaptureReports {
-    /// Returns the state before the first capture. `state` provides the keys of the hashes that find a flow. With random keys, no capture
-    /// can be crafted to slow down these lookups.
+    /// Returns the state before the first capture. `state` provides the keys for hashing flows. With random keys, no capture can be crafted
+    /// to slow down the search for a flow.
     pub fn new(alloc: Global, state: RandomState, parts: Parts) -> CaptureReports
         ensures parts { result.parts ≡ parts }
         ensures summary { result.summary ≡ empty_tables }
@@ -64,15 +65,15 @@ impl CaptureReports {
     }
 
     /// Reads a capture, and adds its chosen packets to the counts of the captures before it. Writes the line of each chosen packet that has
-    /// a line. Numbers and times of packets start again in each capture. The first packet of a capture has number 1, and times count
-    /// from the first packet that has a time. Both are independent of the choice of packets.
+    /// a line. In each capture the first packet has number 1, and times are counted from the first packet that has a time. Both do not
+    /// depend on which packets are chosen.
     ///
-    /// The inner error is the reason why the capture was refused, or why its records can't be read further. Packets before the error are
+    /// The inner error is the reason why the capture is refused, or why no further packet can be read. Packets before the error are
     /// counted, and another capture can follow.
     ///
     /// # Errors
     ///
-    /// `Write` if writing fails, and `NoMemory` if no memory is left. Nothing more can be reported then.
+    /// `Write` if writing fails, and `NoMemory` if no memory is left. After these errors nothing more can be reported.
     pub fn add<R: Read, W: Write>(
         self,
         input: &mut R,
@@ -129,7 +130,7 @@ impl CaptureReports {
         is_full(self.parts.limit, &self.summary)
     }
 
-    /// Records that a capture could not be opened. The status becomes at least `Failed`.
+    /// Notes that a capture can't be opened. The status becomes at least `Failed`.
     pub fn add_unopened(self) -> CaptureReports
         ensures { result ≡ record self { status = greater self.status ExitStatus.Failed } }
     {
@@ -139,7 +140,7 @@ impl CaptureReports {
         }
     }
 
-    /// Records whether the line of an error was written. If writing it failed, the failure is kept until the end of the run.
+    /// Notes the result of writing the line of an error. A failure is kept until the end of the run.
     pub fn after_line(self, written: io::Result<()>) -> CaptureReports
         ensures progress { progress_of result ≡ progress_of self }
         ensures parts { result.parts ≡ self.parts }
@@ -161,9 +162,9 @@ impl CaptureReports {
         self.unwritten
     }
 
-    /// Writes the summary of all captures if it is requested and the header of a capture was accepted. Returns the exit status, which is
-    /// the greatest status of the reports. If a check is requested, and a packet has a wrong checksum or was refused, the status is
-    /// `Fault`, even if a capture can't be read to its end.
+    /// Writes the summary of all captures, if a summary is requested and the beginning of a capture was accepted. Returns the exit status.
+    /// It is `Fault` if a check is requested, and a packet has a wrong checksum or was refused. Otherwise it is the greatest status of the
+    /// reports.
     ///
     /// # Errors
     ///
@@ -178,7 +179,7 @@ impl CaptureReports {
         Ok(self.final_status())
     }
 
-    /// Writes the summary if it is requested and the header of a capture was accepted.
+    /// Writes the summary, if a summary is requested and the beginning of a capture was accepted.
     fn write_end<W: Write>(&self, alloc: Global, output: &mut W) -> Result<(), WriteError>
         ensures { OnOk result (Appends (W.contents output.old) (W.contents output.new)
             (if self.now.is_empty then [] else end_text self.now.parts self.now.capture self.now.summary)) }
@@ -190,7 +191,7 @@ impl CaptureReports {
         self.write_summary(busiest.as_slice(), alloc, output)
     }
 
-    /// Writes the summary in the requested format. It lists these conversations.
+    /// Writes the summary in the requested format, with these conversations.
     fn write_summary<W: Write>(
         &self,
         busiest: &[ConversationCount],
@@ -234,7 +235,7 @@ fn write_text_summary<W: Write>(
     Ok(write_facts_and_tables(output, capture, summary, busiest)?)
 }
 
-/// Writes the facts of the capture and the tables.
+/// Writes the facts about the capture, and then the tables.
 fn write_facts_and_tables<W: Write>(
     output: &mut W,
     capture: &Option<CaptureReader>,
@@ -291,8 +292,8 @@ fn greater(status: ExitStatus, other: ExitStatus) -> ExitStatus
     }
 }
 
-/// Returns the reader that is kept for the summary, after one more capture. `capture` is the reader that was kept before. `reader` is the
-/// reader of the new capture, if its header was accepted.
+/// Returns the reader that is kept for the summary after another capture. `capture` was kept before it. `reader` is the reader of the new
+/// capture, or `None` if its beginning was refused.
 fn only_capture(
     is_empty: bool,
     capture: Option<CaptureReader>,

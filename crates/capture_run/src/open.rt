@@ -1,16 +1,16 @@
 use std::io;
 use std::io::Read;
 
-/// The source of the captures of a run.
+/// Opens the captures of a run by their names.
 pub trait Open {
     /// The input from which a capture is read.
     type Input: Read + Drop;
 
     ghost use Rattle.std.specs.Prelude.{ℕ, List, IfErr, IfOk};
 
-    /// The statement that holds for the input opened by a name.
+    /// The statement about the input that is opened by a name.
     ghost opens: { Self → List ℕ → Self.Input → Type 0 };
-    /// The statement that holds for a name that can't be opened.
+    /// The statement about a name that can't be opened.
     ghost misses: { Self → List ℕ → Type 0 };
 
     /// Opens the capture with this name. [`STANDARD_INPUT`](crate::STANDARD_INPUT) is the name of standard input.

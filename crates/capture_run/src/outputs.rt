@@ -1,12 +1,12 @@
 use std::alloc::Global;
 
-/// What a run writes to, and its allocator.
+/// The writers of a run, and its allocator.
 #[derive(Drop)]
 pub struct Outputs<W, E> {
-    /// The allocator of what a run keeps in memory.
+    /// The allocator of the memory that a run needs.
     pub alloc: Global,
     /// The writer of the report.
     pub report: W,
-    /// The writer of the lines of errors.
+    /// The writer of the lines for errors.
     pub errors: E,
 }

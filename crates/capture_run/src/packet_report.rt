@@ -19,7 +19,7 @@ use capture_text::write_packet_line;
 use std::alloc::Global;
 use std::io::Write;
 
-/// The state that is kept from packet to packet.
+/// What is kept from one packet to the next.
 #[derive(Drop)]
 pub struct PacketReport {
     alloc: Global,
@@ -43,7 +43,7 @@ impl PacketReport {
         }
     }
 
-    /// Starts a new capture. Its lines show times since the first packet of this capture.
+    /// Begins a new capture. The times in its lines are counted from its first packet.
     pub fn start_capture(&mut self)
         ensures { self.new ≡ record self.old { first = None } }
     {
@@ -71,7 +71,8 @@ impl PacketReport {
         self.summary
     }
 
-    /// Counts the packet in this frame if it is chosen, and writes its line if it has one. `number` is its number in the capture.
+    /// Counts the packet in this frame if it is chosen, and writes its line if it has one. `number` is the number of the packet in the
+    /// capture.
     pub fn add<W: Write>(
         &mut self,
         output: &mut W,
@@ -93,8 +94,7 @@ impl PacketReport {
         self.add_packet(output, number, &captured_info(captured), &packet)
     }
 
-    /// Counts a packet for which the buffer has no room, if the packet is chosen. Writes its line if it has one. Its checksum is not
-    /// tested.
+    /// Counts a packet that is longer than the buffer, if it is chosen, and writes its line if it has one. Its checksum is not tested.
     pub fn add_too_long<W: Write>(
         &mut self,
         output: &mut W,
@@ -180,7 +180,7 @@ impl PacketReport {
     }
 }
 
-/// Whether the number of counted packets has reached this limit. Without a limit the result is `false`.
+/// Whether the number of counted packets has reached this limit. `false` without a limit.
 pub(crate) fn is_full(limit: Option<u64>, summary: &Summary) -> bool
     ensures { result ≡ is_full limit summary.now.packets }
 {
@@ -205,7 +205,7 @@ fn count(summary: &mut Summary, info: &CaptureInfo, packet: &Packet<'_>) -> Resu
     Ok(())
 }
 
-/// The data that the capture contains about a packet.
+/// What the capture states about a packet.
 fn captured_info(captured: &CapturedPacket) -> CaptureInfo
     ensures { result ≡ captured_info captured.now }
 {
@@ -219,7 +219,7 @@ fn captured_info(captured: &CapturedPacket) -> CaptureInfo
     }
 }
 
-/// The data that the capture contains about a packet that is too long.
+/// What the capture states about a packet that is longer than the buffer.
 fn too_long_info(captured: &TooLongPacket) -> CaptureInfo
     ensures { result ≡ too_long_info captured.now }
 {

@@ -17,8 +17,8 @@ use capture_file::reader::{CaptureReader, NextPacket};
 use std::io::{Read, Write};
 
 /// Reads a capture and counts its chosen packets. Writes the line of each chosen packet that has a line. The inner error is the reason why
-/// the capture is refused, or why no further packet can be read. If a number of packets is requested, no byte is read after the last
-/// requested packet. If the header of the capture is accepted, `capture` becomes the reader after the packets.
+/// the capture is refused, or why no further packet can be read. After the last requested packet no byte is read. If the beginning of the
+/// capture is accepted, `capture` becomes the reader after the packets.
 pub(crate) fn report_packets<R: Read, W: Write>(
     packets: &mut PacketReport,
     capture: &mut Option<CaptureReader>,
@@ -60,8 +60,7 @@ fn read_header<R: Read>(input: &mut R, buffer: &mut [u8]) -> Result<CaptureReade
 /// Counts each chosen packet, and writes its line if it has one. Returns how far the capture was read. The
 /// inner error is the reason why no further packet can be read. After an outer error nothing more can be written or counted.
 ///
-/// If a capture was truncated, exactly the packets whose record or block ends before the cut are counted. This holds for both forms of
-/// captures.
+/// If a capture was truncated, only the packets whose record or block ends at or before the cut are counted, in both file formats.
 fn report_each_packet<R: Read, W: Write>(
     packets: &mut PacketReport,
     reader: &mut CaptureReader,
@@ -96,8 +95,8 @@ fn report_each_packet<R: Read, W: Write>(
     Ok(Err(CaptureError::TooManyPackets))
 }
 
-/// Counts the next packet if it is chosen, and writes its line if it has one. The result is `Some` if there is no next packet, or if it
-/// can't be read.
+/// Counts the next packet if it is chosen, and writes its line if it has one. Returns `None` after a packet. Otherwise the result states
+/// how the report of the capture ends.
 fn report_next<R: Read, W: Write>(
     input: &mut R,
     output: &mut W,

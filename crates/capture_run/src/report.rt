@@ -22,20 +22,20 @@ use std::hash::RandomState;
 use std::io;
 use std::io::Write;
 
-/// Reports the captures of `sources` in their order. Then it writes the summary of all captures, and returns the exit status. `state` provides
-/// the keys of the hashes that find a flow. With random keys, no capture can be crafted to slow down these lookups. `buffer` has room for a
-/// packet, or for a block of a pcapng file. Longer packets are counted, but not read.
+/// Reports the captures of `sources` in their order. Then it writes the summary of all captures, and returns the exit status. `state`
+/// provides the keys for hashing flows. With random keys, no capture can be crafted to slow down the search for a flow. Packets are read
+/// into `buffer`. A longer packet is counted, but not read.
 ///
-/// If a number of packets is requested, the run ends with the last of them, and reads no further capture.
+/// If a number of packets is requested, the run ends after the last requested packet, and reads no further capture.
 ///
-/// If a capture can't be opened, or can't be read to its end, a line with its name and the error is written to `outputs.errors`. Then the next
-/// capture follows. The exit status is the greatest status of all captures. If a check is requested, and a packet has a wrong checksum or
-/// was refused, the status is `Fault`. This holds even if a capture can't be opened or can't be read to its end.
+/// If a capture can't be opened, or can't be read to its end, a line with its name and the error is written to `outputs.errors`. Then the
+/// next capture follows. The exit status is the greatest status of all captures. If a check is requested, and a packet has a wrong checksum
+/// or was refused, the status is `Fault`. This holds even if a capture can't be opened or can't be read to its end.
 ///
 /// # Errors
 ///
-/// `Write` if writing to `outputs.report` fails, and `NoMemory` if no memory is left. Nothing more can be reported then. If writing to
-/// `outputs.errors` fails, all captures and the summary are reported first, and then `Write` is returned.
+/// `Write` if writing to `outputs.report` fails, and `NoMemory` if no memory is left. After these errors nothing more can be reported. If
+/// writing to `outputs.errors` fails, all captures and the summary are reported first, and then `Write` is returned.
 pub fn run<O: Open, W: Write, E: Write>(
     sources: &Sources<'_, O>,
     parts: Parts,
@@ -89,7 +89,7 @@ fn report_captures<O: Open, W: Write, E: Write>(
     }
 }
 
-/// Reports each of these captures, with the heading of each.
+/// Reports each of these captures, with a heading before its packets.
 fn report_each_capture<O: Open, W: Write, E: Write>(
     sources: &Sources<'_, O>,
     reports: CaptureReports,
@@ -118,7 +118,7 @@ fn report_each_capture<O: Open, W: Write, E: Write>(
     Ok(reports)
 }
 
-/// Reports a capture, with its heading. The capture is skipped if the requested number of packets was counted before.
+/// Reports a capture, with a heading before its packets. The capture is skipped if the requested number of packets was counted before.
 fn report_headed<O: Open, W: Write, E: Write>(
     capture: &NamedCapture<'_>,
     opener: &O,
@@ -142,8 +142,7 @@ fn report_headed<O: Open, W: Write, E: Write>(
     report_capture(capture, opener, reports, buffer, outputs)
 }
 
-/// The name that the line of an error within a capture contains. If no capture is named, standard input is read, and the line contains no
-/// name.
+/// The name of the capture in the line of an error. `None` if standard input is read without a name.
 fn line_name<'a>(count: usize, name: &'a str) -> Option<&'a str>
     ensures { option_map (λ text. shown_name text.now) result ≡ line_name count name.now }
 {
@@ -183,8 +182,7 @@ fn report_capture<O: Open, W: Write, E: Write>(
     Ok(reports.after_line(written))
 }
 
-/// Writes the line before the packets of a capture, which contains the name of the capture. It writes nothing if there is at most one named
-/// capture, or if no packet has a line.
+/// Writes the heading of a capture. Writes nothing if at most one capture is named, or if no packet may have a line.
 fn write_heading_if_any<W: Write>(
     capture: &NamedCapture<'_>,
     parts: &Parts,
@@ -200,7 +198,7 @@ fn write_heading_if_any<W: Write>(
     write_heading(output, alloc, parts.format, capture.place, capture.name)
 }
 
-/// Writes the line before the packets of a capture, which contains the name of the capture.
+/// Writes the heading of a capture, which contains its name, in the requested format.
 fn write_heading<W: Write>(
     output: &mut W,
     alloc: Global,
@@ -216,7 +214,7 @@ fn write_heading<W: Write>(
     }
 }
 
-/// Writes the name of a capture between arrows, after an empty line if it is not the first capture.
+/// Writes the heading of a capture as text: its name between arrows. An empty line precedes it, except before the first capture.
 fn write_text_heading<W: Write>(output: &mut W, place: usize, name: &str) -> io::Result<()>
     ensures { OnOk result (Appends (W.contents output.old) (W.contents output.new) (text_heading place name.now)) }
 {

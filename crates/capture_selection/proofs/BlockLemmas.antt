@@ -78,7 +78,7 @@ refused_end options state (LastLength total_len last_len) bytes buffer has_room 
   record { has_room = has_room; block = blocks.Refused (LastLength total_len last_len); is_next = (some, refused); is_step = (refl, refl) },
 )
 
--- what is left of the input at the end of a file by bytes that are no block
+-- the input that is left after bytes that are not a block
 refused_leaves : (place : Place) (error : BlockError) (still_left : Option (List ℕ)) → IsLastBlock (blocks.Refused error) still_left
     → LeavesAt (refused_by place error) still_left still_left
 refused_leaves place (CutOff required len) still_left last = (last, refl)
@@ -87,7 +87,7 @@ refused_leaves place (TotalLength total_len) still_left last = refl
 refused_leaves place (SectionLength total_len) still_left last = refl
 refused_leaves place (LastLength total_len last_len) still_left last = refl
 
--- the error of bytes that are no block, of which these first bytes were written
+-- the selection ends with the error of bytes that are not a block; these first bytes were written
 pub ends_refused : (options : Parts) (result : SelectionError) (state : Blocks) (error : BlockError)
     (left still_left held now_held : Option (List ℕ)) (counts : Counts) (bytes front buffer : List ℕ)
     → result ≡ refused_by (block_place state) error → length buffer ≡ max_packet_len → Consumes left still_left bytes
@@ -106,7 +106,7 @@ ends_refused options result state error left still_left held now_held counts byt
       leaves = refused_leaves (block_place state) error still_left last;
     }))
 
--- the same of bytes that were read after first bytes, and not written
+-- the selection ends with the error of bytes that were read after first bytes, and not written
 pub ends_unread : (options : Parts) (result : SelectionError) (state : Blocks) (error : BlockError)
     (left middle still_left held : Option (List ℕ)) (counts : Counts) (first buffer room : List ℕ)
     → result ≡ refused_by (block_place state) error → length room ≡ max_packet_len → Consumes left middle first
@@ -144,7 +144,7 @@ outcome_by options buffer true packet offset header (Some (packets.CutOff requir
 outcome_by options buffer true packet offset header (Some packets.End) outcome is has = absurd (cc is)
 outcome_by options buffer true packet offset header None outcome is has = absurd (cc is)
 
--- a block for which the buffer has no room is its own copy, unless it is refused
+-- a block without room in the buffer is its own copy, unless it is refused
 pub long_copy : (options : Parts) (state after : PcapngReader) (first more buffer : List ℕ) (header : BlockHeader) (outcome : Option Outcome)
     → ((place : ℕ) → slice_index first place < 256) → length first ≡ 12 → header ≡ block_header state.section.byte_order first
     → StepsTo options state buffer (blocks.TooLong header) after (Ok outcome) → block_copy (first ++ more) ≡ first ++ more
@@ -153,7 +153,7 @@ long_copy options state after first more buffer header outcome fits has_len is s
     (subst (λ given. is_description given.block_type ≡ false) is
     (outcome_by options buffer (is_description header.block_type) (is_packet header.block_type) state.offset header steps.0 outcome steps.1.2 steps.2))
 
--- nothing is written for a block for which the buffer has no room, or the block is not refused
+-- for a block without room in the buffer nothing is written, or the block is not refused
 pub long_front : (options : Parts) (state after : PcapngReader) (first more buffer written : List ℕ) (header : BlockHeader)
     (stepped : Result (Option Outcome) PlacedPacketError) (outcome : Option Outcome)
     → length first ≡ 12 → header ≡ block_header state.section.byte_order first → max_packet_len < header.total_len
@@ -173,7 +173,7 @@ written_append (Some Written) first middle last = grind (arith, append_assoc)
 written_append (Some Unlisted) first middle last = refl
 written_append (Some Excluded) first middle last = refl
 
--- what is written for the first bytes of a block is nothing, or the first bytes
+-- nothing is written for the first bytes of a block, or these bytes are written
 pub front_before : (outcome : Option Outcome) (first middle last : List ℕ) (Long : Type 0) → ((written_by (first ++ middle) outcome ≡ []) ⊎ Long)
     → (written_by (first ++ middle) outcome ≡ []) ⊎ (Long × IsFront (written_by (first ++ middle) outcome) (first ++ (middle ++ last)))
 front_before outcome first middle last Long (inl none) = inl none

@@ -27,7 +27,7 @@ use Rattle.capture_selection.specs.declared.counts.Counts.{Counts}
 use Rattle.capture_selection.specs.declared.selection_error.SelectionError.{SelectionError}
 use Rattle.capture_selection.specs.declared.selection_error.SelectionError.TheVariants.{Capture, Write}
 
--- a block goes on from its offset
+-- the offset after a block is at least 1
 min_past : (offset len : ℕ) → 1 ≤ offset → 1 ≤ min (offset + len) (2 ^ 64 - 1)
 min_past offset len past = grind (arith, nat_tests)
 
@@ -70,7 +70,7 @@ too_long_offset : (offset : ℕ) (header : BlockHeader) (error : PlacedPacketErr
     → error.offset ≡ offset
 too_long_offset offset header error is = too_long_by (is_description header.block_type) (is_packet header.block_type) offset header error is
 
--- the offset of a refused block
+-- the offset in the error of a refused block
 refused_offset : (before after : PcapngReader) (buffer : List ℕ) (block : NextBlock) (error : PlacedPacketError)
     → IsStep before buffer block after (Some (packets.Refused error)) → error.offset ≡ before.offset
 refused_offset before after buffer (blocks.Whole header) error (at, (Ok None, takes, is)) = absurd (cc is)
@@ -130,7 +130,7 @@ file_passes options (Err (Capture (RecordCutOff number offset required len))) st
 file_passes options (Err (Capture (Refused error))) start after left still_left held now_held counts now_counts passes past = (passes, past)
 file_passes options (Err (Capture TooManyPackets)) start after left still_left held now_held counts now_counts passes past = (passes, past)
 
--- a file whose first block can't be passed
+-- what was passed in a file whose first block can't be passed
 first_error : (options : Parts) (error : SelectionError) (start after : Blocks) (left still_left held now_held : Option (List ℕ))
     (counts now_counts : Counts)
     → (IsWriteError error ⊎ StopsBy (blocks_of options) error start left still_left held now_held counts now_counts)
@@ -151,7 +151,7 @@ first_error options (Capture (Read number offset error)) start after left still_
 )
 first_error options (Capture TooManyPackets) start after left still_left held now_held counts now_counts (inr stops) = absurd stops.is_end.2
 
--- the same of a result
+-- the result is the error of a refused file
 pub file_refused : (options : Parts) (error given : SelectionError) (start after : Blocks) (left still_left held now_held : Option (List ℕ))
     (counts now_counts : Counts)
     → given ≡ at_beginning error
@@ -171,7 +171,7 @@ at_beginning_below limit chosen (Capture (Header error)) ends = tt
 at_beginning_below limit chosen (Capture (ReadHeader error)) ends = tt
 at_beginning_below limit chosen (Capture TooManyPackets) ends = tt
 
--- the error of the first block, before which fewer packets were chosen than requested
+-- the error of the first block, if fewer packets were chosen before it than requested
 pub first_below : (options : Parts) (error given : SelectionError) (start : Blocks) (left still_left held now_held : Option (List ℕ))
     (counts now_counts : Counts)
     → is_full options.limit counts.chosen ≡ false → given ≡ at_beginning error

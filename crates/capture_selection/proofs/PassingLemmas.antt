@@ -24,11 +24,11 @@ use Rattle.capture_request.specs.declared.reached.Reached.{Reached}
 
 -- ---- ends
 
--- a part of these bytes, whose copy is written unless its packet is left out
+-- a part with these bytes, whose copy is written unless its packet is left out
 abbrev pub part_with : List ℕ → List ℕ → Option Outcome → Part
 part_with bytes copy outcome = record { read = bytes; written = written_by copy outcome; outcome = outcome }
 
--- a part of these bytes, which is its own copy
+-- a part with these bytes, which are written unless its packet is left out
 abbrev pub part_of : List ℕ → Option Outcome → Part
 part_of bytes outcome = part_with bytes bytes outcome
 
@@ -58,7 +58,7 @@ ends_by_read selection (Capture (Refused error)) state bytes is = absurd is
 ends_by_read selection (Capture TooManyPackets) state bytes is = absurd is
 ends_by_read selection (Write error) state bytes is = absurd is
 
--- what an input has left at a read error is not known
+-- nothing is stated about the input that is left after a read error
 pub leaves_at_read : (place : Place) (error : SelectionError) (then_left still_left : Option (List ℕ)) → IsReadError place error
     → LeavesAt error then_left still_left
 leaves_at_read place (Capture (Read number offset error)) then_left still_left is = tt
@@ -69,7 +69,7 @@ leaves_at_read place (Capture (Refused error)) then_left still_left is = absurd 
 leaves_at_read place (Capture TooManyPackets) then_left still_left is = absurd is
 leaves_at_read place (Write error) then_left still_left is = absurd is
 
--- an end after the first bytes of a part, of which nothing was written
+-- the result if an error came after the first bytes of a part, for which nothing was written
 pub stops_unwritten : (selection : Selection) (error : SelectionError) (state : selection.State) (left then_left still_left held : Option (List ℕ))
     (counts : Counts) (bytes : List ℕ)
     → Consumes left then_left bytes → IsEndBy selection state bytes error → LeavesAt error then_left still_left
@@ -84,7 +84,7 @@ stops_unwritten selection error state left then_left still_left held counts byte
   leaves = leaves;
 }
 
--- reading failed at the place of the next part
+-- the result if reading failed at the place of the next part
 pub any_to_read_error : (selection : Selection) (result : Result Bool SelectionError) (error : SelectionError) (before after : selection.State)
     (left still_left held : Option (List ℕ)) (counts : Counts)
     → IsReadError (selection.place_of before) error → result ≡ Err error
@@ -111,7 +111,7 @@ next_to_read_error selection result error before after left then_left still_left
 abbrev pub cut_at : Place → ℕ → ℕ → SelectionError
 cut_at place required len = Capture (RecordCutOff place.number place.offset required len)
 
--- the capture ends within the part that begins with these bytes
+-- the result if the capture ends within the part that begins with these bytes
 pub ends_cut : (selection : Selection) (error : SelectionError) (required len : ℕ) (state : selection.State) (left still_left held now_held : Option (List ℕ))
     (counts : Counts) (bytes front : List ℕ)
     → error ≡ cut_at (selection.place_of state) required len → Consumes left still_left bytes → Appends held now_held front
@@ -144,7 +144,7 @@ header_read_ends_none selection error before left still_left held now_held count
 
 -- ---- parts for which the buffer has no room
 
--- bytes were read, and nothing is written for them
+-- bytes were read, and nothing was written for them
 pub passes_skipped : (place : Place) (outcome : Option Outcome) (result : Result ℕ SelectionError) (first : List ℕ) (left still_left held : Option (List ℕ)) (count : ℕ)
     → ((bytes : List ℕ) → written_by bytes outcome ≡ []) → IfOk result (λ len. Skips left still_left count len) → IfErr result (IsReadError place)
     → PassesLong place outcome result first left still_left held held
@@ -187,14 +187,14 @@ passes_copied place outcome (Err error) first left still_left held then_held now
 passes_copied place outcome (Err error) first left still_left held then_held now_held all appended (inr (is, len, then_left, copies)) =
     inr (is, len, then_left, rest_copied outcome first left then_left held then_held now_held len all appended copies)
 
--- writing the first bytes failed
+-- the result if writing the first bytes failed
 pub passes_long_to_write_error : (place : Place) (outcome : Option Outcome) (result : Result ℕ SelectionError) (error : SelectionError) (first : List ℕ)
     (left still_left held now_held : Option (List ℕ))
     → IsWriteError error → result ≡ Err error → PassesLong place outcome result first left still_left held now_held
 passes_long_to_write_error place outcome result error first left still_left held now_held failed fails =
     subst (λ given. PassesLong place outcome given first left still_left held now_held) (sym fails) (inl failed)
 
--- what is written for bytes is nothing, or the bytes
+-- nothing is written for bytes, or these bytes are written
 pub front_of : (outcome : Option Outcome) (bytes : List ℕ) (Long : Type 0) → ((written_by bytes outcome ≡ []) ⊎ Long)
     → (written_by bytes outcome ≡ []) ⊎ (Long × IsFront (written_by bytes outcome) bytes)
 front_of outcome bytes Long (inl none) = inl none
@@ -234,14 +234,14 @@ pub nothing_if : (is_written : Bool) (written bytes : List ℕ) → written ≡ 
 nothing_if true written bytes is unwritten = absurd (cc unwritten)
 nothing_if false written bytes is unwritten = is
 
--- one packet more is within a limit that was not reached
+-- a number of packets is within the limit after another packet, if the limit was not reached before
 pub within_one : (limit : Option ℕ) (chosen now_chosen : ℕ) → is_full limit chosen ≡ false → now_chosen ≤ chosen + 1 → IsWithin limit now_chosen
 within_one None chosen now_chosen below one = tt
 within_one (Some limit) chosen now_chosen below one = grind (arith, nat_tests)
 
 -- ---- a requested number of packets
 
--- the same number of packets, which is below the limit
+-- if no packet is counted, the number of packets stays below the limit
 same_below : (limit : Option ℕ) (counts now_counts : Counts) → is_full limit counts.chosen ≡ false → now_counts ≡ counts
     → is_full limit now_counts.chosen ≡ false
 same_below limit counts now_counts below same = subst (λ given. is_full limit given.chosen ≡ false) (sym same) below
@@ -284,7 +284,7 @@ none_below selection limit true before after left still_left held now_held count
 none_below selection limit false before after left still_left held now_held counts now_counts below none is =
     same_below limit counts now_counts below none.3
 
--- if the limit was reached at first, nothing was counted, and the limit is still reached
+-- if nothing is counted after the limit is reached, the limit is still reached
 pub still_full : (limit : Option ℕ) (first counts : Counts) → (is_full limit first.chosen ≡ true → counts ≡ first)
     → is_full limit counts.chosen ≡ false → is_full limit first.chosen ≡ true → ⊥
 still_full limit first counts same below full =

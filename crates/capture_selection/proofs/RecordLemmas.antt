@@ -16,13 +16,13 @@ use Rattle.capture_selection.specs.Outcomes.{HasOutcome}
 use Rattle.capture_selection.specs.Records.{IsLongRecord, IsRecordPart}
 use Rattle.capture_selection.specs.declared.outcome.Outcome.{Outcome}
 
--- the packet of a record for which the buffer has room
+-- the packet of a record with room in the buffer
 pub record_packet_kept : (room : ℕ) (capture : CaptureHeader) (first captured : List ℕ) → length first ≡ 16 → number_at capture.byte_order first 8 ≤ room
     → record_packet room capture (first ++ captured) ≡ kept (packet_of_record capture (record_header capture.byte_order first)) captured
 record_packet_kept room capture first captured has_len within =
     grind (arith, nat_tests, record_header_front capture.byte_order first captured (omega (arith, has_len)), drop_at first captured 16 has_len)
 
--- the packet of a record for which the buffer has no room
+-- the packet of a record without room in the buffer
 pub record_packet_long : (room : ℕ) (capture : CaptureHeader) (first captured : List ℕ) → length first ≡ 16 → room < number_at capture.byte_order first 8
     → record_packet room capture (first ++ captured) ≡ too_long (long_record capture (record_header capture.byte_order first))
 record_packet_long room capture first captured has_len beyond =

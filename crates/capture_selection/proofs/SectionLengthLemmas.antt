@@ -11,7 +11,7 @@ use Rattle.capture_selection.specs.Blocks.{block_copy}
 abbrev copy_if : Bool → List ℕ → List ℕ
 copy_if is_section block = if is_section then take 16 block ++ (replicate 8 255 ++ drop 24 block) else block
 
--- the copy of a section header block
+-- the copy of a section header block, which states no section length
 pub section_copy : (block written : List ℕ) → is_section_header block ≡ true → written ≡ replicate 8 255
     → take 16 block ++ (written ++ drop 8 (drop 16 block)) ≡ block_copy block
 section_copy block written is same =
@@ -32,7 +32,7 @@ not_section : (given : Bool) (kind : Bool) → (given ≡ true → kind ≡ true
 not_section false kind to other = refl
 not_section true kind to other = absurd (cc (sym (to refl) ∙ other))
 
--- a block that is no description is its own copy
+-- a block that is not a section header block is its own copy
 pub other_copy : (section : ByteOrder) (first more : List ℕ) → ((place : ℕ) → slice_index first place < 256) → 12 ≤ length first
     → is_description (block_header section first).block_type ≡ false → block_copy (first ++ more) ≡ first ++ more
 other_copy section first more fits within other =

@@ -63,7 +63,7 @@ other_part others = record {
 
 -- ---- the selection
 
--- this many packets were read, chosen and written
+-- the counts with these numbers of packets that were read, chosen and written
 abbrev pub counts : ℕ → ℕ → ℕ → Counts
 counts read chosen written = record { read = read; chosen = chosen; written = written }
 

@@ -32,39 +32,40 @@ use Rattle.capture_selection.specs.declared.place.Place.{Place}
 use Rattle.capture_selection.specs.declared.selection_error.SelectionError.{SelectionError}
 use Rattle.capture_selection.specs.declared.selection_error.SelectionError.TheVariants.{Capture}
 
--- The outcome of a block that determines this next item. It is the outcome of the packet in the block, which is read as the report reads
--- it. A block without a packet determines no item, and has no outcome.
+-- The outcome of a block that gives this next item. It is the outcome of the packet in the block, which is read as the report reads it. A
+-- block without a packet gives no item, and has no outcome.
 abbrev pub HasBlockOutcome : Parts → List ℕ → Option NextPacket → Option Outcome → Type 0
 HasBlockOutcome options buffer None outcome = outcome ≡ None
 HasBlockOutcome options buffer (Some next) outcome =
     (packet : FilePacket) × (packet_in buffer next ≡ Some packet) × HasOutcome options (IsPacketOf packet) outcome
 
--- The reader reads this block. `after` is the reader after the block, and `next` is the next item, if the block determines it.
+-- The reader reads this block. `after` is the reader after the block, and `next` is the item that the block gives, if it gives one.
 pub record StepsOver (before : PcapngReader) (bytes : List ℕ) (after : PcapngReader) (buffer : List ℕ) (next : Option NextPacket) : Type 0 where
   pub has_room : length buffer ≡ max_packet_len
   pub block : NextBlock
   pub is_next : IsNextBlock before.section.byte_order bytes buffer block
   pub is_step : IsStep before buffer block after next
 
--- a whole block, with the outcome of its packet, if it contains a packet
+-- a whole block, with the outcome of its packet; without a packet it has no outcome
 pub record IsBlockPart (options : Parts) (before : PcapngReader) (bytes : List ℕ) (outcome : Option Outcome) (after : PcapngReader) : Type 0 where
   pub buffer : List ℕ
   pub next : Option NextPacket
   pub steps : StepsOver before bytes after buffer next
   pub has_outcome : HasBlockOutcome options buffer next outcome
 
--- The buffer has no room for the block that begins with these bytes. The block is neither a section header block nor an interface
--- description block: the reader refuses such a long block of these two types.
+-- The block that begins with these bytes does not fit in the buffer. It is neither a section header block nor an interface description
+-- block, because the reader refuses these two types if they do not fit.
 abbrev pub IsLongBlock : PcapngReader → List ℕ → Type 0
 IsLongBlock state bytes =
     let header = block_header state.section.byte_order bytes in
     (max_packet_len < header.total_len) × (is_description header.block_type ≡ false)
 
--- The bytes end within a block. `required` is the length of the block, as far as it is known, and `len` is the number of bytes.
+-- The bytes end within a block. `len` is the number of bytes, and `required` is the length of the block, or 12 if its first 12 bytes are
+-- incomplete.
 abbrev pub IsCutBlock : PcapngReader → List ℕ → ℕ → ℕ → Type 0
 IsCutBlock state bytes required len = (bytes ≢ []) × (block_refusal state.section.byte_order bytes ≡ Some (CutOff required len))
 
--- the reader refuses the block
+-- the reader refuses the block with these bytes
 abbrev pub IsRefusedBlock : PcapngReader → List ℕ → PlacedPacketError → Type 0
 IsRefusedBlock state bytes error =
     (after : PcapngReader) × (buffer : List ℕ) × StepsOver state bytes after buffer (Some (packets.Refused error))
@@ -94,7 +95,7 @@ not_specified = replicate 8 255
 abbrev pub block_copy : List ℕ → List ℕ
 block_copy block = if is_section_header block then take section_len_at block ++ (not_specified ++ drop section_options_at block) else block
 
--- pcapng files, with these options
+-- the selection of packets from pcapng files, with these options
 abbrev pub block_selection : Parts → Selection
 block_selection options = record {
   State = Blocks;
@@ -110,7 +111,7 @@ block_selection options = record {
 abbrev pub blocks_of : Parts → Format
 blocks_of options = format_of (block_selection options)
 
--- the start of a file; the section header block states its byte order
+-- the start of a file; its byte order does not matter, since the section header block states its own
 pub record IsFileStart (blocks : Blocks) : Type 0 where
   pub byte_order : blocks.reader.section.byte_order ≡ BigEndian
   pub interfaces : blocks.reader.section.interfaces.items ≡ []
@@ -119,13 +120,13 @@ pub record IsFileStart (blocks : Blocks) : Type 0 where
 
 -- ---- the first block
 
--- an error of the first block of a file, in the form of the report, in which it is an error of the header
+-- the error as the report states it, if the first block of a file caused it: an error of the header
 abbrev pub at_beginning : SelectionError → SelectionError
 at_beginning (Capture (RecordCutOff number offset required len)) = Capture (Header (Pcapng (errors.Block (CutOff required len))))
 at_beginning (Capture (Refused error)) = Capture (Header (Pcapng error.error))
 at_beginning error = error
 
--- The first block of a file is refused. `error` is the error in the form of the report. No packet is counted.
+-- The first block of a file is refused, with this error in the form of the report. No packet is counted.
 pub record RefusesFirst (options : Parts) (start : Blocks) (error : PacketError) (left still_left held now_held : Option (List ℕ))
     (counts now_counts : Counts) : Type 0 where
   pub given : SelectionError
@@ -138,7 +139,7 @@ IsPastFirst (Err (Capture (RecordCutOff number offset required len))) = 1 ≤ of
 IsPastFirst (Err (Capture (Refused error))) = 1 ≤ error.offset
 IsPastFirst other = Unit {0}
 
--- What was read and written of a file, from its start up to this result. If its first block is refused, the error is an error of the
+-- What was read and written of a file, from its start up to this result. If the first block is refused, the result is an error of the
 -- header.
 abbrev pub PassesFile : Parts → Result Reached SelectionError → Blocks → Blocks → Option (List ℕ) → Option (List ℕ) → Option (List ℕ)
     → Option (List ℕ) → Counts → Counts → Type 0
@@ -149,12 +150,13 @@ PassesFile options result start after left still_left held now_held counts now_c
 
 -- ---- results
 
--- the error of the selection if this error refuses the bytes at this place as a block
+-- the error of the selection for bytes at this place that are refused as a block
 abbrev pub refused_by : Place → BlockError → SelectionError
 refused_by place (CutOff required len) = Capture (RecordCutOff place.number place.offset required len)
 refused_by place error = Capture (Refused (record { offset = place.offset; error = errors.Block error }))
 
--- The result of reading a block: its outcome, or the error that refuses it. The block is at the front of the buffer, or has no room there.
+-- The result of reading a block: its outcome, or the error that refuses it. If the block fits in the buffer, it is at the front of the
+-- buffer.
 abbrev pub StepsTo : Parts → PcapngReader → List ℕ → NextBlock → PcapngReader → Result (Option Outcome) PlacedPacketError → Type 0
 StepsTo options before buffer block after (Ok outcome) =
     (next : Option NextPacket) × IsStep before buffer block after next × HasBlockOutcome options buffer next outcome

@@ -1,4 +1,4 @@
--- What is done with the packets of a capture, and how many there are.
+-- The outcomes of the packets of a capture, and how many packets have them.
 use Rattle.std.specs.Prelude.{◌≡◌, true, false, Option, Some}
 use Rattle.capture_copy.specs.Passing.{one_more}
 use Rattle.capture_packet.specs.declared.packet.Packet.{Packet}
@@ -9,13 +9,13 @@ use Rattle.capture_selection.specs.declared.counts.Counts.{Counts}
 use Rattle.capture_selection.specs.declared.outcome.Outcome.{Outcome}
 use Rattle.capture_selection.specs.declared.outcome.Outcome.TheVariants.{Excluded, Unlisted, Written}
 
--- The outcome of a packet. It is written if it is chosen and has a line in the report with these options.
+-- The outcome of a packet with these options: `Written` if it is chosen and has a line in the report.
 abbrev pub IsOutcomeOf : Parts → Packet → Outcome → Type 0
 IsOutcomeOf options packet Excluded = IsChosen options.choice packet → ⊥
 IsOutcomeOf options packet Unlisted = IsChosen options.choice packet × (has_line options.lines packet.verdict ≡ false)
 IsOutcomeOf options packet Written = IsChosen options.choice packet × (has_line options.lines packet.verdict ≡ true)
 
--- this is the outcome of one of these packets
+-- this is the outcome of a packet for which `IsPacket` holds
 pub record HasOutcome (options : Parts) (IsPacket : Packet → Type 0) (outcome : Option Outcome) : Type 0 where
   pub packet : Packet
   pub is_packet : IsPacket packet
@@ -23,7 +23,7 @@ pub record HasOutcome (options : Parts) (IsPacket : Packet → Type 0) (outcome 
   pub is_outcome : IsOutcomeOf options packet given
   pub has : outcome ≡ Some given
 
--- the counts with one more packet, by its outcome: every packet was read, and a written packet is also a chosen packet
+-- the counts after a packet with this outcome: each packet was read, and a written packet is also a chosen packet
 abbrev pub counted : Counts → Outcome → Counts
 counted counts Excluded = record counts { read = one_more counts.read }
 counted counts Unlisted = record counts { read = one_more counts.read; chosen = one_more counts.chosen }

@@ -19,7 +19,7 @@ use Rattle.capture_selection.specs.declared.selection_error.SelectionError.TheVa
 
 -- ---- parts
 
--- a part with the outcome of the packet in it
+-- a record or block, with the outcome of its packet
 abbrev pub Part : Type 0
 Part = copier.Part Outcome
 
@@ -30,27 +30,27 @@ written_by bytes (Some Written) = bytes
 written_by bytes (Some Unlisted) = []
 written_by bytes (Some Excluded) = []
 
--- A format of captures from which packets are selected. A part leads from one state to the next: in a pcapng file a block can begin a section or
--- describe an interface.
+-- A format of captures from which packets are selected. Each part changes the state. For example, a block of a pcapng file can begin a
+-- section or describe an interface.
 pub record Selection : Type 1 where
-  -- what the parts before determine about the next part
+  -- what the parts so far state about the next part
   pub State : Type 0
   -- the place of the next part: the number of the next packet, and the number of bytes before the part
   pub place_of : State → Place
-  -- the part with these bytes is a record or block, and this outcome is right
+  -- the bytes are one record or block with this outcome, which leads from the first state to the second
   pub IsPart : State → List ℕ → Option Outcome → State → Type 0
-  -- these first bytes belong to a part for which the buffer has no room, and which may be written
+  -- these bytes begin a part that does not fit in the buffer, and that may be written
   pub IsLong : State → List ℕ → Type 0
-  -- the capture ends with these bytes, within a part: the length of the part as far as it is known, and the length of the bytes
+  -- the capture ends with these bytes, within a part; the numbers are the least length of the part, and the number of bytes
   pub IsCut : State → List ℕ → ℕ → ℕ → Type 0
   -- the part that begins with these bytes is refused
   pub IsRefused : State → List ℕ → PlacedPacketError → Type 0
-  -- what is written for the bytes of a part, unless its packet is left out
+  -- what is written for a part with these bytes, unless its packet is left out
   pub copy_of : List ℕ → List ℕ
 
 -- ---- errors
 
--- an error with this number and offset is at this place
+-- this number and this offset are those of the place
 abbrev pub IsAt : Place → ℕ → ℕ → Type 0
 IsAt place number offset = (number ≡ place.number) × (offset ≡ place.offset)
 
@@ -91,14 +91,15 @@ IsEnd selection state part error =
     (part.outcome ≡ None) × ((part.written ≡ []) ⊎ (selection.IsLong state part.read × IsFront part.written part.read))
     × IsEndBy selection state part.read error
 
--- What an input has left at an error, next to what it had left after the first bytes of the part: the same, unless reading failed. A part is cut
--- off only at the end of the input.
+-- `then_left` is what the input had left after the bytes of the part, and `still_left` is what it has left after this error. They are
+-- equal, unless reading failed. A part is cut off only at the end of the input.
 abbrev pub LeavesAt : SelectionError → Option (List ℕ) → Option (List ℕ) → Type 0
 LeavesAt (Capture (RecordCutOff number offset required len)) then_left still_left = IsAtEnd still_left × (then_left ≡ still_left)
 LeavesAt (Capture (Refused error)) then_left still_left = then_left ≡ still_left
 LeavesAt error then_left still_left = ⊤
 
--- the format whose parts and ends these are; the copy of a part is written unless its packet is left out
+-- the format of a capture that consists of these parts and ends like this; what is written for a part is its copy, unless its packet is
+-- left out
 abbrev pub format_of : Selection → Format
 format_of selection = record {
   State = selection.State;
@@ -123,13 +124,13 @@ EndsAtLimit limit chosen (Err (Write error)) = ⊤
 
 -- ---- bytes that are copied by pieces
 
--- The result is the number of bytes that were copied of the part at this place. If reading failed, some bytes were copied before.
+-- This number of bytes was copied. After an error in the part at this place, an unknown number of bytes was copied before.
 abbrev pub CopiesUpTo : Place → Result ℕ SelectionError → Option (List ℕ) → Option (List ℕ) → Option (List ℕ) → Option (List ℕ) → Type 0
 CopiesUpTo place (Ok len) left still_left held now_held = Copies left still_left held now_held len
 CopiesUpTo place (Err error) left still_left held now_held =
     IsWriteError error ⊎ (IsReadError place error × (len : ℕ) × (then_left : Option (List ℕ)) × Copies left then_left held now_held len)
 
--- The first bytes of a part had been read before, and then `len` more bytes were read. All these bytes were written, unless the packet with
+-- The first bytes of a part were already read, and then `len` more bytes were read. All these bytes were written, unless the packet with
 -- this outcome is left out.
 pub record PassesRest (outcome : Option Outcome) (first : List ℕ) (left still_left held now_held : Option (List ℕ)) (len : ℕ) : Type 0 where
   pub bytes : List ℕ
@@ -137,8 +138,8 @@ pub record PassesRest (outcome : Option Outcome) (first : List ℕ) (left still_
   pub consumed : Consumes left still_left bytes
   pub appended : Appends held now_held (written_by (first ++ bytes) outcome)
 
--- The result is the number of bytes that were read of the part at this place, after its first bytes. If reading failed, some bytes were
--- read and written before.
+-- This number of bytes was read after the first bytes of the part at this place. After an error, an unknown number of bytes was read and
+-- written before.
 abbrev pub PassesLong : Place → Option Outcome → Result ℕ SelectionError → List ℕ → Option (List ℕ) → Option (List ℕ) → Option (List ℕ) → Option (List ℕ) → Type 0
 PassesLong place outcome (Ok len) first left still_left held now_held = PassesRest outcome first left still_left held now_held len
 PassesLong place outcome (Err error) first left still_left held now_held =

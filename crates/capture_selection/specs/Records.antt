@@ -14,20 +14,20 @@ use Rattle.capture_selection.specs.declared.outcome.Outcome.{Outcome}
 use Rattle.capture_selection.specs.declared.place.Place.{Place}
 use Rattle.capture_selection.specs.declared.records.Records.{Records}
 
--- a record of this capture, with the outcome of its packet, which is read as the report reads it
+-- a record of this capture, with the outcome of its packet; the packet is read as the report reads it
 pub record IsRecordPart (options : Parts) (capture : CaptureHeader) (bytes : List ℕ) (outcome : Option Outcome) : Type 0 where
   pub is_record : IsRecord capture.byte_order bytes
   pub has_outcome : HasOutcome options (IsPacketOf (record_packet max_packet_len capture bytes)) outcome
 
--- the captured length in the header of the record that begins with these bytes is above the maximum length of a packet that is read
+-- the record that begins with these bytes has more captured bytes than fit in the buffer
 abbrev pub IsLongRecord : CaptureHeader → List ℕ → Type 0
 IsLongRecord capture bytes = max_packet_len < (record_header capture.byte_order bytes).captured_len
 
--- the place after a record with this length: the number of a packet and the number of bytes are at most 2^64 - 1
+-- the place after a record of this length; both numbers of the place are at most 2^64 - 1
 abbrev pub place_after : Place → ℕ → Place
 place_after place len = record { number = one_more place.number; offset = min (place.offset + len) (2 ^ 64 - 1) }
 
--- the capture after a record with this length
+-- the state after a record of this length
 abbrev pub records_after : Records → ℕ → Records
 records_after records len = record { header = records.header; place = place_after records.place len }
 
@@ -35,7 +35,7 @@ records_after records len = record { header = records.header; place = place_afte
 abbrev pub first_records : CaptureHeader → Records
 first_records header = record { header = header; place = record { number = 1; offset = capture_header_len } }
 
--- classic captures, with these options; no record is refused, and each one is written as it was read
+-- the selection of packets from classic captures, with these options; no record is refused, and each record is copied
 abbrev pub record_selection : Parts → Selection
 record_selection options = record {
   State = Records;

@@ -27,7 +27,7 @@ use capture_request::{CaptureError, Parts, Reached, packet_without_room};
 use capture_texts::FileTexts;
 use std::io::{Read, Write};
 
-/// The length of the last total length of a block, in bytes (section 3.1).
+/// The length of the field at the end of a block that repeats its total length, in bytes (section 3.1).
 const LAST_LEN: usize = 4;
 
 /// The place of the section length in a section header block, and of the options after it (section 4.1).
@@ -35,30 +35,30 @@ const SECTION_LEN_AT: usize = 16;
 
 const SECTION_OPTIONS_AT: usize = 24;
 
-/// The section length -1 of a section header block, which means that the length is not specified (section 4.1).
+/// The section length -1, which means that a section header block does not state the length of its section (section 4.1).
 const NOT_SPECIFIED: [u8; 8] = [0xFF; 8];
 
 /// The type of an interface description block (section 4.2).
 const INTERFACE_DESCRIPTION: u32 = 1;
 
-/// The types of the obsolete, the simple and the enhanced packet block (appendix A, sections 4.4 and 4.3).
+/// The types of packet blocks: obsolete (appendix A), simple (section 4.4) and enhanced (section 4.3).
 const OBSOLETE_PACKET: u32 = 2;
 
 const SIMPLE_PACKET: u32 = 3;
 
 const ENHANCED_PACKET: u32 = 6;
 
-/// A pcapng file after some of its blocks.
+/// The state of reading after some blocks of a pcapng file.
 #[derive(Drop)]
 pub(crate) struct Blocks {
-    /// The section, and the start of the next block.
+    /// The reader of the report. It contains the section, and the place of the next block.
     pub reader: PcapngReader,
     /// The number of the next packet. The first packet of a file is number 1.
     pub number: u64,
 }
 
 impl Blocks {
-    /// The start of a file. Its section header block states the byte order.
+    /// The state at the start of a file. The byte order does not matter, since the section header block states its own.
     pub fn start() -> Blocks
         ensures { IsFileStart result }
     {
@@ -83,7 +83,7 @@ impl Blocks {
     }
 }
 
-/// The number of the next packet after a block with this outcome, or without a packet.
+/// The number of the next packet after a block with this outcome. The outcome is `None` if the block contains no packet.
 fn number_after(number: u64, outcome: Option<Outcome>) -> u64
     ensures { result ≡ number_after number outcome }
 {
@@ -146,7 +146,7 @@ fn select_others<R: Read, W: Write>(
     Err(SelectionError::Capture(CaptureError::TooManyPackets))
 }
 
-/// Reads the next block, and writes it unless its packet has no line. Returns whether there is a block.
+/// Reads the next block, and writes it unless its packet has no line. Returns `false` if there is no next block.
 fn select_next<R: Read, W: Write>(
     copier: &mut Copier<'_, R, W>,
     file: &mut Blocks,
@@ -227,7 +227,7 @@ fn select_kept_block<R: Read, W: Write>(
     Ok(outcome)
 }
 
-/// Sets the section length of a section header block to -1, since blocks of its section may be left out. Every other block stays.
+/// Sets the section length of a section header block to -1, since blocks of the section may be left out. Any other block is unchanged.
 fn forget_section_len(block: &mut [u8])
     requires len { is_section_header block.old ≡ true → 24 ≤ length block.old }
     ensures copy { block.new ≡ block_copy block.old }
@@ -237,7 +237,8 @@ fn forget_section_len(block: &mut [u8])
     }
 }
 
-/// The outcome of the block with this header at the front of the buffer, or why the block is refused. The file is then after the block.
+/// The outcome of the block with this header at the front of the buffer, or the error that refuses the block. The state moves past the
+/// block.
 fn taken_outcome(
     buffer: &[u8],
     header: &BlockHeader,
@@ -264,7 +265,7 @@ fn taken_outcome(
     }
 }
 
-/// The outcome of a block for which the buffer has no room, or why the block is refused. The file is then after the block.
+/// The outcome of a block that does not fit in the buffer, or the error that refuses the block. The state moves past the block.
 fn long_outcome(
     header: &BlockHeader,
     file: &mut PcapngReader,
@@ -290,7 +291,7 @@ fn long_outcome(
     }
 }
 
-/// The outcome of a block. Nothing of a refused block is written.
+/// The outcome that decides whether a block is written. A refused block is not written.
 fn kept_outcome(stepped: &Result<Option<Outcome>, PlacedPacketError>) -> Option<Outcome>
     ensures kept { (outcome : Option Outcome) → stepped.now ≡ Ok outcome → result ≡ outcome }
     ensures refused { OnErr stepped.now (result ≡ Some Excluded) }

@@ -19,8 +19,8 @@ use capture_request::{CaptureError, Parts, Reached};
 use std::io::{Read, Write};
 use streams::fill;
 
-/// Reads a capture, and writes it without the packets that have no line in the report with these options. The packets are added to
-/// `counts`.
+/// Reads a capture, and writes it without the packets that have no line in the report with these options. All packets of the capture are
+/// counted in `counts`.
 ///
 /// The header of a classic capture and each written record are written as they were read. So is each block of a pcapng file, unless its
 /// packet has no line, but each section has the length -1, which is not specified (draft-ietf-opsawg-pcapng, section 4.1).

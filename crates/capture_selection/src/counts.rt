@@ -5,19 +5,19 @@ ghost use Rattle.capture_selection.specs.Outcomes.{counted};
 
 use crate::Outcome;
 
-/// The numbers of packets of a capture. A number of 2^64 - 1 stays.
+/// How many packets of a capture were read, chosen and written. A number that has reached 2^64 - 1 does not change.
 #[derive(Clone, Copy, Debug, PartialEq, Eq)]
 pub struct Counts {
     /// The packets that were read.
     pub read: u64,
-    /// The packets that are chosen, with or without a line in the report. A requested number of packets limits them.
+    /// The packets that are chosen, with or without a line in the report. The requested number of packets limits this number.
     pub chosen: u64,
     /// The packets that were written.
     pub written: u64,
 }
 
 impl Counts {
-    /// No packet.
+    /// The counts before the first packet.
     pub const NONE: Counts = Counts {
         read: 0,
         chosen: 0,
@@ -37,7 +37,7 @@ impl Counts {
             self.written = self.written.saturating_add(1);
         }
     }
-    /// Counts the packet with this outcome, if there is one.
+    /// Counts a packet with this outcome, or nothing if the outcome is `None`.
     pub(crate) fn add_if(&mut self, outcome: Option<Outcome>)
         ensures counted { self.new ≡ fold counted self.old (option_to_list outcome) }
         ensures one { self.new.chosen ≤ self.old.chosen + 1 }
@@ -46,7 +46,7 @@ impl Counts {
             self.add(outcome);
         }
     }
-    /// Whether as many packets are chosen as this limit, if there is one.
+    /// Whether the number of chosen packets has reached this limit. `false` without a limit.
     pub fn is_full(&self, limit: Option<u64>) -> bool
         ensures { result ≡ is_full limit self.now.chosen }
     {

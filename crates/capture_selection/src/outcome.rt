@@ -7,7 +7,7 @@ use capture_file::reader::CapturedPacket;
 use capture_packet::Packet;
 use capture_request::{Parts, packet_in_frame};
 
-/// What is done with a packet of a capture.
+/// Whether a packet of a capture is counted and written.
 #[derive(Clone, Copy, Debug, PartialEq, Eq)]
 pub enum Outcome {
     /// The packet is not chosen. It is left out.
@@ -18,7 +18,7 @@ pub enum Outcome {
     Written,
 }
 
-/// What is done with this packet, according to the options of a report.
+/// The outcome of this packet, according to the options of a report.
 pub fn outcome_of(parts: &Parts, packet: &Packet<'_>) -> Outcome
     ensures { IsOutcomeOf parts.now packet.now result }
 {

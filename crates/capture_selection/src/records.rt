@@ -21,7 +21,7 @@ use capture_packet::MAX_PACKET_LEN;
 use capture_request::{CaptureError, Parts, Reached, packet_without_room};
 use std::io::{Read, Write};
 
-/// A classic capture after some of its records.
+/// The state of reading after some records of a classic capture.
 #[derive(Drop)]
 pub(crate) struct Records {
     /// The header of the capture.
@@ -31,7 +31,7 @@ pub(crate) struct Records {
 }
 
 impl Records {
-    /// The capture after this header, before its first record.
+    /// The state before the first record of a capture with this header.
     pub fn after(header: CaptureHeader) -> Records
         ensures { result ≡ first_records header }
     {
@@ -44,7 +44,7 @@ impl Records {
         }
     }
 
-    /// Goes on to the place after a record with this header.
+    /// Moves the place past a record with this header.
     fn pass(&mut self, header: &RecordHeader)
         ensures { self.new ≡ records_after self.old (16 + header.now.captured_len) }
     {
@@ -81,7 +81,7 @@ pub(crate) fn select_records<R: Read, W: Write>(
     Err(SelectionError::Capture(CaptureError::TooManyPackets))
 }
 
-/// Reads the next record, and writes it if its packet has a line. Returns whether there is a record.
+/// Reads the next record, and writes it if its packet has a line. Returns `false` if there is no next record.
 fn select_record<R: Read, W: Write>(
     copier: &mut Copier<'_, R, W>,
     records: &mut Records,

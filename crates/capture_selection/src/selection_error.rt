@@ -22,7 +22,7 @@ pub enum SelectionError {
 }
 
 impl SelectionError {
-    /// Turns an error of the first block of a pcapng file into an error of the capture's header, because the block is this header.
+    /// Turns the error of a refused first block of a pcapng file into an error of the capture's header. Other errors stay as they are.
     pub(crate) fn at_beginning(self) -> SelectionError
         ensures { result ≡ at_beginning self }
     {

@@ -1,4 +1,4 @@
-//! Reading and writing, with the errors of a selection.
+//! Reading and writing, with errors of the type `SelectionError`.
 
 ghost use Rattle.std.specs.Prelude.{◌≡◌, ◌<◌, ◌≤◌, ◌++◌, ℕ, IfErr, IfOk, List, OnOk, [], if◌then◌else◌, length, take};
 ghost use Rattle.std.specs.Io.KnownBytes.{Appends, Consumes, IsAtEnd};
@@ -28,7 +28,8 @@ pub(crate) fn read_into<R: Read>(
     }
 }
 
-/// Copies the first bytes to the front of a buffer, and reads into the buffer after them. Returns the number of bytes present.
+/// Copies `first` to the front of a buffer, and then reads from the input until the buffer is full or the input ends. Returns the number of
+/// bytes in the buffer.
 pub(crate) fn read_after<R: Read>(
     input: &mut R,
     first: &[u8],
@@ -57,7 +58,7 @@ fn write<W: Write>(output: &mut W, bytes: &[u8]) -> Result<(), SelectionError>
     }
 }
 
-/// Skips `count` bytes, or all bytes up to the end of input if there are fewer, and returns the number of bytes skipped.
+/// Skips `count` bytes, or all bytes that are left if there are fewer. Returns the number of bytes skipped.
 fn pass_over<R: Read>(input: &mut R, count: usize, place: Place) -> Result<usize, SelectionError>
     ensures skips { IfOk result (λ len. Skips (R.remaining input.old) (R.remaining input.new) count len) }
     ensures failed { IfErr result (IsReadError place) }
@@ -68,7 +69,7 @@ fn pass_over<R: Read>(input: &mut R, count: usize, place: Place) -> Result<usize
     }
 }
 
-/// Copies `count` bytes, or all bytes up to the end of input if there are fewer, and returns the number of bytes copied.
+/// Copies `count` bytes, or all bytes that are left if there are fewer. Returns the number of bytes copied.
 fn copy<R: Read, W: Write>(
     copier: &mut Copier<'_, R, W>,
     count: usize,
@@ -86,7 +87,7 @@ fn copy<R: Read, W: Write>(
     }
 }
 
-/// Writes a part, which consists of these bytes one after the other, unless its packet is left out.
+/// Writes a part unless its packet is left out. The part consists of these pieces, one after the other.
 pub(crate) fn write_part<W: Write>(
     output: &mut W,
     first: &[u8],
@@ -113,8 +114,8 @@ fn is_written(outcome: Option<Outcome>) -> bool
     }
 }
 
-/// Reads the bytes of a part after its first bytes, which were read before, and copies the part unless its packet is left out. Returns the
-/// number of bytes read, which are at most `count`.
+/// Reads the rest of a part, at most `count` bytes, and writes the part unless its packet is left out. Its first bytes were already read.
+/// Returns the number of bytes read.
 pub(crate) fn pass_long<R: Read, W: Write>(
     copier: &mut Copier<'_, R, W>,
     first: &[u8],

@@ -1,4 +1,4 @@
--- Two flows are of one conversation exactly if they have the same canonical direction.
+-- Two flows belong to one conversation exactly if they have the same canonical direction.
 use mathlib.Core.Bool.{and_comm, or_comm}
 use Rattle.std.proofs.Common.{Ordering, Less, Equal, Greater, ◌≡◌, Bool, true, false, true≢false, cond, ◌&&◌, ◌||◌, not, refl, sym, ap, ◌∙◌}
 use Rattle.std.proofs.lemmas.Bool.{and_parts}
@@ -52,7 +52,7 @@ module _ {K : Type 0} (same : K → K → Bool) (order : K → K → Ordering) (
   turned_not Equal p q = absurd (true≢false (sym p))
   turned_not Greater p q = absurd (true≢false (sym q))
 
-  -- neither pair is turned, and they are crossed: then they are straight too
+  -- if neither pair is turned, crossed pairs are straight pairs too
   crossed_is : (x y u v : K) → is_gt (order x y) ≡ false → is_gt (order u v) ≡ false → same y u ≡ true → same x v ≡ true
       → (same x u && same y v) ≡ true
   crossed_is x y u v p q crossed_first crossed_second =
@@ -63,7 +63,7 @@ module _ {K : Type 0} (same : K → K → Bool) (order : K → K → Ordering) (
       let second : same y v ≡ true = sym (equal.congr x y v one) ∙ crossed_second in
       ap (λ b. b && same y v) first ∙ second
 
-  -- both pairs are turned: they are not crossed
+  -- if both pairs are turned, the pairs are not crossed
   crossed_not : {P : Type 0} (x y u v : K) → is_gt (order x y) ≡ true → is_gt (order u v) ≡ true → same y u ≡ true → same x v ≡ true → P
   crossed_not x y u v p q first second =
       turned_not (order x y) p (ap is_gt (sym (total.antisymm y x)) ∙ ap is_gt (alike y x u v first second) ∙ q)
@@ -85,7 +85,7 @@ straight a b e = and_parts _ _ (and_parts ((protocol_eq.ghosts).eq a.protocol b.
 protocol_alike : (a b : Flow) → is_same_flow a b ≡ true → (protocol_eq.ghosts).eq a.protocol b.protocol ≡ true
 protocol_alike a b e = (and_parts ((protocol_eq.ghosts).eq a.protocol b.protocol) _ e).0
 
--- the same flows are turned alike
+-- two equal flows are both turned, or both not turned
 turned_alike : (a b : Flow) → is_same_flow a b ≡ true → is_turned a ≡ is_turned b
 turned_alike a b e =
     let parts = straight a b e in
@@ -125,7 +125,7 @@ one_conversation_congr a b c e =
 pub one_conversation_itself : (a : Flow) → is_one_conversation a a ≡ true
 one_conversation_itself a = one_conversation_is a a ∙ laws-law.refl (canonical a)
 
--- a packet with source and destination exchanged goes back exactly if the packet goes forward, if the flow has two directions
+-- a packet goes forward exactly if it goes back after source and destination are exchanged, if the flow has two directions
 pub exchanged_back : (flow packet : Flow) → is_same_flow flow (reversed flow) ≡ false → goes_back flow (reversed packet) ≡ goes_forward flow packet
 exchanged_back flow packet two = by (is_same_flow packet flow) (is_same_flow (reversed packet) flow) refl refl
   where
@@ -138,6 +138,6 @@ exchanged_back flow packet two = by (is_same_flow packet flow) (is_same_flow (re
         contradiction (is_same_flow flow (reversed flow))
         (sym (laws-law.congr (reversed packet) flow (reversed flow) q) ∙ reversed_same) two
 
--- a packet with source and destination exchanged is of the same conversation
+-- a packet belongs to the same conversation after source and destination are exchanged
 pub exchanged_row : (packet flow : Flow) → is_one_conversation (reversed packet) flow ≡ is_one_conversation packet flow
 exchanged_row packet flow = or_comm (is_same_flow (reversed packet) flow) (is_same_flow packet flow)

@@ -23,7 +23,7 @@ Sent = Option Flow × ℕ
 
 -- ---- counts
 
--- one more packet, which passes the test or not
+-- the count of packets and of another packet, which passes the test or not
 count_more : (test : Flow → Bool) (packets : List Sent) (packet : Sent) (passes : Bool) → has_flow test packet.0 ≡ passes
     → count_of test (packets ++ packet ∷ []) ≡ cond passes (counted packet.1 (count_of test packets)) (count_of test packets)
 count_more test packets packet passes is =
@@ -34,7 +34,7 @@ neither : (s t : Bool) → (s || t) ≡ false → (s ≡ false) × ((not s && t)
 neither true t e = absurd (true≢false e)
 neither false t e = (refl, e)
 
--- after a packet of another conversation
+-- the counts of a row after a packet of another conversation
 row_other : (packets : List Sent) (row : ConversationCount) (flow : Flow) (len : ℕ) → is_one_conversation flow row.flow ≡ false
     → CountsBothDirections packets row → CountsBothDirections (packets ++ (Some flow, len) ∷ []) row
 row_other packets row flow len apart counts =
@@ -44,7 +44,7 @@ row_other packets row flow len apart counts =
       reverse = counts.reverse ∙ sym (count_more (goes_back row.flow) packets (Some flow, len) false no.1);
     }
 
--- after a packet without ports
+-- the counts of a row after a packet without ports
 row_none : (packets : List Sent) (row : ConversationCount) (len : ℕ)
     → CountsBothDirections packets row → CountsBothDirections (packets ++ (None, len) ∷ []) row
 row_none packets row len counts = record {
@@ -52,7 +52,7 @@ row_none packets row len counts = record {
   reverse = counts.reverse ∙ sym (count_more (goes_back row.flow) packets (None, len) false refl);
 }
 
--- after a packet of this conversation
+-- the counts of a row after a packet of its conversation
 row_one : (packets : List Sent) (row : ConversationCount) (flow : Flow) (len : ℕ) → is_one_conversation flow row.flow ≡ true
     → CountsBothDirections packets row → CountsBothDirections (packets ++ (Some flow, len) ∷ []) (row_counted flow len row)
 row_one packets row flow len one counts = by (is_same_flow flow row.flow) (is_same_flow (reversed flow) row.flow) refl refl one
@@ -87,7 +87,7 @@ record IsTableOf (packets : List Sent) (table : FlowTable) : Type 0 where
   absent : length table.rows < max_conversations → (flow : Flow) → place_of flow table.rows ≡ None
       → CountsBothDirections packets (new_row flow)
 
--- a flow whose conversation has no row is of the conversation of no row
+-- if the conversation of a flow has no row, the flow belongs to the conversation of no row
 apart_None : (flow : Flow) (rows : List ConversationCount) (k : ℕ) (d : ConversationCount) → place_of flow rows ≡ None → k < length rows
     → is_one_conversation flow (get_or rows k d).flow ≡ false
 apart_None flow rows k d none within = by (nat_lt first (length rows)) refl none
@@ -101,7 +101,7 @@ apart_None flow rows k d none within = by (nat_lt first (length rows)) refl none
     by false e some =
         let past = ltb-false _ _ e in fails_before_first (λ row. is_one_conversation flow row.flow) rows k d (omega (arith, within, past))
 
--- a flow whose conversation has no row is not of the conversation of a flow that has one
+-- if the conversation of a flow has no row, the flow does not belong to the conversation of a flow whose conversation has a row
 apart_place : (flow other : Flow) (rows : List ConversationCount) (place : ℕ) → place_of flow rows ≡ Some place → place_of other rows ≡ None
     → is_one_conversation flow other ≡ false
 apart_place flow other rows place at none = by (is_one_conversation flow other) refl
@@ -113,7 +113,7 @@ apart_place flow other rows place at none = by (is_one_conversation flow other) 
         position-alike _ _ (λ row. one_conversation_congr flow other row.flow e) rows in
         absurd (true≢false (ap is_some (sym at ∙ same ∙ none)))
 
--- after a packet of a conversation with a row
+-- the table after a packet of a conversation with a row
 module _ (packets : List Sent) (table : FlowTable) (is : IsTableOf packets table) (flow : Flow) (len place : ℕ)
     (at : place_of flow table.rows ≡ Some place) where
   abbrev row : ConversationCount
@@ -123,7 +123,7 @@ module _ (packets : List Sent) (table : FlowTable) (is : IsTableOf packets table
       × ((k : ℕ) → k < place → is_one_conversation flow (get_or table.rows k (new_row flow)).flow ≡ false)
   found = position-Some (λ each. is_one_conversation flow each.flow) table.rows place (new_row flow) at
 
-  -- each other row is of another conversation
+  -- each other row belongs to another conversation
   others_apart : (k : ℕ) → k < length table.rows → (k ≡ place → ⊥) → is_one_conversation flow (get_or table.rows k (new_row flow)).flow ≡ false
   others_apart k within other = by (cases_lt k place)
     where
@@ -183,7 +183,7 @@ module _ (packets : List Sent) (table : FlowTable) (is : IsTableOf packets table
         (is.absent (omega (arith, room, length-set table.rows place (row_counted flow len row))) other none_before);
   }
 
--- after a packet of a conversation without a row
+-- the table after a packet of a conversation without a row
 module _ (packets : List Sent) (table : FlowTable) (is : IsTableOf packets table) (flow : Flow) (len : ℕ)
     (none : place_of flow table.rows ≡ None) where
   counts_all : All (CountsBothDirections (packets ++ (Some flow, len) ∷ [])) table.rows
@@ -227,7 +227,7 @@ module _ (packets : List Sent) (table : FlowTable) (is : IsTableOf packets table
     absent = λ room. absurd (omega (arith, room, full));
   }
 
--- after a packet without ports
+-- the table after a packet without ports
 table_none : (packets : List Sent) (table : FlowTable) (len : ℕ) → IsTableOf packets table
     → IsTableOf (packets ++ (None, len) ∷ []) (record table { without_ports = counted len table.without_ports })
 table_none packets table len is = record {

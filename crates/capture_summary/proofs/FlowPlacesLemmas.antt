@@ -1,4 +1,4 @@
--- The map of places follows the rows.
+-- Laws of the map of places, which depends on the rows.
 use Rattle.std.proofs.Common.{◌≡◌, ℕ, ◌+◌, ◌<◌, ◌≤◌, Bool, true, false, cond, List, [], ◌∷◌, ◌++◌, length, set, get_or, refl, sym, ap, ◌∙◌, arith}
 use Rattle.std.proofs.lemmas.List.Quantifiers.{position-Some}
 use Rattle.std.proofs.lemmas.List.Sums.{get_or-le-sum_by, sum_by-append, sum_by-set}
@@ -13,7 +13,7 @@ use Rattle.capture_summary.specs.FlowTable.{FlowTable, packets_counted, place_of
 use Rattle.capture_summary.specs.declared.conversation_count.ConversationCount.{ConversationCount}
 use Rattle.capture_summary.specs.declared.flow.Flow.{Flow}
 
--- a new conversation of a flow, with its row at the end
+-- the map after the conversation of a flow is added, with its row at the end
 pub ArePlaces_push : {S : Type 0} (places more : HashMap Flow ℕ S) (rows : List ConversationCount) (row : ConversationCount) (place : ℕ) (first key : Flow)
     → ArePlaces places rows → row.flow ≡ first → place_of first rows ≡ None → place ≡ length rows → key ≡ canonical first
     → Updates is_same_flow places more key (Some place) → ArePlaces more (rows ++ row ∷ [])
@@ -44,7 +44,7 @@ ArePlaces_push places more rows row place first key are named absent at_end key_
         none_is (place_of flow rows)
         ∙ sym (ap (λ b. option_or (place_of flow rows) (cond b (Some (length rows)) None)) (one_conversation_symm flow first ∙ other))
 
--- a row with other counts of the same flow
+-- the map after a row gets other counts
 pub ArePlaces_set : {S : Type 0} (places : HashMap Flow ℕ S) (rows : List ConversationCount) (place : ℕ) (row more : ConversationCount)
     → ArePlaces places rows → row ≡ get_or rows place row → more.flow ≡ row.flow → ArePlaces places (set rows place more)
 ArePlaces_set places rows place row more are at same flow =
@@ -67,7 +67,7 @@ row_below table place limit row at within below =
     let least : row_packets (get_or table.rows place row) ≤ sum_by row_packets table.rows = get_or-le-sum_by row_packets table.rows place row within in
     omega (arith, same, least, below)
 
--- one more packet in a row is one more packet in the table
+-- if a row counts another packet, the table counts another packet
 pub one_in_row : (table : FlowTable) (place : ℕ) (row more : ConversationCount) → row ≡ get_or table.rows place row → place < length table.rows
     → row_packets more ≡ row_packets row + 1 → packets_counted (record table { rows = set table.rows place more }) ≡ packets_counted table + 1
 one_in_row table place row more at within one =
@@ -75,7 +75,7 @@ one_in_row table place row more at within one =
     let sums = sum_by-set row_packets table.rows place more row within in
     omega (arith, same, sums, one)
 
--- a new row with one packet is one more packet in the table
+-- if a row with one packet is added, the table counts another packet
 pub one_more_row : (table : FlowTable) (packets : ℕ) (row : ConversationCount) → packets ≡ packets_counted table → row_packets row ≡ 1
     → packets + 1 ≡ packets_counted (record table { rows = table.rows ++ row ∷ [] })
 one_more_row table packets row count one = omega (arith, count, one, sum_by-append row_packets table.rows (row ∷ []))

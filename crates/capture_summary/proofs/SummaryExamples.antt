@@ -40,7 +40,7 @@ request = record { protocol = Udp; source = ipv4_socket 192 0 2 1 49152; destina
 abbrev pub response : Flow
 response = record { protocol = Udp; source = ipv4_socket 192 0 2 2 53; destination = ipv4_socket 192 0 2 1 49152 }
 
--- this number of packets, and of bytes
+-- the count with this number of packets and of bytes
 abbrev pub count : ℕ → ℕ → Count
 count packets bytes = record { packets = packets; bytes = bytes }
 
@@ -101,7 +101,7 @@ most_packets_first : by_packets ((codes "UDP", count 1 9) ∷ (codes "TCP", coun
     ≡ (codes "TCP", count 3 5) ∷ (codes "ICMPv4", count 3 7) ∷ (codes "UDP", count 1 9) ∷ []
 most_packets_first = refl
 
--- this many microseconds after 1,600,000,000 seconds since 1970
+-- the time this number of microseconds after 1,600,000,000 seconds since 1970
 abbrev time : ℕ → PacketTime
 time microseconds = record { seconds = 1600000000; fraction = microseconds; resolution = PowerOfTen 6; offset = pos 0 }
 

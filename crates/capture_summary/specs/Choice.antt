@@ -31,7 +31,7 @@ every_packet = record {
   protocols = None;
 }
 
--- the statement holds for one of these values; places without a value do not count
+-- `Statement` holds for one of these values; empty places do not count
 abbrev pub HasAny : {X : Type 0} → (X → Type 0) → List (Option X) → Type 0
 HasAny Statement [] = ⊥
 HasAny Statement (place ∷ places) = IsSomeAnd place Statement ⊎ HasAny Statement places

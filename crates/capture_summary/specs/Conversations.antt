@@ -35,7 +35,8 @@ canonical flow = if is_gt ((address_ord.ghosts).cmp flow.source flow.destination
 abbrev pub new_row : Flow → ConversationCount
 new_row flow = record { flow = flow; forward = no_packets; reverse = no_packets }
 
--- A row with one more packet of this flow. If the flow is the flow of the row, `forward` counts the packet. Otherwise `reverse` counts it.
+-- A row after a packet of this flow is counted. If the flow is the flow of the row, `forward` counts the packet. Otherwise `reverse` counts
+-- it.
 abbrev pub row_counted : Flow → ℕ → ConversationCount → ConversationCount
 row_counted flow len row =
     if is_same_flow flow row.flow

@@ -1,4 +1,4 @@
--- Which packets the rows of the table of flows count. A row counts the packets of one conversation, each in its direction.
+-- The packets that the rows of the table of flows count. A row counts the packets of one conversation, each in its direction.
 use Rattle.std.specs.Prelude.{◌≡◌, ℕ, Bool, false, not, ◌&&◌, if◌then◌else◌, List, [], fold, All, Option, Some, None}
 use Rattle.std.specs.List.{AllPairs}
 use Rattle.capture_summary.specs.Conversations.{is_one_conversation, is_same_flow, reversed}
@@ -29,8 +29,7 @@ count_of test packets = fold (λ count packet. if has_flow test packet.0 then co
 abbrev pub goes_forward : Flow → Flow → Bool
 goes_forward flow packet = is_same_flow packet flow
 
--- A packet goes back: with source and destination exchanged it has the direction of the flow, and without the exchange it has not. A packet
--- from an address and port to itself never goes back.
+-- A packet goes in the other direction of a flow. A packet from an address and port to itself goes only in the direction of the flow.
 abbrev pub goes_back : Flow → Flow → Bool
 goes_back flow packet = not (is_same_flow packet flow) && is_same_flow (reversed packet) flow
 

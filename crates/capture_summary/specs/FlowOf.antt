@@ -16,7 +16,7 @@ use Rattle.capture_summary.specs.declared.flow.Flow.{Flow}
 use Rattle.capture_summary.specs.declared.flow.FlowProtocol.{FlowProtocol}
 use Rattle.capture_summary.specs.declared.flow.FlowProtocol.TheVariants as flow_protocols
 
--- the two protocols with flows
+-- the protocol of a flow; only UDP and TCP have flows
 abbrev pub flow_protocol : Option Proto → Option FlowProtocol
 flow_protocol (Some protos.Udp) = Some flow_protocols.Udp
 flow_protocol (Some protos.Tcp) = Some flow_protocols.Tcp
@@ -35,13 +35,13 @@ ports_of proto (transports.Ports source destination payload) =
     option_map (λ protocol. (protocol, source, destination)) (flow_protocol proto)
 ports_of proto (transports.Unread payload) = None
 
--- the flow is of this protocol, and from and to these ports
+-- the flow has this protocol and these ports
 abbrev pub HasPorts : Option (FlowProtocol × ℕ × ℕ) → Flow → Type 0
 HasPorts None flow = ⊥
 HasPorts (Some ports) flow =
     (flow.protocol ≡ ports.0) × (IsPlainSocket flow.source ports.1 × IsPlainSocket flow.destination ports.2)
 
--- the flow of a packet; none if the packet has no ports, or if its final destination is unknown
+-- the flow of a packet; `None` if the packet has no ports, or if its final destination is unknown
 abbrev pub IsFlowOf : Content → Option Flow → Type 0
 IsFlowOf contents.Unread flow = flow ≡ None
 IsFlowOf (contents.IpHeader addresses) flow = flow ≡ None

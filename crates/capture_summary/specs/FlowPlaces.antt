@@ -6,7 +6,7 @@ use Rattle.capture_summary.specs.FlowTable.{FlowTable, packets_counted, place_of
 use Rattle.capture_summary.specs.declared.conversation_count.ConversationCount.{ConversationCount}
 use Rattle.capture_summary.specs.declared.flow.Flow.{Flow}
 
--- For each row the map contains the canonical direction of its conversation, with the place of the row. It contains nothing else.
+-- The map contains exactly this: for the canonical direction of each conversation, the place of its row.
 abbrev pub ArePlaces : {S : Type 0} → HashMap Flow ℕ S → List ConversationCount → Type 0
 ArePlaces places rows = (flow : Flow) → get is_same_flow places (canonical flow) ≡ place_of flow rows
 

@@ -30,7 +30,7 @@ use Rattle.capture_summary.specs.declared.verdict_kind.VerdictKind.TheVariants.{
 
 -- ---- the table of protocols
 
--- the rows with their words; the counts are in the order of the places
+-- the rows of the table: the word and the count of each row; `counts` is in the order of the places
 abbrev pub protocol_rows : List Count → List (List ℕ × Count)
 protocol_rows counts = map (λ kind. (protocol_word kind, slice_index_or counts (protocol_place kind) no_packets)) protocol_kinds
 
@@ -89,13 +89,13 @@ verdict_word OtherProtocol = codes "another protocol"
 verdict_word TooLong = codes "too long"
 verdict_word Refused = codes "refused"
 
--- the rows with their words; the counts are in the order of the places
+-- the rows of the table: the word and the count of each row; `counts` is in the order of the places
 abbrev pub verdict_rows : List ℕ → List (List ℕ × ℕ)
 verdict_rows counts = map (λ kind. (verdict_word kind, slice_index counts (verdict_place kind))) verdict_kinds
 
 -- ---- the table of refusals
 
--- the row of a refusal for the length of a transport
+-- the kind of a refusal for a transport of this protocol with a wrong length
 abbrev pub length_kind : Proto → RefusalKind
 length_kind protos.Udp = UdpLength
 length_kind protos.Tcp = TcpLength
@@ -158,7 +158,7 @@ refusal_word TcpDataOffset = codes "TCP data offset"
 refusal_word Icmpv4Length = codes "ICMPv4 length"
 refusal_word Icmpv6Length = codes "ICMPv6 length"
 
--- the rows with their words; the counts are in the order of the places
+-- the rows of the table: the word and the count of each row; `counts` is in the order of the places
 abbrev pub refusal_rows : List ℕ → List (List ℕ × ℕ)
 refusal_rows counts = map (λ kind. (refusal_word kind, slice_index counts (refusal_place kind))) refusal_kinds
 
@@ -233,7 +233,7 @@ link_word (Known link_types.LinuxCooked2) = codes "Linux cooked version 2"
 link_word OtherLink = codes "another link type"
 link_word UnknownLink = codes "unknown"
 
--- the rows with their words; the counts are in the order of the places
+-- the rows of the table: the word and the count of each row; `counts` is in the order of the places
 abbrev pub link_rows : List ℕ → List (List ℕ × ℕ)
 link_rows counts = map (λ kind. (link_word kind, slice_index counts (link_place kind))) link_kinds
 
@@ -244,7 +244,7 @@ abbrev pub flow_protocol_word : FlowProtocol → List ℕ
 flow_protocol_word flow_protocols.Udp = codes "UDP"
 flow_protocol_word flow_protocols.Tcp = codes "TCP"
 
--- the protocol of a flow as one of the four transport protocols
+-- the protocol of a flow as a `Proto`
 abbrev pub flow_proto : FlowProtocol → Proto
 flow_proto flow_protocols.Udp = protos.Udp
 flow_proto flow_protocols.Tcp = protos.Tcp

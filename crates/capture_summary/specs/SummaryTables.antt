@@ -52,12 +52,12 @@ abbrev pub refusal_counted : Option RefusalKind → List ℕ → List ℕ
 refusal_counted (Some refusal) table = counted_at (refusal_place refusal) table
 refusal_counted None table = table
 
--- the number of bytes that are counted for a packet: the original length of its frame, or 0 if the capture does not contain this length
+-- the number of bytes that are counted for a packet: the original length of its frame, or 0 if the capture does not state it
 abbrev pub counted_len : Option FrameLen → ℕ
 counted_len None = 0
 counted_len (Some len) = len.original
 
--- One packet was counted in the rows of these kinds and this flow. `info` is what its capture states about it. No other row changed.
+-- One packet was counted in the rows of these kinds and this flow. `info` is what the capture states about it. No other row changed.
 pub record CountsOne (before : SummaryTables) (protocol : Protocol) (verdict : VerdictKind) (refusal : Option RefusalKind) (flow : Option Flow) (info : CaptureInfo) (after : SummaryTables) : Type 0 where
   pub packets : after.packets ≡ before.packets + 1
   pub bytes : after.bytes ≡ min (before.bytes + counted_len info.len) (2 ^ 64 - 1)

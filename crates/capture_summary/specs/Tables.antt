@@ -6,14 +6,14 @@ use Rattle.capture_summary.specs.declared.count.Count.{Count}
 abbrev pub no_packets : Count
 no_packets = record { packets = 0; bytes = 0 }
 
--- a count with one more packet of this length in bytes; the sum of the bytes saturates at 2^64 - 1
+-- a count after a packet of this length is counted; the sum of the bytes is at most 2^64 - 1
 abbrev pub counted : ℕ → Count → Count
 counted len count = record { packets = count.packets + 1; bytes = min (count.bytes + len) (2 ^ 64 - 1) }
 
--- a table of counts with one more packet at one place
+-- the table after a packet of this length is counted at this place
 abbrev pub packet_counted_at : ℕ → ℕ → List Count → List Count
 packet_counted_at len place table = slice_set table place (counted len (slice_index_or table place no_packets))
 
--- a table of numbers in which the number at one place is greater by 1
+-- the table after the number at this place is increased by 1
 abbrev pub counted_at : ℕ → List ℕ → List ℕ
 counted_at place table = slice_set table place (slice_index table place + 1)

@@ -12,8 +12,8 @@ earlier first second = if nat_lt (nanoseconds_of second) (nanoseconds_of first) 
 abbrev pub later : PacketTime → PacketTime → PacketTime
 later first second = if nat_lt (nanoseconds_of first) (nanoseconds_of second) then second else first
 
--- The earliest and the latest time after one more packet. The first argument contains them before the packet, or is `None` if no packet has
--- a time yet.
+-- The earliest and the latest time, after a packet with this time is added to those of the first argument. The first argument is `None` if
+-- no packet before it has a time.
 abbrev pub with_time : Option TimeSpan → Option PacketTime → Option TimeSpan
 with_time span None = span
 with_time None (Some time) = Some (record { earliest = time; latest = time })

@@ -12,19 +12,19 @@ pub struct FrameLen {
     pub captured: u64,
 }
 
-/// The data that a capture contains about a packet, in addition to its bytes.
+/// What a capture states about a packet.
 #[derive(Clone, Copy, Debug, PartialEq, Eq)]
 pub struct CaptureInfo {
-    /// The link type of the packet, or the number of a link type that is not read, if the capture contains it.
+    /// The link type of the packet, or the number of a link type that is not read. `None` if the capture does not state it.
     pub link_type: Option<Result<LinkType, u16>>,
-    /// The capture time, if the capture contains it.
+    /// The capture time. `None` if the capture does not state it.
     pub time: Option<PacketTime>,
-    /// The length of the frame, if the capture contains it.
+    /// The length of the frame. `None` if the capture does not state it.
     pub len: Option<FrameLen>,
 }
 
 impl CaptureInfo {
-    /// The number of bytes that a summary counts: the original length, or 0 if the capture does not contain it.
+    /// The number of bytes that a summary counts for the packet: the original length, or 0 if the capture does not state it.
     pub fn counted_len(&self) -> u64
         ensures { result ≡ counted_len self.now.len }
     {

@@ -43,7 +43,7 @@ pub struct Choice {
 }
 
 impl Choice {
-    /// Every packet.
+    /// The choice of all packets.
     pub const ALL: Choice = Choice {
         hosts: None,
         sources: None,
@@ -56,7 +56,7 @@ impl Choice {
 
     /// Whether this packet is chosen. A packet without addresses matches no host, and a packet without ports matches no port. If the final
     /// destination is not known, only the source is compared with the hosts. An ICMP error also matches a host or a port of the packet that
-    /// it quotes. But it matches only its own protocol. A packet in tunnels also matches the addresses of the outer packets.
+    /// it quotes. It does not match the protocol of the quoted packet. A packet in tunnels also matches the addresses of the outer packets.
     pub fn includes(&self, packet: &Packet<'_>) -> bool
         ensures { IsTrue result ↔ IsChosen self.now packet.now }
     {

@@ -11,7 +11,7 @@ pub struct Count {
 }
 
 impl Count {
-    /// No packet.
+    /// The count without packets.
     pub const NONE: Count = Count {
         packets: 0,
         bytes: 0,

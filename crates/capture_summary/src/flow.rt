@@ -27,7 +27,7 @@ impl FlowProtocol {
         }
     }
 
-    /// Returns the protocol as one of the four transport protocols.
+    /// Returns the protocol as a `Proto`.
     pub fn proto(self) -> Proto
         ensures { result ≡ flow_proto self }
     {
@@ -72,7 +72,7 @@ impl Flow {
         }
     }
 
-    /// Whether both flows have the same protocol, source and destination. Then a packet of one flow has the direction of the other flow.
+    /// Whether both flows have the same protocol, source and destination.
     pub(crate) fn is_same(&self, other: &Flow) -> bool
         ensures same { IsTrue result ↔ (self.now ≡ other.now) }
         ensures counted { result ≡ is_same_flow self.now other.now }
@@ -82,7 +82,7 @@ impl Flow {
             && equal_address(&self.destination, &other.destination)
     }
 
-    /// The direction from the lower address and port to the higher. It is the same for both directions of a conversation.
+    /// The direction of the conversation that goes from the lower address and port to the higher. Both directions have the same result.
     pub(crate) fn canonical(&self) -> Flow
         ensures { result ≡ canonical self.now }
     {

@@ -13,8 +13,8 @@ pub const MAX_CONVERSATIONS: usize = 65_536;
 /// The counts of the packets by flow, in a row for each conversation.
 ///
 /// Each packet is in exactly one count. A packet with ports is counted in its direction, in the row of its conversation. If
-/// `MAX_CONVERSATIONS` other conversations have rows already, the packet is in the count of packets without room. A packet without ports
-/// has a count of its own.
+/// `MAX_CONVERSATIONS` other conversations have rows already, the packet is in the count of packets without room. Packets without ports are
+/// counted apart.
 #[derive(Drop)]
 pub struct Flows {
     /// The place of the row of a conversation, by its canonical direction. The hashes have random keys, because the author of a capture
@@ -64,7 +64,7 @@ impl Flows {
     ///
     /// # Errors
     ///
-    /// `AllocError` if no memory is left, and for no other reason. All counts are then unchanged.
+    /// `AllocError` if no memory is left, and for no other reason. After this error all counts are unchanged.
     pub fn add(&mut self, flow: Option<Flow>, len: u64) -> Result<(), AllocError>
         requires room { packets_counted self.old < 2 ^ 64 - 1 }
         ensures ok { OnOk result (self.new ≡ table_counted flow len self.old) }
@@ -110,7 +110,7 @@ impl Flows {
         self.without_ports
     }
 
-    /// The count of the packets of conversations that found no room.
+    /// The count of the packets of conversations for which the table had no room.
     pub fn without_room(&self) -> Count
         ensures { result ≡ self.now.without_room }
     {

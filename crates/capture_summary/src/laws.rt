@@ -25,7 +25,7 @@ pub fn one_conversation(a: &Flow, b: &Flow) -> bool
     equal_flow(a, b) || equal_flow(&a.reversed(), b)
 }
 
-/// For any packets, each row of the table counts the packets of its conversation, each in its direction. No two rows are of one
+/// For any packets, each row of the table counts the packets of its conversation, each in its direction. No two rows belong to the same
 /// conversation.
 pub fn conversations_of()
     ensures { (packets : List (Option Flow × ℕ)) → AreConversationsOf packets (table_of packets).rows }

@@ -5,7 +5,7 @@ ghost use Rattle.capture_summary.specs.declared.link_kind.LinkKind.{LinkKind};
 
 use capture_file::LinkType;
 
-/// The link type of a packet, as far as it is read: a row of the table of link types.
+/// The link type of a packet: a row of the table of link types.
 #[derive(Clone, Copy, Debug, PartialEq, Eq)]
 pub enum LinkKind {
     /// A link type that is read.

@@ -31,7 +31,7 @@ pub fn flow_of(packet: &Packet<'_>) -> Option<Flow>
     })
 }
 
-/// The protocol of a flow, and its source and destination port. If the transport header is not read, `proto` is the protocol.
+/// The protocol of a flow, its source port and its destination port. `proto` is the protocol if the transport header is not read.
 pub(crate) fn ports(
     proto: Option<Proto>,
     transport: &Transport<'_>,

@@ -8,6 +8,6 @@ pub struct PacketInfo {
     pub number: u64,
     /// The first capture time in the packets before this packet, if there is one.
     pub first: Option<PacketTime>,
-    /// The data about the packet.
+    /// What the capture states about the packet.
     pub capture: CaptureInfo,
 }

@@ -9,7 +9,7 @@ use ip_part::{IpError, Proto};
 use net_base::err::tcp::HeaderSliceError;
 use transport_part::{ChecksumVerdict, Untested};
 
-/// The kind of a refusal, without its fields: a row of the table of refusals.
+/// The kind of a refusal, without its fields. It is a row of the table of refusals.
 #[derive(Clone, Copy, Debug, PartialEq, Eq)]
 pub enum RefusalKind {
     /// The frame ends within its link header.
@@ -129,7 +129,7 @@ fn kind_of_refusal(refusal: &Refusal) -> RefusalKind
     }
 }
 
-/// The kind of a refusal for the length of a transport.
+/// The kind of a refusal for a transport of this protocol with a wrong length.
 fn kind_of_length(proto: Proto) -> RefusalKind
     ensures { result ≡ length_kind proto }
 {

@@ -77,8 +77,8 @@ impl Summary {
         }
     }
 
-    /// Counts a packet of these kinds. `flow` is its flow, or `None` if it has no ports. `info` is the data that the capture contains about
-    /// the packet. The number that `packets` returns must be below `u64::MAX`.
+    /// Counts a packet of these kinds. `flow` is its flow, or `None` if it has no ports. `info` is what the capture states about the
+    /// packet. The number that `packets` returns must be below `u64::MAX`.
     ///
     /// # Errors
     ///
@@ -147,8 +147,8 @@ impl Summary {
         protocol_rows::rows(&self.protocols)
     }
 
-    /// The rows of the table of protocols, the row with the most packets first. Rows with the same number of packets are in the order of the
-    /// table.
+    /// The rows of the table of protocols, beginning with the row that has the most packets. Rows with the same number of packets are in
+    /// the order of the table.
     pub fn protocols_by_packets(&self) -> ArrayVec<(&'static str, Count), { Protocol::COUNT }>
         ensures rows { map (λ row. (row.0.now, row.1)) result.items ≡ by_packets (protocol_rows self.now.protocols) }
         ensures ranked { IsRankingOf has_more_packets (protocol_rows self.now.protocols) (map (λ row. (row.0.now, row.1)) result.items) }

@@ -3,7 +3,7 @@ ghost use Rattle.capture_summary.specs.TimeSpans.{earlier, later, with_time};
 
 use capture_file::{PacketTime, nanoseconds_of};
 
-/// The times of some packets.
+/// The earliest and the latest time of some packets.
 #[derive(Clone, Copy, Debug, PartialEq, Eq)]
 pub struct TimeSpan {
     /// The time of the earliest packet.
@@ -13,8 +13,8 @@ pub struct TimeSpan {
 }
 
 impl TimeSpan {
-    /// The earliest and the latest time after one more packet. `span` contains them before the packet, or is `None` if no packet has a time
-    /// yet.
+    /// The earliest and the latest time, after a packet with this time is added to those of `span`. `span` is `None` if no packet before it
+    /// has a time.
     pub fn with_time(span: Option<TimeSpan>, time: Option<PacketTime>) -> Option<TimeSpan>
         ensures { result ≡ with_time span time }
     {

@@ -7,7 +7,7 @@ ghost use Rattle.capture_summary.specs.declared.verdict_kind.VerdictKind.TheVari
 use capture_packet::Verdict;
 use transport_part::{ChecksumVerdict, Untested};
 
-/// The kind of a verdict, without its fields: a row of the table of checksums.
+/// The kind of a verdict, without its fields. It is a row of the table of checksums.
 #[derive(Clone, Copy, Debug, PartialEq, Eq)]
 pub enum VerdictKind {
     /// The stored checksum is right.

@@ -1,4 +1,4 @@
--- For an address with its port: its text is the text of a socket with this address and this port.
+-- Laws of the text of an address with its port: it is the text of a socket with this address and this port.
 use Rattle.std.specs.Prelude.{ℕ, List, ◌++◌, codes, decimal, Some, None}
 use Rattle.std.proofs.Common.{◌≡◌, ap, ap₂, append-nil, arith}
 use Rattle.std.specs.Net.Socket.{IsPlainSocket, socket_ip}
@@ -9,7 +9,7 @@ use Rattle.ip_part.specs.Addresses.{Addresses, Ipv4, Ipv6}
 use Rattle.capture_packet.specs.Addresses.{IsDestination, IsSource}
 use Rattle.capture_text.specs.AddressText.{destination_endpoint, source_endpoint}
 
--- an address of IPv6 without a scope
+-- an IPv6 address without a scope, and its port
 of_ipv6 : (segments others : List ℕ) (scope number port : ℕ) → segments ≡ others → scope ≡ 0 → number ≡ port
     → codes "[" ++ ipv6_text segments ++ scope_text scope ++ codes "]:" ++ decimal number
     ≡ codes "[" ++ ipv6_text others ++ codes "]:" ++ decimal port

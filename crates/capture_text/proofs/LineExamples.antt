@@ -44,7 +44,7 @@ tcp_line =
     let transport = codes "192.0.2.1:49153 > 192.0.2.2:80 TCP " ++ header_text in
     (transport ++ codes ", payload 32", (transport, (header_text, is_header_text, refl), refl), refl)
 
--- packet 65 of the same run
+-- packet 65 of the stored run of `capture_report`
 arp_line : IsLine SinceFirst false 65 (Some (time 1600000000 0)) (Some (time 1600000000 6400)) (Some (whole 42))
     (in_no_tunnel (NotIp (EtherType 0x0806)) (untested OtherProtocol)) (codes "65 00:00:00.006400 length 42: ARP\n")
 unfolding char_count digits encode_utf8 padded_integral whole

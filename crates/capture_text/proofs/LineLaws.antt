@@ -34,7 +34,7 @@ one_content_text (contents.NotIp protocol) text other is also = is ∙ sym also
 one_content_text (contents.Ip addresses protocol proto transport payload_len) text other is also =
     one_of _ _ (one_transport_text (by_value addresses) protocol.0 proto transport) text other is also
 
--- equal packets with the same number, time and length have the same line
+-- if two packets are equal, and their numbers, times and lengths too, their lines are equal
 pub one_line : (times : Times) (verbose : Bool) (number : ℕ) (first time : Option PacketTime) (len : Option FrameLen) (packet : Packet)
     → HasOneLine times verbose number first time len packet
 one_line times verbose number first time len packet line other is also = one_of _ _ (one_content_text packet.content) line other is also

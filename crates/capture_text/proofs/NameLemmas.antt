@@ -1,4 +1,4 @@
--- For the length of the name of a conversation.
+-- Laws of the length of the name of a conversation.
 use Rattle.std.specs.Prelude.{List, [], ◌∷◌, ℕ, ◌+◌, ◌*◌, ◌-◌, ◌/◌, ◌%◌, ◌^◌, ◌≤◌, ◌<◌, ◌++◌, ◌==◌, Bool, true, false, bytes_eq, codes, decimal, drop, flat_map, if◌then◌else◌, length, nat_lt, slice_index, take}
 use Rattle.std.specs.Net.Addr.{ipv4_octets, ipv6_segments, octets_of}
 use Rattle.std.specs.Net.Socket.{IsSocketAddr}
@@ -17,7 +17,7 @@ use Rattle.std.specs.Char.{digit_char}
 
 -- ---- IPv4
 
--- four numbers of 16 bits, as if they were octets
+-- the text of an IPv4 address whose octets may have 16 bits has at most 23 bytes
 length-ipv4 : (octets : List ℕ) → ((k : ℕ) → slice_index octets k < 2 ^ 16) → length (ipv4_text octets) ≤ 23
 length-ipv4 octets small =
     let digits : (k : ℕ) → length (decimal (slice_index octets k)) ≤ 5 = λ k. length-decimal-le 5 (slice_index octets k) (omega arith) (omega (arith, small k)) (omega (arith, small k)) in
@@ -39,7 +39,7 @@ length-ipv4 octets small =
       length-append (first ++ codes "." ++ second ++ codes "." ++ third ++ codes ".") fourth,
     )
 
--- each octet of numbers of 16 bits
+-- each octet of segments of 16 bits is below 256
 small_octet : (segments : List ℕ) → ((k : ℕ) → slice_index segments k < 2 ^ 16) → (k : ℕ) → slice_index (octets_of segments) k < 2 ^ 16
 small_octet [] small k = small k
 small_octet (segment ∷ segments) small zero = omega (arith, small 0)
@@ -58,7 +58,7 @@ length-group n =
           (digit_char (n / 0x1000) ∷ digit_char (n / 0x100 % 16) ∷ digit_char (n / 0x10 % 16) ∷ digit_char (n % 16) ∷ []),
     )
 
--- groups after colons
+-- the length of groups after colons
 length-more_groups : (segments : List ℕ) → length (flat_map (λ segment. codes ":" ++ hex segment) segments) ≤ 5 * length segments
 length-more_groups [] = omega arith
 length-more_groups (segment ∷ segments) =
@@ -70,7 +70,7 @@ length-more_groups (segment ∷ segments) =
       length-append (codes ":" ++ hex segment) (flat_map (λ segment. codes ":" ++ hex segment) segments),
     )
 
--- groups with colons between them
+-- the length of groups with colons between them
 length-groups : (segments : List ℕ) → length (groups_text segments) ≤ 5 * length segments - 1
 length-groups [] = omega arith
 length-groups (segment ∷ segments) =
@@ -81,7 +81,7 @@ length-groups (segment ∷ segments) =
       length-append (hex segment) (flat_map (λ segment. codes ":" ++ hex segment) segments),
     )
 
--- eight groups, or the groups before and after a run of zeros
+-- the length of eight groups, or of the groups before and after a run of zeros
 compressed_by : (segments : List ℕ) (run : ℕ × ℕ) (test : Bool) → length segments ≡ 8
     → length (if test then groups_text (take run.0 segments) ++ codes "::" ++ groups_text (drop (run.0 + run.1) segments) else groups_text segments) ≤ 41
 compressed_by segments run true eight =

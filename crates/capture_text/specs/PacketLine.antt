@@ -36,12 +36,12 @@ use Rattle.capture_words.specs.declared.times.Times.{Times}
 abbrev pub captured_text : ℕ → ℕ → List ℕ
 captured_text len captured_len = if captured_len == len then [] else codes ", " ++ (decimal captured_len ++ codes " captured")
 
--- the length of a frame in bytes, and the number of captured bytes if it differs; if the length is unknown, the text states this
+-- the length of a frame in bytes, and the number of captured bytes if not all were captured; if the length is unknown, the text states this
 abbrev pub frame_text : Option FrameLen → List ℕ
 frame_text None = codes " length unknown: "
 frame_text (Some len) = codes " length " ++ (decimal len.original ++ (captured_text len.original len.captured ++ codes ": "))
 
--- the length of a payload in bytes, and the number of captured bytes if it differs
+-- the length of a payload in bytes, and the number of captured bytes if not all were captured
 abbrev pub payload_text : ℕ → List ℕ → List ℕ
 payload_text payload_len payload = codes ", payload " ++ (decimal payload_len ++ captured_text payload_len (length payload))
 
@@ -142,7 +142,7 @@ hop_limit_text None = []
 hop_limit_text (Some (limits.Ipv4 limit)) = codes ", time to live " ++ decimal limit
 hop_limit_text (Some (limits.Ipv6 limit)) = codes ", hop limit " ++ decimal limit
 
--- the details of a verbose line, after the content of a packet
+-- the details in a verbose line, which follow the content of a packet; the text is empty if the line is not verbose
 abbrev pub details_text : Bool → Packet → List ℕ
 details_text verbose packet = if verbose then hop_limit_text packet.hop_limit else []
 
@@ -170,7 +170,7 @@ IsLine times verbose number first time len packet line =
     ++ (flat_map tunnel_text packet.tunnels.items
     ++ (what ++ (details_text verbose packet ++ (end_text packet.content packet.verdict ++ codes "\n"))))))))
 
--- equal packets with the same number, time and length have the same line
+-- if two packets are equal, and their numbers, times and lengths too, their lines are equal
 abbrev pub HasOneLine : Times → Bool → ℕ → Option PacketTime → Option PacketTime → Option FrameLen → Packet → Type 0
 HasOneLine times verbose number first time len packet = (line other : List ℕ)
     → IsLine times verbose number first time len packet line → IsLine times verbose number first time len packet other → line ≡ other

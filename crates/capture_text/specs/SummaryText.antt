@@ -64,7 +64,7 @@ counts_table packets title rows = if packets == 0 then [] else codes "\n" ++ (co
 
 -- ---- conversations
 
--- the head of the table: columns for both directions, for the direction seen first, and for the other direction
+-- the head of the table: columns for both directions together, for the direction that was seen first, and for the other direction
 abbrev pub conversations_head : ℕ → List ℕ → List ℕ
 conversations_head width title =
     name_cell width title ++ codes "   packets         bytes   packets >       bytes >   packets <       bytes <\n"
@@ -86,20 +86,20 @@ conversation_row width row =
     ++ (number_cell 13 row.forward.bytes ++ (codes " " ++ (number_cell 11 row.reverse.packets ++ (codes " "
     ++ (number_cell 13 row.reverse.bytes ++ codes "\n"))))))))))))
 
--- a row of packets without a conversation; it is left out if it counts no packet
+-- a row for packets that no conversation counts; it is left out if it counts no packet
 abbrev pub counted_row : ℕ → List ℕ → Count → List ℕ
 counted_row width name count =
     if count.packets == 0 then []
     else name_cell width name ++ (codes " " ++ (number_cell 9 count.packets ++ (codes " " ++ (number_cell 13 count.bytes ++ codes "\n"))))
 
--- the conversations with the most packets, and the packets that no conversation counts
+-- the head and the rows of the table: the busiest conversations, and the packets that no conversation counts
 abbrev pub conversation_rows : List ConversationCount → Count → Count → ℕ → List ℕ
 conversation_rows busiest without_ports without_room width =
     codes "\n" ++ (conversations_head width (codes "busiest conversations") ++ (flat_map (conversation_row width) busiest
     ++ (counted_row width (codes "packets without ports") without_ports
     ++ counted_row width (codes "packets of other flows") without_room)))
 
--- the table of conversations has no rows: there are no conversations, and every packet is counted by a conversation
+-- the table of conversations has no rows: there are no conversations, and no packets that no conversation counts
 abbrev pub is_without_rows : List ConversationCount → Count → Count → Bool
 is_without_rows busiest without_ports without_room =
     length busiest == 0 && (without_ports.packets == 0 && without_room.packets == 0)

@@ -14,7 +14,7 @@ use Rattle.capture_summary.specs.declared.verdict_kind.VerdictKind.TheVariants a
 use Rattle.capture_words.specs.Numbers.{hex_padded}
 use Rattle.capture_words.specs.Refusals.{refusal_text}
 
--- the reason why a checksum is not tested; a UDP packet without a length is refused
+-- the reason why a checksum is not tested; a UDP packet with a length field of 0 is refused
 abbrev pub untested_text : Untested → List ℕ
 untested_text reasons.Fragment = codes "checksum not looked at: a fragment"
 untested_text reasons.CutOff = codes "checksum not looked at: cut off"

@@ -7,7 +7,7 @@ ghost use Rattle.capture_summary.specs.declared.capture_info.FrameLen.{FrameLen}
 ghost use Rattle.capture_text.specs.PacketLine.{HasOneLine};
 ghost use Rattle.capture_words.specs.declared.times.Times.{Times};
 
-/// Equal packets with the same number, time and length have the same line.
+/// If two packets are equal, and their numbers, times and lengths too, their lines are equal.
 pub fn one_line()
     ensures { (times : Times) (verbose : Bool) (number : ℕ) (first time : Option PacketTime) (len : Option FrameLen) (packet : Packet)
         → HasOneLine times verbose number first time len packet }

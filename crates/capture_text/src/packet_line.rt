@@ -303,7 +303,7 @@ fn write_unread<W: Write>(
     write_protocol(output, protocol, proto)
 }
 
-/// Writes the protocol of a packet: its name, or its number.
+/// Writes the protocol of a packet: its name, or its number if it has no name.
 fn write_protocol<W: Write>(
     output: &mut W,
     protocol: IpNumber,

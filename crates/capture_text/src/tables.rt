@@ -20,8 +20,8 @@ const NAME_WIDTH: usize = 25;
 const MOST_CONVERSATION_NAME_LEN: usize = 128;
 
 /// Writes the numbers of packets, bytes and conversations, and the times of the packets. Then it writes the tables of link types,
-/// protocols, checksums, refusals and conversations. The rows of protocols are in the order of `Summary::protocols_by_packets`, the
-/// protocol with the most packets first. The last table lists the conversations in `busiest`.
+/// protocols, checksums, refusals and conversations. The rows of protocols are in the order of `Summary::protocols_by_packets`. The last
+/// table lists the conversations in `busiest`.
 ///
 /// A table has a name and columns of numbers, which are aligned to the right. Rows that count no packet are left out. A table without rows
 /// is left out too.
@@ -76,7 +76,7 @@ fn write_row<W: Write>(output: &mut W, name: &str, packets: u64) -> io::Result<(
     writeln!(output, "{name:<NAME_WIDTH$} {packets:>11}")
 }
 
-/// Writes the numbers of packets and bytes of each protocol, after an empty line. The table is left out if there are no packets.
+/// Writes an empty line and the table of protocols, with the packets and bytes of each. If `packets` is 0, nothing is written.
 fn write_protocols<W: Write>(output: &mut W, rows: &[(&str, Count)], packets: u64) -> io::Result<()>
     ensures { OnOk result (Appends (W.contents output.old) (W.contents output.new)
         (counts_table packets (codes "protocol") (map (λ row. (row.0.now, row.1)) rows.now))) }
@@ -107,8 +107,8 @@ fn write_count<W: Write>(output: &mut W, name: &str, count: Count) -> io::Result
     writeln!(output, "{name:<NAME_WIDTH$} {packets:>11} {bytes:>17}")
 }
 
-/// Writes an empty line and the table of the busiest conversations. Its last rows count the packets that belong to no conversation, and the
-/// packets of conversations that found no room. If the table has no rows, nothing is written.
+/// Writes an empty line and the table of the busiest conversations. Its last rows count the packets without ports, and the packets of
+/// conversations for which the summary had no room. If the table has no rows, nothing is written.
 ///
 /// # Errors
 ///
@@ -134,7 +134,7 @@ pub fn write_conversations<W: Write>(
     write_counted(output, "packets of other flows", width, without_room)
 }
 
-/// Whether the table of conversations has no rows: there are no conversations, and every packet is counted by a conversation.
+/// Whether the table of conversations has no rows: there are no conversations, and no packets that no conversation counts.
 fn is_without_rows(busiest: &[ConversationCount], without_ports: Count, without_room: Count) -> bool
     ensures { result ≡ specs.is_without_rows busiest.now without_ports without_room }
 {
@@ -153,7 +153,7 @@ fn conversation_width(conversations: &[ConversationCount]) -> io::Result<usize>
     Ok(width)
 }
 
-/// Returns the name of a conversation by one of its directions, for example `UDP 192.0.2.1:49152 <> 192.0.2.2:53`.
+/// Returns the name of a conversation, given one of its directions, for example `UDP 192.0.2.1:49152 <> 192.0.2.2:53`.
 fn conversation_name(flow: &Flow) -> io::Result<ArrayString<MOST_CONVERSATION_NAME_LEN>>
     ensures name { IfOk result (λ name. name.bytes ≡ specs.conversation_name flow.now) }
     ensures fits { IsSocketAddr flow.now.source → IsSocketAddr flow.now.destination →
@@ -201,7 +201,7 @@ fn write_conversation<W: Write>(
     )
 }
 
-/// Writes a row of packets without a conversation, if it counts packets.
+/// Writes a row for packets that no conversation counts. If it counts no packet, nothing is written.
 fn write_counted<W: Write>(output: &mut W, name: &str, width: usize, count: Count) -> io::Result<()>
     ensures { OnOk result (Appends (W.contents output.old) (W.contents output.new) (specs.counted_row width name.now count)) }
 {

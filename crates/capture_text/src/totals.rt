@@ -11,7 +11,7 @@ use std::io;
 use std::io::Write;
 
 /// Writes the numbers of packets, bytes and conversations, and the average number of bytes of a packet. If a time is known, it also writes
-/// the times of the first and the last packet, the duration, and the rates per second. Without a duration there are no rates.
+/// the times of the first and the last packet, the duration, and the rates per second. If the duration is 0, it writes no rates.
 pub(crate) fn write_totals<W: Write>(output: &mut W, summary: &Summary) -> io::Result<()>
     ensures { OnOk result (Appends (W.contents output.old) (W.contents output.new) (specs.totals_text summary.now)) }
 {

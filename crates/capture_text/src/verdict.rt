@@ -63,7 +63,7 @@ fn write_word<W: Write>(output: &mut W, kind: VerdictKind) -> io::Result<()>
     write!(output, "checksum {}", kind.name())
 }
 
-/// Writes the reason why a checksum is not tested. A UDP packet without a length is refused.
+/// Writes the reason why a checksum is not tested. A UDP packet with a length field of 0 is refused.
 fn write_untested<W: Write>(output: &mut W, reason: Untested) -> io::Result<()>
     ensures { OnOk result (Appends (W.contents output.old) (W.contents output.new) (untested_text reason)) }
 {

@@ -28,15 +28,15 @@ minor_version = refl
 no_section_length : long_at BigEndian (replicate 8 0xFF) 0 ≡ 0xFFFFFFFFFFFFFFFF
 no_section_length = refl
 
--- LINKTYPE_RAW
+-- link type 101 is LINKTYPE_RAW
 link_type_101 : link_type_with 101 ≡ Some RawIp
 link_type_101 = refl
 
--- LINKTYPE_LINUX_SLL2
+-- link type 276 is LINKTYPE_LINUX_SLL2
 link_type_276 : link_type_with 276 ≡ Some LinuxCooked2
 link_type_276 = refl
 
--- LINKTYPE_USER0
+-- link type 147, LINKTYPE_USER0, is not read
 link_type_147 : link_type_with 147 ≡ None
 link_type_147 = refl
 

@@ -6,33 +6,33 @@ use Rattle.capture_texts.specs.declared.link_type.LinkType.TheVariants.{Avs, Bsd
 
 -- ---- the numbers of link types whose header may be unread
 
--- LINKTYPE_PFLOG
+-- the number of LINKTYPE_PFLOG
 abbrev pub pflog_number : ℕ
 pflog_number = 117
 
--- LINKTYPE_IEEE802_11_PRISM
+-- the number of LINKTYPE_IEEE802_11_PRISM
 abbrev pub prism_number : ℕ
 prism_number = 119
 
--- LINKTYPE_IEEE802_11_AVS
+-- the number of LINKTYPE_IEEE802_11_AVS
 abbrev pub avs_number : ℕ
 avs_number = 163
 
--- LINKTYPE_PPI
+-- the number of LINKTYPE_PPI
 abbrev pub ppi_number : ℕ
 ppi_number = 192
 
--- LINKTYPE_NFLOG
+-- the number of LINKTYPE_NFLOG
 abbrev pub nflog_number : ℕ
 nflog_number = 239
 
--- LINKTYPE_PKTAP
+-- the number of LINKTYPE_PKTAP
 abbrev pub pktap_number : ℕ
 pktap_number = 258
 
 -- ---- all link types
 
--- the numbers of the link types that are read
+-- the link types that are read, with their numbers
 abbrev pub link_types : List (ℕ × LinkType)
 link_types =
     (0, BsdLoopback) ∷ (1, Ethernet) ∷ (9, Ppp) ∷ (12, RawIp) ∷ (14, RawIp) ∷ (50, PppHdlc) ∷ (51, PppOverEthernet) ∷ (101, RawIp)
@@ -40,6 +40,6 @@ link_types =
     ∷ (prism_number, Prism) ∷ (127, Radiotap) ∷ (avs_number, Avs) ∷ (ppi_number, Ppi) ∷ (226, Ipnet) ∷ (228, RawIp) ∷ (229, RawIp)
     ∷ (nflog_number, Nflog) ∷ (242, InfiniBand) ∷ (pktap_number, Pktap) ∷ (276, LinuxCooked2) ∷ []
 
--- the link type with this number
+-- the link type with this number, or `None` if it is not read
 abbrev pub link_type_with : ℕ → Option LinkType
 link_type_with number = lookup (λ known. number == known) link_types

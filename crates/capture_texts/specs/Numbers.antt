@@ -14,12 +14,12 @@ abbrev pub number_at : ByteOrder → List ℕ → ℕ → ℕ
 number_at BigEndian bytes place = be_number bytes place 4
 number_at LittleEndian bytes place = le_number bytes place 4
 
--- the number in the two bytes from a place on
+-- the number in the two bytes from a place on, in a byte order
 abbrev pub short_at : ByteOrder → List ℕ → ℕ → ℕ
 short_at BigEndian bytes place = be_number bytes place 2
 short_at LittleEndian bytes place = le_number bytes place 2
 
--- the number in the eight bytes from a place on
+-- the number in the eight bytes from a place on, in a byte order
 abbrev pub long_at : ByteOrder → List ℕ → ℕ → ℕ
 long_at BigEndian bytes place = be_number bytes place 8
 long_at LittleEndian bytes place = le_number bytes place 8

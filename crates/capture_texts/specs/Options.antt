@@ -23,11 +23,11 @@ abbrev pub is_option : ByteOrder → ℕ → Option ℕ → List ℕ → Bool
 is_option order code len option =
     short_at order option 0 == code && short_at order option 2 == unwrap_or len (short_at order option 2)
 
--- the value in an option
+-- the value of an option, without padding
 abbrev pub value_in : ByteOrder → List ℕ → List ℕ
 value_in order option = slice_range option 4 (4 + short_at order option 2)
 
--- the value of the first such option
+-- the value of the first option with this code, and with a value of this length if a length is given
 abbrev pub option_value : ByteOrder → ℕ → Option ℕ → List ℕ → Option (List ℕ)
 option_value order code len options =
     option_map (value_in order) (find (is_option order code len) (options_of (pcapng_option order) options))

@@ -14,16 +14,16 @@ use Rattle.capture_texts.specs.declared.kept_text.KeptText.{KeptText}
 abbrev pub is_continuation : ℕ → Bool
 is_continuation byte = byte / 64 == 2
 
--- the start of the character that the byte at this place belongs to
+-- the place of the first byte of the character to which the byte at this place belongs
 unfoldable pub char_start : List ℕ → ℕ → ℕ
 char_start text zero = 0
 char_start text (suc place) = if is_continuation (slice_index text (suc place)) then char_start text place else suc place
 
--- the number of bytes that are kept of a text, at most
+-- the maximum number of bytes that are kept of a text
 abbrev pub max_text_len : ℕ
 max_text_len = 128
 
--- the number of bytes that are kept of a text, without a part of a character
+-- the number of bytes that are kept of a text; no character is kept in part
 abbrev pub kept_len : List ℕ → ℕ
 kept_len text = if nat_le (length text) max_text_len then length text else char_start text max_text_len
 
@@ -33,7 +33,7 @@ kept_text text = record { bytes = record { items = take (kept_len text) text }; 
 
 -- ---- the texts of blocks
 
--- the text in the first option with this code, or no byte if there is no such option
+-- the text in the first option with this code; it is empty if there is no such option
 abbrev pub text_in : ByteOrder → ℕ → List ℕ → List ℕ
 text_in order code options = unwrap_or (option_value order code None options) []
 
@@ -61,7 +61,7 @@ shb_os = 3
 abbrev pub shb_userappl : ℕ
 shb_userappl = 4
 
--- an interface description block with these options
+-- the texts of an interface description block with these options
 abbrev pub interface_texts : ByteOrder → List ℕ → InterfaceTexts
 interface_texts order options = record {
   name = kept_text (text_in order if_name options);
@@ -69,7 +69,7 @@ interface_texts order options = record {
   comment = kept_text (text_in order opt_comment options);
 }
 
--- before the first block
+-- the state before the first block
 abbrev pub no_texts : FileTexts
 no_texts = record {
   comment = kept_text [];
@@ -80,7 +80,7 @@ no_texts = record {
   commented_packets = 0;
 }
 
--- a section header block with these options
+-- the state after a section header block with these options
 abbrev pub section_begun : ByteOrder → List ℕ → FileTexts → FileTexts
 section_begun order options before = record {
   comment = kept_text (text_in order opt_comment options);
@@ -91,11 +91,11 @@ section_begun order options before = record {
   commented_packets = before.commented_packets;
 }
 
--- the number of interfaces of a section whose texts are kept, at most
+-- the maximum number of interfaces of a section whose texts are kept
 abbrev pub max_interfaces_with_texts : ℕ
 max_interfaces_with_texts = 32
 
--- one more interface, if there is room for its texts
+-- the state after an interface description block with these options; its texts are left out if there is no room for them
 abbrev pub interface_added : ByteOrder → List ℕ → FileTexts → FileTexts
 interface_added order options before =
     if nat_lt (length before.interfaces.items) max_interfaces_with_texts
@@ -110,14 +110,14 @@ has_comment order body =
     if nat_le (length body) timed_captured_at then false
     else not (length (text_in order opt_comment (drop options_at body)) == 0)
 
--- one more packet
+-- the state after an enhanced packet block with this body; its packet is counted if it has a comment
 abbrev pub packet_added : ByteOrder → List ℕ → FileTexts → FileTexts
 packet_added order body before =
     if has_comment order body
     then record before { commented_packets = min (before.commented_packets + 1) (2 ^ 64 - 1) }
     else before
 
--- the texts after a block with this type and body, by the byte order of its section
+-- the state after a block with this type and body; `order` is the byte order of its section
 abbrev pub texts_after : ByteOrder → ℕ → List ℕ → FileTexts → FileTexts
 texts_after order type body before =
     if type == section_header_type then section_begun order (drop section_header_len body) before

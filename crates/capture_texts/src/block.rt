@@ -15,7 +15,7 @@ pub const SIMPLE_PACKET: u32 = 3;
 /// The type of an enhanced packet block (section 4.3).
 pub const ENHANCED_PACKET: u32 = 6;
 
-/// The place of the body in a block, after its type and its first total length (section 3.1).
+/// The place of the body in a block, which follows the type and the first total length (section 3.1).
 pub const BODY_AT: usize = 8;
 
 /// The length of the last total length, which ends a block (section 3.1).

@@ -9,22 +9,25 @@ use crate::options::option_value;
 use crate::{ByteOrder, KeptText};
 use arrayvec::ArrayVec;
 
-/// The number of interfaces of a section whose texts are kept, at most.
+/// The maximum number of interfaces of a section whose texts are kept.
 pub const MAX_INTERFACES_WITH_TEXTS: usize = 32;
 
 /// The code of a comment in any block (draft-ietf-opsawg-pcapng, section 3.5).
 const COMMENT: u16 = 1;
 
-/// The codes of the texts of a section header block (section 4.1).
+/// The code of the hardware in a section header block (section 4.1).
 const SHB_HARDWARE: u16 = 2;
 
+/// The code of the operating system in a section header block.
 const SHB_OS: u16 = 3;
 
+/// The code of the application in a section header block.
 const SHB_USERAPPL: u16 = 4;
 
-/// The codes of the texts of an interface description block (section 4.2).
+/// The code of the name in an interface description block (section 4.2).
 const IF_NAME: u16 = 2;
 
+/// The code of the description in an interface description block.
 const IF_DESCRIPTION: u16 = 3;
 
 /// The texts of an interface description block (section 4.2).
@@ -65,19 +68,19 @@ pub struct FileTexts {
     pub application: KeptText,
     /// The texts of the first interfaces of the section, in their order.
     pub interfaces: ArrayVec<InterfaceTexts, MAX_INTERFACES_WITH_TEXTS>,
-    /// The number of packets of the file with a comment, in all its sections. It counts to 2^64 - 1 at most.
+    /// The number of packets with a comment, in all sections of the file, up to 2^64 - 1.
     pub commented_packets: u64,
 }
 
 impl FileTexts {
-    /// No text, before the first block.
+    /// The state before the first block: no texts, and no packets counted.
     pub fn new() -> FileTexts
         ensures { result ≡ specs.no_texts }
     {
         FileTexts::default()
     }
 
-    /// Takes in the texts of the next block with this type and body, in a section with this byte order.
+    /// Takes in the texts of the next block, which has this type and body. `order` is the byte order of its section.
     pub fn note(&mut self, order: ByteOrder, block_type: u32, body: &[u8])
         ensures { self.new ≡ specs.texts_after order block_type body.now self.old }
     {
@@ -104,7 +107,7 @@ impl FileTexts {
         self.interfaces.clear();
     }
 
-    /// Adds the interface of a block with these options, if there is room.
+    /// Adds the texts of an interface whose block has these options, if there is room for them.
     fn add_interface(&mut self, order: ByteOrder, options: &[u8])
         ensures { self.new ≡ specs.interface_added order options.now self.old }
     {
@@ -136,7 +139,7 @@ fn has_comment(order: ByteOrder, body: &[u8]) -> bool
     !text_in(order, options, COMMENT).is_empty()
 }
 
-/// The text in the first option with this code, or no byte if there is no such option.
+/// The text in the first option with this code. It is empty if there is no such option.
 fn text_in(order: ByteOrder, options: &[u8], code: u16) -> &[u8]
     ensures { result.now ≡ specs.text_in order code options.now }
 {
@@ -146,7 +149,7 @@ fn text_in(order: ByteOrder, options: &[u8], code: u16) -> &[u8]
     }
 }
 
-/// The bytes after the first bytes.
+/// The bytes after the first `len` bytes. There are none if `bytes` is shorter.
 fn after(bytes: &[u8], len: usize) -> &[u8]
     ensures { result.now ≡ drop len bytes.now }
 {

@@ -3,20 +3,21 @@ ghost use Rattle.capture_texts.specs.Texts as specs;
 
 use arrayvec::ArrayVec;
 
-/// The number of bytes of a text that are kept, at most.
+/// The maximum number of bytes that are kept of a text.
 pub const MAX_TEXT_LEN: usize = 128;
 
-/// A text of a block, as far as it is kept. It should be UTF-8, and may consist of any bytes.
+/// A text of a block, cut to at most `MAX_TEXT_LEN` bytes. It should be UTF-8, but it may consist of any bytes.
 #[derive(Clone, Debug, Default, Drop)]
 pub struct KeptText {
-    /// The first bytes of the text. It is empty if the block has no such text.
+    /// The kept bytes, with which the text begins. They are empty if the block does not have this text.
     pub bytes: ArrayVec<u8, MAX_TEXT_LEN>,
-    /// Whether the text has more bytes. Then it ends before the character that goes beyond `MAX_TEXT_LEN` bytes.
+    /// Whether the text has more bytes than are kept. Then the kept bytes end before the first character that goes beyond `MAX_TEXT_LEN`
+    /// bytes.
     pub is_cut: bool,
 }
 
 impl KeptText {
-    /// What is kept of a text with these bytes.
+    /// Keeps the first bytes of this text.
     pub fn new(text: &[u8]) -> KeptText
         ensures { result ≡ specs.kept_text text.now }
     {
@@ -41,7 +42,7 @@ fn kept_len(text: &[u8]) -> usize
     }
 }
 
-/// The start of the character that the byte at this place belongs to.
+/// The place of the first byte of the character to which the byte at `place` belongs.
 fn char_start(text: &[u8], place: usize) -> usize
     requires { place < length text.now }
     ensures start { result ≡ specs.char_start text.now place }

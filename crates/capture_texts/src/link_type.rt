@@ -3,7 +3,7 @@ ghost use Rattle.capture_texts.specs.LinkTypes.{link_type_with};
 
 use crate::link_number;
 
-/// The link type of a record: the kind of its first header (the registry of link types of draft-ietf-opsawg-pcaplinktype).
+/// The link type of a record: the kind of its first header (draft-ietf-opsawg-pcaplinktype, with its registry).
 #[derive(Clone, Copy, Debug, PartialEq, Eq)]
 pub enum LinkType {
     /// An address family in four bytes, in the byte order of the machine that wrote the capture, and then the packet (LINKTYPE_NULL, 0).
@@ -12,7 +12,7 @@ pub enum LinkType {
     Ethernet,
     /// A PPP frame, with or without its Address and Control fields (LINKTYPE_PPP, 9).
     Ppp,
-    /// A PPP frame as of `Ppp`, or a frame of Cisco HDLC, depending on its first byte (LINKTYPE_PPP_HDLC, 50).
+    /// A PPP frame as in `Ppp`, or a frame of Cisco HDLC; the first byte shows which (LINKTYPE_PPP_HDLC, 50).
     PppHdlc,
     /// A PPPoE header, and a PPP frame without Address and Control fields (LINKTYPE_PPP_ETHER, 51).
     PppOverEthernet,
@@ -24,7 +24,7 @@ pub enum LinkType {
     Ieee80211,
     /// A Frame Relay frame (LINKTYPE_FRELAY, 107).
     FrameRelay,
-    /// The same as `BsdLoopback`, with the most significant byte first (LINKTYPE_LOOP, 108).
+    /// An address family in four bytes, with the most significant byte first, and then the packet (LINKTYPE_LOOP, 108).
     OpenBsdLoopback,
     /// A header of 16 bytes instead of the link header (LINKTYPE_LINUX_SLL, 113).
     LinuxCooked,
@@ -54,7 +54,7 @@ impl LinkType {
     /// The number of link types that are read.
     pub const COUNT: usize = 21;
 
-    /// The link type with this number, if it is read.
+    /// The link type with this number, or `None` if it is not read.
     pub fn from_number(number: u16) -> Option<LinkType>
         ensures { result ≡ link_type_with number }
     {

@@ -27,7 +27,7 @@ pub fn option_value(order: ByteOrder, options: &[u8], code: u16, len: Option<u16
     None
 }
 
-/// The option at the front.
+/// The option at the front of the options of a block, or `None` if there is no whole option.
 fn first_option(order: ByteOrder, bytes: &[u8]) -> Option<&[u8]>
     ensures front { MatchOption result (specs.pcapng_option order bytes.now ≡ None)
         (λ option. specs.pcapng_option order bytes.now ≡ Some option.now) }

@@ -1,4 +1,4 @@
--- For the date of a day: the years, months and days that have begun are the date in the calendar.
+-- Laws of the date of a day: the years, months and days that have begun are the date in the calendar.
 use Rattle.std.proofs.Common.{◌≡◌, ◌≤◌, ◌<◌, ◌+◌, ◌∙◌, ℕ, zero, suc, ℤ, pos, negsuc, ◌-ℤ◌, ◌≤ℤ◌, ◌<ℤ◌, Bool, true, false, ap, arith, int_le, int_lt, refl, subst, unsigned_abs, inl, inr}
 use Rattle.std.proofs.lemmas.Bool.{cases_order, false_from_ne_true, true_from_ne_false}
 use Rattle.std.proofs.lemmas.Int.{by_lt_z}
@@ -32,7 +32,7 @@ begun_more : (start : ℕ → ℤ) (n k : ℕ) (day : ℤ) (has : Bool) → begu
 unfolding begun
 begun_more start n k day has before test = rw (before, test) refl
 
--- the first k of them, if the first k have begun and the others have not
+-- the number of years or months that have begun is k if the first k have begun and the others have not
 begun_is : (start : ℕ → ℤ) (n k : ℕ) (day : ℤ) → k ≤ n → ((i : ℕ) → 1 ≤ i → i ≤ k → start i ≤ℤ day) → ((i : ℕ) → k < i → i ≤ n → day <ℤ start i)
     → begun start n day ≡ k
 unfolding begun
@@ -64,7 +64,7 @@ first_day : (y m : ℕ) → y ≤ 9999 → 1 ≤ m → m ≤ 12 → IsCivilDate 
 first_day y m within low high =
     ((omega (arith, signed_arith), omega (arith, signed_arith)), (low, high), (omega arith, omega (arith, days_in_month_bounds (pos y) m)))
 
--- a year that is no later begins on the date or before it
+-- a year up to the year of a date begins on the date or before it
 year_before : (y m d i : ℕ) → IsCivilDate (pos y) m d → i ≤ y → day_count (pos i) 1 1 ≤ day_count (pos y) m d
 year_before y m d i is high =
     let within : y ≤ 9999 = omega (arith, signed_arith, is.0.1) in
@@ -74,7 +74,7 @@ year_before y m d i is high =
       | inr (inr gt) ↦ absurd (omega (arith, gt, high))
     ]
 
--- a month that is no later begins on the date or before it
+-- a month up to the month of a date begins on the date or before it
 month_before : (y m d i : ℕ) → IsCivilDate (pos y) m d → 1 ≤ i → i ≤ m → day_count (pos y) i 1 ≤ day_count (pos y) m d
 month_before y m d i is low high =
     let within : y ≤ 9999 = omega (arith, signed_arith, is.0.1) in

@@ -1,4 +1,4 @@
--- Flags by their names, and the things that a function maps to flags.
+-- Laws of flags by their names, where a function maps elements to flags.
 use Rattle.std.proofs.Common.{◌≡◌, List, [], ◌∷◌, map, refl}
 use Rattle.std.proofs.lemmas.List.Folds.{flat_map-map}
 use Rattle.std.specs.List.{list_any}

@@ -10,14 +10,14 @@ use Rattle.tcp_part.specs.declared.tcp_option_element.TcpOptionElement.{TcpOptio
 use Rattle.tcp_part.specs.TcpFormat.{options_of}
 use Rattle.capture_words.specs.TcpText.{AreOptionTexts, IsHeaderText, IsListText, IsOptionText, IsOptionsText, element_text, fault_text, listed, raw_text}
 
--- a value that is determined by a part, which is the only part of its kind
+-- a value that is determined by a part is unique if the part is unique
 pub one_of : {X Y : Type 0} (P : X → Type 0) (f : X → Y) → ((x y : X) → P x → P y → x ≡ y) → (s t : Y)
     → (x : X) × P x × (s ≡ f x) → (x : X) × P x × (t ≡ f x) → s ≡ t
 one_of P f one s t is also = is.2 ∙ ap f (one is.0 also.0 is.1 also.1) ∙ sym also.2
 
 -- ---- options
 
--- one element is the whole of some bytes
+-- bytes that consist of one element consist of only this element
 one_element : (bytes : List ℕ) (element other : TcpOptionElement) → BeginsWith bytes element [] → BeginsWith bytes other [] → element ≡ other
 one_element bytes element other begins again =
     ap (first_or element) (one_reading bytes (Ok element ∷ []) (Ok other ∷ []) ([], begins, inl refl) ([], again, inl refl))
@@ -27,7 +27,7 @@ one_element bytes element other begins again =
     first_or none (Ok first ∷ items) = first
     first_or none (Err error ∷ items) = none
 
--- the text of an option that is not an element, by the reason
+-- the text of an option that is not an element, given the reason
 abbrev IsTextBy : {E : Type 0} → RawOption → List ℕ → Option E → Type 0
 IsTextBy option text found = MatchOption found
     ((element : TcpOptionElement) × BeginsWith (raw_spelling option) element [] × (text ≡ element_text element))
@@ -39,11 +39,11 @@ same_text_by option text other None first second =
     first.2 ∙ ap element_text (one_element (raw_spelling option) first.0 second.0 first.1 second.1) ∙ sym second.2
 same_text_by option text other (Some error) first second = first ∙ sym second
 
--- an option has one text
+-- the text of an option is unique
 one_option_text : (option : RawOption) (text other : List ℕ) → IsOptionText option text → IsOptionText option other → text ≡ other
 one_option_text option text other = same_text_by option text other (element_refusal option)
 
--- the texts of some bytes by the items in them
+-- the texts of bytes, given the items in them
 abbrev AreItemTexts : List ℕ → List RawItem → List (List ℕ) → Type 0
 AreItemTexts bytes [] [] = bytes ≡ []
 AreItemTexts bytes [] (text ∷ texts) = (0 < length bytes) × (text ≡ codes "end of options") × (texts ≡ [])

@@ -1,4 +1,4 @@
--- For the texts of TCP options: one more text, and the end.
+-- Laws of the texts of TCP options: another text, and the end.
 use Rattle.std.specs.Prelude.{ℕ, Bool, true, false, List, ◌++◌, ◌∷◌, [], ◌==◌, ◌<◌, OnOk, Option, codes, if◌then◌else◌, length, slice_index}
 use Rattle.std.proofs.Common.{◌≡◌, ◌∙◌, Result, ap, append-nil, append_assoc, arith, inl, inr, refl, subst, sym, true≢false}
 use Rattle.std.proofs.KnownBytes.{Appends-trans}
@@ -19,17 +19,17 @@ abbrev pub is_none : List (List ℕ) → Bool
 is_none [] = true
 is_none (text ∷ texts) = false
 
--- the texts with one more text at the end
+-- the list of texts after another text is added
 listed_push : (texts : List (List ℕ)) (text : List ℕ) → listed texts ++ (separator (is_none texts) ++ text) ≡ listed (texts ++ text ∷ [])
 listed_push [] text = sym (append-nil text)
 listed_push (first ∷ texts) text = flat_map_more (λ other. codes ", " ++ other) first texts text
 
--- after one more text the next text is not the first
+-- the next text is not the first after another text is added
 pub not_first : (texts : List (List ℕ)) (text : List ℕ) → false ≡ is_none (texts ++ text ∷ [])
 not_first [] text = refl
 not_first (first ∷ texts) text = refl
 
--- the texts so far, a comma if needed, and one more text
+-- the list of texts after a comma, if needed, and another text are added
 list_more_is : (texts : List (List ℕ)) (text : List ℕ) (is_first : Bool) → is_first ≡ is_none texts
     → (listed texts ++ separator is_first) ++ text ≡ listed (texts ++ text ∷ [])
 list_more_is texts text is_first first =
@@ -43,7 +43,7 @@ list_more a b c d texts text is_first first p q r =
     subst (Appends a d) (list_more_is texts text is_first first)
     (Appends-trans a c d (listed texts ++ separator is_first) text (Appends-trans a b c (listed texts) (separator is_first) p q) r)
 
--- the last text of all
+-- the last text was written
 pub list_last : {T E : Type 0} (r : Result T E) (a b c d : Option (List ℕ)) (bytes : List ℕ) (texts : List (List ℕ)) (text : List ℕ) (is_first : Bool)
     → is_first ≡ is_none texts → AreOptionTexts bytes (texts ++ text ∷ [])
     → Appends a b (listed texts) → Appends b c (separator is_first) → OnOk r (Appends c d text) → OnOk r (AppendsOne a d (IsListText bytes))
@@ -66,7 +66,7 @@ pub ends_at_zero : (bytes : List ℕ) → Ends bytes → false ≡ (length bytes
 ends_at_zero bytes (inl none) some = let left = some_left bytes some in absurd (omega arith)
 ends_at_zero bytes (inr zero) some = (some_left bytes some, zero)
 
--- options in brackets, if there are any
+-- the text of the options in brackets, or no text without options
 pub options_written : (bytes list : List ℕ) → false ≡ (length bytes == 0) → IsListText bytes list
     → IsOptionsText bytes ((codes ", options [" ++ list) ++ codes "]")
 options_written [] list some is = let left = some_left [] some in absurd (omega arith)

@@ -11,7 +11,7 @@ use Rattle.capture_words.proofs.AbsoluteTimeLemmas.{has_is, text_is}
 use Rattle.capture_words.specs.AbsoluteTime.{absolute_text, date_text, day_text, has_date}
 use Rattle.capture_words.specs.Elapsed.{since_text}
 
--- this many seconds after the beginning of 1970, and this many microseconds
+-- the time this number of seconds and microseconds after the beginning of 1970
 abbrev pub time : ℕ → ℕ → PacketTime
 time seconds microseconds = record { seconds = seconds; fraction = microseconds; resolution = PowerOfTen 6; offset = pos 0 }
 

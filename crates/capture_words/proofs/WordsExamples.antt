@@ -16,7 +16,7 @@ use Rattle.capture_words.specs.TcpText.{AreOptionTexts, IsHeaderText}
 
 -- ---- TCP
 
--- the first option of packet 6
+-- the first option of packet 6 is a segment size
 segment_size : AreOptionTexts (2 ∷ 4 ∷ 0x05 ∷ 0xB4 ∷ []) (codes "maximum segment size 1460" ∷ [])
 unfolding digits
 segment_size = inr (inr (
@@ -35,7 +35,7 @@ segment =
     0 ∷ 1 ∷ 2 ∷ 3 ∷ 4 ∷ 5 ∷ 6 ∷ 7 ∷ 8 ∷ 9 ∷ 10 ∷ 11 ∷ 12 ∷ 13 ∷ 14 ∷ 15 ∷ 16 ∷ 17 ∷ 18 ∷ 19 ∷ 20 ∷ 21 ∷ 22 ∷ 23 ∷ 24 ∷ 25 ∷ 26 ∷ 27 ∷ 28 ∷
     29 ∷ 30 ∷ 31 ∷ []
 
--- its text in the line, up to the payload
+-- the text of the header in the line, up to the payload
 abbrev pub header_text : List ℕ
 header_text =
     codes "flags PSH ACK, sequence 1000, acknowledgment 0, window 64240, options [no operation, option 3 with length 254 above the 3 bytes left]"
@@ -59,19 +59,19 @@ is_header_text =
 
 -- ---- ICMP
 
--- packet 12: destination unreachable, code 4, next-hop MTU 1500
+-- packet 12 is destination unreachable, code 4, with a next-hop MTU of 1500
 too_big : icmpv4_text.message_text (icmpv4.icmp_type_of (3 ∷ 4 ∷ 0xD8 ∷ 0xFB ∷ 0 ∷ 0 ∷ 0x05 ∷ 0xDC ∷ 0x45 ∷ []))
     ≡ codes "destination unreachable, code 4 (fragmentation needed), next-hop MTU 1500"
 unfolding digits icmpv4.format_of
 too_big = refl
 
--- packet 26: a router advertisement
+-- packet 26 is a router advertisement
 advertised : icmpv6_text.message_text (icmpv6.icmp_type_of (134 ∷ 0 ∷ 0x5D ∷ 0x5F ∷ 64 ∷ 0xC0 ∷ 0x07 ∷ 0x08 ∷ 0 ∷ 0 ∷ 0x75 ∷ 0x30 ∷ []))
     ≡ codes "router advertisement, code 0, current hop limit 64, flags managed other, router lifetime 1800"
 unfolding digits icmpv6.format_of
 advertised = refl
 
--- packet 18: a message of an unknown type
+-- packet 18 is a message of an unknown type
 unknown_message : icmpv4_text.message_text (icmpv4.icmp_type_of (42 ∷ 7 ∷ 0 ∷ 0 ∷ 1 ∷ 2 ∷ 3 ∷ 4 ∷ []))
     ≡ codes "type 42, code 7, bytes 5 to 8 01020304"
 unfolding char_count digits encode_utf8 icmpv4.format_of padded_integral
@@ -79,7 +79,7 @@ unknown_message = refl
 
 -- ---- refusals
 
--- packet 44
+-- packet 44 is refused for an extension header that is cut off
 extension_header : refusal_text (refusals.Ip (ExtensionHeaderCutOff (record { 0 = 0 }) 40 32 8))
     ≡ codes "IP extension header 0 at byte 40 needs 32 bytes, has 8"
 unfolding digits

@@ -29,20 +29,20 @@ nanoseconds_of_day nanoseconds = unsigned_abs (int_rem_euclid nanoseconds (pos n
 
 -- ---- the date of a day: `days_from_civil` is the number of the day with a date in the calendar
 
--- how many of the first years or months begin on or before this day; `start` is the day on which each begins
+-- the number of years or months from 1 to this number that begin on or before this day; `start` maps each to the day on which it begins
 unfoldable pub begun : (ℕ → ℤ) → ℕ → ℤ → ℕ
 begun start zero day = 0
 begun start (suc n) day = begun start n day + from_bool (int_le (start (suc n)) day)
 
--- the year: the number of years from year 1 on that have begun
+-- the year of this day: the number of years from year 1 on that begin on or before it
 abbrev pub year_of : ℤ → ℕ
 year_of day = begun (λ year. days_from_civil (pos year) 1 1) 9999 day
 
--- the month of a day of this year: the number of months that have begun
+-- the month of a day in this year: the number of months of the year that begin on or before it
 abbrev pub month_of : ℕ → ℤ → ℕ
 month_of year day = begun (λ month. days_from_civil (pos year) month 1) 12 day
 
--- the day of this month
+-- the number of a day in this month
 abbrev pub day_of_month : ℕ → ℕ → ℤ → ℕ
 day_of_month year month day = unsigned_abs (day -ℤ days_from_civil (pos year) month 1) + 1
 

@@ -11,17 +11,17 @@ named_message name code meaning = name ++ (codes ", code " ++ (decimal code ++ (
 abbrev pub field_text : List ℕ → ℕ → List ℕ
 field_text name value = codes ", " ++ (name ++ (codes " " ++ decimal value))
 
--- a field that only some messages of a type have
+-- a field of a message, or nothing if the message does not have it
 abbrev pub optional_field : List ℕ → Option ℕ → List ℕ
 optional_field name None = []
 optional_field name (Some value) = field_text name value
 
--- an echo message or its reply
+-- an echo request or an echo reply
 abbrev pub echo_text : List ℕ → IcmpEchoHeader → List ℕ
 echo_text name echo =
     name ++ (codes ", code 0, identifier " ++ (decimal echo.id ++ (codes ", sequence number " ++ decimal echo.seq)))
 
--- a message of another type
+-- a message that is not read: its type, its code, and its bytes 5 to 8
 abbrev pub unknown_text : ℕ → ℕ → List ℕ → List ℕ
 unknown_text type code bytes =
     codes "type " ++ (decimal type ++ (codes ", code " ++ (decimal code ++ (codes ", bytes 5 to 8 " ++ hex_bytes bytes))))

@@ -34,7 +34,7 @@ unreachable_reason FilterProhibited = codes "prohibited by filtering"
 unreachable_reason HostPrecedenceViolation = codes "precedence not permitted"
 unreachable_reason PrecedenceCutoff = codes "precedence below the minimum"
 
--- the MTU of the next hop, if fragmentation is needed
+-- the MTU of the next hop, or `None` if the message does not report that fragmentation is needed
 abbrev pub mtu_of : DestUnreachableHeader → Option ℕ
 mtu_of (FragmentationNeeded next_hop_mtu) = Some next_hop_mtu
 mtu_of other = None
@@ -57,12 +57,12 @@ problem_name (PointerIndicatesError pointer) = codes "pointer indicates the erro
 problem_name MissingRequiredOption = codes "required option missing"
 problem_name BadLength = codes "bad length"
 
--- the pointer, if it indicates the error
+-- the pointer, or `None` if the message contains no pointer to the error
 abbrev pub pointer_of : ParameterProblemHeader → Option ℕ
 pointer_of (PointerIndicatesError pointer) = Some pointer
 pointer_of other = None
 
--- a timestamp message or its reply; its three times are milliseconds since midnight UT
+-- a timestamp request or a timestamp reply; its three times are milliseconds since midnight UT
 abbrev pub timestamp_text : List ℕ → TimestampMessage → List ℕ
 timestamp_text name message =
     name ++ (codes ", code 0, identifier " ++ (decimal message.id ++ (codes ", sequence number " ++ (decimal message.seq

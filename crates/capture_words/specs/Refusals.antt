@@ -1,5 +1,5 @@
--- Why a packet is refused, in the terms of the RFCs. A text states the number of bytes needed and the number of bytes present. Or it
--- states a field with its value and the bound that it violates. Each text begins with the protocol and contains every field of the error.
+-- Why a packet is refused, in the terms of the RFCs. A text states the number of bytes needed and the number of bytes present, or a field
+-- with its value and the bound that it violates. Each text begins with the protocol and contains every field of the error.
 use Rattle.std.specs.Prelude.{ℕ, ◌==◌, if◌then◌else◌, List, [], ◌++◌, codes, decimal}
 use Rattle.ip_part.specs.declared.ip_error.IpError.{IpError}
 use Rattle.ip_part.specs.declared.ip_error.IpError.TheVariants as ip_errors
@@ -37,21 +37,21 @@ abbrev pub len_source_word : LenSource → List ℕ
 len_source_word Slice = codes "has"
 len_source_word UdpHeaderLen = codes "the UDP length is"
 
--- the start of a layer, unless it is the first byte
+-- the place where a layer starts, unless it starts at the first byte
 abbrev pub place_text : ℕ → List ℕ
 place_text offset = if offset == 0 then [] else codes " at byte " ++ decimal offset
 
--- a refused length
+-- why a length is refused
 abbrev pub len_error_text : LenError → List ℕ
 len_error_text error =
     layer_word error.layer ++ (place_text error.layer_start_offset ++ (codes " needs " ++ (decimal error.required_len
     ++ (codes " bytes, " ++ (len_source_word error.len_source ++ (codes " " ++ decimal error.len))))))
 
--- a refused TCP data offset
+-- why a TCP data offset is refused
 abbrev pub data_offset_text : ℕ → List ℕ
 data_offset_text data_offset = codes "TCP data offset " ++ (decimal data_offset ++ codes ", below 5")
 
--- refused IP headers
+-- why IP headers are refused
 abbrev pub ip_error_text : IpError → List ℕ
 ip_error_text (ip_errors.HeaderCutOff required_len len) = needs_text (codes "IP header") required_len len
 ip_error_text (ip_errors.Version version) = codes "IP version " ++ decimal version

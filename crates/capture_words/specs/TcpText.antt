@@ -14,7 +14,7 @@ use Rattle.capture_words.specs.Numbers.{hex_bytes}
 
 -- ---- flags and numbers
 
--- the flags in the order in which tcpdump and Wireshark show them: from the lowest bit of the header on
+-- the flags in the order in which tcpdump and Wireshark show them, which begins with the lowest bit of the header
 abbrev pub tcp_flags : List ℕ → List NamedFlag
 tcp_flags header =
     (flag_of header fin_flag, codes "FIN") ∷ (flag_of header syn_flag, codes "SYN") ∷ (flag_of header rst_flag, codes "RST")
@@ -37,7 +37,7 @@ urgent_text header = if flag_of header urg_flag then codes ", urgent pointer " +
 abbrev pub block_text : ℕ × ℕ → List ℕ
 block_text block = codes " " ++ (decimal block.0 ++ (codes "-" ++ decimal block.1))
 
--- a block, if there is one
+-- a block, or nothing if there is no block
 abbrev pub other_block_text : Option (ℕ × ℕ) → List ℕ
 other_block_text None = []
 other_block_text (Some block) = block_text block
@@ -59,7 +59,7 @@ value_text len bytes =
     else if len == 1 then codes "1 byte: " ++ hex_bytes bytes
     else decimal len ++ (codes " bytes: " ++ hex_bytes bytes)
 
--- any other option, by its kind and the bytes of its value
+-- an option by its kind and the bytes of its value
 abbrev pub raw_text : RawOption → List ℕ
 raw_text option = codes "option " ++ (decimal option.kind ++ (codes " of " ++ value_text (length option.value) option.value))
 
@@ -73,7 +73,7 @@ fault_text (LengthBeyondEnd kind len available) =
     codes "option " ++ (decimal kind ++ (codes " with length " ++ (decimal len
     ++ (codes " above the " ++ (decimal available ++ codes " bytes left")))))
 
--- this is the text of an option: the text of its element, if it is one, otherwise the text of its kind and bytes
+-- this is the text of an option: the text of its element, or the text of its kind and bytes if the option is refused as an element
 abbrev pub IsOptionText : RawOption → List ℕ → Type 0
 IsOptionText option text = MatchOption (element_refusal option)
     ((element : TcpOptionElement) × BeginsWith (raw_spelling option) element [] × (text ≡ element_text element))
@@ -88,7 +88,7 @@ AreOptionTexts bytes (text ∷ texts) =
     ⊎ (((error : TcpRawOptionError) × (raw_fault bytes ≡ Some error) × (text ≡ fault_text error) × (texts ≡ []))
     ⊎ ((option : RawOption) × (rest : List ℕ) × BeginsWithRaw bytes option rest × IsOptionText option text × AreOptionTexts rest texts))
 
--- texts with a comma between two
+-- these texts, with a comma between one text and the next
 abbrev pub listed : List (List ℕ) → List ℕ
 listed texts = join_by (λ text. text) (codes ", ") texts
 

@@ -12,6 +12,6 @@ time_text times.SinceFirst first time = since_text first time
 time_text times.Absolute first None = codes "-"
 time_text times.Absolute first (Some time) = absolute_text time
 
--- the date and time if it is requested, otherwise the time since the first packet
+-- how the line of a packet shows its time: as date and time if that is requested, otherwise as the time since the first packet
 abbrev pub times_by : Bool → Times
 times_by absolute = if absolute then times.Absolute else times.SinceFirst

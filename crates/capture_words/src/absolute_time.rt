@@ -17,7 +17,7 @@ use std::io::Write;
 /// The number of nanoseconds in a day.
 const NANOSECONDS_PER_DAY: u128 = 86_400_000_000_000;
 
-/// The beginning of 1970, in the count of `nanoseconds_of`.
+/// The nanoseconds that `nanoseconds_of` counts up to the beginning of 1970.
 const BEGINNING_OF_1970: i128 = 9_223_372_036_854_775_808_000_000_000;
 
 /// Writes the date and time of a packet in UTC, in the format of RFC 3339: `2023-11-14T22:13:20.000200Z`. The fraction has six digits, or
@@ -40,7 +40,7 @@ pub fn write_absolute<W: Write>(output: &mut W, time: PacketTime) -> io::Result<
     }
 }
 
-/// The nanoseconds from the beginning of 1970 to a time, negative before it.
+/// The nanoseconds from the beginning of 1970 to a time. They are negative for a time before 1970.
 pub fn nanoseconds_since_1970(time: PacketTime) -> i128
     ensures value { result ≡ nanoseconds_since_1970 time }
     ensures bound { IsBetween (neg_ℤ (pos (2 ^ 96))) (pos (2 ^ 96)) result }
@@ -48,7 +48,7 @@ pub fn nanoseconds_since_1970(time: PacketTime) -> i128
     nanoseconds_of(time) as i128 - BEGINNING_OF_1970
 }
 
-/// The number of the day of a time, and the nanoseconds since its midnight. 1 January 1970 is day 0.
+/// The number of the day of a time, and the nanoseconds since the midnight before it. 1 January 1970 is day 0.
 fn day_and_time(nanoseconds: i128) -> (i64, u128)
     requires { IsBetween (neg_ℤ (pos (2 ^ 96))) (pos (2 ^ 96)) nanoseconds }
     ensures day { result.0 ≡ day_of nanoseconds }
@@ -59,7 +59,7 @@ fn day_and_time(nanoseconds: i128) -> (i64, u128)
     (day as i64, of_day)
 }
 
-/// The date of the day with this number, if its year is from 0 to 9999.
+/// The date of the day with this number, or `None` if its year is not from 0 to 9999.
 fn date_of(day: i64) -> Option<Date>
     ensures { MatchOption result (has_date day ≡ false) (λ date. (has_date day ≡ true)
         × (day_text day ≡ date_text (unsigned_abs date.year) date.month date.day)) }

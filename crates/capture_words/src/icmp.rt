@@ -42,7 +42,7 @@ pub fn write_optional_field<W: Write>(
     }
 }
 
-/// Writes an echo message or its reply.
+/// Writes an echo request or an echo reply.
 pub fn write_echo<W: Write>(output: &mut W, name: &str, echo: &IcmpEchoHeader) -> io::Result<()>
     ensures { OnOk result (Appends (W.contents output.old) (W.contents output.new) (specs.echo_text name.now echo.now)) }
 {
@@ -53,7 +53,7 @@ pub fn write_echo<W: Write>(output: &mut W, name: &str, echo: &IcmpEchoHeader) -
     )
 }
 
-/// Writes a message of another type.
+/// Writes a message that is not read: its type, its code, and its bytes 5 to 8.
 pub fn write_unknown<W: Write>(
     output: &mut W,
     type_u8: u8,

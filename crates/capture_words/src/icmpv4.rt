@@ -55,7 +55,7 @@ fn write_unreachable<W: Write>(output: &mut W, header: &DestUnreachableHeader) -
     write_optional_field(output, "next-hop MTU", mtu_of(header))
 }
 
-/// The MTU of the next hop, if fragmentation is needed.
+/// The MTU of the next hop, or `None` if the message does not report that fragmentation is needed.
 fn mtu_of(header: &DestUnreachableHeader) -> Option<u32>
     ensures { result ≡ specs.mtu_of header.now }
 {
@@ -148,7 +148,7 @@ fn write_problem<W: Write>(output: &mut W, header: &ParameterProblemHeader) -> i
     write_optional_field(output, "pointer", pointer_of(header))
 }
 
-/// The pointer, if it indicates the error.
+/// The pointer, or `None` if the message contains no pointer to the error.
 fn pointer_of(header: &ParameterProblemHeader) -> Option<u32>
     ensures { result ≡ specs.pointer_of header.now }
 {
@@ -169,7 +169,7 @@ fn problem_name(header: &ParameterProblemHeader) -> &'static str
     }
 }
 
-/// Writes a timestamp message or its reply. Its three times are milliseconds since midnight UT.
+/// Writes a timestamp request or a timestamp reply. Its three times are milliseconds since midnight UT.
 fn write_timestamps<W: Write>(
     output: &mut W,
     name: &str,

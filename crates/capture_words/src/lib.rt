@@ -1,7 +1,7 @@
-//! The words and numbers of a packet that text and JSON have in common. Nothing is allocated.
+//! The words and numbers of a packet that a report contains both as text and as JSON. Nothing is allocated.
 //!
-//! `write_time` and the calls next to it write times, `icmpv4` and `icmpv6` what a message means, `tcp` the fields of a TCP header,
-//! `write_option` an option, and `write_refusal` the reason why a packet is refused.
+//! `write_time` and the functions next to it write times. `icmpv4` and `icmpv6` write what a message means. `tcp` writes the fields of a
+//! TCP header, `write_option` writes an option, and `write_refusal` writes the reason why a packet is refused.
 #![tactic(auto)]
 
 mod absolute_time;

@@ -26,7 +26,7 @@ pub fn write_header<W: Write>(output: &mut W, segment: &TcpSlice) -> io::Result<
     write_options(output, segment)
 }
 
-/// The flags and their names, in the order in which tcpdump and Wireshark show them: from the lowest bit of the header on.
+/// The flags and their names, in the order in which tcpdump and Wireshark show them. It begins with the lowest bit of the header.
 pub fn named_flags(segment: &TcpSlice) -> [(bool, &'static str); 9]
     ensures { map (λ flag. (flag.0, flag.1.now)) result ≡ tcp_flags segment.now }
 {

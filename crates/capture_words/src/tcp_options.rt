@@ -43,7 +43,7 @@ fn write_each<W: Write>(output: &mut W, segment: &TcpSlice) -> io::Result<()>
     if rest.is_empty() {
         return Ok(());
     }
-    // Bytes are left at the end of the list, so kind 0 is next.
+    // Bytes follow the end of the list, so it ends with kind 0.
     write_separator(output, is_first)?;
     write!(output, "end of options")
 }
@@ -117,7 +117,7 @@ fn write_other_blocks<W: Write>(output: &mut W, blocks: &[Option<(u32, u32)>]) -
     Ok(())
 }
 
-/// Writes a block, if there is one.
+/// Writes a block, or nothing if there is no block.
 fn write_other_block<W: Write>(output: &mut W, block: &Option<(u32, u32)>) -> io::Result<()>
     ensures { OnOk result (Appends (W.contents output.old) (W.contents output.new) (other_block_text block.now)) }
 {

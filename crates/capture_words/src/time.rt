@@ -74,7 +74,7 @@ pub fn write_elapsed<W: Write>(
     write_duration(output, time.resolution, elapsed)
 }
 
-/// Writes a minus sign before the time of a packet that is older than the first packet, or older than 1970.
+/// Writes a minus sign if a packet is older than the first packet, or older than 1970.
 pub fn write_sign<W: Write>(output: &mut W, is_older: bool) -> io::Result<()>
     ensures { OnOk result (Appends (W.contents output.old) (W.contents output.new) (sign_text is_older)) }
 {
@@ -85,7 +85,7 @@ pub fn write_sign<W: Write>(output: &mut W, is_older: bool) -> io::Result<()>
     }
 }
 
-/// Writes a duration.
+/// Writes a duration as hours, minutes, seconds and the fraction of a second.
 pub fn write_duration<W: Write>(
     output: &mut W,
     resolution: TimeResolution,

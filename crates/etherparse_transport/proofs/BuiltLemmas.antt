@@ -1,4 +1,4 @@
--- Laws of built packets: the slice of the protocol accepts the sent message, and its checksum is right.
+-- Laws of built packets: the slice of the protocol accepts the sent message, and the checksum of the message is right.
 use Rattle.std.proofs.Common.{◌≡◌, ◌≢◌, ◌⊎◌, ℕ, ◌+◌, ◌-◌, ◌*◌, ◌<◌, ◌≤◌, ◌==◌, ◌&&◌, not, nat_lt, Bool, true, false, if◌then◌else◌, List, [], ◌∷◌, ◌++◌, length, take, drop, slice_index, length-append, Option, Some, None, inl, inr, refl, sym, ap, ◌∙◌, subst, arith}
 use Rattle.std.specs.Prelude.{⊤, MatchBool, MatchOption, Result, Ok, Err, IfErr}
 use Rattle.std.specs.Option.{option_map, unwrap_or}
@@ -82,7 +82,7 @@ pub record IsRight (addresses : Addresses) (protocol : Proto) (message : List �
   pub kept : kept_by (Some protocol) message ≡ Some transport
   pub right : Judges addresses transport Right
 
--- so the found transport is this message
+-- a whole transport with this protocol and message, which is found between these addresses, is as `IsFoundAs` states
 pub found_right : (between : Addresses) (protocol : Proto) (message : List ℕ) (found : TransportInIp) → IsRight between protocol message
     → by_value found.addresses ≡ between → found.protocol.0 ≡ number_of protocol → found.payload.now ≡ message
     → found.is_fragment ≡ false → found.is_later_fragment ≡ false → found.is_cut_off ≡ false → found.is_length_missing ≡ false
@@ -117,7 +117,7 @@ found_right between protocol message found is same number same_message whole fro
 
 -- ---- UDP
 
--- a length field that counts the packet
+-- a packet whose length field counts all its bytes is accepted
 strict_accepts : (bytes : List ℕ) → udp.refusal bytes ≡ None → 8 ≤ length bytes → length_field bytes ≡ length bytes → strict_refusal bytes ≡ None
 strict_accepts bytes accepted there counts = grind (arith, nat_tests)
 
@@ -130,7 +130,7 @@ has_length bytes there counts =
     let some : (length_field bytes == 0) ≡ false = grind (arith, nat_tests) in
     ap (λ b. b && not (nat_lt 65535 (length bytes))) some
 
--- the protocol judges a packet that is not too long
+-- the checksum of a packet with a length that is not too long is judged
 judged_over_ipv4 : (source destination : List ℕ) (transport : TransportSlice) → lacks_length transport ≡ false
     → is_too_long_over_ipv4 transport ≡ false → JudgesOverIpv4 source destination transport Right → Judges (addresses.Ipv4 source destination) transport Right
 judged_over_ipv4 source destination transport has short judged =
@@ -233,7 +233,7 @@ icmpv6_right source destination message accepted short valid = record {
   right = judged_over_ipv6 source destination (slices.Icmpv6 message) refl (not_above 4294967295 (length message) short) valid;
 }
 
--- a written ICMPv6 message that is not too long is accepted
+-- an ICMPv6 message that is written, and is not too long, is accepted
 pub icmpv6_accepted : (bytes : List ℕ) (found : Icmpv6Header × List ℕ) (error : LenError) (above : Bool) → above ≡ false
     → icmpv6_back.IsReadAs bytes (if above then Err error else Ok found) → icmpv6.refusal bytes ≡ None
 icmpv6_accepted bytes found error false short reads = reads.accepted
@@ -251,7 +251,7 @@ unfolding required_len
 long_by true n rules error tested refused is = absurd (omega (arith, ap required_len refused, is))
 long_by false n rules error tested refused is = grind (arith, nat_tests)
 
--- the message is read, or is refused for a length other than the length of the shortest header
+-- a message is at least eight bytes long if it is read, or refused only because it needs 20 bytes
 whole_by : (bytes : List ℕ) (result : Result (Icmpv4Header × List ℕ) LenError) → icmpv4_back.IsReadAs bytes result
     → IfErr result (λ error. error.required_len ≡ 20) → 8 ≤ length bytes
 whole_by bytes (Ok found) reads is = (accepted-whole bytes reads.accepted).shortest
@@ -266,7 +266,7 @@ either P true b x y z is_x is_y is_z = is_x
 either P false true x y z is_x is_y is_z = is_y
 either P false false x y z is_x is_y is_z = is_z
 
--- without a payload only a timestamp is refused
+-- a message without a payload is read, or refused only because it needs 20 bytes
 refused_alone : (message : Icmpv4Type) (checksum : ℕ) → IfErr (icmpv4_back.reads_back message checksum []) (λ error. error.required_len ≡ 20)
 refused_alone (messages.Unknown type code bytes5to8) checksum =
     either (λ error. error.required_len ≡ 20) ((type == 13) && (code == 0)) ((type == 14) && (code == 0))
@@ -295,7 +295,7 @@ icmpv6_header_long header back =
     let decodes : icmpv6.DecodesAs (icmpv6.wire header ++ []) (icmpv6_back.icmpv6_header (icmpv6_back.message_reads_back header.icmp_type) header.checksum) [] = back [] in
     subst Long (append-nil (icmpv6.wire header)) (accepted-length (icmpv6.wire header ++ []) decodes.accepted).shortest
 
--- so every header is that long
+-- each header is at least eight bytes long
 pub header_long : (header : TransportHeader) → ((payload : List ℕ) → IsReadBack header payload) → 8 ≤ length (wire header)
 header_long (headers.Udp header) back = omega arith
 header_long (headers.Tcp header) back = omega arith
@@ -304,7 +304,7 @@ header_long (headers.Icmpv6 header) back = icmpv6_header_long header back
 
 -- ---- the parts of a slice that is written
 
--- if the front of a slice becomes the IP header, and the rest becomes the message and what was after it
+-- a slice after the header and then the message were written to its front; the bytes after them are the old bytes
 pub joined : (slice front rest header message : List ℕ) (header_len len : ℕ) → front ≡ header
     → rest ≡ message ++ drop len (drop header_len slice) → front ++ rest ≡ (header ++ message) ++ drop (header_len + len) slice
 joined slice front rest header message header_len len is_front is_rest =
@@ -313,14 +313,14 @@ joined slice front rest header message header_len len is_front is_rest =
 
 -- ---- the header that is sent
 
--- a UDP header stores a checksum
+-- a UDP header contains a checksum
 StoresSum : TransportHeader → Type 0
 StoresSum (headers.Udp header) = header.checksum ≢ 0
 StoresSum (headers.Tcp header) = ⊤
 StoresSum (headers.Icmpv4 header) = ⊤
 StoresSum (headers.Icmpv6 header) = ⊤
 
--- length and checksum are at their places, and nothing else changed
+-- the sent header differs from the header only by its length and checksum
 record IsSent (header sent : TransportHeader) (payload : List ℕ) : Type 0 where
   pub protocol : proto_of sent ≡ proto_of header
   pub len : length (wire sent ++ payload) ≡ message_len header (length payload)
@@ -388,14 +388,14 @@ right_ipv6 source destination payload (headers.Icmpv6 header) reads counts short
 two_bytes : (n : ℕ) → n < 65536 → slice_index (to_be_bytes w16 n) 0 * 256 + slice_index (to_be_bytes w16 n) 1 ≡ n
 two_bytes n small = omega (arith, small)
 
--- no protocol that is sent is an authentication header
+-- no transport protocol has the number of the authentication header
 no_authentication : (header : TransportHeader) → (number_of (proto_of header) == 51) ≡ false
 no_authentication (headers.Udp header) = refl
 no_authentication (headers.Tcp header) = refl
 no_authentication (headers.Icmpv4 header) = refl
 no_authentication (headers.Icmpv6 header) = refl
 
--- the start of a built header
+-- the start of a built IPv4 header with this total length
 abbrev pub built_start : ℕ → Start
 built_start total_len = record {
   type_of_service = 0;
@@ -447,14 +447,14 @@ read_ipv4 source destination payload padding time_to_live header len len_too sho
       read_back = reads;
     }
 
--- no protocol that is sent over IPv6 is an extension header
+-- no transport protocol has the number of an extension header
 no_extension : (header : TransportHeader) → is_extension (number_of (proto_of header)) ≡ false
 no_extension (headers.Udp header) = refl
 no_extension (headers.Tcp header) = refl
 no_extension (headers.Icmpv4 header) = refl
 no_extension (headers.Icmpv6 header) = refl
 
--- ICMP of the other version is refused for any values of its fields
+-- a message of ICMP of the wrong version is refused, whatever its fields are
 same_version : (source destination payload : List ℕ) (header : TransportHeader) → other_version_ipv6 header ≡ None
     → other_version_ipv6 (sent_over_ipv6 source destination header payload) ≡ None
 same_version source destination payload (headers.Udp header) none = refl

@@ -23,7 +23,7 @@ use Rattle.transport_part.specs.Layouts.{layout_of}
 use Rattle.etherparse_transport.specs.declared.transport_header.TransportHeader.{TransportHeader}
 use Rattle.etherparse_transport.specs.declared.transport_header.TransportHeader.TheVariants as headers
 
--- applying masks again changes nothing if the masked bytes have the same masks
+-- if masked bytes have the masks of the bytes, masking them again changes nothing
 masked_again : (layout_of : List ℕ → HeaderLayout) (bytes : List ℕ) → layout_of (masked ((layout_of bytes).masks) bytes) ≡ layout_of bytes
     → masked ((layout_of (masked ((layout_of bytes).masks) bytes)).masks) (masked ((layout_of bytes).masks) bytes) ≡ masked ((layout_of bytes).masks) bytes
 masked_again layout_of bytes same =
@@ -98,7 +98,7 @@ canonical_icmpv6 bytes fits accepted =
       unchanged = masked_again icmpv6.layout_of bytes (ap (λ format. format.layout) (icmpv6_format_of_alike bytes (icmpv6.canonical bytes) type code));
     }
 
--- there is no `LenError` if there is none as `Len`
+-- an error that becomes no error as `Len` is no error
 accepted_by_len : (refusal : Option LenError) → option_map Len refusal ≡ None → refusal ≡ None
 accepted_by_len None accepted = refl
 accepted_by_len (Some error) accepted = absurd (grind arith)
@@ -109,7 +109,7 @@ is_canonical Tcp bytes fits accepted = canonical_tcp bytes fits accepted
 is_canonical Icmpv4 bytes fits accepted = canonical_icmpv4 bytes fits (accepted_by_len (icmpv4.refusal bytes) accepted)
 is_canonical Icmpv6 bytes fits accepted = canonical_icmpv6 bytes fits (accepted_by_len (icmpv6.refusal bytes) accepted)
 
--- the canonical bytes of accepted bytes
+-- the canonical bytes of accepted bytes are canonical
 canonical_again : (protocol : Proto) (bytes written : List ℕ) → IsBytes bytes → refusal protocol bytes ≡ None
     → written ≡ canonical protocol bytes → IsCanonical protocol written
 canonical_again protocol bytes written fits accepted same =
@@ -132,7 +132,7 @@ length-canonical Tcp bytes = length-masked ((tcp.layout_of bytes).masks) bytes
 length-canonical Icmpv4 bytes = length-masked ((icmpv4.layout_of bytes).masks) bytes
 length-canonical Icmpv6 bytes = length-masked ((icmpv6.layout_of bytes).masks) bytes
 
--- the bytes before the rest are the header of the canonical bytes
+-- the bytes in front of the rest are the header of the canonical bytes, so the rest is the bytes after the header
 canonical_front : (protocol : Proto) (bytes header rest : List ℕ) → refusal protocol bytes ≡ None
     → header ++ rest ≡ canonical protocol bytes → rest ≡ drop (layout_of protocol bytes).header_len bytes
     → header ≡ take (layout_of protocol bytes).header_len (canonical protocol bytes)
@@ -158,7 +158,7 @@ decoded-rest bytes (headers.Tcp header) rest decodes = decodes.after_header
 decoded-rest bytes (headers.Icmpv4 header) rest decodes = decodes.after_header
 decoded-rest bytes (headers.Icmpv6 header) rest decodes = decodes.after_header
 
--- the same for bytes that are written
+-- bytes whose decoded header and rest are written are accepted
 written-accepted : (protocol : Proto) (bytes header rest : List ℕ) → WritesDecoded protocol bytes header rest → refusal protocol bytes ≡ None
 written-accepted protocol bytes header rest written =
     let P : Proto → Type 0 = λ p. refusal p bytes ≡ None in
@@ -170,7 +170,7 @@ written-rest protocol bytes header rest written =
     let P : Proto → Type 0 = λ p. rest ≡ drop (layout_of p bytes).header_len bytes in
     subst P written.protocol_of_header (decoded-rest bytes written.header rest written.decodes)
 
--- the found header if header and rest are the canonical bytes
+-- the found header, if header and rest are the canonical bytes
 pub found_front : {T E : Type 0} (protocol : Proto) (bytes : List ℕ) (header rest : T → List ℕ) (result : Result T E)
     → IfOk result (λ found. WritesDecoded protocol bytes (header found) (rest found))
     → IfOk result (λ found. header found ++ rest found ≡ canonical protocol bytes)

@@ -55,7 +55,7 @@ below_all_ones n some = omega (arith, folded-some n some)
 
 -- ---- the sum of a message
 
--- a message by its first eight bytes, four of which are these fields
+-- the sum of a message by its first eight bytes, the last four of which are these fields
 pub message_total : (message fields : List ℕ) → 8 ≤ length message
     → fields ≡ slice_index message 4 ∷ slice_index message 5 ∷ slice_index message 6 ∷ slice_index message 7 ∷ []
     → total message ≡ slice_index message 0 * 256 + slice_index message 1 + (be_number message 2 2 + (total fields + total (drop 8 message)))
@@ -69,7 +69,7 @@ message_total (a ∷ (b ∷ (c ∷ (d ∷ (e ∷ []))))) fields long is = absurd
 message_total (a ∷ (b ∷ (c ∷ (d ∷ (e ∷ (f ∷ [])))))) fields long is = absurd (omega arith)
 message_total (a ∷ (b ∷ (c ∷ (d ∷ (e ∷ (f ∷ (g ∷ []))))))) fields long is = absurd (omega arith)
 
--- the sum for the checksum of an echo message of this type
+-- the sum for the checksum of an ICMPv4 echo request
 pub icmpv4_request_sum : (echo : IcmpEchoHeader) (payload : List ℕ)
     → icmpv4.checksummed (record { icmp_type = v4.EchoRequest echo; checksum = 0 }) payload ≡ 2048 + (total (echo_fields echo) + total payload)
 icmpv4_request_sum echo payload = omega arith
@@ -92,7 +92,7 @@ once false is = absurd (grind arith)
 pub is_number : (m n : ℕ) → (m == n) ≡ true → m ≡ n
 is_number m n is = grind (arith, nat_tests)
 
--- a message of this type and code 0 that sums up to all ones
+-- a message with this type and code 0, whose sum is all ones
 pub record IsEchoRequest (type : ℕ) (message : List ℕ) (sum : ℕ) : Type 0 where
   pub shortest : 8 ≤ length message
   pub type_is : slice_index message 0 ≡ type
@@ -129,7 +129,7 @@ icmpv6_request source destination message accepted =
 
 -- ---- the bytes of a packet
 
--- the bytes after the first n bytes of a message between headers of this length and this place
+-- the bytes of a packet after the first n bytes of its message: the rest of the message, and the padding
 after_front : (n header_len end : ℕ) (packet : List ℕ) → header_len + n ≤ end → end ≤ length packet
     → drop (header_len + n) packet ≡ drop n (drop header_len (take end packet)) ++ drop end packet
 after_front n header_len end packet long there =
@@ -138,12 +138,12 @@ after_front n header_len end packet long there =
     ∙ drop-append-le (header_len + n) (take end packet) (drop end packet) (omega (arith, counted, long))
     ∙ ap (λ bytes. bytes ++ drop end packet) (sym (drop-drop n header_len (take end packet)))
 
--- the bytes after the first eight bytes
+-- the bytes of a packet after the first eight bytes of its message: the rest of the message, and the padding
 pub after_message_header : (header_len end : ℕ) (packet : List ℕ) → header_len + 8 ≤ end → end ≤ length packet
     → drop (header_len + 8) packet ≡ drop 8 (drop header_len (take end packet)) ++ drop end packet
 after_message_header header_len end packet long there = after_front 8 header_len end packet long there
 
--- the first four bytes of a reply in the packet of its request are the reply, which repeats the rest of its header
+-- only the first four bytes of a reply differ from its request
 reply_in_packet : (header_len end : ℕ) (packet reply : List ℕ) → header_len + 8 ≤ end → end ≤ length packet → length reply ≡ 8
     → echoed (reply ++ drop 8 (drop header_len (take end packet))) ≡ echoed (drop header_len (take end packet))
     → take 4 reply ++ drop (header_len + 4) packet ≡ reply ++ drop (header_len + 8) packet
@@ -170,7 +170,7 @@ start_of packet = record {
   offset_low = slice_index packet 7;
 }
 
--- the start of the header of the reply
+-- the start of an IPv4 header of five words in a reply
 abbrev pub reply_start_of : List ℕ → Start
 reply_start_of packet = record (start_of packet) { offset_high = 0x40; offset_low = 0 }
 
@@ -207,7 +207,7 @@ starts_ipv6 (a ∷ (b ∷ (c ∷ (d ∷ (e ∷ []))))) long = absurd (omega arit
 
 -- ---- the reply is read
 
--- a packet with this message, which a slice of its protocol accepts, is read as its header and its payload
+-- a packet with this message, which the slice of the protocol accepts, is read as the header and the payload of the message
 read_as : (packet : List ℕ) (between : Addresses) (header : TransportHeader) (payload : List ℕ)
     → HasMessage packet between (number_of (proto_of header)) (wire header ++ payload)
     → IsRight between (proto_of header) (wire header ++ payload) → IsReadBack header payload → IsReadAs packet between header payload
@@ -282,7 +282,7 @@ ipv4_reply_verifies packet source destination after time_to_live is len len_too 
     let Sums : List ℕ → Type 0 = λ start. Verifies [] (ip.ipv4_header (ipv4_header start time_to_live 1 source destination ++ after)) in
     subst Sums (sym (ap ipv4_reply_start packet_is)) (ipv4_header_verifies (reply_start_of packet) time_to_live 1 source destination after len len_too)
 
--- the first four of equal bytes
+-- the first four bytes, each taken from another list that is equal to `bytes`
 pub first_four : (first second third fourth bytes : List ℕ) → first ≡ bytes → second ≡ bytes → third ≡ bytes → fourth ≡ bytes
     → slice_index first 0 ∷ slice_index second 1 ∷ slice_index third 2 ∷ slice_index fourth 3 ∷ []
     ≡ slice_index bytes 0 ∷ slice_index bytes 1 ∷ slice_index bytes 2 ∷ slice_index bytes 3 ∷ []
@@ -295,7 +295,7 @@ first_four first second third fourth bytes is is_too is_third is_fourth =
 pub reply_start_len : (packet : List ℕ) → 6 ≤ length packet → length (ipv4_reply_start packet) ≡ 8
 reply_start_len packet there = omega (arith, length-append (take 6 packet) (0x40 ∷ 0 ∷ []), length-take-le 6 packet there)
 
--- the bytes that are written are the reply
+-- the bytes that are written are the packet of the reply
 pub ipv4_written : (packet new first part source : List ℕ) (time_to_live : ℕ) → IsIpv4Request packet
     → length source ≡ 4 → length (slice_range packet 12 16) ≡ 4
     → first ≡ ipv4_header (ipv4_reply_start packet) time_to_live 1 source (slice_range packet 12 16)
@@ -330,19 +330,19 @@ pseudo_total source destination len source_len destination_len =
 abbrev pub icmpv6_sum : List ℕ → List ℕ → Icmpv6Type → List ℕ → ℕ
 icmpv6_sum source destination message payload = icmpv6.checksummed source destination (record { icmp_type = message; checksum = 0 }) payload
 
--- the change of the type
+-- the sum for the checksum of a reply differs from the sum for its request only by the type
 pub icmpv6_type_changed : (source destination payload : List ℕ) (echo : IcmpEchoHeader)
     → icmpv6_sum source destination (v6.EchoReply echo) payload + 32768 ≡ icmpv6_sum source destination (v6.EchoRequest echo) payload + 33024
 icmpv6_type_changed source destination payload echo = omega arith
 
--- the change of the addresses: the source of the request is the destination of the reply
+-- the sum stays if source and destination are exchanged: the source of the request is the destination of the reply
 pub icmpv6_addresses_changed : (source destination from payload : List ℕ) (echo : IcmpEchoHeader)
     → length source ≡ 16 → length destination ≡ 16 → length from ≡ 16
     → icmpv6_sum from source (v6.EchoReply echo) payload + total destination ≡ icmpv6_sum source destination (v6.EchoReply echo) payload + total from
 icmpv6_addresses_changed source destination from payload echo source_len destination_len from_len =
     omega (arith, pseudo_total source destination (8 + length payload) source_len destination_len, pseudo_total from source (8 + length payload) from_len source_len)
 
--- the request sums up to all ones with its checksum
+-- the sum of a request with its checksum is all ones
 pub icmpv6_request_sum : (source destination message : List ℕ) (echo : IcmpEchoHeader) (stored : ℕ)
     → IsEchoRequest 128 message (total (ipv6_pseudo_header source destination 58 (length message)) + total message)
     → stored ≡ be_number message 2 2
@@ -441,7 +441,7 @@ ipv6_reply_read packet source hop_limit echo is len len_too reads =
     (ipv6_reply_has packet source hop_limit echo is len len_too)
     (icmpv6_right source destination sent (icmpv6_reply_accepted packet source echo is reads) short (icmpv6_reply_valid packet source echo is)) reads
 
--- the bytes that are written are the reply
+-- the bytes that are written are the packet of the reply
 pub ipv6_written : (packet new first part source : List ℕ) (hop_limit : ℕ) → IsIpv6Request packet
     → length source ≡ 16 → length (slice_range packet 8 24) ≡ 16
     → first ≡ ipv6_header (take 6 packet) 58 hop_limit source (slice_range packet 8 24)

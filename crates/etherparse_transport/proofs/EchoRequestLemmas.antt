@@ -31,7 +31,7 @@ only_rule : (rule : Option AnswerEchoError) → first_of (rule ∷ []) ≡ rule
 only_rule None = refl
 only_rule (Some error) = refl
 
--- the rules of an accepted IP packet with these headers
+-- what the rules of an accepted IP packet show, given its headers
 by_rules : (packet : List ℕ) (headers : Headers) (rules : Headers → Option AnswerEchoError) → ip.refusal packet ≡ None
     → ip.headers_of false packet ≡ Ok headers
     → first_of (option_map Ip (ip.refusal packet) ∷ refusal_by_headers rules (ip.headers_of false packet) ∷ []) ≡ rules headers
@@ -40,13 +40,13 @@ by_rules packet headers rules accepted read =
     ∙ ap (λ read. first_of (refusal_by_headers rules read ∷ [])) read
     ∙ only_rule (rules headers)
 
--- a rule that doesn't refuse leaves the rules after it
+-- a rule that does not refuse can be left out
 pub skipped : (rule : Option AnswerEchoError) (rules : List (Option AnswerEchoError)) → rule ≡ None → first_of (rule ∷ rules) ≡ first_of rules
 skipped rule rules none = ap (λ rule. first_of (rule ∷ rules)) none
 
 -- ---- the addresses of a header
 
--- a range within the front of the bytes
+-- a range in the first bytes is a range in all bytes
 pub in_front : (len from n : ℕ) (bytes : List ℕ) → from + n ≤ len → take n (drop from (take len bytes)) ≡ take n (drop from bytes)
 in_front len from n bytes within =
     let whole : len ≡ from + (len - from) = omega (arith, within) in
@@ -54,7 +54,7 @@ in_front len from n bytes within =
     ∙ ap (take n) (drop-take from (len - from) bytes)
     ∙ take-take n (len - from) (drop from bytes) (omega (arith, within))
 
--- the message is what comes between the header and the end of the counted bytes
+-- the message is the range from the end of the header to the end of the counted bytes
 pub message_range : (header_len : ℕ) (packet : List ℕ) → header_len ≤ counted_len false packet
     → slice_range packet header_len (counted_len false packet) ≡ message_after header_len packet
 message_range header_len packet within =
@@ -81,7 +81,7 @@ found_transport number header_len found accepted =
       offset = is_number found.payload_offset header_len (once (found.payload_offset == header_len) (none_if _ Options after_offset.0));
     }
 
--- the headers of a found transport, and which of the rules for the transport are left
+-- what the rules for a found transport show, and the rules that are left
 pub record IsFound (packet : List ℕ) (found : TransportInIp) (header_len : ℕ) : Type 0 where
   pub message_is : found.payload.now ≡ message_after header_len packet
   pub end : counted_len false packet ≡ header_len + length found.payload.now
@@ -131,11 +131,11 @@ ipv4_request_of packet found carries after over begins stated whole transport me
       message = ap icmpv4_refusal (sym at.message_is) ∙ message;
     }
 
--- the rules after the rules for the message
+-- the rules that follow the rules for the message
 abbrev pub last_rules : Bool → Bool → List (Option AnswerEchoError)
 last_rules sums host = refused_if (not sums) HeaderChecksum ∷ refused_if (not host) RequestSource ∷ []
 
--- the addresses of the header at the front of a packet
+-- the IPv4 header at the front of a packet has the addresses of the packet
 pub addresses_of : (packet header : List ℕ) (found : Ipv4Header) → BeginsWithIpv4Header packet → header ≡ take (ipv4_header_len packet) packet
     → found ≡ ipv4_header_of header → found ≡ ipv4_header_of packet
 addresses_of packet header found begins kept is =
@@ -175,7 +175,7 @@ ipv4_last_rules packet header found valid accepted carries after begins stated w
 
 -- ---- an accepted IPv6 packet
 
--- no bytes are no extension headers
+-- without extension headers, the number of the first header is the protocol
 no_extensions : (is_ipv6 may_be_extended : Bool) (number protocol : ℕ) (extensions : List ExtensionHeader)
     → IsChain is_ipv6 may_be_extended number extensions protocol → length (bytes_of extensions) ≡ 0 → number ≡ protocol
 no_extensions is_ipv6 may_be_extended number protocol [] chain none = chain.0
@@ -193,7 +193,7 @@ next_is packet found after begins offset =
     ap (λ v. if v == 4 then slice_index (ip.ipv4_header packet) 9 else next_header packet) begins.is_version_6 in
     sym number_is ∙ no_extensions _ _ _ _ after.extensions after.reads.chain (omega (arith, after.offset, offset, header_is))
 
--- without hop-by-hop options after it, the payload length is the length
+-- a packet without hop-by-hop options has no jumbo length
 no_jumbo_len : (packet : List ℕ) (number : ℕ) → next_header packet ≡ number → (number == 0) ≡ false → jumbo_len packet ≡ None
 no_jumbo_len packet number next other =
     let empty : Bool = payload_len packet == 0 in
@@ -225,7 +225,7 @@ ipv6_request_of packet found carries after begins stated whole transport message
       message = ap (icmpv6_refusal (slice_range packet 8 24) (slice_range packet 24 40)) (sym at.message_is) ∙ message;
     }
 
--- the addresses of the header at the front of a packet
+-- the IPv6 header at the front of a packet has the addresses of the packet
 pub ipv6_addresses_of : (packet header : List ℕ) (found : Ipv6Header) → header ≡ take 40 packet → found ≡ ipv6_header_of header
     → found ≡ ipv6_header_of packet
 ipv6_addresses_of packet header found kept is =
@@ -233,7 +233,7 @@ ipv6_addresses_of packet header found kept is =
     ∙ ap (λ source. record { source = source; destination = slice_range (take 40 packet) 24 40 }) (in_front 40 8 16 packet (omega arith))
     ∙ ap (λ destination. record { source = slice_range packet 8 24; destination = destination }) (in_front 40 24 16 packet (omega arith))
 
--- the rules for the headers, if the rule for the message is the next
+-- an accepted packet is refused only by the rules for its message and the rules after them
 pub ipv6_message_rules : (packet : List ℕ) (found : TransportInIp) (addresses : Ipv6Header) → ip.refusal packet ≡ None → (carries : Carries packet found)
     → BeginsWithIpv6Header packet → found.is_length_missing ≡ false → found.is_cut_off ≡ false
     → transport_refusal 58 40 found.is_fragment found.protocol.0 found.payload_offset ≡ None → addresses ≡ ipv6_header_of packet

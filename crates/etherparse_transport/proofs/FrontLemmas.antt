@@ -1,4 +1,4 @@
--- Laws of two packets whose headers are the same: what is read of them is the same.
+-- Laws of two packets with the same headers: what is read from them is the same.
 use Rattle.std.proofs.Common.{◌≡◌, ℕ, zero, suc, ◌+◌, ◌-◌, ◌*◌, ◌/◌, ◌%◌, ◌<◌, ◌≤◌, ◌==◌, ◌&&◌, not, nat_lt, Bool, true, false, if◌then◌else◌, List, [], ◌∷◌, length, take, drop, slice_index, Option, Some, None, Result, Ok, inl, inr, refl, sym, ap, ◌∙◌, arith}
 use Rattle.std.specs.Prelude.{◌⊎◌, is_none, is_some, min, unwrap_or}
 use Rattle.std.proofs.lemmas.Bool.{ltb-false}
@@ -18,7 +18,7 @@ use Rattle.etherparse_transport.proofs.BuiltLemmas.{none_first, none_if}
 
 -- ---- the same front
 
--- bytes with the length and the first bytes of other bytes
+-- other bytes with the length of `bytes` and with its first bytes
 pub record HasFront (len : ℕ) (bytes changed : List ℕ) : Type 0 where
   pub len_is : length changed ≡ length bytes
   pub front : take len changed ≡ take len bytes
@@ -33,7 +33,7 @@ same_byte len k bytes changed within same =
 
 -- ---- one extension header
 
--- the errors of an extension header, by its length and its bytes
+-- the errors of an extension header, given its length and bytes
 error_by : Headers → ℕ → ℕ → List ℕ → Option IpError
 error_by headers len required header = first_of (
     refused_if (nat_lt len 8) (ExtensionHeaderCutOff headers.protocol headers.len 8 len)
@@ -41,7 +41,7 @@ error_by headers len required header = first_of (
     ∷ jumbogram_refusal headers header
     ∷ [])
 
--- an extension header at the front of some bytes, and the same extension header at the front of others
+-- the extension header at the front of these bytes is also at the front of the changed bytes
 record IsSameHeader (headers : Headers) (rest changed : List ℕ) : Type 0 where
   len : extension_len headers.protocol.0 changed ≡ extension_len headers.protocol.0 rest
   header : extension_header headers changed ≡ extension_header headers rest
@@ -65,7 +65,7 @@ same_header headers rest changed long same =
           ∙ ap (error_by headers (length rest) (extension_len number rest)) header;
     }
 
--- the shortest extension header
+-- an extension header is at least eight bytes long
 by_number : (is_fragment is_authentication : Bool) (words : ℕ)
     → 8 ≤ (if is_fragment then 8 else if is_authentication then (words + 2) * 4 else (words + 1) * 8)
 by_number true is_authentication words = omega arith
@@ -81,7 +81,7 @@ both_whole true cut a b other none = absurd (cc none)
 both_whole false true a b other none = absurd (cc none)
 both_whole false false a b other none = (refl, refl)
 
--- an accepted extension header is there
+-- an accepted extension header is in the bytes
 record IsThere (headers : Headers) (rest : List ℕ) : Type 0 where
   shortest : 8 ≤ length rest
   whole : extension_len headers.protocol.0 rest ≤ length rest
@@ -96,7 +96,7 @@ is_there headers rest none =
 
 -- ---- all headers
 
--- each extension header makes the headers longer
+-- each extension header adds its length to the headers
 longer_if : (is : Bool) (refused : Option IpError) (more : ℕ) (headers last : Headers) (header bytes : List ℕ)
     → (headers_to_transport more (headers_after headers header) bytes ≡ Ok last → headers.len + length header ≤ last.len)
     → (if is then unless_refused refused (headers_to_transport more (headers_after headers header) bytes) else Ok headers) ≡ Ok last
@@ -114,7 +114,7 @@ longer (suc more) headers last bytes read =
     longer_if (is_extended headers) (extension_refusal headers (drop headers.len bytes)) more headers last header bytes
     (λ read. longer more (headers_after headers header) last bytes read) read
 
--- the first extension header lies in front of the end of the headers
+-- the first extension header ends before the end of the headers
 record IsWithin (headers last : Headers) (bytes : List ℕ) : Type 0 where
   none : extension_refusal headers (drop headers.len bytes) ≡ None
   end : headers.len + extension_len headers.protocol.0 (drop headers.len bytes) ≤ last.len
@@ -142,7 +142,7 @@ first_within : (more : ℕ) (headers last : Headers) (bytes : List ℕ) → is_e
 unfolding headers_to_transport
 first_within more headers last bytes is read = within_by (is_extended headers) more headers last bytes is read
 
--- a range in the same front
+-- a range in bytes with the same front has the same front
 same_range : (len from count : ℕ) (bytes changed : List ℕ) → from + count ≤ len → HasFront len bytes changed
     → HasFront count (drop from bytes) (drop from changed)
 same_range len from count bytes changed within same = record {
@@ -179,7 +179,7 @@ chain_kept (suc more) headers last bytes changed same read =
 
 -- ---- the IP header
 
--- what the reading of a packet depends on, before its extension headers
+-- both packets have the same refusal of the header, the same first headers, and the same number of counted bytes
 pub record IsAlike (packet changed : List ℕ) : Type 0 where
   pub refused : header_refusal changed ≡ header_refusal packet
   pub lacks : ip.lacks_len changed ≡ ip.lacks_len packet
@@ -192,7 +192,7 @@ four_if v four six is = ap (λ v. if v == 4 then four else six) is
 six_if : {T : Type 0} (v : ℕ) (four six : T) → v ≡ 6 → (if v == 4 then four else six) ≡ six
 six_if v four six is = ap (λ v. if v == 4 then four else six) is
 
--- the errors of an IPv4 header, by its length and its bytes
+-- the errors of an IPv4 header, given its length and bytes
 four_error : ℕ → ℕ → List ℕ → Option IpError
 four_error len header_len header = first_of (
     first_of (
@@ -239,7 +239,7 @@ four_alike len packet changed is some long same =
 
 -- ---- hop-by-hop options with the length
 
--- the errors of options that must contain the length, by their lengths and their bytes
+-- the errors of hop-by-hop options that must contain the length, given their lengths and bytes
 options_error : ℕ → ℕ → List ℕ → Option IpError
 options_error len required header = first_of (
     first_of (
@@ -336,7 +336,7 @@ four_long packet none =
     let words = none_first (refused_if (nat_lt (ipv4_header_len packet) 20) (HeaderLength (ipv4_header_len packet))) _ after.1 in
     ltb-false (ipv4_header_len packet) 20 (none_if _ (HeaderLength (ipv4_header_len packet)) words.0)
 
--- the refusal of a packet, by what it depends on
+-- the refusal of a packet, given what it depends on
 refused_by : Option IpError → Bool → Headers → ℕ → ℕ → Result Headers IpError → Option IpError
 refused_by header lacks first len counts read = first_of (
     first_of (header ∷ (if lacks then ip.missing_len_refusal first else None) ∷ [])
@@ -344,7 +344,7 @@ refused_by header lacks first len counts read = first_of (
     ∷ error_of read
     ∷ [])
 
--- a packet that is read like another packet
+-- the changed packet is accepted, and is read like the packet
 pub record IsReadAlike (packet changed : List ℕ) (headers : Headers) : Type 0 where
   pub accepted : refusal changed ≡ None
   pub read : headers_of false changed ≡ Ok headers
@@ -383,7 +383,7 @@ and_right : (a b : Bool) → (a && b) ≡ true → b ≡ true
 and_right true b is = is
 and_right false b is = absurd (cc is)
 
--- hop-by-hop options that contain the length lie in front of the end of the headers
+-- hop-by-hop options are an extension header
 zero_extended : (number : ℕ) → (number == 0) ≡ true → is_extension number ≡ true
 zero_extended number is = rw is refl
 
@@ -406,7 +406,7 @@ options_within packet headers is read has =
     ap (λ byte. (byte + 1) * 8) (sym byte) ∙ ap (λ number. extension_len number (drop 40 (take n packet))) (sym number) in
     omega (arith, len, front.end)
 
--- a packet with the length and the headers of an accepted packet
+-- a packet with the length and the headers of an accepted packet is read like that packet
 pub read_alike : (packet changed : List ℕ) (headers : Headers) → refusal packet ≡ None → headers_of false packet ≡ Ok headers
     → headers.len ≤ length (counted false packet) → HasFront headers.len packet changed → IsReadAlike packet changed headers
 read_alike packet changed headers accepted read within same =

@@ -167,7 +167,7 @@ module _ (new : Ipv4Translation) (packet message : List ℕ) (proto : Option Pro
 
 -- ---- the packet that comes back
 
--- the lengths of the addresses of a packet
+-- the addresses of a packet have four bytes
 pub addresses_there : (packet : List ℕ) → 20 ≤ length packet → AreIpv4Addresses (ipv4_header_of packet)
 addresses_there packet there =
     record {
@@ -269,7 +269,7 @@ bytes_back is_quoted new back packet message message_too proto flow fits four sa
 
 -- ---- a packet of a flow
 
--- the old address comes back
+-- an address that is replaced and then put back is the old address
 address_back : (old : List ℕ) (new : Option (List ℕ)) → unwrap_or (instead old new) (unwrap_or new old) ≡ old
 address_back old None = refl
 address_back old (Some address) = refl
@@ -352,7 +352,7 @@ flow_restored is_quoted new packet proto of_proto four ports =
       λ restored. bytes.1 (addresses_is, (restored.0, message_too_is ∙ messages.1 (subst restored_in of_proto.known restored.1))),
     )
 
--- the rule for the protocol, by the protocol and its number
+-- the protocol of a packet is refused, given the protocol and its number
 abbrev pub is_refused : Bool → Option Proto → ℕ → Bool
 is_refused has_port proto number = is_none proto && (has_port || covers_ipv4_addresses number)
 
@@ -553,7 +553,7 @@ back_by has_quoted_port (Some quoted) new packet proto of_proto is accepted quot
     let of_quoted = flow_found true has_quoted_port quoted fits (mapped_none (λ _. QuotedPacket) (ipv4_place_refusal true has_quoted_port quoted) found) in
     error_back new packet quoted proto of_quoted.0 of_proto of_quoted.1 is quotes range
 
--- translated there and back, an IPv4 packet is the packet again exactly if its checksums come back
+-- An accepted IPv4 packet is translated there and back. The result is the packet exactly if its checksums come back.
 pub ipv4_there_and_back : (has_port has_quoted_port : Bool) (new : Ipv4Translation) (packet : List ℕ) → IsBytes packet → IsIpv4Translation new
     → ipv4_refusal_by has_port has_quoted_port packet ≡ None
     → (ipv4_translated (ipv4_way_back new packet) (ipv4_translated new packet) ≡ packet) ↔ IsIpv4Restored new packet
@@ -648,7 +648,8 @@ both_back_by has_quoted_port (Some quoted) new rule packet proto of_proto is acc
     let of_quoted = flow_found true has_quoted_port quoted fits (mapped_none (λ _. QuotedPacket) (ipv4_place_refusal true has_quoted_port quoted) found) in
     both_back new rule packet quoted proto of_quoted.0 of_proto of_quoted.1 is is_rule quotes range
 
--- translated there and back by two translations, an IPv4 packet is the packet again exactly if its checksums come back
+-- An accepted IPv4 packet is translated there and back, and its quoted packet by another rule. The result is the packet exactly if its
+-- checksums come back.
 pub ipv4_both_there_and_back : (has_port has_quoted_port : Bool) (new rule : Ipv4Translation) (packet : List ℕ) → IsBytes packet
     → IsIpv4Translation new → IfSome (ipv4_quoted packet) (λ _. IsIpv4Translation rule) → ipv4_refusal_by has_port has_quoted_port packet ≡ None
     → (ipv4_translated_with (ipv4_flow_back new (message_in_ipv4 false packet) packet) (ipv4_quoted_back (ipv4_quoted packet) rule) (ipv4_translated_with new rule packet) ≡ packet)
@@ -739,7 +740,7 @@ again_by has_port has_quoted_port (Some quoted) new rule packet proto of_proto i
     (still_accepted true has_quoted_port rule quoted inner of_quoted.0 quoted_flow quoted_four inner_same
     (protocol_accepted true has_quoted_port quoted (mapped_none (λ _. QuotedPacket) (ipv4_place_refusal true has_quoted_port quoted) found)))))
 
--- a translated packet can be translated
+-- a translated packet is accepted, so it can be translated again
 pub ipv4_again : (has_port has_quoted_port : Bool) (new rule : Ipv4Translation) (packet : List ℕ) → IsBytes packet → IsIpv4Translation new
     → IfSome (ipv4_quoted packet) (λ _. IsIpv4Translation rule) → ipv4_refusal_by has_port has_quoted_port packet ≡ None
     → ipv4_refusal_by has_port has_quoted_port (ipv4_translated_with new rule packet) ≡ None

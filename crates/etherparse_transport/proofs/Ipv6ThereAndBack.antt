@@ -119,7 +119,7 @@ module _ (new : Ipv6Translation) (packet message : List ℕ) (proto : Option Pro
 
 -- ---- the packet that comes back
 
--- the lengths of the addresses of a packet
+-- the addresses of a packet have 16 bytes
 pub addresses_there : (packet : List ℕ) → 40 ≤ length packet → AreIpv6Addresses (ipv6_header_of packet)
 addresses_there packet there =
     record {
@@ -127,11 +127,11 @@ addresses_there packet there =
       destination = range_len 24 16 packet (omega (arith, there));
     }
 
--- an accepted packet contains its header
+-- an accepted packet contains its IPv6 header
 header_there : (packet : List ℕ) (proto : Option Proto) → IsIpv6Flow packet proto → 40 ≤ length packet
 header_there packet proto flow = omega (arith, flow.there, ipv6_after packet)
 
--- the message of a packet is where it was
+-- the message of a packet is in the packet after its headers
 message_there : (packet : List ℕ) (proto : Option Proto) → IsIpv6Flow packet proto
     → take (length (message_in_ipv6 packet)) (drop (ipv6_start packet) packet) ≡ message_in_ipv6 packet
 message_there packet proto flow =
@@ -141,7 +141,7 @@ message_there packet proto flow =
     sym (ap (λ n. take n (drop len packet)) count)
     ∙ message_is_range len (counted_len (lacks_len packet) packet) packet (ipv6_within packet proto flow)
 
--- the packet with this message
+-- a packet with this message is the packet exactly if the message is the message of the packet
 restored_iff : (packet message : List ℕ) (proto : Option Proto) → IsIpv6Flow packet proto → length message ≡ length (message_in_ipv6 packet)
     → (put (ipv6_start packet) message packet ≡ packet) ↔ (message ≡ message_in_ipv6 packet)
 restored_iff packet message proto flow same =
@@ -157,7 +157,7 @@ restored_iff packet message proto flow same =
           ∙ put_same start (length old) packet (omega (arith, same, there)),
     )
 
--- A packet with another message and other addresses, and then with a message and addresses that may be the old ones.
+-- A packet in which the message and the addresses are replaced twice. The second replacements may be the old message and addresses.
 pub bytes_back : (new back : Ipv6Translation) (packet message message_too : List ℕ) (proto : Option Proto) → IsIpv6Flow packet proto
     → AreIpv6Addresses (ipv6_addresses new packet) → length message ≡ length (message_in_ipv6 packet)
     → AreIpv6Addresses (ipv6_addresses back (ipv6_with_message new message packet)) → length message_too ≡ length (message_in_ipv6 packet)
@@ -194,18 +194,18 @@ bytes_back new back packet message message_too proto flow sixteen same sixteen_t
 
 -- ---- a packet of a flow
 
--- the old address comes back
+-- an address that is replaced and then put back is the old address
 address_back : (old : List ℕ) (new : Option (List ℕ)) → unwrap_or (instead old new) (unwrap_or new old) ≡ old
 address_back old None = refl
 address_back old (Some address) = refl
 
--- a packet of a protocol that is accepted
+-- a packet with this protocol that is accepted
 pub record IsIpv6FlowOf (packet : List ℕ) (proto : Option Proto) : Type 0 where
   pub flow : IsIpv6Flow packet proto
   pub known : ipv6_proto packet ≡ proto
   pub fits : IsBytes packet
 
--- the addresses come back
+-- the addresses come back if the packet is translated back
 addresses_back : (new : Ipv6Translation) (packet message : List ℕ) (proto : Option Proto) → IsIpv6Flow packet proto → AreIpv6Addresses (ipv6_addresses new packet)
     → length message ≡ length (message_in_ipv6 packet)
     → ipv6_addresses (ipv6_flow_back new packet) (ipv6_with_message new message packet) ≡ ipv6_header_of packet
@@ -225,7 +225,7 @@ flow_addresses : (new : Ipv6Translation) (packet : List ℕ) (proto : Option Pro
 flow_addresses new packet proto flow sixteen =
     addresses_back new packet (ipv6_flow_message new packet) proto flow sixteen (ipv6_flow_message_len new packet)
 
--- and the length
+-- a translated packet has the length of the packet
 flow_len : (new : Ipv6Translation) (packet : List ℕ) (proto : Option Proto) → IsIpv6Flow packet proto → AreIpv6Addresses (ipv6_addresses new packet)
     → length (ipv6_translated_flow new packet) ≡ length packet
 flow_len new packet proto flow sixteen = (kept new packet (ipv6_flow_message new packet) proto flow sixteen (ipv6_flow_message_len new packet)).front.len
@@ -286,7 +286,7 @@ protocol_accepted has_port packet found =
     let after_version = none_first (refused_if (not (version packet == 6)) OtherVersion) _ after_ip.1 in
     none_if (is_refused has_port (ipv6_proto packet) (ipv6_protocol packet)) _ (none_first _ _ after_version.1).0
 
--- a packet whose message is found
+-- a packet whose message is found has a protocol that is accepted
 pub flow_found : (has_port : Bool) (packet : List ℕ) → IsBytes packet → ipv6_place_refusal has_port packet ≡ None
     → (proto : Option Proto) × IsIpv6FlowOf packet proto
 flow_found has_port packet fits found =
@@ -343,7 +343,7 @@ still_none new packet proto of_proto sixteen none =
     ∙ quotes_none later proto old added new.source_port new.destination_port (message_in_ipv6 packet)
     (sym (ap (λ proto. quoted_in later proto (message_in_ipv6 packet)) of_proto.known) ∙ none)
 
--- a packet without a quoted packet
+-- the law for a packet that quotes no packet
 no_quote_back : (new : Ipv6Translation) (packet : List ℕ) (proto : Option Proto) → IsIpv6FlowOf packet proto → IsIpv6Translation new
     → ipv6_quoted packet ≡ None
     → (ipv6_translated (ipv6_flow_back new packet) (ipv6_with_message new (ipv6_flow_message new packet) packet) ≡ packet) ↔ IsIpv6FlowRestored packet
@@ -357,7 +357,7 @@ no_quote_back new packet proto of_proto is none =
     (ap (λ quoted. ipv6_with_message back (ipv6_message_with quoted back changed) changed) none_too)
     (flow_restored new packet proto of_proto sixteen is.ports)
 
--- an ICMP error
+-- the law for an ICMP error that quotes a packet
 error_back : (new : Ipv6Translation) (packet quoted : List ℕ) (proto quoted_proto : Option Proto) → IsIpv6FlowOf packet proto → IsIpv6FlowOf quoted quoted_proto
     → IsIpv6Translation new → ipv6_quoted packet ≡ Some quoted → IsRange (message_in_ipv6 packet) quoted
     → (ipv6_translated (ipv6_opposite (ipv6_flow_back (ipv6_opposite new) quoted))
@@ -459,7 +459,7 @@ quoted_bytes packet quoted fits range =
     subst IsBytes range.range (bytes_take (8 + length quoted - 8) (drop 8 message) (bytes_drop 8 message
     (bytes_drop (ipv6_start packet) _ (bytes_take (counted_len (lacks_len packet) packet) packet fits))))
 
--- the errors of the packet and of its message, and of the quoted packet
+-- the law for any accepted packet, given the packet that it quotes
 back_by : (has_quoted_port : Bool) (quoted : Option (List ℕ)) (new : Ipv6Translation) (packet : List ℕ) (proto : Option Proto) → IsIpv6FlowOf packet proto → IsIpv6Translation new
     → ipv6_message_refusal packet ≡ None → ipv6_quoted packet ≡ quoted → ipv6_quoted_refusal has_quoted_port quoted ≡ None
     → (ipv6_translated (ipv6_back_by quoted new packet) (ipv6_with_message new (ipv6_message_with quoted new packet) packet) ≡ packet)
@@ -475,7 +475,7 @@ back_by has_quoted_port (Some quoted) new packet proto of_proto is accepted quot
     let of_quoted = flow_found has_quoted_port quoted fits (mapped_none (λ _. QuotedPacket) (ipv6_place_refusal has_quoted_port quoted) found) in
     error_back new packet quoted proto of_quoted.0 of_proto of_quoted.1 is quotes range
 
--- translated there and back, an IPv6 packet is the packet again exactly if its checksums come back
+-- An accepted IPv6 packet is translated there and back. The result is the packet exactly if its checksums come back.
 pub ipv6_there_and_back : (has_port has_quoted_port : Bool) (new : Ipv6Translation) (packet : List ℕ) → IsBytes packet → IsIpv6Translation new
     → ipv6_refusal_by has_port has_quoted_port packet ≡ None
     → (ipv6_translated (ipv6_way_back new packet) (ipv6_translated new packet) ≡ packet) ↔ IsIpv6Restored new packet
@@ -488,7 +488,7 @@ ipv6_there_and_back has_port has_quoted_port new packet fits is accepted =
 
 -- ---- two translations there and back
 
--- an ICMP error, of which the quoted packet has a translation of its own
+-- the law for an ICMP error whose quoted packet is translated by another rule
 both_back : (new rule : Ipv6Translation) (packet quoted : List ℕ) (proto quoted_proto : Option Proto) → IsIpv6FlowOf packet proto
     → IsIpv6FlowOf quoted quoted_proto → IsIpv6Translation new → IsIpv6Translation rule → ipv6_quoted packet ≡ Some quoted
     → IsRange (message_in_ipv6 packet) quoted
@@ -575,7 +575,8 @@ both_back_by has_quoted_port (Some quoted) new rule packet proto of_proto is acc
     let of_quoted = flow_found has_quoted_port quoted fits (mapped_none (λ _. QuotedPacket) (ipv6_place_refusal has_quoted_port quoted) found) in
     both_back new rule packet quoted proto of_quoted.0 of_proto of_quoted.1 is is_rule quotes range
 
--- translated there and back by two translations, an IPv6 packet is the packet again exactly if its checksums come back
+-- An accepted IPv6 packet is translated there and back, and its quoted packet by another rule. The result is the packet exactly if its
+-- checksums come back.
 pub ipv6_both_there_and_back : (has_port has_quoted_port : Bool) (new rule : Ipv6Translation) (packet : List ℕ) → IsBytes packet
     → IsIpv6Translation new → IfSome (ipv6_quoted packet) (λ _. IsIpv6Translation rule) → ipv6_refusal_by has_port has_quoted_port packet ≡ None
     → (ipv6_translated_with (ipv6_flow_back new packet) (ipv6_quoted_back (ipv6_quoted packet) rule) (ipv6_translated_with new rule packet) ≡ packet)
@@ -665,7 +666,7 @@ again_by has_port has_quoted_port (Some quoted) new rule packet proto of_proto i
     (still_accepted has_quoted_port rule quoted inner of_quoted.0 quoted_flow quoted_sixteen inner_same
     (protocol_accepted has_quoted_port quoted (mapped_none (λ _. QuotedPacket) (ipv6_place_refusal has_quoted_port quoted) found)))))
 
--- a translated packet can be translated
+-- a translated packet is accepted, so it can be translated again
 pub ipv6_again : (has_port has_quoted_port : Bool) (new rule : Ipv6Translation) (packet : List ℕ) → IsBytes packet → IsIpv6Translation new
     → IfSome (ipv6_quoted packet) (λ _. IsIpv6Translation rule) → ipv6_refusal_by has_port has_quoted_port packet ≡ None
     → ipv6_refusal_by has_port has_quoted_port (ipv6_translated_with new rule packet) ≡ None

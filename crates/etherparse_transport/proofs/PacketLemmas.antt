@@ -1,4 +1,4 @@
--- Laws of built packets: where the IP header ends, the message after it, and that its checksum is right.
+-- Laws of built packets: the end of the IP header, the message that follows it, and the checksum of the header, which is right.
 use Rattle.std.proofs.Common.{◌≡◌, ℕ, ◌+◌, ◌*◌, ◌/◌, ◌<◌, ◌≤◌, ◌==◌, ◌&&◌, ◌||◌, Bool, true, false, not, if◌then◌else◌, List, [], ◌∷◌, ◌++◌, length, take, drop, slice_range, length-append, Some, None, Ok, unwrap_or, refl, sym, ap, ◌∙◌, arith}
 use Rattle.std.specs.Prelude.{is_none}
 use Rattle.std.proofs.Math.Seq.{drop-append_seam, take-append_seam}
@@ -42,7 +42,7 @@ take_destination n source destination len len_too =
     ap (λ k. take n (drop k (source ++ destination))) (sym len) ∙ ap (take n) (drop-append_seam source destination)
     ∙ take_all n destination (omega (arith, len_too))
 
--- no bytes come after them
+-- no bytes come after two addresses
 drop_two : (n : ℕ) (source destination : List ℕ) → length source ≡ n → length destination ≡ n → drop (n + n) (source ++ destination) ≡ []
 drop_two n source destination len len_too =
     drop_all (n + n) (source ++ destination) (omega (arith, len, len_too, length-append source destination))
@@ -60,13 +60,13 @@ message_between k n header message padding len whole =
 
 -- ---- an accepted packet
 
--- a header that states a length is not refused for a missing length
+-- an accepted header that states a length is accepted by the strict rules too
 strictly_accepted : (packet : List ℕ) → header_refusal packet ≡ None → lacks_len packet ≡ false → strict_header_refusal packet ≡ None
 strictly_accepted packet accepted states =
     ap (λ refusal. first_of (refusal ∷ (if lacks_len packet then missing_len_refusal (first_headers packet) else None) ∷ [])) accepted
     ∙ ap (λ lacks. first_of (None ∷ (if lacks then missing_len_refusal (first_headers packet) else None) ∷ [])) states
 
--- the header states a length, counts at most the bytes of the packet, and no extension header comes next
+-- an accepted header that states a length makes an accepted packet if the packet is whole, and no extension header comes next
 accepted_packet : (packet : List ℕ) → header_refusal packet ≡ None → lacks_len packet ≡ false → counted_len false packet ≤ length packet
     → is_extended (first_headers packet) ≡ false → ip.refusal packet ≡ None
 accepted_packet packet accepted states there last =
@@ -113,14 +113,14 @@ abbrev pub front_ipv4 : Start → ℕ → ℕ → ℕ → ℕ → List ℕ → L
 front_ipv4 start time_to_live protocol checksum_high checksum_low after =
     start_bytes start ++ (time_to_live ∷ protocol ∷ checksum_high ∷ checksum_low ∷ after)
 
--- a header of five words is accepted
+-- an IPv4 header of five words is accepted
 ipv4_accepted : (packet : List ℕ) → version packet ≡ 4 → ipv4_header_len packet ≡ 20 → 20 ≤ length packet → 20 ≤ total_len packet
     → header_refusal packet ≡ None
 ipv4_accepted packet is five there long =
     let accepted : ipv4_refusal packet ≡ None = grind (arith, nat_tests) in
     grind (arith, nat_tests)
 
--- and states its length
+-- an IPv4 header of five words states a length
 ipv4_states : (packet : List ℕ) → version packet ≡ 4 → 20 ≤ total_len packet → lacks_len packet ≡ false
 ipv4_states packet is long =
     let stated : (total_len packet == 0) ≡ false = grind (arith, nat_tests) in
@@ -164,7 +164,7 @@ over_ipv4_addresses header source destination options found is_source is_destina
     ∙ ap (λ source. addresses.Ipv4 source (slice_range header 16 20)) is_source
     ∙ ap (addresses.Ipv4 source) is_destination
 
--- no fragment has an offset
+-- a packet that is not a fragment has no fragment offset
 no_offset : (more first : Bool) → more || not first ≡ false → not first ≡ false
 no_offset false first whole = whole
 no_offset true first whole = absurd (grind arith)
@@ -228,7 +228,7 @@ message_over_ipv4 start time_to_live protocol checksum_high checksum_low source 
       bytes_are = bytes_are;
     }
 
--- its checksum adds itself to the total of the header
+-- the sum of the header with its checksum is all ones
 pub ipv4_header_verifies : (start : Start) (time_to_live protocol : ℕ) (source destination after : List ℕ)
     → length source ≡ 4 → length destination ≡ 4
     → Verifies [] (ip.ipv4_header (ipv4_header (start_bytes start) time_to_live protocol source destination ++ after))
@@ -243,7 +243,7 @@ ipv4_header_verifies start time_to_live protocol source destination after len le
 
 -- ---- IPv6
 
--- the first six bytes of a header
+-- the first six bytes of an IPv6 header
 pub record StartIpv6 : Type 0 where
   pub first : ℕ
   pub second : ℕ
@@ -255,11 +255,11 @@ pub record StartIpv6 : Type 0 where
 abbrev pub start_bytes_ipv6 : StartIpv6 → List ℕ
 start_bytes_ipv6 start = start.first ∷ start.second ∷ start.third ∷ start.fourth ∷ start.len_high ∷ start.len_low ∷ []
 
--- a header of 40 bytes in front of other bytes
+-- an IPv6 header, up to its addresses, in front of other bytes
 abbrev pub front_ipv6 : StartIpv6 → ℕ → ℕ → List ℕ → List ℕ
 front_ipv6 start next_header hop_limit after = start_bytes_ipv6 start ++ (next_header ∷ hop_limit ∷ after)
 
--- a payload length other than 0 is the length, and no other place is read
+-- the test for a payload length of 0 fails if the payload length is above 0
 payload_len_counts : (packet : List ℕ) → 0 < payload_len packet → (payload_len packet == 0) ≡ false
 payload_len_counts packet some = grind (arith, nat_tests)
 

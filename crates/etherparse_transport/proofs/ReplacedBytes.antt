@@ -26,21 +26,21 @@ bytes_take n bytes fits = λ k.
 
 -- ---- replaced bytes
 
--- bytes in their parts: before a place, from there on as many as these, and the rest
+-- bytes consist of the bytes before a place, n bytes from the place on, and the rest
 parts : (place n : ℕ) (bytes : List ℕ) → take place bytes ++ (take n (drop place bytes) ++ drop (place + n) bytes) ≡ bytes
 parts place n bytes =
     ap (λ rest. take place bytes ++ (take n (drop place bytes) ++ rest)) (sym (drop-drop n place bytes))
     ∙ ap (λ rest. take place bytes ++ rest) (take-append-drop n (drop place bytes))
     ∙ take-append-drop place bytes
 
--- a place in the bytes after the first
+-- bytes that are replaced after the first byte
 after_first : (byte : ℕ) (rest new : List ℕ) (place next : ℕ) → next ≡ suc place → with_bytes next new (byte ∷ rest) ≡ byte ∷ with_bytes place new rest
 after_first byte rest new place next is =
     let further : suc place + length new ≡ suc (place + length new) = omega arith in
     ap (λ place. with_bytes place new (byte ∷ rest)) is
     ∙ ap (λ n. take (suc place) (byte ∷ rest) ++ (new ++ drop n (byte ∷ rest))) further
 
--- a place in the bytes after a front
+-- bytes that are replaced after a front
 after_front : (front rest new : List ℕ) (place next : ℕ) → next ≡ length front + place → with_bytes next new (front ++ rest) ≡ front ++ with_bytes place new rest
 after_front [] rest new place next is =
     let same : next ≡ place = omega (arith, is) in
@@ -55,14 +55,14 @@ at_front front old new rest place is same =
     after_front front (old ++ rest) new 0 place (omega (arith, is))
     ∙ ap (λ rest. front ++ (new ++ rest)) (drop_at old rest (0 + length new) (omega (arith, same)))
 
--- the later of two replacements at a place counts
+-- if bytes at a place are replaced twice, only the second replacement counts
 pub bytes_again : (place : ℕ) (new other bytes : List ℕ) → place + length new ≤ length bytes → length other ≡ length new
     → with_bytes place other (with_bytes place new bytes) ≡ with_bytes place other bytes
 bytes_again place new other bytes there same =
     at_front (take place bytes) new other (drop (place + length new) bytes) place (length-take-le place bytes (omega (arith, there))) (sym same)
     ∙ ap (λ n. take place bytes ++ (other ++ drop (place + n) bytes)) (sym same)
 
--- replacements at different places
+-- two replacements at places that do not overlap may be exchanged
 pub bytes_apart : (place other : ℕ) (new late bytes : List ℕ) → place + length new ≤ other → other + length late ≤ length bytes
     → with_bytes place new (with_bytes other late bytes) ≡ with_bytes other late (with_bytes place new bytes)
 bytes_apart place other new late bytes apart there =
@@ -83,13 +83,13 @@ bytes_apart place other new late bytes apart there =
     ∙ ap (λ rest. front ++ rest) (after_front new rest late more (length new + more) refl) in
     ap (with_bytes place new) behind ∙ at_front front old new (with_bytes more late rest) place front_len old_len ∙ sym behind_too
 
--- bytes replaced by themselves
+-- bytes that are replaced by themselves do not change
 pub bytes_same : (place : ℕ) (new bytes : List ℕ) → place + length new ≤ length bytes → new ≡ take (length new) (drop place bytes)
     → with_bytes place new bytes ≡ bytes
 bytes_same place new bytes there is =
     ap (λ part. take place bytes ++ (part ++ drop (place + length new) bytes)) is ∙ parts place (length new) bytes
 
--- bytes that stay
+-- bytes that are replaced by a range of themselves do not change
 pub bytes_kept : (place n : ℕ) (bytes : List ℕ) → place + n ≤ length bytes → with_bytes place (take n (drop place bytes)) bytes ≡ bytes
 bytes_kept place n bytes there =
     let part : List ℕ = take n (drop place bytes) in
@@ -98,7 +98,7 @@ bytes_kept place n bytes there =
 
 -- ---- replaced bytes that may be missing
 
--- the bytes with these bytes at this place, or unchanged if they end before
+-- `bytes` with `new` at this place; unchanged if they end before the end of `new`
 abbrev pub put : ℕ → List ℕ → List ℕ → List ℕ
 put place new bytes = if nat_le (place + length new) (length bytes) then with_bytes place new bytes else bytes
 
@@ -121,7 +121,7 @@ again_by : (there : Bool) (place : ℕ) (new other bytes : List ℕ) → there �
 again_by false place new other bytes test same = refl
 again_by true place new other bytes test same = bytes_again place new other bytes (grind (arith, nat_tests)) same
 
--- the later of two replacements at a place counts
+-- if bytes at a place are replaced twice, only the second replacement counts
 pub put_again : (place : ℕ) (new other bytes : List ℕ) → length other ≡ length new → put place other (put place new bytes) ≡ put place other bytes
 put_again place new other bytes same =
     let between : List ℕ = put place new bytes in
@@ -140,7 +140,7 @@ apart_by true false place other new late bytes test apart = refl
 apart_by false true place other new late bytes test apart = refl
 apart_by false false place other new late bytes test apart = refl
 
--- replacements at different places
+-- two replacements at places that do not overlap may be exchanged
 pub put_apart : (place other : ℕ) (new late bytes : List ℕ) → place + length new ≤ other
     → put place new (put other late bytes) ≡ put other late (put place new bytes)
 put_apart place other new late bytes apart =
@@ -150,7 +150,7 @@ put_apart place other new late bytes apart =
     ∙ apart_by (nat_le (place + length new) (length bytes)) (nat_le (other + length late) (length bytes)) place other new late bytes refl apart
     ∙ sym (ap (λ len. if nat_le (other + length late) len then with_bytes other late between_too else between_too) (put_len place new bytes))
 
--- bytes that are replaced by themselves
+-- bytes that are replaced by a range of themselves do not change
 pub put_same : (place n : ℕ) (bytes : List ℕ) → place + n ≤ length bytes → put place (take n (drop place bytes)) bytes ≡ bytes
 put_same place n bytes there =
     let part : List ℕ = take n (drop place bytes) in
@@ -160,11 +160,11 @@ put_same place n bytes there =
 
 -- ---- replaced numbers
 
--- the later of two numbers at a place counts
+-- if the number at a place is replaced twice, only the second replacement counts
 pub number_again : (place value other : ℕ) (bytes : List ℕ) → with_number place other (with_number place value bytes) ≡ with_number place other bytes
 number_again place value other bytes = put_again place (to_be_bytes w16 value) (to_be_bytes w16 other) bytes refl
 
--- numbers at different places
+-- two replaced numbers that do not overlap may be exchanged
 pub number_apart : (place other value late : ℕ) (bytes : List ℕ) → place + 2 ≤ other
     → with_number place value (with_number other late bytes) ≡ with_number other late (with_number place value bytes)
 number_apart place other value late bytes apart = put_apart place other (to_be_bytes w16 value) (to_be_bytes w16 late) bytes apart
@@ -177,7 +177,7 @@ same_by true place bytes fits test =
     (to_be_bytes-be_number_2 bytes place (place + 2) (be_number bytes place 2) (drop (place + 2) bytes) fits refl (grind (arith, nat_tests)) refl refl)
     ∙ take-append-drop place bytes
 
--- a number replaced by itself
+-- a number that is replaced by itself does not change
 pub number_same : (place : ℕ) (bytes : List ℕ) → IsBytes bytes → with_number place (number place bytes) bytes ≡ bytes
 number_same place bytes fits = same_by (nat_le (place + 2) (length bytes)) place bytes fits refl
 
@@ -225,7 +225,7 @@ put_before : (there : Bool) (place k : ℕ) (new bytes : List ℕ) → there ≡
 put_before false place k new bytes test before = refl
 put_before true place k new bytes test before = index_before place new bytes (grind (arith, nat_tests)) k before
 
--- a number in front of replaced bytes
+-- a number in front of replaced bytes does not change
 pub number_put : (place : ℕ) (new : List ℕ) (at : ℕ) (bytes : List ℕ) → at + 2 ≤ place → number at (put place new bytes) ≡ number at bytes
 number_put place new at bytes before =
     let changed : List ℕ = put place new bytes in
@@ -237,7 +237,7 @@ number_put place new at bytes before =
 
 -- ---- the addresses and the message
 
--- bytes at two places of the same length, and others behind them
+-- bytes that are replaced at two places, with the same length, and at a place after them
 module _ (first second start n : ℕ) (apart : first + n ≤ second) (apart_too : second + n ≤ start) where
   abbrev pub replaced : List ℕ → List ℕ → List ℕ → List ℕ → List ℕ
   replaced source destination message bytes = put second destination (put first source (put start message bytes))
@@ -279,13 +279,13 @@ module _ (first second start n : ℕ) (apart : first + n ≤ second) (apart_too 
 
 -- ---- equalities
 
--- an equality with another left side
+-- a side of an equality may be replaced by something equal
 pub iff_along : {T : Type 0} {P : Type 0} (left other right : T) → left ≡ other → (other ≡ right) ↔ P → (left ≡ right) ↔ P
 iff_along left other right is iff = (λ same. iff.0 (sym is ∙ same), λ p. is ∙ iff.1 p)
 
 -- ---- a checksum that comes back
 
--- a checksum that is put back is the checksum exactly if the message is the message
+-- bytes in which a checksum is stored are the old bytes exactly if `P` holds
 pub checksum_back : {P : Type 0} (place checksum : ℕ) (bytes : List ℕ) → IsBytes bytes → checksum < 65536
     → (place + 2 ≤ length bytes → (checksum ≡ number place bytes) ↔ P) → (length bytes < place + 2 → P)
     → (with_number place checksum bytes ≡ bytes) ↔ P

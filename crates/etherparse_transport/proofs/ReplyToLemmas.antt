@@ -1,4 +1,4 @@
--- Laws of replies: the message of an accepted request, and that the packet that answers it is its reply.
+-- Laws of replies: the message of an accepted request, and the packet that answers it.
 use Rattle.std.proofs.Common.{◌≡◌, ℕ, ◌≤◌, ◌==◌, Bool, true, false, not, if◌then◌else◌, List, [], ◌∷◌, ◌++◌, length, take, drop, slice_range, Option, Some, None, Ok, refl, sym, ap, ◌∙◌, subst, arith}
 use Rattle.std.specs.Prelude.{IfOk, IsTrue, MatchBool, Result, Err}
 use Rattle.std.specs.Option.{option_map}
@@ -114,7 +114,7 @@ destination_answers_ipv6 packet accepted =
     may_answer (is_group_ipv6 destination) (is_host_ipv6 destination) destination
     (once (is_host_ipv6 destination) (none_if _ ReplySource after_source.0))
 
--- what holds if there is no error holds if the call succeeds
+-- what holds without an error holds if the call succeeds
 pub if_accepted : {T E : Type 0} (result : Result T E) (refusal : Option E) (P : Type 0) → RefusesExactly result refusal
     → (refusal ≡ None → IfOk result (λ _. P)) → IfOk result (λ _. P)
 if_accepted (Ok value) refusal P refuses given = given refuses
@@ -154,7 +154,7 @@ ipv4_is_reply packet source time_to_live is carries len len_too reads same verif
       header_checksum = λ begins. verifies;
     }
 
--- the version of a reply is 6, as the version of its request
+-- the first six bytes determine the version, so a reply over IPv6 is over IPv6 too
 not_ipv4 : (packet after : List ℕ) → 6 ≤ length packet → version packet ≡ 6 → version (take 6 packet ++ after) ≡ 6
 not_ipv4 (a ∷ rest) after long is = is
 not_ipv4 [] after long is = absurd (omega arith)

@@ -1,4 +1,4 @@
--- Options without a source route of any form have none that is read as a route.
+-- Options that contain no source route in any form contain no source route that is read.
 use Rattle.std.proofs.Common.{◌≡◌, ℕ, zero, suc, Bool, true, false, cond, if◌then◌else◌, is_some, List, length, drop, take, slice_index, ◌==◌, ◌||◌, nat_lt, Option, Some, None, refl, sym, ap, ◌∙◌}
 use Rattle.std.specs.Prelude.{unwrap_or}
 use Rattle.std.specs.List.{find}
@@ -14,14 +14,14 @@ option_by false true is_impossible one all bytes option is = is
 option_by false false true one all bytes option is = absurd (cc is)
 option_by false false false one all bytes option is = is
 
--- an option of a possible length is read alike
+-- an option that `ipv4_option` reads is also what `option_or_rest` reads
 option_alike : (bytes option : List ℕ) → ipv4_option bytes ≡ Some option → option_or_rest bytes ≡ Some option
 option_alike bytes option is =
     option_by (length bytes == 0 || slice_index bytes 0 == 0) (slice_index bytes 0 == 1)
     (nat_lt (length bytes) 2 || (nat_lt (slice_index bytes 1) 2 || nat_lt (length bytes) (slice_index bytes 1)))
     (take 1 bytes) (take (slice_index bytes 1) bytes) bytes option is
 
--- the options from the first on
+-- the options in some bytes, given their first option
 options_are : (front : List ℕ → Option (List ℕ)) (more : ℕ) (bytes : List ℕ) (first : Option (List ℕ)) → front bytes ≡ first
     → options_within front (suc more) bytes ≡ with_first first (λ option. options_within front more (drop (length option) bytes))
 unfolding options_within
@@ -32,7 +32,7 @@ is_none_by : (is_route : Bool) (option : List ℕ) (found found_too : Option (Li
 is_none_by true option found found_too none then_none = none
 is_none_by false option found found_too none then_none = then_none none
 
--- options of which the first is not a source route, and of which the others have none
+-- options contain no source route if the first option is no source route, and the other options contain none
 no_route_after : (more : ℕ) (bytes : List ℕ) (first : Option (List ℕ)) → ipv4_option bytes ≡ first
     → is_some (find is_source_route (options_within option_or_rest (suc more) bytes)) ≡ false
     → ((rest : List ℕ) → is_some (find is_source_route (options_within option_or_rest more rest)) ≡ false

@@ -19,7 +19,7 @@ use Rattle.etherparse_transport.proofs.ReplacedBytes.{checksum_back, iff_along, 
 
 -- ---- the ports
 
--- a port that is put back
+-- the port of a message comes back if it is put back
 port_back : (new : Option ℕ) (place : ℕ) (message changed : List ℕ) → IsBytes message
     → (number place changed ≡ number place (with_number place (port_or new place message) message))
     → port_or (instead (number place message) new) place changed ≡ number place message
@@ -30,7 +30,7 @@ port_small : (new : Option ℕ) (place : ℕ) (message : List ℕ) → IsBytes m
 port_small None place message fits small = number_small place message fits
 port_small (Some port) place message fits small = small
 
--- three numbers are replaced twice, and the second time the first two are the old numbers
+-- if three numbers are replaced, and then the first two are put back, only the third is new
 pub three_back : (first second third value value_too sum sum_too : ℕ) (bytes : List ℕ) → IsBytes bytes → first + 2 ≤ second → second + 2 ≤ third
     → with_number third sum_too (with_number second (number second bytes) (with_number first (number first bytes)
     (with_number third sum (with_number second value_too (with_number first value bytes)))))
@@ -50,7 +50,7 @@ three_back first second third value value_too sum sum_too bytes fits apart apart
 
 -- ---- UDP and TCP
 
--- a message with new ports and this checksum, and the way back
+-- a message with new ports and an updated checksum, and the message that comes back
 module _ (place sum old new : ℕ) (source destination : Option ℕ) (message : List ℕ) (fits : IsBytes message)
     (small : IfSome source (λ port. port < 65536)) (small_too : IfSome destination (λ port. port < 65536)) (apart : 4 ≤ place) where
   abbrev new_source : ℕ
@@ -165,7 +165,7 @@ udp_back old new source destination packet fits small small_too =
 
 -- ---- ICMP
 
--- the stored checksum of a query, of which all other bytes are 0 or not
+-- the checksum that is stored for a query, which depends on whether its other bytes are all 0
 abbrev stored_by : Bool → ℕ → ℕ
 stored_by is_zero checksum = if is_zero then zero_as_all_ones checksum else checksum
 
@@ -173,7 +173,7 @@ stored_small : (is_zero : Bool) (checksum removed added : ℕ) → stored_by is_
 stored_small false checksum removed added = updated_small checksum removed added
 stored_small true checksum removed added = grind (arith, nat_tests)
 
--- the number that is stored, modulo 65535
+-- the checksum that is stored for a query, modulo 65535
 stored_remainder : (is_zero : Bool) (checksum removed added : ℕ)
     → stored_by is_zero (updated_checksum_of checksum removed added) % 65535
     ≡ (65535 - (complement checksum + complement removed + added) % 65535) % 65535
@@ -182,7 +182,8 @@ stored_remainder false checksum removed added =
     let sum : ℕ = complement checksum + complement removed + added in
     omega (arith, folded-remainder sum, folded-lt sum)
 
--- The checksum that is stored on the way back. If the message to which it goes back is zero, 0 is lost, and otherwise all ones.
+-- The checksum that is stored on the way back. If the old message is all zeros except its checksum, checksum 0 is lost, otherwise all ones
+-- is lost.
 query_reversed : (is_zero is_zero_back : Bool) (checksum removed added result : ℕ) → checksum < 65536 → removed < 65536 → added < 65536
     → (is_zero ≡ true → added ≡ 0) → result ≡ stored_by is_zero (updated_checksum_of checksum removed added)
     → (stored_by is_zero_back (updated_checksum_of result added removed) ≡ checksum) ↔ (checksum ≢ (if is_zero_back then 0 else 65535))
@@ -204,7 +205,7 @@ query_reversed is_zero true checksum removed added result small small_too small_
     let back = udp_checksum_of-remainder (complement result + complement added + removed) in
     (λ same none. omega (arith, back, same, none), λ some. back ∙ omega (arith, stored, some, fits, small, small_too, small_three))
 
--- two numbers are replaced twice
+-- if two numbers are replaced, and then the second is put back, only the first is new
 two_back : (first second value sum sum_too : ℕ) (bytes : List ℕ) → IsBytes bytes → first + 2 ≤ second
     → with_number first sum_too (with_number second (number second bytes) (with_number first sum (with_number second value bytes)))
     ≡ with_number first sum_too bytes
@@ -213,7 +214,7 @@ two_back first second value sum sum_too bytes fits apart =
     ∙ ap (with_number first sum) (number_again second value (number second bytes) bytes ∙ number_same second bytes fits))
     ∙ number_again first sum sum_too bytes
 
--- a byte before the numbers
+-- a byte before two replaced numbers does not change
 pub before_both : (sum value k : ℕ) (bytes : List ℕ) → k < 2 → slice_index (with_number 2 sum (with_number 4 value bytes)) k ≡ slice_index bytes k
 before_both sum value k bytes before =
     let between : List ℕ = with_number 4 value bytes in
@@ -276,7 +277,7 @@ query_back old new identifier message fits small room zero =
     (query_reversed is_zero (rest_of_message message == 0) (number 2 message) removed added sum (number_small 2 message fits) (folded-lt _) (folded-lt _) zero refl))
     (λ short. absurd (omega (arith, room, short))))
 
--- the identifier that is put back
+-- the old identifier is put back
 identifier_by : (is_request : Bool) (old : ℕ) (source destination : Option ℕ)
     → (if is_request then instead old source else instead old destination) ≡ instead old (if is_request then source else destination)
 identifier_by true old source destination = refl
@@ -304,7 +305,7 @@ query_there proto message is =
     let test : nat_le 6 (length message) ≡ true = front (nat_le 6 (length message)) _ is in
     grind (arith, nat_tests)
 
--- in a message of zeros the new identifier is 0
+-- if all bytes except the checksum are 0 after the identifier is replaced, the new identifier is 0
 zero_identifier : (value : ℕ) (message : List ℕ) → 6 ≤ length message → value < 65536 → (rest_of_message (with_number 4 value message) == 0) ≡ true
     → value ≡ 0
 zero_identifier value message room small is =
@@ -317,7 +318,7 @@ zero_identifier value message room small is =
     number_after 2 0 4 between (omega arith) ∙ number_here 4 value message (omega (arith, room)) small in
     omega (arith, there, none, stored_number_total 4 0 rest refl (omega arith) (omega (arith, room, rest_len)))
 
--- other messages
+-- a checksum that is updated by a change and then by the reverse change comes back exactly if it is not all ones
 updated_back : (old new : ℕ) (message : List ℕ) → IsBytes message → old < 65536 → new < 65536
     → (with_updated_checksum new old (with_updated_checksum old new message) ≡ message) ↔ (number 2 message ≢ 65535)
 updated_back old new message fits small small_too =
@@ -422,7 +423,7 @@ message_back protos.Icmpv4 old new source destination message fits small small_t
 message_back protos.Icmpv6 old new source destination message fits small small_too old_small new_small =
     icmpv6_back (is_query protos.Icmpv6 message) old new source destination message refl fits small small_too old_small new_small
 
--- the message in a packet whose later fragments have no ports
+-- the law for the message of a packet; a later fragment has no ports
 part_back_of : (is_later_fragment : Bool) (proto : Proto) (old new : ℕ) (source destination : Option ℕ) (message : List ℕ) → IsBytes message
     → IfSome source (λ port. port < 65536) → IfSome destination (λ port. port < 65536) → old < 65536 → new < 65536
     → (translated_in is_later_fragment (Some proto) new old (instead (port_in (Some proto) 0 message) source) (instead (port_in (Some proto) 2 message) destination)
@@ -433,7 +434,7 @@ part_back_of false proto old new source destination message fits small small_too
     let iff = message_back proto old new source destination message fits small small_too old_small new_small in
     (λ same is. iff.0 same, λ p. iff.1 (p refl))
 
--- the message of a packet, of which only the addresses may be replaced
+-- the law for the message of a packet with any protocol
 pub part_back : (is_later_fragment : Bool) (proto : Option Proto) (old new : ℕ) (source destination : Option ℕ) (message : List ℕ) → IsBytes message
     → IfSome source (λ port. port < 65536) → IfSome destination (λ port. port < 65536) → old < 65536 → new < 65536
     → (translated_in is_later_fragment proto new old (instead (port_in proto 0 message) source) (instead (port_in proto 2 message) destination)
@@ -455,7 +456,7 @@ pub address_len : (n : ℕ) (old other : List ℕ) (new : Option (List ℕ)) →
 address_len n old other None is is_too = is
 address_len n old other (Some address) is is_too = is_too
 
--- the length of a new address, or of the old one
+-- an address that may be replaced has the same length
 pub new_address_len : (n : ℕ) (old : List ℕ) (new : Option (List ℕ)) → length old ≡ n → IfSome new (λ address. length address ≡ n) → length (unwrap_or new old) ≡ n
 new_address_len n old None is is_too = is
 new_address_len n old (Some address) is is_too = is_too

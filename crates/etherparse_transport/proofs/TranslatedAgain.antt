@@ -29,7 +29,7 @@ use Rattle.etherparse_transport.proofs.ThereAndBack.{before_both, updated_small}
 
 -- ---- the quoted packet
 
--- the number in front of other bytes of an error
+-- the checksum of an error is not changed by another quoted packet
 error_number : (message translated : List ℕ) → 8 + length translated ≤ length message → number 2 (with_bytes 8 translated message) ≡ number 2 message
 error_number message translated there =
     ap (number 2) (sym (put_there 8 translated message there)) ∙ number_put 8 translated 2 message (omega arith)
@@ -39,7 +39,7 @@ pub quote_len : (old new : ℕ) (quoted translated message : List ℕ) → 8 + l
 quote_len old new quoted translated message there =
     number_len 2 _ (with_bytes 8 translated message) ∙ length_kept 8 translated message there
 
--- the bytes after the header of an error with another quoted packet
+-- the bytes after the header of an error with another quoted packet are that packet and the old bytes after it
 quote_there : (old new : ℕ) (quoted translated message : List ℕ) → 8 + length translated ≤ length message
     → drop 8 (with_quote old new quoted translated message) ≡ translated ++ drop (length translated) (drop 8 message)
 quote_there old new quoted translated message there =
@@ -51,7 +51,7 @@ quote_there old new quoted translated message there =
     ∙ drop_here 8 translated message there
     ∙ ap (λ rest. translated ++ rest) (ap (λ n. drop n message) (omega arith) ∙ sym (drop-drop (length translated) 8 message))
 
--- a byte of the header of an error except for its checksum
+-- a byte in the header of an error, except in its checksum, is not changed by another quoted packet
 pub quote_byte : (old new k : ℕ) (quoted translated message : List ℕ) → 8 + length translated ≤ length message → (k < 2) ⊎ (4 ≤ k) → k < 8
     → slice_index (with_quote old new quoted translated message) k ≡ slice_index message k
 quote_byte old new k quoted translated message there other within =
@@ -110,7 +110,7 @@ quote_back old new quoted translated quoted_too message fits range same same_too
       λ both. back_is ∙ alone both.0 ∙ (iff both.0).1 both.1,
     )
 
--- which bytes an error quotes, by its type and its length field
+-- the packet that an error quotes, given its type and its length field
 abbrev quote_by : Bool → Bool → ℕ → List ℕ → Option (List ℕ)
 quote_by counts all n bytes = if counts then Some (if nat_lt n 128 then bytes else take n bytes) else (if all then Some bytes else None)
 
@@ -137,7 +137,7 @@ quote_kept false true n bytes changed quoted translated is same quotes =
     ap (λ quoted. Some quoted) (whole_quote bytes changed quoted translated is same (some_is bytes quoted quotes))
 quote_kept false false n bytes changed quoted translated is same quotes = absurd (cc quotes)
 
--- an error quotes the translated packet
+-- an error with a translated packet quotes the translated packet
 quotes_translated_of : (is_later_fragment : Bool) (proto : Proto) (old new : ℕ) (message quoted translated : List ℕ) → IsRange message quoted
     → length translated ≡ length quoted → quoted_in is_later_fragment (Some proto) message ≡ Some quoted
     → quoted_in is_later_fragment (Some proto) (with_quote old new quoted translated message) ≡ Some translated
@@ -205,7 +205,7 @@ quotes_none_of false protos.Icmpv6 old new source destination message none =
 long_enough : (len min : ℕ) → nat_lt len min ≡ false → min ≤ len
 long_enough len min whole = grind (arith, nat_tests)
 
--- the quoted packet of an accepted error is a range of it
+-- the packet that an accepted error quotes is a range of its message
 quoted_range_of : (is_later_fragment : Bool) (proto : Proto) (message quoted : List ℕ) → message_refusal is_later_fragment (Some proto) message ≡ None
     → quoted_in is_later_fragment (Some proto) message ≡ Some quoted → IsRange message quoted
 quoted_range_of true proto message quoted accepted quotes = absurd (cc quotes)
@@ -218,7 +218,7 @@ quoted_range_of false protos.Icmpv6 message quoted accepted quotes =
 
 -- ---- a message that is accepted again
 
--- a message of the same length, and of ICMP also of the same type and code
+-- the changed message has the same length, and if it is ICMP, the same type and code
 pub record IsAlike (message changed : List ℕ) : Type 0 where
   pub len : length changed ≡ length message
   pub type : slice_index changed 0 ≡ slice_index message 0
@@ -252,7 +252,7 @@ icmpv6_alike message changed alike =
     ∷ refused_if (nat_lt icmpv6.max_packet_len len) (wrong_length layers.Icmpv6 icmpv6.max_packet_len len)
     ∷ [])) alike.len
 
--- a message is accepted like another
+-- a message that is like an accepted message is accepted
 pub accepted_alike : (is_later_fragment : Bool) (proto : Proto) (message changed : List ℕ) → IsAlikeOf proto message changed
     → is_none (quoted_in is_later_fragment (Some proto) changed) ≡ is_none (quoted_in is_later_fragment (Some proto) message)
     → message_refusal is_later_fragment (Some proto) changed ≡ message_refusal is_later_fragment (Some proto) message
@@ -307,7 +307,7 @@ ports_alike protos.Icmpv6 old new source destination message =
       code = icmpv6_byte 1 (is_query protos.Icmpv6 message) old new identifier message (omega arith);
     }
 
--- a message with new ports
+-- a message with new ports is accepted
 ports_accepted_of : (is_later_fragment : Bool) (proto : Proto) (old new : ℕ) (source destination : Option ℕ) (message : List ℕ)
     → quoted_in is_later_fragment (Some proto) message ≡ None → message_refusal is_later_fragment (Some proto) message ≡ None
     → message_refusal is_later_fragment (Some proto) (translated_in is_later_fragment (Some proto) old new source destination message) ≡ None
@@ -317,7 +317,7 @@ ports_accepted_of false proto old new source destination message none accepted =
     accepted_alike false proto message changed (ports_alike proto old new source destination message)
     (ap (λ quoted. is_none quoted) (quotes_none_of false proto old new source destination message none ∙ sym none)) ∙ accepted
 
--- an error with a translated packet
+-- an error with a translated packet is accepted
 error_accepted_of : (is_later_fragment : Bool) (proto : Proto) (old new : ℕ) (message quoted translated : List ℕ) → IsRange message quoted
     → length translated ≡ length quoted → quoted_in is_later_fragment (Some proto) message ≡ Some quoted
     → message_refusal is_later_fragment (Some proto) message ≡ None

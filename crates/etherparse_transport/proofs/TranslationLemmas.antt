@@ -38,12 +38,12 @@ use Rattle.etherparse_transport.specs.declared.ip.ipv6_translation.Ipv6Translati
 
 -- ---- the message in its packet
 
--- the number of a protocol that there may be
+-- the number of a protocol, or 0 if there is none
 number_or_zero : Option Proto → ℕ
 number_or_zero None = 0
 number_or_zero (Some proto) = number_of proto
 
--- a known protocol has its number, by the tests of the number
+-- the protocol that is found by the tests of a number has this number
 by_tests : (icmp : Proto) (is_udp is_tcp is_icmp : Bool) (number : ℕ) (proto : Proto) → is_udp ≡ (number == 17) → is_tcp ≡ (number == 6)
     → is_icmp ≡ (number == number_of icmp)
     → Some proto ≡ (if is_udp then Some protos.Udp else if is_tcp then Some protos.Tcp else if is_icmp then Some icmp else None)
@@ -64,7 +64,7 @@ no_authentication protos.Tcp = refl
 no_authentication protos.Icmpv4 = refl
 no_authentication protos.Icmpv6 = refl
 
--- the first test and the second test of some fail
+-- if neither test holds, the first does not hold
 first_false : (first rest : Bool) → (first || rest) ≡ false → first ≡ false
 first_false true rest is = is
 first_false false rest is = refl
@@ -86,7 +86,7 @@ headers_or : Headers → Result Headers IpError → Headers
 headers_or other (Ok headers) = headers
 headers_or other (Err error) = other
 
--- a result has one success
+-- a result has only one value
 pub read_once : (read : Result Headers IpError) (headers other : Headers) → read ≡ Ok headers → read ≡ Ok other → headers ≡ other
 unfolding headers_or
 read_once read headers other is is_too = ap (headers_or headers) (sym is ∙ is_too)
@@ -109,12 +109,12 @@ ipv4_headers_len packet found carries is other =
     ap (λ b. (b && (ipv4_fragment_offset (ip.ipv4_header packet) == 0)) && is_extension (slice_index (ip.ipv4_header packet) 9)) other in
     ap (λ headers. headers.len) (first_is_last packet found carries (ap is_extended first ∙ last) ∙ first)
 
--- some first bytes of a list are found by their number
+-- taking as many bytes as `take n` takes gives the first n bytes
 first_bytes : (n : ℕ) (bytes : List ℕ) → take (length (take n bytes)) bytes ≡ take n bytes
 first_bytes n bytes =
     ap (take (length (take n bytes))) (sym (take-append-drop n bytes)) ∙ take_at (take n bytes) (drop n bytes) (length (take n bytes)) refl
 
--- the message is the range of its length
+-- the message is the range that begins at its place and has its length
 pub message_is_range : (len n : ℕ) (packet : List ℕ) → len ≤ n → slice_range packet len (len + length (drop len (take n packet))) ≡ drop len (take n packet)
 message_is_range len n packet within =
     let more : n ≡ len + (n - len) = omega (arith, within) in
@@ -154,18 +154,18 @@ ipv4_flow_message_is new packet message is_later_fragment proto removed added la
 
 -- ---- the quoted packet
 
--- nothing is added to the removed words
+-- if only the words of the quoted packet are removed, and nothing else, the sum grows by them
 pub quote_removed : (old was between now quoted : ℕ) → was ≡ old → between ≡ folded (was + quoted) → now ≡ folded (between + 0) → now ≡ folded (old + quoted)
 quote_removed old was between now quoted is is_too is_now =
     is_now ∙ ap (λ n. folded (n + 0)) is_too ∙ folded-add (was + quoted) 0 ∙ ap folded (omega (arith, is))
 
--- nothing is removed from the added words
+-- if only the words of the translated packet are added, and nothing else, the sum grows by them
 pub quote_added : (new was between now translated : ℕ) → was ≡ new → between ≡ folded (was + 0) → now ≡ folded (between + translated)
     → now ≡ folded (new + translated)
 quote_added new was between now translated is is_too is_now =
     is_now ∙ ap (λ n. folded (n + translated)) is_too ∙ folded-add (was + 0) translated ∙ ap folded (omega (arith, is))
 
--- a quoted packet is the range of its length after the header of eight bytes
+-- the quoted packet is the range of its length that follows the header of eight bytes
 pub record IsRange (message quoted : List ℕ) : Type 0 where
   pub range : slice_range message 8 (8 + length quoted) ≡ quoted
   pub within : 8 + length quoted ≤ length message
@@ -209,7 +209,7 @@ icmpv6_quoted_range message quoted long is = quoted_by_kind _ _ (slice_index mes
 
 -- ---- the place of a message
 
--- a later fragment, by the header or by the packet
+-- a packet is found to be a later fragment exactly if its fragment offset is not 0
 ipv4_later_is : (packet : List ℕ) (found : TransportInIp) → IsOverIpv4 packet found → 20 ≤ ipv4_header_len packet
     → found.is_later_fragment ≡ not (ipv4_fragment_offset packet == 0)
 ipv4_later_is packet found over five =
@@ -218,7 +218,7 @@ ipv4_later_is packet found over five =
     ∙ ap (λ high. not (((0 * 256 + high) * 256 + slice_index (take n packet) 7) % 2 ^ 13 == 0)) (get_or-take n packet 6 0 (omega (arith, five)))
     ∙ ap (λ low. not (((0 * 256 + slice_index packet 6) * 256 + low) % 2 ^ 13 == 0)) (get_or-take n packet 7 0 (omega (arith, five)))
 
--- an accepted packet and the protocol that its header names
+-- an accepted IPv4 packet, with the protocol that its header names
 pub record IsIpv4Found (packet : List ℕ) (found : TransportInIp) (proto : Option Proto) : Type 0 where
   pub carries : Carries packet found
   pub missing : found.is_length_missing ≡ ip.lacks_len packet
@@ -422,7 +422,7 @@ ipv6_flow_message_is new packet bytes is_later_fragment proto removed added mess
     ∙ ap (λ proto. message_of later_is proto removed added (message_in_ipv6 packet)) known
     ∙ translated_alike later_is (ipv6_proto packet) removed added _ _ new.source_port new.destination_port (message_in_ipv6 packet) alike
 
--- the rules for a message and its quoted packet, by the place of the message
+-- the rules that are left for a message and its quoted packet after the place of the message is found
 pub record IsIpv6Left (has_port has_quoted_port : Bool) (packet : List ℕ) (quoted : Option (List ℕ)) : Type 0 where
   pub refusal : ipv6_refusal_by has_port has_quoted_port packet ≡ ipv6_quoted_refusal has_quoted_port quoted
   pub quoted_is : ipv6_quoted packet ≡ quoted
@@ -476,7 +476,7 @@ second_accepts : {E : Type 0} (first second : Bool) (error error_too : E) (rules
 second_accepts true second error error_too rules none = absurd (cc none)
 second_accepts false second error error_too rules none = none_if second error_too (none_first (refused_if second error_too) rules none).0
 
--- a rule whose test fails leaves the rules after it
+-- if a test does not refuse, the rule after it counts
 else_none : {E : Type 0} (test : Bool) (error : E) (rule : Option E) → (if test then Some error else rule) ≡ None → rule ≡ None
 else_none true error rule none = absurd (cc none)
 else_none false error rule none = none
@@ -530,7 +530,7 @@ not_version_6 true packet test accepted other =
     (sym (ap by_version is) ∙ header) in
     absurd (other (record { whole = grind (arith, nat_tests, whole); is_version_6 = is }))
 
--- a packet that is read, and that does not begin with an IPv6 header, has another version
+-- an accepted packet that does not begin with an IPv6 header is refused for its version
 pub other_version : (has_port : Bool) (packet : List ℕ) → ip.lax_refusal packet ≡ None → ¬ BeginsWithIpv6Header packet → ipv6_place_refusal has_port packet ≡ Some OtherVersion
 other_version has_port packet accepted other =
     let last : Option TranslateError =
@@ -538,7 +538,7 @@ other_version has_port packet accepted other =
     ap (λ refusal. first_of (option_map Ip refusal ∷ refused_if (not (version packet == 6)) OtherVersion ∷ last ∷ [])) accepted
     ∙ ap (λ is. first_of (None ∷ refused_if (not is) OtherVersion ∷ last ∷ [])) (not_version_6 (version packet == 6) packet refl accepted other)
 
--- the addresses are IPv6 addresses
+-- the addresses of an IPv6 packet are IPv6 addresses
 pub over_ipv6_addresses : (packet : List ℕ) (found : TransportInIp) (after : IsAfterHeaders packet found) → version packet ≡ 6
     → by_value found.addresses ≡ Ipv6 (source_by (slice_range (ip.ipv6_header packet) 8 24) after.extensions)
     (destination_by (Some (slice_range (ip.ipv6_header packet) 24 40)) after.extensions)
@@ -548,7 +548,7 @@ over_ipv6_addresses packet found after is =
     else Ipv6 (source_by (slice_range (ip.ipv6_header packet) 8 24) after.extensions)
     (destination_by (Some (slice_range (ip.ipv6_header packet) 24 40)) after.extensions)) is
 
--- a protocol that is refused
+-- a packet whose protocol is unknown is refused, if its ports or its checksum had to be translated
 pub ipv6_no_proto : (has_port : Bool) (packet : List ℕ) (found : TransportInIp) (number : IpNumber) (proto : Option Proto) → ip.lax_refusal packet ≡ None
     → version packet ≡ 6 → IsAfterHeaders packet found → number.0 ≡ ipv6_protocol packet → proto ≡ proto_over (by_value found.addresses) number.0
     → (is_none proto && (has_port || covers_ipv6_addresses number.0)) ≡ true → ipv6_place_refusal has_port packet ≡ Some (Protocol number)

@@ -100,7 +100,7 @@ kept_by true len n packet changed message test is same within there =
     ap (take (n - len)) (is ∙ ap (λ rest. message ++ rest) (drop_all (len + length message) packet all) ∙ append-nil message)
     ∙ take_all (n - len) message (omega (arith, same, within, cut, length-drop len (take n packet), ap length (take_all n packet (omega (arith, cut)))))
 
--- the message of the changed packet
+-- the message of the changed packet is the new message
 pub message_kept : (len n : ℕ) (packet changed message : List ℕ)
     → drop len changed ≡ message ++ drop (len + length message) packet → length message ≡ length (drop len (take n packet))
     → len ≤ n → len ≤ length packet → drop len (take n changed) ≡ message
@@ -111,7 +111,7 @@ message_kept len n packet changed message is same within there =
 
 -- ---- IPv4
 
--- a packet with the length and the first ten bytes of another packet: all that its reading depends on but the addresses
+-- the changed packet has the length and the first bytes of the packet, on which its reading depends, except for the addresses
 pub record IsKept (count : ℕ) (packet changed : List ℕ) : Type 0 where
   pub len : length changed ≡ length packet
   pub front : (k : ℕ) → k < count → slice_index changed k ≡ slice_index packet k
@@ -125,12 +125,12 @@ pub record IsIpv4Flow (is_quoted : Bool) (packet : List ℕ) (proto : Option Pro
   pub number : (slice_index packet 9 == 51) ≡ false
   pub there : ipv4_header_len packet ≤ length packet
 
--- a packet with the length, the first ten bytes and the options of another packet
+-- the changed packet has the length, the first ten bytes and the options of the packet
 pub record IsIpv4Kept (packet changed : List ℕ) : Type 0 where
   pub front : IsKept 10 packet changed
   pub options : slice_range changed 20 (ipv4_header_len packet) ≡ slice_range packet 20 (ipv4_header_len packet)
 
--- a byte of the header
+-- a byte of the header is the byte of the packet at its place
 header_byte : (packet : List ℕ) → 20 ≤ ipv4_header_len packet → (k : ℕ) → k < 20 → slice_index (ip.ipv4_header packet) k ≡ slice_index packet k
 header_byte packet len k within = get_or-take (ipv4_header_len packet) packet k 0 (omega (arith, len, within))
 
@@ -160,7 +160,7 @@ options_kept packet changed kept five =
     ap (λ len. drop 20 (take len changed)) (header_len_kept packet changed kept)
     ∙ options_are (ipv4_header_len packet) changed five ∙ kept.options ∙ sym (options_are (ipv4_header_len packet) packet five)
 
--- the errors of a header by its lengths
+-- the errors of an IPv4 header, given its lengths
 ipv4_refusal_by : ℕ → ℕ → ℕ → Option IpError
 ipv4_refusal_by len header_len total_len = first_of (
     first_of (
@@ -264,7 +264,7 @@ pub ipv4_counted_len_is : (missing : Bool) (packet : List ℕ) → version packe
 ipv4_counted_len_is missing packet is =
     ap (λ v. if missing then length packet else if v == 4 then ip.total_len packet else 40 + unwrap_or (ip.jumbo_len packet) (ip.payload_len packet)) is
 
--- an option that is not there
+-- an option without a value is `None`
 none_there : {T : Type 0} (option : Option T) → is_some option ≡ false → option ≡ None
 none_there None none = refl
 none_there (Some value) none = absurd (cc none)
@@ -335,7 +335,7 @@ ipv4_reading packet changed source destination message proto kept flow source_is
 
 -- ---- a translated IPv4 packet
 
--- the parts of an IPv4 packet with these bytes at their places
+-- the parts of an IPv4 packet after its checksum, addresses and message are replaced
 module _ (start : ℕ) (checksum source destination message packet : List ℕ) (after : 20 ≤ start) (two : length checksum ≡ 2)
     (four : length source ≡ 4) (four_too : length destination ≡ 4) (there : start + length message ≤ length packet) where
   abbrev with_message : List ℕ
@@ -462,7 +462,7 @@ ipv4_flow_of has_port packet place found at =
       there = omega (arith, at.start, at.ordered, at.there);
     }
 
--- a header that is accepted is there
+-- the bytes of an accepted packet contain its header
 header_by : (is_empty : Bool) (len header_len total_len : ℕ)
     → (if is_empty then Some (HeaderCutOff 1 0) else ipv4_refusal_by len header_len total_len) ≡ None → (20 ≤ header_len) × (header_len ≤ len)
 unfolding ipv4_refusal_by
@@ -483,7 +483,7 @@ ipv4_header_there false packet accepted is =
     header_by (length packet == 0) (length packet) (ipv4_header_len packet) (ip.total_len packet)
     (sym (ipv4_header_refusal_is packet is) ∙ (none_first (header_refusal packet) _ accepted).0)
 
--- the counted bytes contain the header
+-- the counted bytes of an accepted packet contain its header
 within_by : (is_missing : Bool) (len header_len total_len : ℕ) → is_missing ≡ (total_len == 0) → header_len ≤ len
     → (if len == 0 then Some (HeaderCutOff 1 0) else ipv4_refusal_by len header_len total_len) ≡ None
     → header_len ≤ (if is_none (if is_missing then None else Some total_len) then len else total_len)
@@ -523,7 +523,7 @@ ipv4_read has_port new packet changed message place found at four same is =
     (ipv4_parts_message start checksum source destination message packet flow.five_words refl four.source four.destination there)
     same (ipv4_within false packet place.proto flow))
 
--- three facts about a success
+-- a fact about a success that follows from three others
 pub if_ok : {T E : Type 0} {P Q R S : Type 0} (result : Result T E) → IfOk result (λ value. P) → IfOk result (λ value. Q) → IfOk result (λ value. R)
     → (P → Q → R → S) → IfOk result (λ value. S)
 if_ok (Ok value) p q r all = all p q r
@@ -709,7 +709,7 @@ states_alike packet changed kept accepted is =
 
 -- ---- the skipped headers
 
--- a result without an error
+-- a result without an error is a value
 ok_of : {T E : Type 0} (result : Result T E) → error_of result ≡ None → (value : T) × (result ≡ Ok value)
 ok_of (Ok value) none = (value, refl)
 ok_of (Err error) none = absurd (cc none)

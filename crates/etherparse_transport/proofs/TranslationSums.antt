@@ -1,4 +1,4 @@
--- Laws of the sums of translated messages: what the replaced words change, and that a receiver's check gives the same result.
+-- Laws of the sums of translated messages: the change by the replaced words, and a receiver's check, whose result is the same.
 use Rattle.std.proofs.Common.{◌≡◌, ◌≢◌, ◌⊎◌, ℕ, ◌+◌, ◌-◌, ◌/◌, ◌%◌, ◌<◌, ◌≤◌, ◌*◌, ◌==◌, ◌&&◌, ◌||◌, nat_le, nat_lt, zero, suc, Bool, true, false, if◌then◌else◌, List, [], ◌∷◌, ◌++◌, take, drop, slice_index, slice_range, length, Option, Some, None, Result, Ok, Err, inl, inr, refl, sym, ap, ◌∙◌, subst, arith}
 use Rattle.std.specs.Prelude.{IfOk, ◌↔◌}
 use Rattle.std.specs.Int.{to_be_bytes, w16, w32}
@@ -34,7 +34,7 @@ use Rattle.etherparse_transport.proofs.TranslationReading.{drop_after, ipv4_flow
 
 -- ---- one word
 
--- the bytes from a place on, by their first two
+-- the bytes from a place on begin with two bytes
 pub two_bytes : (place : ℕ) (bytes : List ℕ) → place + 2 ≤ length bytes
     → drop place bytes ≡ slice_index bytes place ∷ slice_index bytes (place + 1) ∷ drop (place + 2) bytes
 two_bytes place bytes there =
@@ -134,7 +134,7 @@ both_accepted was is remainder some some_too =
       λ ones. now.1 (remainder ∙ (then_was.0 ones).0, some_too),
     )
 
--- a sum is added to both sides of a change
+-- a change stays a change if a sum is added to both sides
 pub turns_shifted : (before added after removed x : ℕ) → folded (before + added) ≡ folded (after + removed)
     → folded ((before + x) + added) ≡ folded ((after + x) + removed)
 turns_shifted before added after removed x turns =
@@ -147,7 +147,7 @@ first_counts [] some none = some refl
 first_counts (first ∷ []) some none = some (omega (arith, none))
 first_counts (first ∷ (second ∷ rest)) some none = some (omega (arith, none))
 
--- a sum of two parts is not 0 if the second is not 0 as soon as the first is
+-- a sum of two numbers is not 0 if the second is not 0 whenever the first is 0
 pub sum_some : (first second : ℕ) → (first ≡ 0 → second ≢ 0) → first + second ≢ 0
 sum_some first second some none = some (omega (arith, none)) (omega (arith, none))
 
@@ -158,7 +158,7 @@ unfolding folded
 folded_some zero some none = some refl
 folded_some (suc n) some none = absurd (omega (arith, none))
 
--- the sum of an ICMP message except its checksum, by the parts before and after it
+-- the sum of an ICMP message without its checksum is the sum of the parts before and after the checksum
 pub rest_parts : (message : List ℕ) → 4 ≤ length message → rest_of_message message ≡ total (take 2 message) + total (drop 4 message)
 rest_parts message there =
     let test : nat_le 4 (length message) ≡ true = grind (arith, nat_tests) in
@@ -187,7 +187,7 @@ zero_test start one two result first second (suc rest) begins is_one is_two is p
 
 -- ---- pseudo headers
 
--- the sum of two addresses of an even length and the rest of a pseudo header, which is not 0
+-- the sum of a pseudo header is the sum of its addresses and of the rest, which is not 0
 pub record IsPseudoHeader (header source destination : List ℕ) (rest : ℕ) : Type 0 where
   pub sum : total header ≡ total source + (total destination + rest)
   pub some : rest ≢ 0
@@ -223,7 +223,7 @@ ipv6_pseudo_header_is source destination protocol len sixteen sixteen_too some =
       some = λ none. omega (arith, some, none);
     }
 
--- the sums of both pseudo headers
+-- the sums of both pseudo headers are not 0, and differ by the addresses
 both_sums : (header header_too source destination source_too destination_too : List ℕ) (rest : ℕ)
     → IsPseudoHeader header source destination rest → IsPseudoHeader header_too source_too destination_too rest
     → TurnsIntoBy (sum_of_pieces 0 (source ∷ destination ∷ [])) (sum_of_pieces 0 (source_too ∷ destination_too ∷ [])) (total header) (total header_too)
@@ -268,7 +268,7 @@ ipv6_have_sums protos.Icmpv6 old new len four four_too =
 
 -- ---- a receiver's check of a part of a message
 
--- the sum of bytes that come after others, whose number may be odd
+-- the sum of bytes that follow other bytes; after an odd number of bytes, the first byte is the low byte of a word
 sum_after : List ℕ → List ℕ → ℕ
 sum_after [] bytes = total bytes
 sum_after (odd ∷ []) bytes = total (0 ∷ bytes)
@@ -292,7 +292,7 @@ sum_after_alike (a ∷ (b ∷ rest)) [] bytes len = absurd (omega (arith, len))
 sum_after_alike (a ∷ (b ∷ rest)) (c ∷ []) bytes len = absurd (omega (arith, len))
 sum_after_alike (a ∷ (b ∷ rest)) (c ∷ (d ∷ rest_too)) bytes len = sum_after_alike rest rest_too bytes (omega (arith, len))
 
--- the same sum is added to both
+-- two sums still fit a change after the same sum is added to both
 have_sums_and : (proto : Proto) (removed added before after sum : ℕ) → HaveSums proto removed added before after
     → HaveSums proto removed added (before + sum) (after + sum)
 have_sums_and protos.Udp removed added before after sum have =
@@ -303,12 +303,12 @@ have_sums_and protos.Icmpv4 removed added before after sum have = ap (λ n. n + 
 have_sums_and protos.Icmpv6 removed added before after sum have =
     (turns_shifted before added after removed sum have.0, λ none. have.1 (omega (arith, none)), λ none. have.2 (omega (arith, none)))
 
--- 65535 times a number changes nothing
+-- adding 65535 several times does not change whether a sum is all ones
 ones_and_more : (n more : ℕ) → n ≢ 0 → IsAllOnes (n + more * 65535) ↔ IsAllOnes n
 ones_and_more n more some =
     both_accepted n (n + more * 65535) (omega arith) some (λ none. some (omega (arith, none)))
 
--- all bytes of the message are summed, and others after them
+-- the law, if the receiver sums all bytes of the message and others after them
 alike_with_missing : (before after : ℕ) (message translated missing : List ℕ) → length translated ≡ length message
     → ((sum : ℕ) → IsAcceptedAlike (before + sum) (after + sum) message translated)
     → IsAllOnes (after + total (translated ++ missing)) ↔ IsAllOnes (before + total (message ++ missing))
@@ -330,7 +330,7 @@ alike_within before after count message translated missing len within alike =
     (subst (λ bytes. IsAllOnes (after + total (translated ++ missing)) ↔ IsAllOnes (before + total (bytes ++ missing))) (sym was)
     (alike_with_missing before after message translated missing len alike))
 
--- a part of the message is summed, and the bytes after it are the same in both messages
+-- the law, if the receiver sums a part of the message, and the bytes after it do not change
 alike_in_front : (before after count : ℕ) (message translated missing : List ℕ) → length translated ≡ length message
     → drop count translated ≡ drop count message → before ≢ 0 → after ≢ 0
     → ((sum : ℕ) → IsAcceptedAlike (before + sum) (after + sum) message translated)
@@ -369,13 +369,13 @@ drop_number true place value n bytes test after = drop_after place (to_be_bytes 
 drop_with_number : (place value n : ℕ) (bytes : List ℕ) → place + 2 ≤ n → drop n (with_number place value bytes) ≡ drop n bytes
 drop_with_number place value n bytes after = drop_number (nat_le (place + 2) (length bytes)) place value n bytes refl after
 
--- the bytes after the header of a UDP packet stay
+-- the translation of a UDP packet does not change the bytes after its header
 after_udp : (n old new : ℕ) (source destination : Option ℕ) (packet : List ℕ) → 8 ≤ n
     → drop n (translated_udp old new source destination packet) ≡ drop n packet
 after_udp n old new source destination packet after =
     drop_with_number 6 _ n _ after ∙ drop_with_number 2 _ n _ (omega (arith, after)) ∙ drop_with_number 0 _ n packet (omega (arith, after))
 
--- what a receiver sums, by the protocol
+-- the law for a message of this protocol
 alike_by_proto : (proto : Proto) (removed added before after count : ℕ) (source destination : Option ℕ) (message translated missing : List ℕ)
     → HaveSums proto removed added before after → IsUpdated proto message → length translated ≡ length message
     → translated ≡ translated_message proto removed added source destination message
@@ -397,7 +397,7 @@ alike_by_proto protos.Icmpv6 removed added before after count source destination
 
 -- ---- a receiver's check of a translated IPv4 packet
 
--- the message of a known protocol, not in a later fragment
+-- the translated message of a known protocol that is not a later fragment
 translated_known : (is_later_fragment : Bool) (known : Option Proto) (proto : Proto) (removed added : ℕ) (source destination : Option ℕ) (message : List ℕ)
     → known ≡ Some proto → is_later_fragment ≡ false
     → translated_in is_later_fragment known removed added source destination message ≡ translated_message proto removed added source destination message
@@ -483,7 +483,7 @@ last : (a b : Bool) → (a && b) ≡ true → b ≡ true
 last true b is = is
 last false b is = absurd (cc is)
 
--- one of two numbers, by the test of the first
+-- one of two tests holds, so the number is the first number, or the rest holds
 either_by : (n first : ℕ) (is_first : Bool) (rest : Bool) → is_first ≡ (n == first) → (is_first || rest) ≡ true → (n ≡ first) ⊎ (rest ≡ true)
 either_by n first true rest test is = inl (is_number n first (sym test))
 either_by n first false rest test is = inr is
@@ -491,7 +491,7 @@ either_by n first false rest test is = inr is
 either : (n first : ℕ) (rest : Bool) → ((n == first) || rest) ≡ true → (n ≡ first) ⊎ (rest ≡ true)
 either n first rest is = either_by n first (n == first) rest refl is
 
--- a property of each of four numbers
+-- a property that each of four numbers has
 one_of_four : (P : ℕ → Type 0) (n a b c d : ℕ) → (n == a || (n == b || (n == c || n == d))) ≡ true → P a → P b → P c → P d → P n
 one_of_four P n a b c d is at_a at_b at_c at_d =
     ⊎_elim (λ same. subst P (sym same) at_a)
@@ -499,7 +499,7 @@ one_of_four P n a b c d is at_a at_b at_c at_d =
     (λ is. ⊎_elim (λ same. subst P (sym same) at_c) (λ is. subst P (sym (is_number n d is)) at_d)
     (either n c (n == d) is)) (either n b (n == c || n == d) is)) (either n a (n == b || (n == c || n == d)) is)
 
--- a request or a reply
+-- a test for a request or a reply
 request_or_reply : (is_a_request is_a_reply : Bool) → (is_a_request || is_a_reply) ≡ true → (is_a_request ≡ true) ⊎ (is_a_reply ≡ true)
 request_or_reply true is_a_reply is = inl refl
 request_or_reply false is_a_reply is = inr is
@@ -554,7 +554,7 @@ ipv6_accepted new packet quoted translated quotes = λ proto known later updated
     ∙ no_quote proto message updated in
     absurd (cc (none, quotes))
 
--- the number of an IPv4 packet is not the number of ICMPv6
+-- the protocol over IPv4 is never ICMPv6
 no_icmpv6 : (is_udp is_tcp is_icmp : Bool) → (if is_udp then Some protos.Udp else if is_tcp then Some protos.Tcp else if is_icmp then Some protos.Icmpv4 else None)
     ≢ Some protos.Icmpv6
 no_icmpv6 true is_tcp is_icmp is = cc is
@@ -609,7 +609,7 @@ ipv6_error_accepted new packet quoted translated there quotes four len accepted 
       received = λ n count missing least. alike_within (before n) (after n) count message translated missing len least (alike n);
     }
 
--- facts of a success that follow from others
+-- a fact about a success that follows from another
 pub if_ok_then : {T E : Type 0} {P Q : Type 0} (result : Result T E) → IfOk result (λ value. P) → (P → Q) → IfOk result (λ value. Q)
 if_ok_then (Ok value) p then_q = then_q p
 if_ok_then (Err error) p then_q = tt
@@ -619,25 +619,25 @@ pub if_ok_both : {T E : Type 0} {P Q R : Type 0} (result : Result T E) → IfOk 
 if_ok_both (Ok value) p q then_r = then_r p q
 if_ok_both (Err error) p q then_r = tt
 
--- four facts of a success
+-- a fact about a success that follows from four others
 pub if_ok_four : {T E : Type 0} {P Q R S U : Type 0} (result : Result T E) → IfOk result (λ value. P) → IfOk result (λ value. Q)
     → IfOk result (λ value. R) → IfOk result (λ value. S) → (P → Q → R → S → U) → IfOk result (λ value. U)
 if_ok_four (Ok value) p q r s then_u = then_u p q r s
 if_ok_four (Err error) p q r s then_u = tt
 
--- without an error there was no reason for one
+-- a success had no reason for an error
 pub if_ok_accepted : {T E : Type 0} (result : Result T E) (refusal : Option E) → RefusesExactly result refusal → IfOk result (λ value. refusal ≡ None)
 if_ok_accepted (Ok value) refusal refused = refused
 if_ok_accepted (Err error) refusal refused = tt
 
--- a fact of a success
+-- a fact holds for each value of a success
 pub if_ok_too : {T E : Type 0} {P : Type 0} (result : Result T E) → P → IfOk result (λ value. P)
 if_ok_too (Ok value) p = p
 if_ok_too (Err error) p = tt
 
 -- ---- the header of an IPv4 packet
 
--- replaced bytes at an even place
+-- the sum changes by the bytes that are replaced at an even place
 pub bytes_total : (place : ℕ) (new bytes : List ℕ) → place % 2 ≡ 0 → place + length new ≤ length bytes
     → total (with_bytes place new bytes) + total (take (length new) (drop place bytes)) ≡ total bytes + total new
 bytes_total place new bytes even there =
@@ -651,13 +651,13 @@ bytes_total place new bytes even there =
     let same : length old % 2 ≡ length new % 2 = ap (λ n. n % 2) (range_len place (length new) bytes there) in
     omega (arith, ap total parts, total_replaced front old new back front_even same)
 
--- the sum of a header is the sum of the packet without the bytes after the header
+-- the sum of a packet is the sum of its header and of the bytes after the header
 pub front_total : (n : ℕ) (bytes : List ℕ) → n % 2 ≡ 0 → n ≤ length bytes → total (take n bytes) + total (drop n bytes) ≡ total bytes
 front_total n bytes even there =
     sym (ap total (sym (take-append-drop n bytes))
     ∙ total-append (take n bytes) (drop n bytes) (ap (λ n. n % 2) (length-take-le n bytes there) ∙ even))
 
--- the total of a packet with this checksum and these addresses
+-- the sum of a packet whose checksum and addresses are replaced
 pub packet_total : (checksum : ℕ) (source destination packet : List ℕ) → checksum < 65536 → length source ≡ 4 → length destination ≡ 4 → 20 ≤ length packet
     → total (with_bytes 16 destination (with_bytes 12 source (with_checksum 10 packet checksum)))
     + (number 10 packet + (total (slice_range packet 12 16) + total (slice_range packet 16 20)))
@@ -684,7 +684,7 @@ packet_total checksum source destination packet small four four_too there =
       ap total old_destination,
     )
 
--- the bytes after the header of such a packet
+-- replacing the checksum and the addresses does not change the bytes after the header
 after_header : (len checksum : ℕ) (source destination packet : List ℕ) → length source ≡ 4 → length destination ≡ 4 → 20 ≤ len → 20 ≤ length packet
     → drop len (with_bytes 16 destination (with_bytes 12 source (with_checksum 10 packet checksum))) ≡ drop len packet
 after_header len checksum source destination packet four four_too five there =
@@ -706,7 +706,7 @@ packet_len checksum source destination packet four four_too there =
     let second_len : length (with_bytes 12 source first) ≡ length packet = length_kept 12 source first second_there ∙ first_len in
     length_kept 16 destination (with_bytes 12 source first) (omega (arith, four_too, there, second_len)) ∙ second_len
 
--- the total of its header of this length
+-- the sum of the header of a packet whose checksum and addresses are replaced
 header_total : (len checksum : ℕ) (source destination packet : List ℕ) → checksum < 65536 → length source ≡ 4 → length destination ≡ 4
     → len % 2 ≡ 0 → 20 ≤ len → len ≤ length packet
     → total (take len (with_bytes 16 destination (with_bytes 12 source (with_checksum 10 packet checksum))))
@@ -726,7 +726,7 @@ header_total len checksum source destination packet small four four_too even fiv
 long_enough : (packet : List ℕ) → 12 ≤ length packet → nat_le 12 (length packet) ≡ true
 long_enough packet there = grind (arith, nat_tests)
 
--- a number in the header
+-- the checksum in the header is the number at its place in the packet
 header_number : (len : ℕ) (packet : List ℕ) → 20 ≤ len → len ≤ length packet → number 10 (take len packet) ≡ number 10 packet
 header_number len packet five there =
     ap (λ b. if b then be_number (take len packet) 10 2 else 0)
@@ -781,11 +781,11 @@ header_accepted len packet source destination checksum even five there some four
 pub even_len : (byte : ℕ) → (byte % 16 * 4) % 2 ≡ 0
 even_len byte = omega arith
 
--- the first byte of a header contains its length
+-- the first byte of an IPv4 header is not 0, since it contains the header length
 pub first_byte_some : (byte : ℕ) → 20 ≤ byte % 16 * 4 → byte ≢ 0
 first_byte_some byte five none = absurd (omega (arith, five, none))
 
--- the first byte of a packet, which contains the version
+-- the first byte of a packet is not 0, since it contains the version
 pub not_zero_by : (byte version : ℕ) → byte / 16 ≡ suc version → byte ≢ 0
 not_zero_by byte version is none = absurd (omega (arith, is, none))
 
@@ -832,7 +832,7 @@ flow_turns packet between changed message translated source destination source_t
       is_too,
     )
 
--- the total of a packet with another message
+-- the sum of a packet whose message is replaced
 pub message_total : (place end : ℕ) (packet message : List ℕ) → place % 2 ≡ 0 → length message ≡ end - place → place ≤ end → end ≤ length packet
     → total (put_mid place (end - place) packet message) + total (slice_range packet place end) ≡ total packet + total message
 message_total place end packet message even len within there =
@@ -871,7 +871,7 @@ ipv6_header_put start n packet message after there =
 
 -- ---- the checksum of an ICMP error
 
--- two pairs of sums, whose difference is the same and whose added words are not 0, update a checksum alike
+-- two changes update a checksum alike if they have the same difference modulo 65535, and the added words are not 0
 pub updated_alike : (checksum removed added removed_too added_too : ℕ) → removed < 65536 → removed_too < 65536 → added ≢ 0 → added_too ≢ 0
     → (added + removed_too) % 65535 ≡ (added_too + removed) % 65535
     → updated_checksum_of checksum removed added ≡ updated_checksum_of checksum removed_too added_too
@@ -886,7 +886,7 @@ updated_alike checksum removed added removed_too added_too small small_too some 
       ),
     ))
 
--- The checksum of an error, by the sums of the words that are replaced in the quoted packet, is the checksum by the sums of all its bytes.
+-- the checksum of an error that is updated by the replaced words of the quoted packet is the checksum that is updated by all its bytes
 pub quote_alike : (checksum old new quoted translated removed added : ℕ) → removed < 65536 → added ≢ 0 → translated ≢ 0
     → (new + translated + removed) % 65535 ≡ (old + quoted + added) % 65535
     → updated_checksum_of checksum removed added ≡ updated_checksum_of checksum (folded (old + quoted)) (folded (new + translated))
@@ -895,7 +895,7 @@ quote_alike checksum old new quoted translated removed added small some some_too
     (folded_some (new + translated) (λ none. some_too (omega (arith, none))))
     (omega (arith, same, folded-remainder (old + quoted), folded-remainder (new + translated)))
 
--- two totals above 0 are turned into each other by the sums of the words that differ
+-- the words that differ turn the sum of one packet into the sum of another, if neither sum is 0
 pub turned_by : (packet changed removed added : ℕ) → packet ≢ 0 → changed ≢ 0 → (packet + added) % 65535 ≡ (changed + removed) % 65535
     → folded (packet + added) ≡ folded (changed + removed)
 turned_by packet changed removed added some some_too same =
@@ -912,7 +912,7 @@ first_put start n bytes new some there =
     let changed : List ℕ = put_mid start n bytes new in
     sym (get_or-take start changed 0 0 some) ∙ ap (λ bytes. slice_index bytes 0) (take_put start n bytes new there) ∙ get_or-take start bytes 0 0 some
 
--- an error with an updated checksum, first with the translated packet instead of the quoted packet
+-- an error with an updated checksum, after its quoted packet is replaced
 pub error_alike : (before after : ℕ) (message between translated : List ℕ) (quoted changed : ℕ) → total between + quoted ≡ total message + changed
     → (after + changed + total translated) % 65535 ≡ (before + quoted + total between) % 65535
     → before + total message ≢ 0 → after + total translated ≢ 0 → IsAcceptedAlike before after message translated

@@ -1,4 +1,4 @@
--- Changes that update each checksum alike, because they differ only by words that are replaced by themselves.
+-- Changes that update each checksum alike. They differ only by words that are replaced by themselves.
 use Rattle.std.proofs.Common.{◌≡◌, ◌≢◌, ℕ, zero, suc, ◌+◌, ◌%◌, ◌==◌, ◌<◌, Bool, length, replicate, if◌then◌else◌, List, [], ◌∷◌, Option, None, Some, inl, inr, refl, sym, ap, ◌∙◌, subst, arith}
 use Rattle.std.specs.Int.{from_be_bytes, to_be_bytes, w16, w128}
 use Rattle.ip_part.specs.declared.proto.Proto.{Proto}
@@ -9,14 +9,14 @@ use Rattle.word_sum.proofs.ChecksumChangeLemmas.{folded-remainder, remainder_ali
 use Rattle.word_sum.proofs.ChecksumLemmas.{folded-lt, folded-some, folded_equal_iff}
 use Rattle.etherparse_transport.specs.Translations.{AreUpdatedAlike, HaveSums, IsSameChange, added_ports, is_query, new_identifier, number, port_or, removed_ports, translated_in, translated_message, translated_query, updated_query_checksum, with_identifier, with_number, with_ports, with_updated_checksum}
 
--- only nothing sums up to 0
+-- a sum is 0 only if all its words are 0
 pub nothing : (n : ℕ) → folded n ≡ 0 → n ≡ 0
 nothing zero none = refl
 nothing (suc n) none = absurd (omega (arith, none, folded-some (suc n) (omega arith)))
 
 -- ---- one checksum
 
--- the updated checksum
+-- two equal changes update a checksum alike
 pub updated : (checksum removed added removed_too added_too : ℕ) → IsSameChange removed added removed_too added_too
     → updated_checksum_of checksum removed added ≡ updated_checksum_of checksum removed_too added_too
 updated checksum removed added removed_too added_too same =
@@ -27,7 +27,7 @@ updated checksum removed added removed_too added_too same =
       (λ none. absurd (same.some (omega (arith, none))), λ none. absurd (same.some_too (omega (arith, none)))),
     ))
 
--- both changes with these words too
+-- two changes stay equal if both also replace these words
 pub with_words : (removed added removed_too added_too old new : ℕ) → IsSameChange removed added removed_too added_too
     → IsSameChange (folded (removed + old)) (folded (added + new)) (folded (removed_too + old)) (folded (added_too + new))
 with_words removed added removed_too added_too old new same = record {
@@ -47,7 +47,7 @@ with_words removed added removed_too added_too old new same = record {
 
 -- ---- a message
 
--- the changes of addresses and ports
+-- two changes stay equal if both also replace the ports
 ports_alike : (removed added removed_too added_too : ℕ) (source destination : Option ℕ) (message : List ℕ) → IsSameChange removed added removed_too added_too
     → IsSameChange (removed_ports removed message) (added_ports added source destination message)
     (removed_ports removed_too message) (added_ports added_too source destination message)
@@ -78,7 +78,7 @@ message_alike protos.Icmpv6 removed added removed_too added_too source destinati
     ap (λ query. if is_query protos.Icmpv6 message then query else with_updated_checksum removed added message) query
     ∙ ap (λ other. if is_query protos.Icmpv6 message then translated_query removed_too added_too identifier message else other) other
 
--- the translated message
+-- two equal changes translate a message alike
 pub translated_alike : (is_later_fragment : Bool) (proto : Option Proto) (removed added removed_too added_too : ℕ) (source destination : Option ℕ)
     (message : List ℕ) → AreUpdatedAlike removed added removed_too added_too
     → translated_in is_later_fragment proto removed added source destination message
@@ -111,7 +111,7 @@ same_sums protos.Icmpv4 removed added removed_too added_too before after same ha
 same_sums protos.Icmpv6 removed added removed_too added_too before after same have =
     (turn_alike removed added removed_too added_too before after same have.1 have.2 have.0, have.1, have.2)
 
--- the sums of the pseudo headers
+-- sums that fit one of two equal changes fit the other change
 pub sums_alike : (proto : Proto) (removed added removed_too added_too before after : ℕ) → AreUpdatedAlike removed added removed_too added_too
     → HaveSums proto removed_too added_too before after → HaveSums proto removed added before after
 sums_alike proto removed added removed_too added_too before after (inl equal) have =
@@ -120,7 +120,7 @@ sums_alike proto removed added removed_too added_too before after (inl equal) ha
 sums_alike proto removed added removed_too added_too before after (inr same) have =
     same_sums proto removed added removed_too added_too before after same have
 
--- the difference of the sums
+-- two equal changes have the same difference modulo 65535
 pub difference_alike : (removed added removed_too added_too : ℕ) → AreUpdatedAlike removed added removed_too added_too
     → (removed + added_too) % 65535 ≡ (removed_too + added) % 65535
 difference_alike removed added removed_too added_too (inl equal) = ap (λ n. n % 65535) (omega (arith, equal.0, equal.1))
@@ -128,7 +128,7 @@ difference_alike removed added removed_too added_too (inr same) = same.differenc
 
 -- ---- an address that stays
 
--- bytes that sum up to 0
+-- bytes with sum 0 are zeros
 zeros : (bytes : List ℕ) → total bytes ≡ 0 → bytes ≡ replicate (length bytes) 0
 zeros [] none = refl
 zeros (first ∷ []) none = ap (λ first. first ∷ []) (omega (arith, none))
@@ -137,16 +137,16 @@ zeros (first ∷ (second ∷ rest)) none =
     ∙ ap (λ second. 0 ∷ (second ∷ rest)) (omega (arith, none))
     ∙ ap (λ rest. 0 ∷ (0 ∷ rest)) (zeros rest (omega (arith, none)))
 
--- an address that is not unspecified
+-- the sum of an address that is not the unspecified address is not 0
 pub some_address : (address : List ℕ) → length address ≡ 16 → from_be_bytes w128 address ≢ 0 → total address ≢ 0
 some_address address len some none = some (ap (from_be_bytes w128) (zeros address none ∙ ap (λ n. replicate n 0) len))
 
--- the sum of two pieces
+-- the sum of two pieces modulo 65535
 pub two_pieces : (first second : List ℕ) → sum_of_pieces 0 (first ∷ second ∷ []) % 65535 ≡ (total first + total second) % 65535
 two_pieces first second =
     folded-remainder (folded (0 + total first) + total second) ∙ omega (arith, folded-remainder (0 + total first))
 
--- the change of one address with the change of both
+-- a change of one address is equal to a change of both, one of which is replaced by itself
 one_of_both : (removed added removed_too added_too : ℕ) (old new kept : List ℕ) → removed ≡ folded (0 + total old) → added ≡ folded (0 + total new)
     → removed_too % 65535 ≡ (total old + total kept) % 65535 → added_too % 65535 ≡ (total new + total kept) % 65535
     → total new ≢ 0 → added_too ≢ 0 → removed_too < 65536 → IsSameChange removed added removed_too added_too
@@ -164,7 +164,7 @@ one_of_both removed added removed_too added_too old new kept removed_is added_is
   small_too = omega (arith, small);
 }
 
--- the source is replaced, and the destination stays
+-- a change of the source is equal to a change of both addresses, if the destination stays
 pub source_replaced : (removed added : ℕ) (old new kept : List ℕ) → removed ≡ folded (0 + total old) → added ≡ folded (0 + total new)
     → total new ≢ 0 → IsSameChange removed added (sum_of_pieces 0 (old ∷ kept ∷ [])) (sum_of_pieces 0 (new ∷ kept ∷ []))
 source_replaced removed added old new kept removed_is added_is some =
@@ -173,7 +173,7 @@ source_replaced removed added old new kept removed_is added_is some =
     one_of_both removed added _ _ old new kept removed_is added_is (two_pieces old kept) (two_pieces new kept) some
     (λ none. some (first (nothing (folded (0 + total new) + total kept) none))) (folded-lt (folded (0 + total old) + total kept))
 
--- the destination is replaced, and the source stays
+-- a change of the destination is equal to a change of both addresses, if the source stays
 pub destination_replaced : (removed added : ℕ) (old new kept : List ℕ) → removed ≡ folded (0 + total old) → added ≡ folded (0 + total new)
     → total new ≢ 0 → IsSameChange removed added (sum_of_pieces 0 (kept ∷ old ∷ [])) (sum_of_pieces 0 (kept ∷ new ∷ []))
 destination_replaced removed added old new kept removed_is added_is some =

@@ -1,4 +1,4 @@
--- Worked examples of the four formats: each protocol follows its own definitions.
+-- Worked examples of UDP, TCP, ICMPv4 and ICMPv6: each protocol follows its own definitions.
 use Rattle.std.proofs.Common.{◌≡◌, ◌/◌, ◌%◌, slice_range, ℕ, List, [], ◌∷◌, ◌++◌, replicate, Some, None, refl}
 use Rattle.icmp_part.specs.Icmpv4Format as icmpv4
 use Rattle.icmp_part.specs.Icmpv6Format as icmpv6
@@ -42,7 +42,7 @@ icmpv6_of_two_bytes : refusal Icmpv6 (13 ∷ 0 ∷ [])
     ≡ Some (Len (record { required_len = 8; len = 2; len_source = Slice; layer = layers.Icmpv6; layer_start_offset = 0 }))
 icmpv6_of_two_bytes = refl
 
--- the same bytes are a different packet for each protocol: a timestamp, a datagram, and an unknown message of ICMPv6
+-- the same bytes are a timestamp of ICMPv4, a UDP packet, and an unknown message of ICMPv6
 twenty_one_bytes : refusal Icmpv4 (13 ∷ replicate 20 0)
     ≡ Some (Len (record { required_len = 20; len = 21; len_source = Slice; layer = layers.Icmpv4Timestamp; layer_start_offset = 0 }))
 twenty_one_bytes = refl
@@ -120,17 +120,17 @@ echo_request_over_ipv6_answered = refl
 
 -- ---- packets that are translated there and back
 
--- A UDP packet over IPv4, from port 5000 of 192.168.1.2 to port 53 of 198.51.100.7, with these two checksums: of the header and of UDP.
+-- A UDP packet over IPv4, from port 5000 of 192.168.1.2 to port 53 of 198.51.100.7, with this header checksum and this UDP checksum.
 abbrev udp_packet : ℕ → ℕ → List ℕ
 udp_packet header udp = 0x45 ∷ 0 ∷ 0 ∷ 28 ∷ 0 ∷ 0 ∷ 0 ∷ 0 ∷ 64 ∷ 17 ∷ header / 256 ∷ header % 256 ∷ 192 ∷ 168 ∷ 1 ∷ 2 ∷ 198 ∷ 51 ∷ 100 ∷ 7
     ∷ 0x13 ∷ 0x88 ∷ 0 ∷ 53 ∷ 0 ∷ 8 ∷ udp / 256 ∷ udp % 256 ∷ []
 
--- an echo reply between the same addresses, with this checksum
+-- an echo reply from 192.168.1.2 to 198.51.100.7, with this checksum
 abbrev echo_reply : ℕ → List ℕ
 echo_reply checksum = 0x45 ∷ 0 ∷ 0 ∷ 28 ∷ 0 ∷ 0 ∷ 0 ∷ 0 ∷ 64 ∷ 1 ∷ 0 ∷ 1 ∷ 192 ∷ 168 ∷ 1 ∷ 2 ∷ 198 ∷ 51 ∷ 100 ∷ 7
     ∷ 0 ∷ 0 ∷ checksum / 256 ∷ checksum % 256 ∷ 0 ∷ 7 ∷ 0 ∷ 1 ∷ []
 
--- to another source and port, and to another destination port or identifier
+-- a translation to another source and source port, and to another destination port or identifier
 abbrev other_source : Ipv4Translation
 other_source = record { source = Some (203 ∷ 0 ∷ 113 ∷ 7 ∷ []); destination = None; source_port = Some 40000; destination_port = Some 50000 }
 
@@ -141,12 +141,12 @@ restored : there_and_back (udp_packet 0x8EEC 0x003C) ≡ udp_packet 0x8EEC 0x003
 unfolding there_and_back folded
 restored = refl
 
--- all ones in the header come back as 0, and all ones of UDP come back
+-- a header checksum of all ones comes back as 0, and a UDP checksum of all ones comes back
 header_lost : there_and_back (udp_packet 0xFFFF 0xFFFF) ≡ udp_packet 0 0xFFFF
 unfolding there_and_back folded
 header_lost = refl
 
--- all ones of an echo reply come back as 0, and its 0 comes back
+-- a checksum of all ones in an echo reply comes back as 0, and 0 comes back
 reply_lost : there_and_back (echo_reply 0xFFFF) ≡ echo_reply 0
 unfolding there_and_back folded
 reply_lost = refl
@@ -155,12 +155,12 @@ reply_restored : there_and_back (echo_reply 0) ≡ echo_reply 0
 unfolding there_and_back folded
 reply_restored = refl
 
--- a time exceeded message from this host of 192.168.1.0, about a UDP packet to 192.168.1.2
+-- a time exceeded message from this host in 192.168.1.0/24, which quotes a UDP packet to 192.168.1.2
 abbrev time_exceeded : ℕ → List ℕ
 time_exceeded host = 0x45 ∷ 0 ∷ 0 ∷ 56 ∷ 0 ∷ 0 ∷ 0 ∷ 0 ∷ 64 ∷ 1 ∷ 0 ∷ 1 ∷ 192 ∷ 168 ∷ 1 ∷ host ∷ 198 ∷ 51 ∷ 100 ∷ 7 ∷ 11 ∷ 0 ∷ 0 ∷ 1 ∷ 0 ∷ 0 ∷ 0 ∷ 0
     ∷ 0x45 ∷ 0 ∷ 0 ∷ 28 ∷ 0 ∷ 0 ∷ 0 ∷ 0 ∷ 64 ∷ 17 ∷ 0 ∷ 1 ∷ 198 ∷ 51 ∷ 100 ∷ 7 ∷ 192 ∷ 168 ∷ 1 ∷ 2 ∷ 0 ∷ 53 ∷ 0x13 ∷ 0x88 ∷ 0 ∷ 8 ∷ 0 ∷ 0 ∷ []
 
--- the host itself comes back, and a router in front of it comes back as the host
+-- an error from the host 192.168.1.2 comes back, and an error from a router in front of the host comes back as an error from the host
 error_restored : there_and_back (time_exceeded 2) ≡ time_exceeded 2
 unfolding there_and_back folded
 error_restored = refl

@@ -1,4 +1,4 @@
--- Laws of a checksum that is written into a packet: the packet is read as before, and a right checksum has the verdict `Right`.
+-- Laws of a checksum that is written into a packet: the packet is read as before, and a right checksum is judged `Right`.
 use Rattle.std.proofs.Common.{◌≡◌, ℕ, ◌+◌, ◌*◌, ◌/◌, ◌<◌, ◌≤◌, ◌==◌, ◌&&◌, not, nat_lt, Bool, true, false, if◌then◌else◌, List, [], ◌∷◌, ◌++◌, length, take, drop, slice_index, Option, Some, None, Result, Ok, Err, refl, sym, ap, ◌∙◌, subst, arith}
 use Rattle.std.specs.Int.{to_be_bytes, w16}
 use Rattle.std.specs.Option.{option_map}
@@ -82,7 +82,7 @@ cut_kept bytes checksum long =
     (length-with_checksum udp_checksum_place bytes checksum (omega (arith, long)))
     ∙ counted_cut (length_counts bytes) bytes checksum long refl
 
--- the checksum in that part
+-- the checksum in the part of a UDP packet that its length field counts
 cut_stored : (counts : Bool) (bytes : List ℕ) → 8 ≤ length bytes → length_counts bytes ≡ counts
     → be_number (if counts then take (length_field bytes) bytes else bytes) udp_checksum_place 2 ≡ be_number bytes udp_checksum_place 2
 cut_stored true bytes long is =
@@ -91,7 +91,7 @@ cut_stored true bytes long is =
     omega (arith, get_or-take (length_field bytes) bytes 6 0 (omega (arith, field)), get_or-take (length_field bytes) bytes 7 0 (omega (arith, field)))
 cut_stored false bytes long is = refl
 
--- the errors of a UDP packet, by its length and its length field
+-- the errors of a UDP packet, given its length and its length field
 udp_error : ℕ → ℕ → Option LenError
 udp_error len field = first_of (
     first_of (refused_if (nat_lt len 8) (wrong_length layers.UdpHeader 8 len) ∷ [])
@@ -116,7 +116,7 @@ udp_stored payload checksum none =
       kept_is = ap (λ bytes. Some (Udp bytes)) (cut_kept payload checksum long);
     }
 
--- the errors of a TCP segment, by its length and its byte with the data offset
+-- the errors of a TCP segment, given its length and the byte with its data offset
 tcp_error : ℕ → ℕ → Option HeaderSliceError
 tcp_error len byte = first_of (
     refused_if (nat_lt len 20) (Len (wrong_length layers.TcpHeader 20 len))
@@ -139,7 +139,7 @@ tcp_stored payload checksum none =
       kept_is = refl;
     }
 
--- the errors of an ICMPv4 message, by its length, its type and its code
+-- the errors of an ICMPv4 message, given its length, type and code
 icmpv4_error : ℕ → ℕ → ℕ → Option LenError
 icmpv4_error len type code = first_of (
     refused_if (nat_lt len 8) (wrong_length layers.Icmpv4 8 len)
@@ -167,7 +167,7 @@ icmpv4_stored payload checksum none =
       kept_is = refl;
     }
 
--- the errors of an ICMPv6 message, by its length
+-- the errors of an ICMPv6 message, given its length
 icmpv6_error : ℕ → Option LenError
 icmpv6_error len = first_of (
     refused_if (nat_lt len 8) (wrong_length layers.Icmpv6 8 len)
@@ -204,7 +204,7 @@ stored protos.Icmpv6 payload transport checksum none is =
 
 -- ---- the packet
 
--- a transport with a typed slice is no fragment, and has one of the four protocols
+-- a transport with a typed slice is not a fragment, and its protocol is UDP, TCP, ICMPv4 or ICMPv6
 pub record IsTyped (found : TransportInIp) (transport : TransportSlice) : Type 0 where
   pub whole : found.is_fragment ≡ false
   pub proto : Proto
@@ -225,7 +225,7 @@ typed found transport is =
     let rest = parts.1 in
     record { whole = whole; proto = rest.0; number = rest.1.0; kept_is = rest.1.1 }
 
--- the bytes after the headers, with a checksum stored in them
+-- the bytes after the headers of a packet in which a checksum is stored
 drop_stored : (len place : ℕ) (bytes : List ℕ) (checksum : ℕ) → len + place + 2 ≤ length bytes
     → drop len (with_checksum (len + place) bytes checksum) ≡ with_checksum place (drop len bytes) checksum
 drop_stored len place bytes checksum there =
@@ -237,7 +237,7 @@ drop_stored len place bytes checksum there =
     ∙ ap (λ before. before ++ rest) (drop-take len place bytes)
     ∙ ap (λ after. take place (drop len bytes) ++ (to_be_bytes w16 checksum ++ after)) (ap (λ n. drop n bytes) end ∙ sym (drop-drop (place + 2) len bytes))
 
--- the headers in front of a stored checksum
+-- storing a checksum after the headers does not change the headers
 front_stored : (len place : ℕ) (bytes : List ℕ) (checksum : ℕ) → len ≤ place → place + 2 ≤ length bytes → HasFront len bytes (with_checksum place bytes checksum)
 front_stored len place bytes checksum before there =
     let front_len : length (take place bytes) ≡ place = length-take-le place bytes (omega (arith, there)) in
@@ -254,7 +254,7 @@ whole_packet packet accepted =
     let cut_off = none_first (refused_if (is_cut_off false packet) (PacketCutOff (counted_len false packet) (length packet))) _ strict.1 in
     none_if (is_cut_off false packet) (PacketCutOff (counted_len false packet) (length packet)) cut_off.0
 
--- the verdict after it, if the message with the checksum is right
+-- the packet with the checksum is judged `Right` if its message is judged `Right`
 judged_again : (again : TransportInIp) (transport : TransportSlice) (addresses : Addresses) → again.is_fragment ≡ false → again.is_cut_off ≡ false
     → kept again ≡ Some transport → by_value again.addresses ≡ addresses → Judges addresses transport Right → JudgesFound again Right
 judged_again again transport addresses whole cut_off is_kept same judged =
@@ -266,7 +266,7 @@ judged_again again transport addresses whole cut_off is_kept same judged =
     let S : Addresses → Type 0 = λ a. Judges a transport Right in
     subst P (sym whole) (subst Q (sym cut_off) (subst R (sym is_kept) (subst S (sym same) judged)))
 
--- where the checksum lies in the packet
+-- the place of the checksum in the packet
 pub record IsPlaced (packet : List ℕ) (found : TransportInIp) (transport : TransportSlice) (is_kept : kept found ≡ Some transport) (place checksum : ℕ) : Type 0 where
   pub end : place + 2 ≤ length packet
   pub stored : stored_checksum transport ≡ be_number packet place 2
@@ -396,7 +396,7 @@ judged_same found again verdict same judged =
     (MatchOption (kept found) (verdict ≡ Untested OtherProtocol) (λ t. Judges a t verdict))) in
     subst P (sym same.fragment) (subst Q (sym same.cut_off) (subst R (sym kept_same) (subst S (sym same.addresses) judged)))
 
--- the verdict on a typed slice, by the verdict on its packet
+-- the verdict on a typed slice is the verdict on its packet
 judged_slice : (found : TransportInIp) (transport : TransportSlice) (verdict : ChecksumVerdict) → found.is_fragment ≡ false → found.is_cut_off ≡ false
     → kept found ≡ Some transport → JudgesFound found verdict → Judges (by_value found.addresses) transport verdict
 judged_slice found transport verdict whole cut_off is_kept judged =
@@ -425,7 +425,7 @@ refused_for packet found (UntestedFor why) accepted carries stated refused = rec
       (refusal_same found again same ∙ refused.0, judged_same found again (Untested why) same refused.1);
 }
 
--- a checksum with its place
+-- a packet, the right checksum for it, and the place of the checksum
 module _ (packet : List ℕ) (found : TransportInIp) (place checksum : ℕ) (accepted : ip.refusal packet ≡ None) (carries : Carries packet found)
     (stated : found.is_length_missing ≡ false) (is : IsRightIn found place checksum) where
   at_place : IsPlaced packet found is.transport is.is_kept place checksum
@@ -437,7 +437,7 @@ module _ (packet : List ℕ) (found : TransportInIp) (place checksum : ℕ) (acc
   uncut : found.is_cut_off ≡ false
   uncut = carries.is_cut_off ∙ ap (λ missing. is_cut_off missing packet) stated ∙ whole_packet packet accepted
 
-  -- no reason to refuse the packet
+  -- no reason to refuse the packet holds
   pub not_refused : (error : WriteChecksumError) → IsRefusedFor packet error → ⊥
   not_refused (Ip error) refused = cc (accepted, refused)
   not_refused (Transport error) refused = cc (is.is_accepted, refused.found found carries stated)

@@ -55,22 +55,23 @@ is_host_ipv6 address = not (from_be_bytes w128 address == 0) && (not (is_loopbac
 
 -- ---- the lengths of headers
 
--- an IPv4 header without options consists of five words (RFC 791, section 3.1)
+-- the length of an IPv4 header without options, which consists of five words (RFC 791, section 3.1)
 abbrev pub ipv4_len_without_options : ℕ
 ipv4_len_without_options = 20
 
--- an IPv6 header (RFC 8200, section 3)
+-- the length of an IPv6 header (RFC 8200, section 3)
 abbrev pub ipv6_header_len : ℕ
 ipv6_header_len = 40
 
--- the header of an echo message and of its reply, up to the payload (RFC 792; RFC 4443, sections 4.1 and 4.2)
+-- the length of the header of an echo message or reply, up to the payload (RFC 792; RFC 4443, sections 4.1 and 4.2)
 abbrev pub echo_header_len : ℕ
 echo_header_len = 8
 
 -- ---- the request
 
--- What is wrong with the transport of a packet: it is a fragment, it has another protocol, or it doesn't begin directly after an IP header
--- of this length. Then options or extension headers come first, and a reply would have options of its own (RFC 1122, section 3.2.2.6).
+-- The error for the transport of a packet: it is a fragment, it has another protocol, or it does not begin directly after an IP header of
+-- this length. In the last case the packet has options or extension headers, and a reply would need options too (RFC 1122, section
+-- 3.2.2.6).
 abbrev pub transport_refusal : ℕ → ℕ → Bool → ℕ → ℕ → Option AnswerEchoError
 transport_refusal number header_len is_fragment protocol offset = first_of (
     refused_if is_fragment Fragment
@@ -78,11 +79,11 @@ transport_refusal number header_len is_fragment protocol offset = first_of (
     ∷ refused_if (not (offset == header_len)) Options
     ∷ [])
 
--- whether the one's complement sum of n is all ones, as a receiver checks it (RFC 1071, section 1)
+-- the one's complement sum of n is all ones, as a receiver requires it (RFC 1071, section 1)
 abbrev pub is_all_ones : ℕ → Bool
 is_all_ones n = folded n == all_ones
 
--- the message is too short, is no echo request, whose type is 8 and whose code is 0 (RFC 792), or has a wrong checksum
+-- The error for an ICMPv4 message: it is too short, is no echo request (type 8, code 0; RFC 792), or has a wrong checksum.
 abbrev pub icmpv4_refusal : List ℕ → Option AnswerEchoError
 icmpv4_refusal message = first_of (
     option_map Len (icmpv4.refusal message)
@@ -90,7 +91,7 @@ icmpv4_refusal message = first_of (
     ∷ refused_if (not (is_all_ones (total message))) Checksum
     ∷ [])
 
--- the ICMPv6 message is too short, is no echo request (type 128, code 0; RFC 4443, section 4.1), or has a wrong checksum
+-- The error for an ICMPv6 message: it is too short, is no echo request (type 128, code 0; RFC 4443, section 4.1), or has a wrong checksum.
 abbrev pub icmpv6_refusal : List ℕ → List ℕ → List ℕ → Option AnswerEchoError
 icmpv6_refusal source destination message = first_of (
     option_map Len (icmpv6.refusal message)
@@ -98,7 +99,7 @@ icmpv6_refusal source destination message = first_of (
     ∷ refused_if (not (is_all_ones (total (ipv6_pseudo_header source destination icmpv6_number (length message)) + total message))) Checksum
     ∷ [])
 
--- the message after headers of this length: the counted bytes after them
+-- the message after headers of this length: the bytes after them that the IP header counts
 abbrev pub message_after : ℕ → List ℕ → List ℕ
 message_after len packet = drop len (ip.counted false packet)
 
@@ -110,9 +111,9 @@ ipv4_message packet = message_after ipv4_len_without_options packet
 abbrev pub ipv6_message : List ℕ → List ℕ
 ipv6_message packet = message_after ipv6_header_len packet
 
--- The rules for an IPv4 packet with these headers. In this order they concern the version, the transport, the message, the checksum of the
--- header, and the source. A host discards a packet with a wrong header checksum (RFC 1122, section 3.2.1.2). The source is the destination
--- of the reply.
+-- The error for an IPv4 packet with these headers. The rules concern, in this order, the version, the transport, the message, the checksum
+-- of the header, and the source. A host discards a packet with a wrong header checksum (RFC 1122, section 3.2.1.2). The reply goes to the
+-- source.
 abbrev pub ipv4_rules : List ℕ → Headers → Option AnswerEchoError
 ipv4_rules packet headers = first_of (
     refused_if (not (version packet == 4)) NoEchoRequest
@@ -122,7 +123,7 @@ ipv4_rules packet headers = first_of (
     ∷ refused_if (not (is_host_ipv4 (slice_range packet 12 16))) RequestSource
     ∷ [])
 
--- the rules for an IPv6 packet, as in `ipv4_rules`, except that its header has no checksum
+-- the error for an IPv6 packet, by the rules of `ipv4_rules`, except that an IPv6 header has no checksum
 abbrev pub ipv6_rules : List ℕ → Headers → Option AnswerEchoError
 ipv6_rules packet headers = first_of (
     refused_if (not (version packet == 6)) NoEchoRequest
@@ -131,41 +132,41 @@ ipv6_rules packet headers = first_of (
     ∷ refused_if (not (is_host_ipv6 (slice_range packet 8 24))) RequestSource
     ∷ [])
 
--- the error by these rules for the headers of a packet, or the error of the headers themselves
+-- the error by these rules, or the error of the headers if they are refused
 abbrev pub refusal_by_headers : (Headers → Option AnswerEchoError) → Result Headers IpError → Option AnswerEchoError
 refusal_by_headers rules (Ok headers) = rules headers
 refusal_by_headers rules (Err error) = Some (Ip error)
 
--- The errors of an IPv4 packet that contains no request. The errors of `transport_in_ip` come first, and then the rules above.
+-- The error for an IPv4 packet that is no echo request: the error of `transport_in_ip`, or else the error by the rules above.
 abbrev pub ipv4_request_refusal : List ℕ → Option AnswerEchoError
 ipv4_request_refusal packet = first_of (
     option_map Ip (ip.refusal packet)
     ∷ refusal_by_headers (ipv4_rules packet) (ip.headers_of false packet)
     ∷ [])
 
--- the errors of an IPv6 packet that contains no request, in the order of `ipv4_request_refusal`
+-- the error for an IPv6 packet that is no echo request, in the order of `ipv4_request_refusal`
 abbrev pub ipv6_request_refusal : List ℕ → Option AnswerEchoError
 ipv6_request_refusal packet = first_of (
     option_map Ip (ip.refusal packet)
     ∷ refusal_by_headers (ipv6_rules packet) (ip.headers_of false packet)
     ∷ [])
 
--- The errors of the request come first. Then the source of the reply must be the address of one host. It is the passed source, or the
--- destination of the request if no source is passed.
+-- The error if an IPv4 packet is not answered: the error of the request, or else a source of the reply that is not the address of one host.
+-- This source is the passed source, or the destination of the request if no source is passed.
 abbrev pub ipv4_answer_refusal : Option (List ℕ) → List ℕ → Option AnswerEchoError
 ipv4_answer_refusal source packet = first_of (
     ipv4_request_refusal packet
     ∷ refused_if (not (is_host_ipv4 (unwrap_or source (slice_range packet 16 20)))) ReplySource
     ∷ [])
 
--- the errors of the reply to an IPv6 packet, in the order of `ipv4_answer_refusal`
+-- the error if an IPv6 packet is not answered, in the order of `ipv4_answer_refusal`
 abbrev pub ipv6_answer_refusal : Option (List ℕ) → List ℕ → Option AnswerEchoError
 ipv6_answer_refusal source packet = first_of (
     ipv6_request_refusal packet
     ∷ refused_if (not (is_host_ipv6 (unwrap_or source (slice_range packet 24 40)))) ReplySource
     ∷ [])
 
--- What these rules show about an accepted IPv4 packet: its header has five words, and the counted bytes after it are a whole request.
+-- An accepted IPv4 packet: its header has five words, and the counted bytes after the header are a whole echo request.
 pub record IsIpv4Request (packet : List ℕ) : Type 0 where
   pub five_words : slice_index packet 0 ≡ 0x45
   pub whole : ipv4_is_fragment (ip.ipv4_header packet) ≡ false
@@ -173,7 +174,7 @@ pub record IsIpv4Request (packet : List ℕ) : Type 0 where
   pub there : ip.counted_len false packet ≤ length packet
   pub message : icmpv4_refusal (ipv4_message packet) ≡ None
 
--- what the rules show about an accepted IPv6 packet: its payload length counts a whole request
+-- an accepted IPv6 packet: the bytes that its payload length counts are a whole echo request
 pub record IsIpv6Request (packet : List ℕ) : Type 0 where
   pub is_ipv6 : version packet ≡ 6
   pub end : ip.counted_len false packet ≡ ipv6_header_len + length (ipv6_message packet)
@@ -183,42 +184,43 @@ pub record IsIpv6Request (packet : List ℕ) : Type 0 where
 
 -- ---- the reply
 
--- the header of the reply to this message: identifier and sequence number of the request, and the checksum over header and payload
+-- the ICMPv4 header of a reply with this identifier, this sequence number and this payload, and with the checksum over them
 abbrev pub icmpv4_reply : IcmpEchoHeader → List ℕ → Icmpv4Header
 icmpv4_reply echo payload = record {
   icmp_type = v4.EchoReply echo;
   checksum = checksum_of (icmpv4.checksummed (record { icmp_type = v4.EchoReply echo; checksum = 0 }) payload);
 }
 
--- the ICMPv6 header of the reply, from this source to this destination, which the checksum covers too
+-- the ICMPv6 header of a reply with this identifier, this sequence number and this payload; the checksum also covers the addresses
 abbrev pub icmpv6_reply : List ℕ → List ℕ → IcmpEchoHeader → List ℕ → Icmpv6Header
 icmpv6_reply source destination echo payload = record {
   icmp_type = v6.EchoReply echo;
   checksum = checksum_of (icmpv6.checksummed source destination (record { icmp_type = v6.EchoReply echo; checksum = 0 }) payload);
 }
 
--- the header of the reply to the message of a packet
+-- the ICMPv4 header of the reply to this message
 abbrev pub icmpv4_reply_to : List ℕ → Icmpv4Header
 icmpv4_reply_to message = icmpv4_reply (echo_of message 4) (drop echo_header_len message)
 
--- the ICMPv6 header of the reply to the message of a packet; the reply goes from this source to this destination
+-- the ICMPv6 header of the reply to this message; the reply goes from this source to this destination
 abbrev pub icmpv6_reply_to : List ℕ → List ℕ → List ℕ → Icmpv6Header
 icmpv6_reply_to source destination message = icmpv6_reply source destination (echo_of message 4) (drop echo_header_len message)
 
--- The first eight bytes of the reply: six bytes of the request, up to its identification, and then the flag "don't fragment". So the reply is
--- an atomic datagram, which may have any identification (RFC 6864, section 4.1). No flag is copied: a host sends the reserved flag as 0 (RFC
--- 791, section 3.1).
+-- The first eight bytes of the reply: the first six bytes of the request, which end with its identification, and then the flag "don't
+-- fragment". So the reply is an atomic datagram, which may have any identification (RFC 6864, section 4.1). No flag is copied: a host sends
+-- the reserved flag as 0 (RFC 791, section 3.1).
 abbrev pub ipv4_reply_start : List ℕ → List ℕ
 ipv4_reply_start packet = take 6 packet ++ (0x40 ∷ 0 ∷ [])
 
--- The reply from this source, with this time to live. Its destination is the source of the request. Type of service, length and
--- identification, the payload and the bytes after the packet stay.
+-- The reply from this source, with this time to live. Its destination is the source of the request. The type of service, the length, the
+-- identification, the payload and the bytes after the packet are those of the request.
 abbrev pub ipv4_reply : List ℕ → ℕ → List ℕ → List ℕ
 ipv4_reply source time_to_live packet =
     ipv4_header (ipv4_reply_start packet) time_to_live icmpv4_number source (slice_range packet 12 16)
     ++ (icmpv4.wire (icmpv4_reply_to (ipv4_message packet)) ++ drop (ipv4_len_without_options + echo_header_len) packet)
 
--- The same over IPv6, where the first six bytes stay. The pseudo header contains the source of the request as the destination.
+-- The reply over IPv6, from this source and with this hop limit. Its first six bytes, its payload and the bytes after the packet are those
+-- of the request. In the pseudo header, the source of the request is the destination.
 abbrev pub ipv6_reply : List ℕ → ℕ → List ℕ → List ℕ
 ipv6_reply source hop_limit packet =
     ipv6_header (take 6 packet) icmpv6_number hop_limit source (slice_range packet 8 24)
@@ -227,28 +229,28 @@ ipv6_reply source hop_limit packet =
 
 -- ---- either version
 
--- an IPv6 packet, or an IPv4 packet; `transport_in_ip` refuses any other version
+-- the error if a packet of either IP version is not answered; `transport_in_ip` refuses any other version
 abbrev pub answer_refusal : List ℕ → Option AnswerEchoError
 answer_refusal packet = if version packet == 6 then ipv6_answer_refusal None packet else ipv4_answer_refusal None packet
 
--- the reply goes from the destination of the request to its source
+-- the reply that goes from the destination of the request to its source
 abbrev pub reply : ℕ → List ℕ → List ℕ
 reply hop_limit packet =
     if version packet == 6 then ipv6_reply (slice_range packet 24 40) hop_limit packet
     else ipv4_reply (slice_range packet 16 20) hop_limit packet
 
--- the addresses of this reply
+-- the addresses of the reply that goes from the destination of the request to its source
 abbrev pub reply_addresses : List ℕ → Addresses
 reply_addresses packet =
     if version packet == 6 then Ipv6 (slice_range packet 24 40) (Some (slice_range packet 8 24))
     else Ipv4 (slice_range packet 16 20) (slice_range packet 12 16)
 
--- the header of this reply
+-- the ICMP header of the reply that goes from the destination of the request to its source
 abbrev pub reply_header : List ℕ → TransportHeader
 reply_header packet =
     if version packet == 6 then headers.Icmpv6 (icmpv6_reply_to (slice_range packet 24 40) (slice_range packet 8 24) (ipv6_message packet))
     else headers.Icmpv4 (icmpv4_reply_to (ipv4_message packet))
 
--- the payload of this reply, which is the payload of the request
+-- the payload of the reply, which is the payload of the request
 abbrev pub reply_payload : List ℕ → List ℕ
 reply_payload packet = drop echo_header_len (if version packet == 6 then ipv6_message packet else ipv4_message packet)

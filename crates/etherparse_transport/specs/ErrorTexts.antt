@@ -21,7 +21,7 @@ use Rattle.net_base.specs.ErrorTexts.{header_slice_text, len_text, value_text}
 use Rattle.transport_part.specs.declared.checksum_verdict.Untested.{Untested}
 use Rattle.transport_part.specs.declared.checksum_verdict.Untested.TheVariants as reasons
 
--- an echo request that is not answered
+-- the text for an echo request that is not answered
 abbrev pub answer_echo_text : AnswerEchoError → List ℕ
 answer_echo_text (echo.Ip error) = ip_text error
 answer_echo_text echo.Fragment = codes "Echo Error: the packet is a fragment."
@@ -33,7 +33,7 @@ answer_echo_text echo.Checksum = codes "Echo Error: the checksum of the message 
 answer_echo_text echo.RequestSource = codes "Echo Error: the source of the request is not the address of a host."
 answer_echo_text echo.ReplySource = codes "Echo Error: the source of the reply is not the address of a host."
 
--- a packet that is not written
+-- the text for a packet that is not written
 abbrev pub build_text : BuildSliceWriteError → List ℕ
 build_text (build.Space required_len len) = concat (
     codes "Space Error: " ∷ decimal required_len ∷ codes " bytes are needed, and there is room for " ∷ decimal len ∷ codes "." ∷ [])
@@ -74,12 +74,12 @@ translate_text (translate.HeaderCutOff required_len len) = concat (
 translate_text translate.IcmpMessage = codes "Translation Error: the ICMP message is no query and no error, or a redirect."
 translate_text translate.QuotedPacket = codes "Translation Error: the packet that the ICMP error is about can't be translated."
 
--- a checksum that is not calculated
+-- the text for a checksum that is not calculated
 abbrev pub transport_checksum_text : TransportChecksumError → List ℕ
 transport_checksum_text (checksum.PayloadLen error) = value_text error
 transport_checksum_text checksum.Icmpv6InIpv4 = codes "ICMPv6 Error: a checksum over IPv4 does not exist."
 
--- a checksum that is not tested
+-- the text for a checksum that is not tested
 abbrev pub untested_text : Untested → List ℕ
 untested_text reasons.Fragment = codes "Checksum Error: the packet is a fragment."
 untested_text reasons.CutOff = codes "Checksum Error: the packet is cut off."
@@ -88,7 +88,7 @@ untested_text reasons.OtherProtocol = codes "Checksum Error: the protocol has no
 untested_text reasons.ZeroLength = codes "Checksum Error: the length field of the UDP packet is 0."
 untested_text reasons.TooLong = codes "Checksum Error: the packet is too long for its pseudo header."
 
--- a packet into which no checksum is written
+-- the text for a packet in which no checksum is written
 abbrev pub write_checksum_text : WriteChecksumError → List ℕ
 write_checksum_text (write.Ip error) = ip_text error
 write_checksum_text (write.Transport error) = header_slice_text error

@@ -25,11 +25,11 @@ proto_of (headers.Tcp header) = Tcp
 proto_of (headers.Icmpv4 header) = Icmpv4
 proto_of (headers.Icmpv6 header) = Icmpv6
 
--- the longest header of the four protocols, in bytes: a TCP header, whose data offset counts at most 15 words of four bytes
+-- the length of the longest header of the four protocols, in bytes: a TCP header, whose data offset counts at most 15 words of four bytes
 abbrev pub max_header_len : ℕ
 max_header_len = tcp.max_header_len
 
--- the first rule of the protocol that the bytes break
+-- the error if the bytes do not begin with a header of this protocol
 abbrev pub refusal : Proto → List ℕ → Option HeaderSliceError
 refusal Udp bytes = option_map Len (udp.refusal bytes)
 refusal Tcp bytes = tcp.refusal bytes
@@ -43,7 +43,7 @@ DecodesAs bytes (headers.Tcp header) rest = tcp.DecodesAs bytes header rest
 DecodesAs bytes (headers.Icmpv4 header) rest = icmpv4.DecodesAs bytes header rest
 DecodesAs bytes (headers.Icmpv6 header) rest = icmpv6.DecodesAs bytes header rest
 
--- accepted bytes with the meaningless bits cleared; the bytes after the header are kept
+-- accepted bytes with all meaningless bits of the header cleared; the bytes after the header are kept
 abbrev pub canonical : Proto → List ℕ → List ℕ
 canonical Udp bytes = udp.canonical bytes
 canonical Tcp bytes = tcp.canonical bytes
@@ -57,8 +57,8 @@ wire (headers.Tcp header) = tcp.wire header
 wire (headers.Icmpv4 header) = icmpv4.wire header
 wire (headers.Icmpv6 header) = icmpv6.wire header
 
--- a written header with this payload after it is read as this header and this payload; the exceptions for a raw ICMP
--- message and for a timestamp, as in their crates, apply here too
+-- a written header with this payload after it is read as this header and this payload, except for unknown ICMP messages and timestamp
+-- messages, as stated in `Icmpv4ReadsBack` and `Icmpv6ReadsBack`
 abbrev pub IsReadBack : TransportHeader → List ℕ → Type 0
 IsReadBack (headers.Udp header) payload = udp.DecodesAs (udp.wire header ++ payload) header payload
 IsReadBack (headers.Tcp header) payload = tcp.DecodesAs (tcp.wire header ++ payload) header payload
@@ -74,7 +74,7 @@ layer_of (headers.Tcp header) = layers.TcpHeader
 layer_of (headers.Icmpv4 header) = layers.Icmpv4
 layer_of (headers.Icmpv6 header) = layers.Icmpv6
 
--- a slice of this length is too short for the header
+-- the error if a slice of this length is too short for the header
 abbrev pub no_room : TransportHeader → ℕ → Option LenError
 no_room header len = refusals.no_room (layer_of header) (wire header) len
 
@@ -83,7 +83,7 @@ pub record IsCanonical (protocol : Proto) (bytes : List ℕ) : Type 0 where
   pub accepted : refusal protocol bytes ≡ None
   pub unchanged : canonical protocol bytes ≡ bytes
 
--- the bytes are read as a header of the protocol and this rest, and the header is written as these header bytes
+-- the bytes are read as a header of this protocol and `rest`, and this header is written as `header_bytes`
 pub record WritesDecoded (protocol : Proto) (bytes header_bytes rest : List ℕ) : Type 0 where
   pub header : TransportHeader
   pub protocol_of_header : proto_of header ≡ protocol

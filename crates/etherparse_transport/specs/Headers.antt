@@ -1,4 +1,4 @@
--- The checksum of a header of any of the four protocols: which errors there are, the value of the checksum, and that it is right.
+-- The checksum of a header of any of the four protocols: its errors, its value, and that it is right.
 use Rattle.std.specs.Prelude.{⊤, ◌≡◌, ℕ, ◌+◌, List, ◌++◌, Option, Some, None}
 use Rattle.std.specs.Option.{option_map}
 use Rattle.icmp_part.specs.Icmpv4Format as icmpv4
@@ -27,7 +27,7 @@ with_checksum_field (Icmpv6 header) checksum = Icmpv6 (record header { checksum 
 
 -- ---- errors
 
--- a payload that is longer than the packet's length can count; over IPv4 also a header of ICMPv6
+-- the error if the payload is longer than the packet's length can count; over IPv4 also for an ICMPv6 header
 abbrev pub ipv4_refusal : TransportHeader → ℕ → Option TransportChecksumError
 ipv4_refusal (Udp header) payload_len = option_map PayloadLen (too_big UdpPayloadLengthIpv4 udp.max_payload_len payload_len)
 ipv4_refusal (Tcp header) payload_len = option_map PayloadLen (too_big TcpPayloadLengthIpv4 (tcp.max_payload_len_ipv4 (tcp.wire header)) payload_len)
@@ -42,14 +42,14 @@ ipv6_refusal (Icmpv6 header) payload_len = too_big Icmpv6PayloadLength icmpv6.ma
 
 -- ---- the value of the checksum
 
--- over IPv4, of source, destination, header and payload; the checksum of ICMPv6 covers IPv6 addresses, so there is none, and the value is 0
+-- the checksum over IPv4; an ICMPv6 header has none, since its checksum covers IPv6 addresses, and the value is 0
 abbrev pub checksum_over_ipv4 : List ℕ → List ℕ → TransportHeader → List ℕ → ℕ
 checksum_over_ipv4 source destination (Udp header) payload = udp_checksum_of (udp.checksummed_ipv4 source destination header payload)
 checksum_over_ipv4 source destination (Tcp header) payload = checksum_of (tcp.checksummed_ipv4 source destination (tcp.wire header) payload)
 checksum_over_ipv4 source destination (Icmpv4 header) payload = checksum_of (icmpv4.checksummed header payload)
 checksum_over_ipv4 source destination (Icmpv6 header) payload = 0
 
--- over IPv6; the checksum of ICMPv4 covers no address
+-- the checksum over IPv6; the checksum of ICMPv4 covers no address
 abbrev pub checksum_over_ipv6 : List ℕ → List ℕ → TransportHeader → List ℕ → ℕ
 checksum_over_ipv6 source destination (Udp header) payload = udp_checksum_of (udp.checksummed_ipv6 source destination header payload)
 checksum_over_ipv6 source destination (Tcp header) payload = checksum_of (tcp.checksummed_ipv6 source destination (tcp.wire header) payload)
@@ -58,21 +58,21 @@ checksum_over_ipv6 source destination (Icmpv6 header) payload = checksum_of (icm
 
 -- ---- the checksum is right
 
--- the length field of UDP counts a payload of this length (RFC 768); no other header contains a length field
+-- the length field of UDP states header and payload of this length (RFC 768); no other header contains a length field
 abbrev pub Counts : TransportHeader → ℕ → Type 0
 Counts (Udp header) payload_len = header.length ≡ 8 + payload_len
 Counts (Tcp header) payload_len = ⊤
 Counts (Icmpv4 header) payload_len = ⊤
 Counts (Icmpv6 header) payload_len = ⊤
 
--- header and payload pass a receiver's check over IPv4; an ICMPv6 message never does
+-- a receiver over IPv4 accepts header and payload; it accepts no ICMPv6 message
 abbrev pub IsValidOverIpv4 : List ℕ → List ℕ → TransportHeader → List ℕ → Type 0
 IsValidOverIpv4 source destination (Udp header) payload = IsValidUdpIpv4 source destination (udp.wire header ++ payload)
 IsValidOverIpv4 source destination (Tcp header) payload = IsValidTcpIpv4 source destination (tcp.wire header ++ payload)
 IsValidOverIpv4 source destination (Icmpv4 header) payload = IsValidIcmpv4 (icmpv4.wire header ++ payload)
 IsValidOverIpv4 source destination (Icmpv6 header) payload = ⊥
 
--- the same over IPv6; an ICMPv4 message is checked without addresses
+-- a receiver over IPv6 accepts header and payload; it checks an ICMPv4 message without addresses
 abbrev pub IsValidOverIpv6 : List ℕ → List ℕ → TransportHeader → List ℕ → Type 0
 IsValidOverIpv6 source destination (Udp header) payload = IsValidUdpIpv6 source destination (udp.wire header ++ payload)
 IsValidOverIpv6 source destination (Tcp header) payload = IsValidTcpIpv6 source destination (tcp.wire header ++ payload)

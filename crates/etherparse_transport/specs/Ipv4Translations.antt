@@ -27,11 +27,11 @@ use Rattle.etherparse_transport.specs.declared.err.packet.translate_error.Transl
 
 -- ---- the addresses
 
--- the places of both addresses in a header (RFC 791, section 3.1)
+-- the place of the source in a header (RFC 791, section 3.1)
 abbrev pub ipv4_source_place : ℕ
 ipv4_source_place = 12
 
--- bytes 16 to 19
+-- the place of the destination in a header
 abbrev pub ipv4_destination_place : ℕ
 ipv4_destination_place = 16
 
@@ -73,7 +73,7 @@ ipv4_addresses new packet = record {
   destination = unwrap_or new.destination (ipv4_header_of packet).destination;
 }
 
--- a later fragment, whose fragment offset is above 0
+-- the packet is a later fragment: its fragment offset is above 0
 abbrev pub ipv4_is_later_fragment : List ℕ → Bool
 ipv4_is_later_fragment packet = not (ipv4_fragment_offset packet == 0)
 
@@ -98,7 +98,7 @@ ipv4_translated_flow new message packet = ipv4_with_message new (ipv4_flow_messa
 
 -- ---- an ICMP error
 
--- The translation of the packet that an ICMP error is about. It went in the other direction (RFC 5508, section 4).
+-- The translation of the packet that an ICMP error quotes, which went in the other direction (RFC 5508, section 4).
 abbrev pub ipv4_opposite : Ipv4Translation → Ipv4Translation
 ipv4_opposite new = record {
   source = new.destination;
@@ -107,20 +107,20 @@ ipv4_opposite new = record {
   destination_port = new.source_port;
 }
 
--- the translation of the quoted packet: `passed`, or if there is none, the opposite of the translation of the packet
+-- the translation of the quoted packet: the passed translation, or else the opposite of the translation of the packet
 abbrev pub ipv4_of_quoted : Ipv4Translation → Option (Bor Ipv4Translation) → Ipv4Translation
 ipv4_of_quoted new None = ipv4_opposite new
 ipv4_of_quoted new (Some passed) = passed.now
 
 -- ---- errors
 
--- a loose or strict source route among the options, which come after the first 20 bytes of the header (RFC 791, section 3.1)
+-- the options, which follow the first 20 bytes of the header, contain a loose or strict source route (RFC 791, section 3.1)
 abbrev pub has_source_route : List ℕ → Bool
 has_source_route packet = contain_source_route (drop 20 (ip.ipv4_header packet))
 
--- The protocols over IPv4 whose checksum or authentication covers the addresses, except UDP and TCP: DCCP (33; RFC 4340, section 9.1), AH (51;
--- RFC 4302, section 3.3.3), VRRP (112; RFC 5798, section 5.2.8), UDP-Lite (136; RFC 3828, section 3.1) and HIP (139; RFC 7401, section 5.1.1).
--- ICMPv6 (58) has a pseudo header of IPv6 (RFC 4443, section 2.3), and no meaning over IPv4.
+-- This protocol, other than UDP and TCP, has a checksum or an authentication that covers IPv4 addresses: DCCP (33; RFC 4340, section 9.1),
+-- AH (51; RFC 4302, section 3.3.3), VRRP (112; RFC 5798, section 5.2.8), UDP-Lite (136; RFC 3828, section 3.1) and HIP (139; RFC 7401,
+-- section 5.1.1). ICMPv6 (58) has a pseudo header of IPv6 (RFC 4443, section 2.3), so it has no meaning over IPv4.
 abbrev pub covers_ipv4_addresses : ℕ → Bool
 covers_ipv4_addresses number =
     number == authentication
@@ -152,7 +152,7 @@ pub record IsIpv4Place (bytes packet : List ℕ) (place : Place) : Type 0 where
   pub proto : place.proto ≡ ipv4_proto packet
   pub later : place.is_later_fragment ≡ ipv4_is_later_fragment packet
 
--- the errors of the message of an IPv4 packet
+-- the error for the message of an IPv4 packet
 abbrev pub ipv4_message_refusal : List ℕ → Option TranslateError
 ipv4_message_refusal packet = message_refusal (ipv4_is_later_fragment packet) (ipv4_proto packet) (message_in_ipv4 false packet)
 
@@ -160,22 +160,22 @@ ipv4_message_refusal packet = message_refusal (ipv4_is_later_fragment packet) (i
 abbrev pub ipv4_quoted : List ℕ → Option (List ℕ)
 ipv4_quoted packet = quoted_in (ipv4_is_later_fragment packet) (ipv4_proto packet) (message_in_ipv4 false packet)
 
--- a quoted packet that can't be translated
+-- the error if a packet quotes a packet that can't be translated
 abbrev pub ipv4_quoted_refusal : Bool → Option (List ℕ) → Option TranslateError
 ipv4_quoted_refusal has_port None = None
 ipv4_quoted_refusal has_port (Some quoted) = option_map (λ _. QuotedPacket) (ipv4_place_refusal true has_port quoted)
 
--- the errors in this order: of the packet, of its message, and of the packet that an ICMP error is about
+-- the first error that applies: for the packet, for its message, for the packet that it quotes
 abbrev pub ipv4_refusal_by : Bool → Bool → List ℕ → Option TranslateError
 ipv4_refusal_by has_port has_quoted_port packet = first_of (
     ipv4_place_refusal false has_port packet ∷ ipv4_message_refusal packet ∷ ipv4_quoted_refusal has_quoted_port (ipv4_quoted packet) ∷ [])
 
--- the errors for a translation of the packet and a translation of the quoted packet. Each replaces a port or only addresses.
+-- the error for a translation of the packet, and another translation of the quoted packet
 abbrev pub ipv4_refusal_with : Ipv4Translation → Ipv4Translation → List ℕ → Option TranslateError
 ipv4_refusal_with new of_quoted packet =
     ipv4_refusal_by (has_port new.source_port new.destination_port) (has_port of_quoted.source_port of_quoted.destination_port) packet
 
--- the errors for one translation, whose opposite applies to the quoted packet
+-- the error for one translation; its opposite applies to the quoted packet
 abbrev pub ipv4_refusal : Ipv4Translation → List ℕ → Option TranslateError
 ipv4_refusal new packet = ipv4_refusal_with new (ipv4_opposite new) packet
 
@@ -187,37 +187,37 @@ ipv4_message_by None new of_quoted packet = ipv4_flow_message new (message_in_ip
 ipv4_message_by (Some quoted) new of_quoted packet =
     with_quote 0 0 quoted (ipv4_translated_flow of_quoted (message_in_ipv4 true quoted) quoted) (message_in_ipv4 false packet)
 
--- the message if the opposite translation applies to the quoted packet
+-- the translated message, if the opposite translation applies to the quoted packet
 abbrev pub ipv4_message_with : Option (List ℕ) → Ipv4Translation → List ℕ → List ℕ
 ipv4_message_with quoted new packet = ipv4_message_by quoted new (ipv4_opposite new) packet
 
--- the translated message and the translated packet, with a translation of the quoted packet
+-- the translated message and the translated packet, if the quoted packet has its own translation
 abbrev pub ipv4_message_of_both : Ipv4Translation → Ipv4Translation → List ℕ → List ℕ
 ipv4_message_of_both new of_quoted packet = ipv4_message_by (ipv4_quoted packet) new of_quoted packet
 
 abbrev pub ipv4_translated_with : Ipv4Translation → Ipv4Translation → List ℕ → List ℕ
 ipv4_translated_with new of_quoted packet = ipv4_with_message new (ipv4_message_of_both new of_quoted packet) packet
 
--- the translated message
+-- the translated message of an IPv4 packet; the opposite translation applies to the quoted packet
 abbrev pub ipv4_translated_message : Ipv4Translation → List ℕ → List ℕ
 ipv4_translated_message new packet = ipv4_message_with (ipv4_quoted packet) new packet
 
--- the translated packet, which is the old packet except for the checksum of the header, the addresses and the message
+-- the translated packet; it is the old packet except for the checksum of the header, the addresses and the message
 abbrev pub ipv4_translated : Ipv4Translation → List ℕ → List ℕ
 ipv4_translated new packet = ipv4_with_message new (ipv4_translated_message new packet) packet
 
--- the new addresses
+-- the new addresses, in the form of `Addresses`
 abbrev pub ipv4_between : Ipv4Translation → List ℕ → Addresses
 ipv4_between new packet = Ipv4 (ipv4_addresses new packet).source (ipv4_addresses new packet).destination
 
--- an IPv4 address has four bytes
+-- both addresses have four bytes
 pub record AreIpv4Addresses (addresses : Ipv4Header) : Type 0 where
   pub source : length addresses.source ≡ 4
   pub destination : length addresses.destination ≡ 4
 
 -- ---- a receiver's check
 
--- the pseudo header of a message of this protocol and of this length between these addresses; ICMPv4 has none
+-- the pseudo header of a message of this protocol and this length between these addresses; ICMPv4 has no pseudo header
 abbrev pub ipv4_pseudo_header_of : Proto → Ipv4Header → ℕ → List ℕ
 ipv4_pseudo_header_of protos.Udp addresses len = ipv4_pseudo_header addresses.source addresses.destination udp_number len
 ipv4_pseudo_header_of protos.Tcp addresses len = ipv4_pseudo_header addresses.source addresses.destination tcp_number len
@@ -237,13 +237,13 @@ IsAcceptedByIpv4 new message packet translated = (proto : Proto) → ipv4_proto 
 abbrev pub IsIpv4Accepted : Ipv4Translation → List ℕ → List ℕ → Type 0
 IsIpv4Accepted new packet translated = IsAcceptedByIpv4 new (message_in_ipv4 false packet) packet translated
 
--- A receiver accepts a translated ICMP error exactly if it accepts the error, whose checksum covers the packet that it quotes. This holds also
--- if some bytes of the error are in other fragments or are cut off.
+-- A receiver accepts the translated ICMP error exactly if it accepts the error. The checksum of the error covers the packet that it quotes.
+-- The statement holds also if some bytes of the error are in other fragments or are cut off.
 abbrev pub IsIpv4ErrorAccepted : List ℕ → List ℕ → Type 0
 IsIpv4ErrorAccepted packet translated = (quoted : List ℕ) → ipv4_quoted packet ≡ Some quoted
     → IsVerifiedAlike (length (message_in_ipv4 false packet)) (λ len. []) (λ len. []) (message_in_ipv4 false packet) translated
 
--- a router accepts the header exactly if it accepted the old header (RFC 791, section 3.1)
+-- a router accepts the new header exactly if it accepts the old header (RFC 791, section 3.1)
 abbrev pub IsHeaderAccepted : List ℕ → List ℕ → Type 0
 IsHeaderAccepted packet translated =
     (Verifies [] (take (ipv4_header_len packet) translated)) ↔ (Verifies [] (take (ipv4_header_len packet) packet))

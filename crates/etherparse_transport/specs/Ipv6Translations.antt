@@ -24,11 +24,11 @@ use Rattle.etherparse_transport.specs.declared.err.packet.translate_error.Transl
 
 -- ---- the addresses
 
--- the places of both addresses in a header (RFC 8200, section 3)
+-- the place of the source in a header (RFC 8200, section 3)
 abbrev pub ipv6_source_place : ℕ
 ipv6_source_place = 8
 
--- bytes 24 to 39
+-- the place of the destination in a header
 abbrev pub ipv6_destination_place : ℕ
 ipv6_destination_place = 24
 
@@ -54,7 +54,7 @@ ipv6_start packet = (skipped_headers packet).len
 abbrev pub ipv6_protocol : List ℕ → ℕ
 ipv6_protocol packet = (skipped_headers packet).protocol.0
 
--- the protocol of an IPv6 packet, by this number
+-- the protocol of an IPv6 packet, by the number of the protocol
 abbrev pub ipv6_proto : List ℕ → Option Proto
 ipv6_proto packet = proto_over (Ipv6 (ipv6_header_of packet).source (Some (ipv6_header_of packet).destination)) (ipv6_protocol packet)
 
@@ -91,7 +91,7 @@ ipv6_translated_flow new packet = ipv6_with_message new (ipv6_flow_message new p
 
 -- ---- an ICMP error
 
--- The translation of the packet that an ICMP error is about. It went in the other direction (RFC 5508, section 4).
+-- The translation of the packet that an ICMP error quotes, which went in the other direction (RFC 5508, section 4).
 abbrev pub ipv6_opposite : Ipv6Translation → Ipv6Translation
 ipv6_opposite new = record {
   source = new.destination;
@@ -100,7 +100,7 @@ ipv6_opposite new = record {
   destination_port = new.source_port;
 }
 
--- the translation of the quoted packet: `passed`, or if there is none, the opposite of the translation of the packet
+-- the translation of the quoted packet: the passed translation, or else the opposite of the translation of the packet
 abbrev pub ipv6_of_quoted : Ipv6Translation → Option (Bor Ipv6Translation) → Ipv6Translation
 ipv6_of_quoted new None = ipv6_opposite new
 ipv6_of_quoted new (Some passed) = passed.now
@@ -125,7 +125,7 @@ ipv6_place_refusal has_port packet = first_of (
     ∷ refused_if (is_none (ipv6_proto packet) && (has_port || covers_ipv6_addresses (ipv6_protocol packet))) (Protocol (record { 0 = ipv6_protocol packet }))
     ∷ [])
 
--- where the message of an IPv6 packet is, and what it is
+-- `place` states where the message of an IPv6 packet is, and its protocol
 pub record IsIpv6Place (packet : List ℕ) (place : Place) : Type 0 where
   pub is_ipv6 : version packet ≡ 6
   pub start : place.start ≡ ipv6_start packet
@@ -137,7 +137,7 @@ pub record IsIpv6Place (packet : List ℕ) (place : Place) : Type 0 where
   pub proto : place.proto ≡ ipv6_proto packet
   pub later : place.is_later_fragment ≡ ipv6_is_later_fragment packet
 
--- the errors of the message of an IPv6 packet
+-- the error for the message of an IPv6 packet
 abbrev pub ipv6_message_refusal : List ℕ → Option TranslateError
 ipv6_message_refusal packet = message_refusal (ipv6_is_later_fragment packet) (ipv6_proto packet) (message_in_ipv6 packet)
 
@@ -145,22 +145,22 @@ ipv6_message_refusal packet = message_refusal (ipv6_is_later_fragment packet) (i
 abbrev pub ipv6_quoted : List ℕ → Option (List ℕ)
 ipv6_quoted packet = quoted_in (ipv6_is_later_fragment packet) (ipv6_proto packet) (message_in_ipv6 packet)
 
--- a quoted packet that can't be translated
+-- the error if a packet quotes a packet that can't be translated
 abbrev pub ipv6_quoted_refusal : Bool → Option (List ℕ) → Option TranslateError
 ipv6_quoted_refusal has_port None = None
 ipv6_quoted_refusal has_port (Some quoted) = option_map (λ _. QuotedPacket) (ipv6_place_refusal has_port quoted)
 
--- the errors in this order: of the packet, of its message, and of the packet that an ICMP error is about
+-- the first error that applies: for the packet, for its message, for the packet that it quotes
 abbrev pub ipv6_refusal_by : Bool → Bool → List ℕ → Option TranslateError
 ipv6_refusal_by has_port has_quoted_port packet = first_of (
     ipv6_place_refusal has_port packet ∷ ipv6_message_refusal packet ∷ ipv6_quoted_refusal has_quoted_port (ipv6_quoted packet) ∷ [])
 
--- the errors for a translation of the packet and a translation of the quoted packet. Each replaces a port or only addresses.
+-- the error for a translation of the packet, and another translation of the quoted packet
 abbrev pub ipv6_refusal_with : Ipv6Translation → Ipv6Translation → List ℕ → Option TranslateError
 ipv6_refusal_with new of_quoted packet =
     ipv6_refusal_by (has_port new.source_port new.destination_port) (has_port of_quoted.source_port of_quoted.destination_port) packet
 
--- the errors for one translation, whose opposite applies to the quoted packet
+-- the error for one translation; its opposite applies to the quoted packet
 abbrev pub ipv6_refusal : Ipv6Translation → List ℕ → Option TranslateError
 ipv6_refusal new packet = ipv6_refusal_with new (ipv6_opposite new) packet
 
@@ -173,30 +173,30 @@ ipv6_message_by (Some quoted) new of_quoted packet =
     with_quote (sum_of_ipv6 (ipv6_header_of packet)) (sum_of_ipv6 (ipv6_addresses new packet))
     quoted (ipv6_translated_flow of_quoted quoted) (message_in_ipv6 packet)
 
--- the message if the opposite translation applies to the quoted packet
+-- the translated message, if the opposite translation applies to the quoted packet
 abbrev pub ipv6_message_with : Option (List ℕ) → Ipv6Translation → List ℕ → List ℕ
 ipv6_message_with quoted new packet = ipv6_message_by quoted new (ipv6_opposite new) packet
 
--- the translated message and the translated packet, with a translation of the quoted packet
+-- the translated message and the translated packet, if the quoted packet has its own translation
 abbrev pub ipv6_message_of_both : Ipv6Translation → Ipv6Translation → List ℕ → List ℕ
 ipv6_message_of_both new of_quoted packet = ipv6_message_by (ipv6_quoted packet) new of_quoted packet
 
 abbrev pub ipv6_translated_with : Ipv6Translation → Ipv6Translation → List ℕ → List ℕ
 ipv6_translated_with new of_quoted packet = ipv6_with_message new (ipv6_message_of_both new of_quoted packet) packet
 
--- the translated message
+-- the translated message of an IPv6 packet; the opposite translation applies to the quoted packet
 abbrev pub ipv6_translated_message : Ipv6Translation → List ℕ → List ℕ
 ipv6_translated_message new packet = ipv6_message_with (ipv6_quoted packet) new packet
 
--- the translated packet, which is the old packet except for the addresses and the message
+-- the translated packet; it is the old packet except for the addresses and the message
 abbrev pub ipv6_translated : Ipv6Translation → List ℕ → List ℕ
 ipv6_translated new packet = ipv6_with_message new (ipv6_translated_message new packet) packet
 
--- the new addresses
+-- the new addresses, in the form of `Addresses`
 abbrev pub ipv6_between : Ipv6Translation → List ℕ → Addresses
 ipv6_between new packet = Ipv6 (ipv6_addresses new packet).source (Some (ipv6_addresses new packet).destination)
 
--- an IPv6 address has 16 bytes
+-- both addresses have 16 bytes
 pub record AreIpv6Addresses (addresses : Ipv6Header) : Type 0 where
   pub source : length addresses.source ≡ 16
   pub destination : length addresses.destination ≡ 16
@@ -211,7 +211,7 @@ ipv6_pseudo_header_of protos.Icmpv4 addresses len = []
 ipv6_pseudo_header_of protos.Icmpv6 addresses len = ipv6_pseudo_header addresses.source addresses.destination icmpv6_number len
 
 -- A receiver accepts this message between the new addresses exactly if it accepts the old message between the old addresses. This holds for
--- a message whose checksum is updated, also if it is a part of a message, and not for a later fragment.
+-- a message, or for a part of a message, whose checksum is updated. It does not hold for a later fragment.
 abbrev pub IsIpv6Accepted : Ipv6Translation → List ℕ → List ℕ → Type 0
 IsIpv6Accepted new packet translated = (proto : Proto) → ipv6_proto packet ≡ Some proto
     → (ipv6_is_later_fragment packet ≡ false) → IsUpdated proto (message_in_ipv6 packet)
@@ -219,8 +219,8 @@ IsIpv6Accepted new packet translated = (proto : Proto) → ipv6_proto packet ≡
     (ipv6_pseudo_header_of proto (ipv6_header_of packet)) (ipv6_pseudo_header_of proto (ipv6_addresses new packet))
     (message_in_ipv6 packet) translated
 
--- A receiver accepts a translated ICMP error exactly if it accepts the error, whose checksum covers the packet that it quotes. This holds also
--- if some bytes of the error are in other fragments or are cut off.
+-- A receiver accepts the translated ICMP error exactly if it accepts the error. The checksum of the error covers the packet that it quotes.
+-- The statement holds also if some bytes of the error are in other fragments or are cut off.
 abbrev pub IsIpv6ErrorAccepted : Ipv6Translation → List ℕ → List ℕ → Type 0
 IsIpv6ErrorAccepted new packet translated = (quoted : List ℕ) → ipv6_quoted packet ≡ Some quoted
     → IsVerifiedAlike (length (message_in_ipv6 packet))

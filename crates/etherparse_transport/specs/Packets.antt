@@ -1,4 +1,4 @@
--- An IP packet built of addresses, a transport header and a payload: its bytes, the errors, and its reading.
+-- An IP packet that is built from addresses, a transport header and a payload: its bytes, its errors, and how it is read.
 use Rattle.std.specs.Prelude.{◌≡◌, ℕ, ◌+◌, ◌-◌, nat_lt, false, List, [], ◌∷◌, ◌++◌, length, Option, Some, None}
 use Rattle.std.specs.Int.{to_be_bytes, w16}
 use Rattle.std.specs.Option.{option_map}
@@ -25,7 +25,7 @@ use Rattle.etherparse_transport.specs.declared.transport_header.TransportHeader.
 
 -- ---- the IP header
 
--- the number of a protocol (RFC 5237)
+-- the number of a protocol in IP headers (RFC 5237)
 abbrev pub number_of : Proto → ℕ
 number_of protos.Udp = udp_number
 number_of protos.Tcp = tcp_number
@@ -38,7 +38,7 @@ abbrev pub ipv4_fields : List ℕ → ℕ → ℕ → List ℕ → List ℕ → 
 ipv4_fields start time_to_live protocol source destination checksum =
     start ++ ((time_to_live ∷ protocol ∷ to_be_bytes w16 checksum) ++ (source ++ destination))
 
--- the same header with its checksum, which is computed with a 0 in that field
+-- an IPv4 header with its checksum, which is computed while the checksum field is 0
 abbrev pub ipv4_header : List ℕ → ℕ → ℕ → List ℕ → List ℕ → List ℕ
 ipv4_header start time_to_live protocol source destination =
     ipv4_fields start time_to_live protocol source destination
@@ -49,25 +49,26 @@ ipv4_header start time_to_live protocol source destination =
 abbrev pub ipv6_header : List ℕ → ℕ → ℕ → List ℕ → List ℕ → List ℕ
 ipv6_header start next_header hop_limit source destination = start ++ ((next_header ∷ hop_limit ∷ []) ++ (source ++ destination))
 
--- The start of a built IPv4 header, of version 4 and five words. Type of service and identification are 0. The flag "don't fragment" is
--- set, and the fragment offset is 0.
+-- The first eight bytes of an IPv4 header that is built. Version is 4, and the header has five words. Type of service and identification
+-- are 0. The flag "don't fragment" is set, and the fragment offset is 0.
 abbrev pub ipv4_start : ℕ → List ℕ
 ipv4_start total_len = (0x45 ∷ 0 ∷ to_be_bytes w16 total_len) ++ (0 ∷ 0 ∷ 0x40 ∷ 0 ∷ [])
 
--- The start of a built IPv6 header, of version 6. Traffic class and flow label are 0.
+-- The first six bytes of an IPv6 header that is built. Version is 6. Traffic class and flow label are 0.
 abbrev pub ipv6_start : ℕ → List ℕ
 ipv6_start payload_len = 0x60 ∷ 0 ∷ 0 ∷ 0 ∷ to_be_bytes w16 payload_len
 
 -- ---- the transport header
 
--- The length field of UDP counts header and payload (RFC 768). No other header contains a length field.
+-- The header with its length field for this payload. The length field of UDP counts header and payload (RFC 768). No other header contains
+-- a length field.
 abbrev pub with_length : TransportHeader → ℕ → TransportHeader
 with_length (Udp header) payload_len = Udp (record header { length = 8 + payload_len })
 with_length (Tcp header) payload_len = Tcp header
 with_length (Icmpv4 header) payload_len = Icmpv4 header
 with_length (Icmpv6 header) payload_len = Icmpv6 header
 
--- the header that is sent, with its length and its checksum
+-- the transport header that is sent, with its length field and its checksum
 abbrev pub sent_over_ipv4 : List ℕ → List ℕ → TransportHeader → List ℕ → TransportHeader
 sent_over_ipv4 source destination header payload =
     let counted : TransportHeader = with_length header (length payload) in
@@ -80,11 +81,11 @@ sent_over_ipv6 source destination header payload =
 
 -- ---- the packet
 
--- the length of header and payload
+-- the length of transport header and payload
 abbrev pub message_len : TransportHeader → ℕ → ℕ
 message_len header payload_len = length (wire header) + payload_len
 
--- the bytes: IP header, transport header and payload
+-- the bytes of the packet: IP header, transport header and payload
 abbrev pub ipv4_packet : List ℕ → List ℕ → ℕ → TransportHeader → List ℕ → List ℕ
 ipv4_packet source destination time_to_live header payload =
     ipv4_header (ipv4_start (20 + message_len header (length payload))) time_to_live (number_of (proto_of header)) source destination
@@ -97,15 +98,15 @@ ipv6_packet source destination hop_limit header payload =
 
 -- ---- errors
 
--- the longest header and payload that the IP header can count in 16 bits; over IPv4 these also count the 20 bytes of
--- the IP header (RFC 791, section 3.1; RFC 8200, section 3)
+-- The greatest length of transport header and payload that the IP header can count in 16 bits. IPv4 also counts the 20 bytes of the IP
+-- header (RFC 791, section 3.1; RFC 8200, section 3).
 abbrev pub max_message_len_ipv4 : ℕ
 max_message_len_ipv4 = max_len_over_ipv4 - 20
 
 abbrev pub max_message_len_ipv6 : ℕ
 max_message_len_ipv6 = 65535
 
--- ICMP of the other version, which a receiver doesn't read as ICMP
+-- the error for ICMP of the wrong IP version, which a receiver does not read as ICMP
 abbrev pub other_version_ipv4 : TransportHeader → Option BuildSliceWriteError
 other_version_ipv4 (Icmpv6 header) = Some Icmpv6InIpv4
 other_version_ipv4 other = None
@@ -114,22 +115,22 @@ abbrev pub other_version_ipv6 : TransportHeader → Option BuildSliceWriteError
 other_version_ipv6 (Icmpv4 header) = Some Icmpv4InIpv6
 other_version_ipv6 other = None
 
--- a payload that is too long for a header of this length
+-- the error if a payload is too long for a header of this length
 abbrev pub payload_above : ℕ → ℕ → ℕ → Option BuildSliceWriteError
 payload_above max_message_len header_len payload_len =
     let max_allowed : ℕ = max_message_len - header_len in
     refused_if (nat_lt max_allowed payload_len) (PayloadLen payload_len max_allowed)
 
--- a message that `Icmpv4Slice` refuses: a timestamp message or reply that is not 20 bytes long
+-- the error for a timestamp message or reply that is not 20 bytes long, which `Icmpv4Slice` refuses
 abbrev pub timestamp_refusal : TransportHeader → List ℕ → Option BuildSliceWriteError
 timestamp_refusal (Icmpv4 header) payload = option_map TimestampLen (icmpv4.refusal (icmpv4.wire header ++ payload))
 timestamp_refusal other payload = None
 
--- a slice that is shorter than the packet
+-- the error if a slice is shorter than the packet
 abbrev pub space_refusal : ℕ → ℕ → Option BuildSliceWriteError
 space_refusal required_len len = refused_if (nat_lt len required_len) (Space required_len len)
 
--- the errors, in this order: first the errors for any slice, and then a slice that is too short
+-- the first error that applies: the errors that do not depend on the slice, and then a slice that is too short
 abbrev pub ipv4_message_refusal : TransportHeader → List ℕ → Option BuildSliceWriteError
 ipv4_message_refusal header payload = first_of (
     other_version_ipv4 header
@@ -157,8 +158,8 @@ ipv6_write_refusal header payload len = first_of (
 
 -- ---- the reading of a packet
 
--- the found transport is no fragment, is not cut off, states a length, and is this message of this protocol between
--- these addresses; a slice of the protocol accepts it, and its checksum is right
+-- The transport that was found is not a fragment, is not cut off, and states its length. It is this message of this protocol between these
+-- addresses. The slice of the protocol accepts it, and its checksum is right.
 pub record IsFoundAs (between : Addresses) (proto : Proto) (bytes : List ℕ) (found : TransportInIp) : Type 0 where
   pub addresses : by_value found.addresses ≡ between
   pub number : found.protocol.0 ≡ number_of proto
@@ -171,7 +172,7 @@ pub record IsFoundAs (between : Addresses) (proto : Proto) (bytes : List ℕ) (f
   pub accepted : refusal found ≡ None
   pub right : JudgesFound found Right
 
--- the packet is accepted, and the found transport is this header and this payload
+-- the packet is accepted, and the transport that is found is this header and this payload
 pub record IsReadAs (packet : List ℕ) (between : Addresses) (header : TransportHeader) (payload : List ℕ) : Type 0 where
   pub accepted : ip.refusal packet ≡ None
   pub carries : (found : TransportInIp) → Carries packet found → IsFoundAs between (proto_of header) (wire header ++ payload) found

@@ -1,4 +1,4 @@
--- Which packet is the reply to an echo request (RFC 792, "Echo or Echo Reply Message"; RFC 1122, section 3.2.2.6; RFC 4443, sections 4.1
+-- The packets that are replies to an echo request (RFC 792, "Echo or Echo Reply Message"; RFC 1122, section 3.2.2.6; RFC 4443, sections 4.1
 -- and 4.2).
 use Rattle.std.specs.Prelude.{◌≡◌, ℕ, false, IsTrue, List, [], drop, slice_index, Option, Some, None, Ok, MatchBool}
 use Rattle.icmp_part.specs.Icmpv4Format as icmpv4
@@ -16,13 +16,13 @@ use Rattle.etherparse_transport.specs.EchoReplies.{is_host_ipv4, is_host_ipv6, i
 
 -- ---- the packets
 
--- the number of ICMP over these addresses (RFC 5237)
+-- the number of the ICMP that belongs to these addresses (RFC 5237)
 abbrev pub icmp_number : Addresses → ℕ
 icmp_number (Ipv4 source destination) = icmpv4_number
 icmp_number (Ipv6 source destination) = icmpv6_number
 
--- `transport_in_ip` accepts the packet, which is no fragment. The headers of the packet contain these addresses, and name ICMP of the IP
--- version as the protocol. The message is all that the IP header counts after the headers.
+-- `transport_in_ip` accepts the packet, and it is no fragment. Its headers contain these addresses, and the number of ICMP of the IP
+-- version. The message consists of all bytes after the headers that the IP header counts.
 pub record CarriesIcmp (packet : List ℕ) (between : Addresses) (message : List ℕ) : Type 0 where
   pub accepted : ip.refusal packet ≡ None
   pub headers : Headers
@@ -34,19 +34,19 @@ pub record CarriesIcmp (packet : List ℕ) (between : Addresses) (message : List
 
 -- ---- the addresses
 
--- A request to one host is answered by that host. A request to several hosts is answered by any of them, from its own address (RFC 1122,
--- section 3.2.2.6; RFC 4443, section 4.2).
+-- A request to one host is answered by this host. A request to several hosts is answered by any of these hosts, from its own address (RFC
+-- 1122, section 3.2.2.6; RFC 4443, section 4.2).
 abbrev pub MayAnswerIpv4 : List ℕ → List ℕ → Type 0
 MayAnswerIpv4 destination responder =
     MatchBool (is_group_ipv4 destination) (IsTrue (is_host_ipv4 responder)) (responder ≡ destination)
 
--- the same over IPv6
+-- this host may answer a request to this destination over IPv6; the rule is as over IPv4
 abbrev pub MayAnswerIpv6 : List ℕ → List ℕ → Type 0
 MayAnswerIpv6 destination responder =
     MatchBool (is_group_ipv6 destination) (IsTrue (is_host_ipv6 responder)) (responder ≡ destination)
 
 -- The reply goes to the source of the request, and its source may answer for the destination of the request. If the final destination of a
--- packet is unknown, the packet is neither request nor reply.
+-- packet is unknown, the packet is neither a request nor a reply.
 abbrev pub GoesBack : Addresses → Addresses → Type 0
 GoesBack (Ipv4 source destination) (Ipv4 responder receiver) = (receiver ≡ source) × MayAnswerIpv4 destination responder
 GoesBack (Ipv6 source (Some destination)) (Ipv6 responder (Some receiver)) = (receiver ≡ source) × MayAnswerIpv6 destination responder
@@ -61,31 +61,32 @@ GoesToSource request reply = ⊥
 
 -- ---- the messages
 
--- a slice accepts the message, which has this type and code 0
+-- the slice of this ICMP version accepts the message, whose type is this type and whose code is 0
 pub record IsOfType (type : ℕ) (refusal : Option LenError) (message : List ℕ) : Type 0 where
   pub accepted : refusal ≡ None
   pub type_is : slice_index message 0 ≡ type
   pub code_is : slice_index message 1 ≡ 0
 
--- identifier, sequence number and payload of an echo message: all bytes after type, code and checksum
+-- the bytes of an echo message after type, code and checksum: the identifier, the sequence number and the payload
 abbrev pub echoed : List ℕ → List ℕ
 echoed message = drop 4 message
 
--- an echo request of type 8, and its reply of type 0 with a right checksum (RFC 792)
+-- `request` is an echo request (type 8), and `reply` is its reply (type 0) with a right checksum (RFC 792)
 pub record AnswersIcmpv4 (request reply : List ℕ) : Type 0 where
   pub is_request : IsOfType 8 (icmpv4.refusal request) request
   pub is_reply : IsOfType 0 (icmpv4.refusal reply) reply
   pub same : echoed reply ≡ echoed request
   pub checksum : IsValidIcmpv4 reply
 
--- The same over IPv6, where the types are 128 and 129 (RFC 4443, section 4). The checksum covers the addresses of the reply.
+-- `request` is an ICMPv6 echo request (type 128), and `reply` is its reply (type 129; RFC 4443, section 4). The checksum of the reply is
+-- right, and covers the addresses of the reply.
 pub record AnswersIcmpv6 (responder receiver request reply : List ℕ) : Type 0 where
   pub is_request : IsOfType 128 (icmpv6.refusal request) request
   pub is_reply : IsOfType 129 (icmpv6.refusal reply) reply
   pub same : echoed reply ≡ echoed request
   pub checksum : IsValidIcmpv6 responder receiver reply
 
--- over the addresses of the reply
+-- `reply` is the reply to the message `request`; the reply has these addresses
 abbrev pub Answers : Addresses → List ℕ → List ℕ → Type 0
 Answers (Ipv4 responder receiver) request reply = AnswersIcmpv4 request reply
 Answers (Ipv6 responder (Some receiver)) request reply = AnswersIcmpv6 responder receiver request reply
@@ -93,8 +94,9 @@ Answers (Ipv6 responder None) request reply = ⊥
 
 -- ---- the reply
 
--- The second packet is the reply to the first, between these addresses. Its message is the reply to the request, and the checksum of its
--- IPv4 header is right, since a host discards it otherwise (RFC 1122, section 3.2.1.2). The checksums of the request are not tested.
+-- `reply` is the reply to `request`, if their addresses have this relation. Its message is the reply to the message of the request. The
+-- checksum of its IPv4 header is right, since a host discards the packet otherwise (RFC 1122, section 3.2.1.2). The checksums of the
+-- request are not tested.
 pub record IsReplyBetween (AreItsAddresses : Addresses → Addresses → Type 0) (request reply : List ℕ) : Type 0 where
   pub request_addresses : Addresses
   pub reply_addresses : Addresses
@@ -106,10 +108,10 @@ pub record IsReplyBetween (AreItsAddresses : Addresses → Addresses → Type 0)
   pub answers : Answers reply_addresses request_message reply_message
   pub header_checksum : BeginsWithIpv4Header reply → Verifies [] (ip.ipv4_header reply)
 
--- the reply comes from where the request went
+-- the reply comes from the destination of the request, as `GoesBack` states
 abbrev pub IsReplyTo : List ℕ → List ℕ → Type 0
 IsReplyTo request reply = IsReplyBetween GoesBack request reply
 
--- the reply comes from any host
+-- the reply comes from the address of any host
 abbrev pub IsReplyFromAny : List ℕ → List ℕ → Type 0
 IsReplyFromAny request reply = IsReplyBetween GoesToSource request reply

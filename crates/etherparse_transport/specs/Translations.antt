@@ -1,5 +1,5 @@
 -- The translation of the message in an IP packet, as an address translator makes it (RFC 3022; RFC 5508 for ICMP): new ports or a new
--- identifier, and the checksum updated by what was replaced (RFC 1624).
+-- identifier, and a checksum that is updated by the replaced words (RFC 1624).
 use Rattle.std.specs.Prelude.{◌≡◌, ◌≢◌, ◌≤◌, ◌↔◌, ◌⊎◌, ◌%◌, true, false, ℕ, ◌+◌, ◌==◌, ◌&&◌, ◌||◌, Bool, is_none, is_some, nat_le, nat_lt, not, if◌then◌else◌, List, [], ◌∷◌, ◌++◌, drop, length, slice_index, take, Option, Some, None, unwrap_or}
 use Rattle.std.specs.Int.{to_be_bytes, w16}
 use Rattle.icmp_part.specs.Icmpv4Format as icmpv4
@@ -20,19 +20,20 @@ use Rattle.etherparse_transport.specs.declared.err.packet.translate_error.Transl
 
 -- ---- words
 
--- the number in the two bytes at this place, or 0 if the bytes end before
+-- the number in the two bytes at this place, or 0 if the bytes end before the second byte
 abbrev pub number : ℕ → List ℕ → ℕ
 number place bytes = if nat_le (place + 2) (length bytes) then be_number bytes place 2 else 0
 
--- the bytes with this number in the two bytes at this place, or unchanged if they end before
+-- the bytes with this number in the two bytes at this place; unchanged if the bytes end before the second byte
 abbrev pub with_number : ℕ → ℕ → List ℕ → List ℕ
 with_number place value bytes = if nat_le (place + 2) (length bytes) then with_checksum place bytes value else bytes
 
--- the sum of replaced words with one more word
+-- the sum of replaced words after another word is added
 abbrev pub and_word : ℕ → ℕ → ℕ
 and_word sum word = folded (sum + total (to_be_bytes w16 word))
 
--- Two changes, by their removed and added sums, that differ by words that are replaced by themselves. In both, some added word is not 0.
+-- Two changes, given by their removed and added sums, differ only by words that are replaced by themselves. In both changes, some added
+-- word is not 0.
 pub record IsSameChange (removed added removed_too added_too : ℕ) : Type 0 where
   pub difference : (removed + added_too) % all_ones ≡ (removed_too + added) % all_ones
   pub some : added ≢ 0
@@ -40,22 +41,22 @@ pub record IsSameChange (removed added removed_too added_too : ℕ) : Type 0 whe
   pub small : removed ≤ all_ones
   pub small_too : removed_too ≤ all_ones
 
--- each checksum is updated alike by both: they have the same sums, or differ only so
+-- both changes update each checksum alike: they have equal sums, or differ as `IsSameChange` states
 abbrev pub AreUpdatedAlike : ℕ → ℕ → ℕ → ℕ → Type 0
 AreUpdatedAlike removed added removed_too added_too =
     ((removed ≡ removed_too) × (added ≡ added_too)) ⊎ IsSameChange removed added removed_too added_too
 
 -- ---- UDP and TCP
 
--- the places of the ports (RFC 768; RFC 9293, section 3.1)
+-- the place of the source port (RFC 768; RFC 9293, section 3.1)
 abbrev pub source_port_place : ℕ
 source_port_place = 0
 
--- bytes 2 and 3
+-- the place of the destination port
 abbrev pub destination_port_place : ℕ
 destination_port_place = 2
 
--- the new port, or the port at this place
+-- the new port, or the old port at this place
 abbrev pub port_or : Option ℕ → ℕ → List ℕ → ℕ
 port_or port place message = unwrap_or port (number place message)
 
@@ -65,23 +66,23 @@ with_ports source destination message =
     with_number destination_port_place (port_or destination destination_port_place message)
     (with_number source_port_place (port_or source source_port_place message) message)
 
--- the sum of the removed words: the old addresses in the pseudo header, which have this sum, and the old ports
+-- the sum of the removed words: the old ports, and the old addresses in the pseudo header, whose sum is `addresses`
 abbrev pub removed_ports : ℕ → List ℕ → ℕ
 removed_ports addresses message = and_word (and_word addresses (number source_port_place message)) (number destination_port_place message)
 
--- the sum of the added words: the new addresses, which have this sum, and the new ports
+-- the sum of the added words: the new ports, and the new addresses in the pseudo header, whose sum is `addresses`
 abbrev pub added_ports : ℕ → Option ℕ → Option ℕ → List ℕ → ℕ
 added_ports addresses source destination message =
     and_word (and_word addresses (port_or source source_port_place message)) (port_or destination destination_port_place message)
 
--- a UDP packet with the new ports, and with its checksum updated by addresses and ports; a checksum of 0 stays (RFC 768)
+-- a UDP packet with the new ports, and with its checksum updated by addresses and ports; a checksum of 0 is unchanged (RFC 768)
 abbrev pub translated_udp : ℕ → ℕ → Option ℕ → Option ℕ → List ℕ → List ℕ
 translated_udp old new source destination packet =
     with_number udp_checksum_place (updated_udp_checksum_of (number udp_checksum_place packet)
     (removed_ports old packet) (added_ports new source destination packet))
     (with_ports source destination packet)
 
--- a TCP segment likewise
+-- a TCP segment with the new ports, and with its checksum updated by addresses and ports
 abbrev pub translated_tcp : ℕ → ℕ → Option ℕ → Option ℕ → List ℕ → List ℕ
 translated_tcp old new source destination segment =
     with_number tcp_checksum_place (updated_checksum_of (number tcp_checksum_place segment)
@@ -90,30 +91,31 @@ translated_tcp old new source destination segment =
 
 -- ---- ICMP queries
 
--- the types of the requests that contain an identifier: echo, timestamp and information (RFC 792), address mask (RFC 950), and echo over IPv6
--- (RFC 4443, section 4.1)
+-- the type of a request with an identifier: echo, timestamp or information (RFC 792), address mask (RFC 950), or echo over IPv6 (RFC 4443,
+-- section 4.1)
 abbrev pub is_request : Proto → ℕ → Bool
 is_request protos.Udp type = false
 is_request protos.Tcp type = false
 is_request protos.Icmpv4 type = type == 8 || (type == 13 || (type == 15 || type == 17))
 is_request protos.Icmpv6 type = type == 128
 
--- the types of their replies
+-- the type of a reply to one of these requests
 abbrev pub is_reply : Proto → ℕ → Bool
 is_reply protos.Udp type = false
 is_reply protos.Tcp type = false
 is_reply protos.Icmpv4 type = type == 0 || (type == 14 || (type == 16 || type == 18))
 is_reply protos.Icmpv6 type = type == 129
 
--- the place of the identifier (RFC 792; RFC 950; RFC 4443, section 4)
+-- the place of the identifier of a query (RFC 792; RFC 950; RFC 4443, section 4)
 abbrev pub identifier_place : ℕ
 identifier_place = 4
 
--- the sum of the words of an ICMP message except its checksum
+-- the sum of the words of an ICMP message, without its checksum
 abbrev pub rest_of_message : List ℕ → ℕ
 rest_of_message message = total (with_number icmp_checksum_place 0 message)
 
--- An echo reply over IPv4 may consist of zeros. Then its checksum is all ones, and the update yields 0 (RFC 1624).
+-- The checksum to store in a query, given the updated checksum. If an IPv4 echo reply consists of zeros, its checksum is all ones, while
+-- the update gives 0 (RFC 1624).
 abbrev pub updated_query_checksum : List ℕ → ℕ → ℕ
 updated_query_checksum message checksum = if rest_of_message message == 0 then zero_as_all_ones checksum else checksum
 
@@ -121,7 +123,7 @@ updated_query_checksum message checksum = if rest_of_message message == 0 then z
 abbrev pub with_identifier : Option ℕ → List ℕ → List ℕ
 with_identifier identifier message = with_number identifier_place (port_or identifier identifier_place message) message
 
--- a query with the new identifier, and with its checksum updated by addresses and identifier
+-- a query with the new identifier, and with its checksum updated by the addresses and the identifier
 abbrev pub translated_query : ℕ → ℕ → Option ℕ → List ℕ → List ℕ
 translated_query old new identifier message =
     with_number icmp_checksum_place (updated_query_checksum (with_identifier identifier message)
@@ -129,23 +131,24 @@ translated_query old new identifier message =
     (and_word old (number identifier_place message)) (and_word new (port_or identifier identifier_place message))))
     (with_identifier identifier message)
 
--- a request or a reply up to its identifier, with any code
+-- the message is a request or reply with an identifier; it reaches at least to the end of its identifier, and may have any code
 abbrev pub is_query : Proto → List ℕ → Bool
 is_query proto message = nat_le 6 (length message) && (is_request proto (slice_index message 0) || is_reply proto (slice_index message 0))
 
--- The identifier of a request belongs to the source, and the identifier of a reply to the destination (RFC 5508, section 3.1).
+-- The new identifier of a query. The identifier of a request belongs to the source, and the identifier of a reply to the destination (RFC
+-- 5508, section 3.1).
 abbrev pub new_identifier : Proto → Option ℕ → Option ℕ → List ℕ → Option ℕ
 new_identifier proto source destination message = if is_request proto (slice_index message 0) then source else destination
 
--- an ICMP message with the checksum updated by removed and added words
+-- an ICMP message with its checksum updated by the sums of the removed and the added words
 abbrev pub with_updated_checksum : ℕ → ℕ → List ℕ → List ℕ
 with_updated_checksum removed added message =
     with_number icmp_checksum_place (updated_checksum_of (number icmp_checksum_place message) removed added) message
 
 -- ---- the message of a packet
 
--- The message of any of the four protocols. Of another ICMP message, which a quoted packet may contain, only the checksum is updated.
--- ICMPv4 has no pseudo header.
+-- The translated message of a protocol. In an ICMP message other than a query, which may be in a quoted packet, only the checksum is
+-- updated. ICMPv4 has no pseudo header.
 abbrev pub translated_message : Proto → ℕ → ℕ → Option ℕ → Option ℕ → List ℕ → List ℕ
 translated_message protos.Udp old new source destination message = translated_udp old new source destination message
 translated_message protos.Tcp old new source destination message = translated_tcp old new source destination message
@@ -157,7 +160,7 @@ translated_message protos.Icmpv6 old new source destination message =
 
 -- ---- the addresses
 
--- the bytes with these bytes at this place
+-- the bytes in which the bytes `new` are at this place
 abbrev pub with_bytes : ℕ → List ℕ → List ℕ → List ℕ
 with_bytes place new bytes = take place bytes ++ (new ++ drop (place + length new) bytes)
 
@@ -168,7 +171,8 @@ with_bytes place new bytes = take place bytes ++ (new ++ drop (place + length ne
 abbrev pub counted_after : Bool → ℕ → List ℕ → List ℕ
 counted_after is_quoted len packet = drop len (ip.counted (is_quoted || ip.lacks_len packet) packet)
 
--- A message with new ports, if its protocol is known. In a later fragment the first bytes are not a transport header.
+-- A message with new ports, or unchanged if its protocol is not known. A later fragment is unchanged, since its first bytes are not a
+-- transport header.
 abbrev pub translated_in : Bool → Option Proto → ℕ → ℕ → Option ℕ → Option ℕ → List ℕ → List ℕ
 translated_in is_later_fragment None old new source destination message = message
 translated_in is_later_fragment (Some proto) old new source destination message =
@@ -176,8 +180,8 @@ translated_in is_later_fragment (Some proto) old new source destination message 
 
 -- ---- an ICMP error
 
--- an ICMP error with this translated packet instead of this quoted packet, after its header of eight bytes; the old and the new addresses
--- in the pseudo header have these sums
+-- An ICMP error in which the translated packet replaces the quoted packet, after the header of eight bytes. `old` and `new` are the sums of
+-- the old and the new addresses in the pseudo header.
 abbrev pub with_quote : ℕ → ℕ → List ℕ → List ℕ → List ℕ → List ℕ
 with_quote old new quoted translated message =
     with_updated_checksum (folded (old + total quoted)) (folded (new + total translated)) (with_bytes 8 translated message)
@@ -189,34 +193,34 @@ quoted_by protos.Tcp message = None
 quoted_by protos.Icmpv4 message = quoted_by_icmpv4 message
 quoted_by protos.Icmpv6 message = quoted_by_icmpv6 message
 
--- the same, and none in a later fragment
+-- the packet that a message with these headers quotes; a later fragment quotes no packet
 abbrev pub quoted_in : Bool → Option Proto → List ℕ → Option (List ℕ)
 quoted_in is_later_fragment None message = None
 quoted_in is_later_fragment (Some proto) message = if is_later_fragment then None else quoted_by proto message
 
 -- ---- errors
 
--- a translation with a new port or identifier
+-- a translation with these ports replaces a port or an identifier
 abbrev pub has_port : Option ℕ → Option ℕ → Bool
 has_port source destination = is_some source || is_some destination
 
--- The bytes of a transport header that are needed, which contain the ports or the identifier (RFC 792: 64 bits of data). Only the checksum of
--- TCP comes after them, which is updated if it is there.
+-- The least number of bytes of a transport header, which contain the ports or the identifier (RFC 792: 64 bits of data). Only the checksum
+-- of TCP is after them. It is updated if it is present.
 abbrev pub needed_len : ℕ
 needed_len = 8
 
--- a redirect, whose bytes 4 to 7 contain another address, of a router in the network of its receiver (RFC 792)
+-- the message is a redirect; its bytes 4 to 7 contain the address of a router in the network of its receiver (RFC 792)
 abbrev pub is_redirect : List ℕ → Bool
 is_redirect message = slice_index message 0 == 5
 
--- an ICMP message that is no query, and that its slice refuses, or that is a redirect or no error
+-- The error for an ICMP message that is not a query: its slice refuses it, or it is a redirect, or it is no error.
 abbrev pub icmp_refusal : Proto → List ℕ → Option TranslateError
 icmp_refusal protos.Udp message = None
 icmp_refusal protos.Tcp message = None
 icmp_refusal protos.Icmpv4 message = refused_if (not (is_query protos.Icmpv4 message) && (is_some (icmpv4.refusal message) || (is_redirect message || is_none (quoted_by_icmpv4 message)))) IcmpMessage
 icmp_refusal protos.Icmpv6 message = refused_if (not (is_query protos.Icmpv6 message) && (is_some (icmpv6.refusal message) || is_none (quoted_by_icmpv6 message))) IcmpMessage
 
--- a header that is cut off, and then such an ICMP message; a later fragment has no header
+-- the error for a message: its header is cut off, or its ICMP message can't be translated; a later fragment has no header
 abbrev pub message_refusal : Bool → Option Proto → List ℕ → Option TranslateError
 message_refusal is_later_fragment None message = None
 message_refusal is_later_fragment (Some proto) message =
@@ -228,7 +232,8 @@ message_refusal is_later_fragment (Some proto) message =
 
 -- ---- the reading
 
--- the transport that is found in a translated packet: the transport of the packet, with these addresses and this message
+-- The transport that is found in a translated packet. It is the transport that was found in the packet, with these addresses and this
+-- message.
 pub record IsTransportWith (between : Addresses) (message : List ℕ) (was found : TransportInIp) : Type 0 where
   pub addresses : by_value found.addresses ≡ between
   pub protocol : found.protocol ≡ was.protocol
@@ -239,7 +244,7 @@ pub record IsTransportWith (between : Addresses) (message : List ℕ) (was found
   pub is_cut_off : found.is_cut_off ≡ was.is_cut_off
   pub is_length_missing : found.is_length_missing ≡ was.is_length_missing
 
--- `transport_in_ip_lax` accepts a translated packet, and finds this transport
+-- `transport_in_ip_lax` accepts the translated packet, and finds the transport with these addresses and this message
 pub record IsReadWith (packet translated : List ℕ) (between : Addresses) (message : List ℕ) : Type 0 where
   pub accepted : ip.lax_refusal translated ≡ None
   pub found : (was found : TransportInIp)
@@ -249,38 +254,38 @@ pub record IsReadWith (packet translated : List ℕ) (between : Addresses) (mess
 
 -- ---- a receiver's check
 
--- The sums of what a receiver adds to the old and to the new message: the pseudo headers of the old and the new addresses, which the replaced
--- addresses turn into each other, and bytes that stay. ICMPv4 has no pseudo header.
+-- `before` and `after` are the sums that a receiver adds to the old and the new message. They are the sums of the pseudo headers, and of
+-- bytes that do not change. `removed` and `added` turn one into the other. ICMPv4 has no pseudo header.
 abbrev pub HaveSums : Proto → ℕ → ℕ → ℕ → ℕ → Type 0
 HaveSums protos.Udp removed added before after = TurnsIntoBy removed added before after × (before ≢ 0) × (after ≢ 0)
 HaveSums protos.Tcp removed added before after = TurnsIntoBy removed added before after × (before ≢ 0) × (after ≢ 0)
 HaveSums protos.Icmpv4 removed added before after = before ≡ after
 HaveSums protos.Icmpv6 removed added before after = TurnsIntoBy removed added before after × (before ≢ 0) × (after ≢ 0)
 
--- A message whose checksum is updated: it contains its checksum and its ports or identifier, up to byte 7 in UDP, 17 in TCP, and 5 in ICMP.
--- A UDP packet has a checksum, and an ICMP message is a query. RFC 1624 can't tell the two zeros apart in an echo reply over IPv4 that
--- consists of zeros, the checksum included.
+-- The checksum of a message is updated. The message contains its checksum and its ports or identifier, up to byte 7 in UDP, 17 in TCP, and
+-- 5 in ICMP. A UDP packet has a checksum, and an ICMP message is a query. An IPv4 echo reply of zeros, checksum included, is excluded,
+-- since RFC 1624 can't tell 0 and 65535 apart in it.
 abbrev pub IsUpdated : Proto → List ℕ → Type 0
 IsUpdated protos.Udp packet = (8 ≤ length packet) × (number udp_checksum_place packet ≢ 0)
 IsUpdated protos.Tcp segment = 18 ≤ length segment
 IsUpdated protos.Icmpv4 message = (6 ≤ length message) × (is_query protos.Icmpv4 message ≡ true) × (total message ≢ 0)
 IsUpdated protos.Icmpv6 message = (6 ≤ length message) × (is_query protos.Icmpv6 message ≡ true)
 
--- with pseudo headers of these sums, a receiver accepts the translated message exactly if it accepts the message
+-- if the pseudo headers have these sums, a receiver accepts the translated message exactly if it accepts the message
 abbrev pub IsAcceptedAlike : ℕ → ℕ → List ℕ → List ℕ → Type 0
 IsAcceptedAlike before after message translated = (IsAllOnes (after + total translated)) ↔ (IsAllOnes (before + total message))
 
--- The least number of bytes of a message that a receiver sums, if the IP header counts this number of bytes. Only a UDP packet may end before:
--- its own length field ends it (RFC 768).
+-- The least number of bytes of a message that a receiver sums, if the IP header counts `len` bytes. Only a UDP packet may be shorter, since
+-- its own length field states where it ends (RFC 768).
 abbrev pub least_summed : Proto → ℕ → ℕ
 least_summed protos.Udp len = 8
 least_summed protos.Tcp len = len
 least_summed protos.Icmpv4 len = len
 least_summed protos.Icmpv6 len = len
 
--- A receiver accepts the translated message exactly if it accepts the message, with the new and the old pseudo header. Both are functions of
--- the length that they contain. This holds for a whole message. It holds also if the receiver sums only the first bytes, since the length
--- field of UDP ends the packet there, and if missing bytes come after them, which are in other fragments or cut off.
+-- A receiver accepts the translated message exactly if it accepts the message. `new` and `old` give the pseudo header for a length. This
+-- holds for a whole message. It also holds if the receiver sums only the first bytes, as the length field of UDP states, and if missing
+-- bytes follow them, which are in other fragments or are cut off.
 pub record IsVerifiedAlike (least : ℕ) (old new : ℕ → List ℕ) (message translated : List ℕ) : Type 0 where
   pub whole : (Verifies (new (length message)) translated) ↔ (Verifies (old (length message)) message)
   pub received : (len count : ℕ) (missing : List ℕ) → least ≤ count

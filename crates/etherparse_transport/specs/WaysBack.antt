@@ -1,6 +1,5 @@
--- The way back of a translation, which puts back what the translation replaces, and the packets that it restores. An update keeps a
--- checksum only modulo 65535 (RFC 1624), so that it yields one of the two zeros, 0 and 65535. The other zero is lost, even if nothing is
--- replaced.
+-- The way back of a translation restores the values that the translation replaced. An update keeps a checksum only modulo 65535 (RFC 1624),
+-- so it gives only one of 0 and 65535. The other value is lost, even if nothing is replaced. So some packets are not restored.
 use Rattle.std.specs.Prelude.{◌≡◌, ◌≢◌, ⊤, true, false, ℕ, ◌<◌, ◌==◌, Bool, if◌then◌else◌, List, length, IfSome, Option, Some, None}
 use Rattle.std.specs.Option.{option_map}
 use Rattle.ip_part.specs.declared.proto.Proto.{Proto}
@@ -28,16 +27,16 @@ abbrev pub port_in : Option Proto → ℕ → List ℕ → ℕ
 port_in None place message = 0
 port_in (Some proto) place message = number (place_in proto place) message
 
--- the old value instead of a new value, or no value if the translation keeps the old value
+-- the old value if a new value is passed; no value if the translation keeps the old value
 abbrev pub instead : {T : Type 0} → T → Option T → Option T
 instead old new = option_map (λ _. old) new
 
--- the zero that an ICMPv4 query loses: 0 in an echo reply whose other bytes are 0, and otherwise 65535
+-- the checksum that an ICMPv4 query loses: 0 in an echo reply whose other bytes are 0, and otherwise 65535
 abbrev pub lost_checksum : List ℕ → ℕ
 lost_checksum message = if rest_of_message message == 0 then 0 else all_ones
 
--- The checksum of a message is restored. A UDP checksum always is, since 0 means that there is none (RFC 768). Of ICMPv4, only the checksum
--- of a query is updated.
+-- The checksum of a message is restored. A UDP checksum is always restored, since 0 means that there is none (RFC 768). ICMPv4 messages
+-- other than queries keep their checksum.
 abbrev pub IsChecksumRestored : Proto → List ℕ → Type 0
 IsChecksumRestored protos.Udp message = ⊤
 IsChecksumRestored protos.Tcp message = number tcp_checksum_place message ≢ all_ones
@@ -49,14 +48,14 @@ abbrev pub IsChecksumRestoredIn : Bool → Option Proto → List ℕ → Type 0
 IsChecksumRestoredIn is_later_fragment None message = ⊤
 IsChecksumRestoredIn is_later_fragment (Some proto) message = (is_later_fragment ≡ false) → IsChecksumRestored proto message
 
--- a port has 16 bits
+-- both ports have 16 bits
 pub record ArePorts (first second : Option ℕ) : Type 0 where
   pub source : IfSome first (λ port. port < 65536)
   pub destination : IfSome second (λ port. port < 65536)
 
 -- ---- IPv4
 
--- a translation, by its types
+-- the addresses and ports of the translation have the lengths of their types
 pub record IsIpv4Translation (new : Ipv4Translation) : Type 0 where
   pub source : IfSome new.source (λ address. length address ≡ 4)
   pub destination : IfSome new.destination (λ address. length address ≡ 4)
@@ -71,7 +70,8 @@ ipv4_flow_back new message packet = record {
   destination_port = instead (port_in (ipv4_proto packet) destination_port_place message) new.destination_port;
 }
 
--- the way back of a packet that quotes this packet, by what is replaced in the quoted packet, or of a packet that quotes none
+-- The way back of a packet that quotes this packet, given by what is replaced in the quoted packet; or the way back of a packet that quotes
+-- no packet.
 abbrev pub ipv4_back_by : Option (List ℕ) → Ipv4Translation → List ℕ → Ipv4Translation
 ipv4_back_by None new packet = ipv4_flow_back new (message_in_ipv4 false packet) packet
 ipv4_back_by (Some quoted) new packet = ipv4_opposite (ipv4_flow_back (ipv4_opposite new) (message_in_ipv4 true quoted) quoted)
@@ -90,8 +90,9 @@ abbrev pub IsIpv4FlowRestored : List ℕ → List ℕ → Type 0
 IsIpv4FlowRestored message packet = (number header_checksum_place packet ≢ all_ones)
     × IsChecksumRestoredIn (ipv4_is_later_fragment packet) (ipv4_proto packet) message
 
--- The checksums of error and quoted packet are restored. If the source of the error is replaced, it is the destination of the quoted
--- packet. If its destination is replaced, it is the source. Otherwise two addresses become equal, for example if a router sent the error.
+-- The checksums of the error and of the quoted packet are restored. If the source of the error is replaced, it equals the destination of
+-- the quoted packet. If the destination of the error is replaced, it equals the source of the quoted packet. Otherwise two addresses can
+-- become equal, for example if a router sent the error.
 pub record IsIpv4ErrorRestored (new : Ipv4Translation) (packet quoted : List ℕ) : Type 0 where
   pub header : number header_checksum_place packet ≢ all_ones
   pub message : number icmp_checksum_place (message_in_ipv4 false packet) ≢ all_ones
@@ -99,7 +100,7 @@ pub record IsIpv4ErrorRestored (new : Ipv4Translation) (packet quoted : List ℕ
   pub source : IfSome new.source (λ _. (ipv4_header_of quoted).destination ≡ (ipv4_header_of packet).source)
   pub destination : IfSome new.destination (λ _. (ipv4_header_of quoted).source ≡ (ipv4_header_of packet).destination)
 
--- the conditions for a packet that quotes `quoted`, or quotes no packet
+-- the way back restores a packet that quotes this packet, or no packet
 abbrev pub IsIpv4RestoredBy : Option (List ℕ) → Ipv4Translation → List ℕ → Type 0
 IsIpv4RestoredBy None new packet = IsIpv4FlowRestored (message_in_ipv4 false packet) packet
 IsIpv4RestoredBy (Some quoted) new packet = IsIpv4ErrorRestored new packet quoted
@@ -108,13 +109,14 @@ IsIpv4RestoredBy (Some quoted) new packet = IsIpv4ErrorRestored new packet quote
 abbrev pub IsIpv4Restored : Ipv4Translation → List ℕ → Type 0
 IsIpv4Restored new packet = IsIpv4RestoredBy (ipv4_quoted packet) new packet
 
--- The checksums of an ICMP error and the quoted packet are restored. Addresses always are if each packet has its own translation.
+-- The checksums of an ICMP error and of the quoted packet are restored. Addresses are always restored if each packet has its own
+-- translation.
 pub record AreIpv4ChecksumsRestored (packet quoted : List ℕ) : Type 0 where
   pub header : number header_checksum_place packet ≢ all_ones
   pub message : number icmp_checksum_place (message_in_ipv4 false packet) ≢ all_ones
   pub quoted_packet : IsIpv4FlowRestored (message_in_ipv4 true quoted) quoted
 
--- the conditions for a packet that quotes `quoted`, or quotes no packet
+-- the ways back of two translations restore a packet that quotes this packet, or no packet
 abbrev pub IsIpv4RestoredWithBy : Option (List ℕ) → List ℕ → Type 0
 IsIpv4RestoredWithBy None packet = IsIpv4FlowRestored (message_in_ipv4 false packet) packet
 IsIpv4RestoredWithBy (Some quoted) packet = AreIpv4ChecksumsRestored packet quoted
@@ -125,13 +127,13 @@ IsIpv4RestoredWith packet = IsIpv4RestoredWithBy (ipv4_quoted packet) packet
 
 -- ---- IPv6
 
--- a translation, by its types
+-- the addresses and ports of the translation have the lengths of their types
 pub record IsIpv6Translation (new : Ipv6Translation) : Type 0 where
   pub source : IfSome new.source (λ address. length address ≡ 16)
   pub destination : IfSome new.destination (λ address. length address ≡ 16)
   pub ports : ArePorts new.source_port new.destination_port
 
--- the way back of a packet of a flow
+-- the way back of a packet that is no ICMP error
 abbrev pub ipv6_flow_back : Ipv6Translation → List ℕ → Ipv6Translation
 ipv6_flow_back new packet = record {
   source = instead (ipv6_header_of packet).source new.source;
@@ -140,7 +142,8 @@ ipv6_flow_back new packet = record {
   destination_port = instead (port_in (ipv6_proto packet) destination_port_place (message_in_ipv6 packet)) new.destination_port;
 }
 
--- the way back of a packet that quotes this packet, by what is replaced in the quoted packet, or of a packet that quotes none
+-- The way back of a packet that quotes this packet, given by what is replaced in the quoted packet; or the way back of a packet that quotes
+-- no packet.
 abbrev pub ipv6_back_by : Option (List ℕ) → Ipv6Translation → List ℕ → Ipv6Translation
 ipv6_back_by None new packet = ipv6_flow_back new packet
 ipv6_back_by (Some quoted) new packet = ipv6_opposite (ipv6_flow_back (ipv6_opposite new) quoted)
@@ -154,18 +157,18 @@ abbrev pub ipv6_quoted_back : Option (List ℕ) → Ipv6Translation → Ipv6Tran
 ipv6_quoted_back None of_quoted = of_quoted
 ipv6_quoted_back (Some quoted) of_quoted = ipv6_flow_back of_quoted quoted
 
--- the checksum of the message is restored; an IPv6 header has none
+-- the checksum of the message is restored; an IPv6 header has no checksum
 abbrev pub IsIpv6FlowRestored : List ℕ → Type 0
 IsIpv6FlowRestored packet = IsChecksumRestoredIn (ipv6_is_later_fragment packet) (ipv6_proto packet) (message_in_ipv6 packet)
 
--- the conditions of `IsIpv4ErrorRestored` for an ICMP error over IPv6, whose header has no checksum
+-- the conditions of `IsIpv4ErrorRestored` for an ICMP error over IPv6; an IPv6 header has no checksum
 pub record IsIpv6ErrorRestored (new : Ipv6Translation) (packet quoted : List ℕ) : Type 0 where
   pub message : number icmp_checksum_place (message_in_ipv6 packet) ≢ all_ones
   pub quoted_packet : IsIpv6FlowRestored quoted
   pub source : IfSome new.source (λ _. (ipv6_header_of quoted).destination ≡ (ipv6_header_of packet).source)
   pub destination : IfSome new.destination (λ _. (ipv6_header_of quoted).source ≡ (ipv6_header_of packet).destination)
 
--- the conditions for a packet that quotes `quoted`, or quotes no packet
+-- the way back restores a packet that quotes this packet, or no packet
 abbrev pub IsIpv6RestoredBy : Option (List ℕ) → Ipv6Translation → List ℕ → Type 0
 IsIpv6RestoredBy None new packet = IsIpv6FlowRestored packet
 IsIpv6RestoredBy (Some quoted) new packet = IsIpv6ErrorRestored new packet quoted
@@ -174,12 +177,13 @@ IsIpv6RestoredBy (Some quoted) new packet = IsIpv6ErrorRestored new packet quote
 abbrev pub IsIpv6Restored : Ipv6Translation → List ℕ → Type 0
 IsIpv6Restored new packet = IsIpv6RestoredBy (ipv6_quoted packet) new packet
 
--- The checksums of an ICMP error and the quoted packet are restored. Addresses always are if each packet has its own translation.
+-- The checksums of an ICMP error and of the quoted packet are restored. Addresses are always restored if each packet has its own
+-- translation.
 pub record AreIpv6ChecksumsRestored (packet quoted : List ℕ) : Type 0 where
   pub message : number icmp_checksum_place (message_in_ipv6 packet) ≢ all_ones
   pub quoted_packet : IsIpv6FlowRestored quoted
 
--- the conditions for a packet that quotes `quoted`, or quotes no packet
+-- the ways back of two translations restore a packet that quotes this packet, or no packet
 abbrev pub IsIpv6RestoredWithBy : Option (List ℕ) → List ℕ → Type 0
 IsIpv6RestoredWithBy None packet = IsIpv6FlowRestored packet
 IsIpv6RestoredWithBy (Some quoted) packet = AreIpv6ChecksumsRestored packet quoted

@@ -1,4 +1,4 @@
--- The right checksum written into an IP packet: which packets are refused, and what changes.
+-- Writing the right checksum into an IP packet: which packets are refused, and what changes.
 use Rattle.std.specs.Prelude.{◌≡◌, ◌≢◌, ℕ, ◌+◌, false, List, None, Some, Ok}
 use Rattle.ip_part.specs.Addresses.{by_value}
 use Rattle.ip_part.specs.Headers.{Headers}
@@ -18,7 +18,7 @@ use Rattle.etherparse_transport.specs.declared.err.packet.write_checksum_error.W
 
 -- ---- the verdict on a packet
 
--- `transport_in_ip` accepts the packet, and this holds for the transport that it finds
+-- `transport_in_ip` accepts the packet, and `holds` is true of the transport that it finds
 pub record IsFoundWith (packet : List ℕ) (holds : TransportInIp → Type 0) : Type 0 where
   pub accepted : ip.refusal packet ≡ None
   pub found : (found : TransportInIp) → ip.Carries packet found → found.is_length_missing ≡ false → holds found
@@ -36,7 +36,7 @@ IsRefusedFor packet (Ip error) = ip.refusal packet ≡ Some error
 IsRefusedFor packet (Transport error) = IsFoundWith packet (λ found. refusal found ≡ Some error)
 IsRefusedFor packet (Untested why) = HasVerdict packet (verdicts.Untested why)
 
--- the same for a transport that was found
+-- the transport that was found is refused for this reason
 abbrev pub IsRefusedIn : TransportInIp → WriteChecksumError → Type 0
 IsRefusedIn found (Ip error) = ⊥
 IsRefusedIn found (Transport error) = refusal found ≡ Some error
@@ -44,7 +44,7 @@ IsRefusedIn found (Untested why) = (refusal found ≡ None) × JudgesFound found
 
 -- ---- the written packet
 
--- the place of the checksum in the packet of a transport, and the right checksum
+-- the place of the checksum of this transport in its IP packet, and the right checksum
 pub record IsRightIn (found : TransportInIp) (place checksum : ℕ) : Type 0 where
   pub transport : TransportSlice
   pub is_accepted : refusal found ≡ None
@@ -54,7 +54,7 @@ pub record IsRightIn (found : TransportInIp) (place checksum : ℕ) : Type 0 whe
   pub chosen : (verdict : ChecksumVerdict) → HasChecksum verdict → Judges (by_value found.addresses) transport verdict
       → IsRightBy verdict (stored_checksum transport) checksum
 
--- only the two bytes of the checksum change; they lie after the headers, at the place of the checksum of the protocol
+-- Only the two bytes of the checksum change. Their place is after the headers, where the protocol stores its checksum.
 pub record IsWritten (before : List ℕ) (checksum : ℕ) (after : List ℕ) : Type 0 where
   pub headers : Headers
   pub read : ip.headers_of false before ≡ Ok headers
@@ -62,8 +62,8 @@ pub record IsWritten (before : List ℕ) (checksum : ℕ) (after : List ℕ) : T
   pub proto_is : proto_over headers.addresses headers.protocol.0 ≡ Some proto
   pub written : after ≡ with_checksum (headers.len + checksum_place proto) before checksum
 
--- what the call does by the verdict on the packet before it: a right checksum stays, and a wrong or partial checksum becomes the expected
--- checksum; if a UDP packet contains none, the written checksum is not 0, which means that there is none (RFC 768)
+-- What the call writes, given the verdict on the packet before. A right checksum is unchanged. A wrong or partial checksum is replaced by
+-- the expected checksum. The checksum of a UDP packet without one is not 0, since 0 means that there is none (RFC 768).
 abbrev pub WritesBy : ChecksumVerdict → List ℕ → ℕ → List ℕ → Type 0
 WritesBy verdicts.Right before checksum after = after ≡ before
 WritesBy verdicts.Absent before checksum after = checksum ≢ 0

@@ -7,12 +7,13 @@ use crate::err::tcp::HeaderSliceError;
 use crate::{Icmpv4Header, Icmpv6Header, Proto, TcpHeader, UdpHeader};
 use arrayvec::ArrayVec;
 
-/// The canonical bytes of a packet's header (RFC 768; RFC 9293, section 3.1; RFC 792; RFC 4443, section 2.1), and the
-/// bytes after the header, borrowed from the slice.
+/// The canonical bytes of a packet's header (RFC 768; RFC 9293, section 3.1; RFC 792; RFC 4443, section 2.1), and the bytes after the
+/// header, borrowed from the slice.
 ///
-/// The canonical bytes of a header are the bytes that `to_bytes` writes for the header that `from_slice` reads: all bits
-/// that reading ignores are cleared, including the bits of RFC 4884. They and the rest are read as the same header and the
-/// same rest, and are canonical themselves. The packet's checksum is kept. If a bit was cleared, it may no longer be right.
+/// The canonical bytes of a header are the bytes that `to_bytes` writes for the header that `from_slice` reads. All bits that reading
+/// ignores are cleared, including the bits of RFC 4884. The canonical bytes and the bytes after the header are read as the same header and
+/// the same bytes, and they are canonical themselves. The packet's checksum is kept. If a bit was cleared, the checksum may be wrong
+/// afterwards.
 ///
 /// # Errors
 ///
@@ -31,7 +32,7 @@ pub fn canonical_header<'a>(
     ensures canonical { IfOk result (λ found. found.0.items ++ found.1.now ≡ canonical protocol slice.now) }
     ensures again { IfOk result (λ found. IsCanonical protocol (found.0.items ++ found.1.now)) }
 {
-    // perf: with a single path for all protocols, the header is put together in memory (24 Nov 2026).
+    // perf: with one path for all protocols, the header is put together in memory (24 Nov 2026).
     match protocol {
         Proto::Udp => canonical_udp(slice),
         Proto::Tcp => canonical_tcp(slice),
@@ -40,7 +41,7 @@ pub fn canonical_header<'a>(
     }
 }
 
-/// `canonical_header` for a UDP packet.
+/// Does what `canonical_header` does, for a UDP packet.
 fn canonical_udp(slice: &[u8]) -> Result<(ArrayVec<u8, 60>, &[u8]), HeaderSliceError>
     ensures refused { RefusesExactly result (refusal Proto.Udp slice.now) }
     ensures decoded { IfOk result (λ found. WritesDecoded Proto.Udp slice.now found.0.items found.1.now) }
@@ -52,7 +53,7 @@ fn canonical_udp(slice: &[u8]) -> Result<(ArrayVec<u8, 60>, &[u8]), HeaderSliceE
     }
 }
 
-/// `canonical_header` for a TCP packet.
+/// Does what `canonical_header` does, for a TCP packet.
 fn canonical_tcp(slice: &[u8]) -> Result<(ArrayVec<u8, 60>, &[u8]), HeaderSliceError>
     ensures refused { RefusesExactly result (refusal Proto.Tcp slice.now) }
     ensures decoded { IfOk result (λ found. WritesDecoded Proto.Tcp slice.now found.0.items found.1.now) }
@@ -62,7 +63,7 @@ fn canonical_tcp(slice: &[u8]) -> Result<(ArrayVec<u8, 60>, &[u8]), HeaderSliceE
     Ok((header.to_bytes(), rest))
 }
 
-/// `canonical_header` for an ICMPv4 packet.
+/// Does what `canonical_header` does, for an ICMPv4 packet.
 fn canonical_icmpv4(slice: &[u8]) -> Result<(ArrayVec<u8, 60>, &[u8]), HeaderSliceError>
     ensures refused { RefusesExactly result (refusal Proto.Icmpv4 slice.now) }
     ensures decoded { IfOk result (λ found. WritesDecoded Proto.Icmpv4 slice.now found.0.items found.1.now) }
@@ -73,14 +74,14 @@ fn canonical_icmpv4(slice: &[u8]) -> Result<(ArrayVec<u8, 60>, &[u8]), HeaderSli
         Err(error) => return Err(HeaderSliceError::Len(error)),
     };
     let bytes = header.to_bytes();
-    // This copies the eight bytes of all kinds except timestamps at once.
+    // The eight bytes of any message except timestamps are copied at once.
     if bytes.len() == Icmpv4Header::MIN_LEN {
         return Ok((header_bytes(&bytes[..Icmpv4Header::MIN_LEN]), rest));
     }
     Ok((header_bytes(&bytes), rest))
 }
 
-/// `canonical_header` for an ICMPv6 packet.
+/// Does what `canonical_header` does, for an ICMPv6 packet.
 fn canonical_icmpv6(slice: &[u8]) -> Result<(ArrayVec<u8, 60>, &[u8]), HeaderSliceError>
     ensures refused { RefusesExactly result (refusal Proto.Icmpv6 slice.now) }
     ensures decoded { IfOk result (λ found. WritesDecoded Proto.Icmpv6 slice.now found.0.items found.1.now) }
@@ -92,7 +93,7 @@ fn canonical_icmpv6(slice: &[u8]) -> Result<(ArrayVec<u8, 60>, &[u8]), HeaderSli
     }
 }
 
-/// The same bytes in an array with room for the longest header.
+/// Copies the bytes to an array with room for the longest header.
 #[inline(always)]
 pub(crate) fn header_bytes(bytes: &[u8]) -> ArrayVec<u8, 60>
     requires { length bytes.now ≤ max_header_len }

@@ -1,10 +1,10 @@
-//! The transport layer of `etherparse`: UDP (RFC 768), TCP (RFC 9293), ICMPv4 (RFC 792), ICMPv6 (RFC 4443) and the Internet checksum
-//! (RFC 1071), under the names of that crate.
+//! The transport layer of `etherparse`: UDP (RFC 768), TCP (RFC 9293), ICMPv4 (RFC 792), ICMPv6 (RFC 4443) and the Internet checksum (RFC
+//! 1071), under the names of that crate.
 //!
-//! This crate re-exports all names of `etherparse` that the crates below define, so that a program depends only on this
-//! crate. In the module `ip`, `transport_slice` reads the transport of an IP packet, and `checksum_verdict` checks its
-//! checksum. `canonical_header` reads and writes a header of any of the four protocols in one call. `specs/Formats`
-//! describes which bytes each protocol accepts, how they are read and written, and which bits are kept.
+//! This crate re-exports all names of `etherparse` that the crates below define, so that a program depends only on this crate. In the
+//! module `ip`, `transport_slice` reads the transport of an IP packet, and `checksum_verdict` checks its checksum. `canonical_header` reads
+//! and writes a header of any of the four protocols in one call. `specs/Formats` describes which bytes are accepted for each protocol, how
+//! they are read and written, and which bits are kept.
 //!
 //! ```
 //! let found = ip::transport_in_ip(&packet)?;
@@ -13,8 +13,8 @@
 //! let (header, rest) = canonical_header(Proto::Udp, found.payload)?;
 //! ```
 //!
-//! The doc comment of each type contains an example: the body of a function that returns `Result<(), anyhow::Error>`.
-//! `rt` is the runtime handle that a test receives. `assert!` and `assert_eq!` require it.
+//! The doc comment of each type contains an example: the body of a function that returns `Result<(), anyhow::Error>`. `rt` is the runtime
+//! handle that a test receives. `assert!` and `assert_eq!` require it.
 #![tactic(auto)]
 
 mod canonical;

@@ -5,7 +5,7 @@ use crate::err::{LenError, ValueTooBigError};
 use crate::{Icmpv4Header, Icmpv6Header, Ipv4Header, Ipv6Header, Proto, TcpHeader, UdpHeader};
 use arrayvec::ArrayVec;
 
-/// A header of any of the four protocols.
+/// A header of UDP, TCP, ICMPv4 or ICMPv6.
 ///
 /// ```
 /// use etherparse_transport::{Proto, TransportHeader};
@@ -35,12 +35,12 @@ impl TransportHeader {
     ghost use Rattle.etherparse_transport.specs.Formats.{DecodesAs, IsReadBack, canonical, no_room, proto_of, refusal, wire};
     ghost use Rattle.etherparse_transport.specs.Headers.{Counts, IsValidOverIpv4, IsValidOverIpv6, checksum_over_ipv4, checksum_over_ipv6, ipv4_refusal, ipv6_refusal, with_checksum_field};
 
-    /// Reads a header of this protocol (RFC 768; RFC 9293, section 3.1; RFC 792; RFC 4443, section 2.1), and returns it
-    /// with the bytes after it, borrowed from the slice.
+    /// Reads a header of this protocol (RFC 768; RFC 9293, section 3.1; RFC 792; RFC 4443, section 2.1). Returns the
+    /// header, and the bytes after it, borrowed from the slice.
     ///
     /// # Errors
     ///
-    /// The errors of `from_slice` of the protocol's header:
+    /// The errors of `from_slice` for the header of this protocol:
     /// - `Len` if the slice is shorter than the header, if an ICMPv4 timestamp message or reply is not 20 bytes long,
     ///   or if an ICMPv6 message is longer than 4,294,967,295 bytes.
     /// - `DataOffsetTooSmall` if the data offset of a TCP header is below 5.
@@ -75,7 +75,7 @@ impl TransportHeader {
         }
     }
 
-    /// The protocol.
+    /// The protocol of the header.
     pub fn proto(&self) -> Proto
         ensures { result ≡ proto_of self.now }
     {
@@ -100,8 +100,8 @@ impl TransportHeader {
         }
     }
 
-    /// The bytes of the header (RFC 768; RFC 9293, section 3.1; RFC 792; RFC 4443, section 2.1). With a payload after
-    /// them they are read back as this header. `to_bytes` of `Icmpv4Header` and `Icmpv6Header` lists the exceptions.
+    /// The bytes of the header (RFC 768; RFC 9293, section 3.1; RFC 792; RFC 4443, section 2.1). With a payload after them, these bytes are
+    /// read back as this header. `to_bytes` of `Icmpv4Header` and `Icmpv6Header` lists the exceptions.
     pub fn to_bytes(&self) -> ArrayVec<u8, 60>
         ensures written { result.items ≡ wire self.now }
         ensures reads_back { (payload : List ℕ) → IsReadBack self.now payload }
@@ -120,7 +120,7 @@ impl TransportHeader {
     /// # Errors
     ///
     /// `LenError` of the layer `UdpHeader`, `TcpHeader`, `Icmpv4` or `Icmpv6` if the slice is shorter than the header.
-    /// Nothing is written then.
+    /// After this error the slice is unchanged.
     pub fn write_to_slice(&self, slice: &mut [u8]) -> Result<usize, LenError>
         ensures refused { RefusesExactly result (no_room self.now (length slice.old)) }
         ensures len { IfOk result (λ len. len ≡ length (wire self.now)) }
@@ -135,8 +135,8 @@ impl TransportHeader {
         }
     }
 
-    /// Stores the checksum over IPv4 of this header and this payload (RFC 768; RFC 9293, section 3.1; RFC 792). No
-    /// other field changes, so the caller must set the length field of UDP.
+    /// Stores the checksum of this header and this payload over IPv4 in the header (RFC 768; RFC 9293, section 3.1; RFC
+    /// 792). No other field changes, so the caller must set the length field of UDP.
     ///
     /// # Errors
     ///
@@ -172,14 +172,14 @@ impl TransportHeader {
         Ok(())
     }
 
-    /// Stores the checksum over IPv6 of this header and this payload. The checksum of ICMPv4 covers no address. No
-    /// other field changes, so the caller must set the length field of UDP. With a routing header, pass the final
-    /// destination (RFC 8200, section 8.1).
+    /// Stores the checksum of this header and this payload over IPv6 in the header. The checksum of ICMPv4 covers no
+    /// address. No other field changes, so the caller must set the length field of UDP. If the packet has a routing
+    /// header, pass the final destination (RFC 8200, section 8.1).
     ///
     /// # Errors
     ///
-    /// `ValueTooBigError` if header and payload of UDP, TCP or ICMPv6 are longer than 4,294,967,295 bytes. The header
-    /// is then unchanged.
+    /// `ValueTooBigError` if header and payload of UDP, TCP or ICMPv6 are longer than 4,294,967,295 bytes. After this
+    /// error the header is unchanged.
     pub fn update_checksum_ipv6(
         &mut self,
         ip_header: &Ipv6Header,

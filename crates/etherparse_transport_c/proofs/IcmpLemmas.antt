@@ -16,7 +16,7 @@ use Rattle.etherparse_transport_c.specs.Icmpv4 as icmpv4
 use Rattle.etherparse_transport_c.specs.Icmpv6 as icmpv6
 use Rattle.etherparse_transport_c.specs.Numbers as numbers
 
--- type, code and four bytes of a packet, written again with a checksum, and the bytes after them
+-- the type, the code and four bytes of a packet are written again with a checksum, and the bytes after them follow
 pub written_again : (packet : List ℕ) (checksum : ℕ) → 8 ≤ length packet
     → header_bytes (record { type = slice_index packet 0; code = slice_index packet 1; fields = slice_range packet 4 8 }) checksum ++ drop 8 packet
     ≡ with_checksum 2 packet checksum
@@ -31,14 +31,14 @@ written_again (a ∷ (b ∷ (c ∷ (d ∷ (e ∷ []))))) checksum enough = absur
 written_again (a ∷ (b ∷ (c ∷ (d ∷ (e ∷ (f ∷ [])))))) checksum enough = absurd (omega arith)
 written_again (a ∷ (b ∷ (c ∷ (d ∷ (e ∷ (f ∷ (g ∷ []))))))) checksum enough = absurd (omega arith)
 
--- so a header that is written of these, with a payload of these, is the packet with this checksum
+-- a header with these fields, followed by this payload, is the packet with this checksum
 pub packet_written : (packet fields payload : List ℕ) (type code checksum : ℕ) → 8 ≤ length packet → type ≡ slice_index packet 0
     → code ≡ slice_index packet 1 → fields ≡ slice_range packet 4 8 → payload ≡ drop 8 packet
     → header_bytes (record { type = type; code = code; fields = fields }) checksum ++ payload ≡ with_checksum 2 packet checksum
 packet_written packet fields payload type code checksum enough is_type is_code is_fields is_payload =
     rw (is_type, is_code, is_fields, is_payload) (written_again packet checksum enough)
 
--- and sums up to it
+-- the sum of this header and payload is the sum of the packet with this checksum
 pub total_written : (packet fields payload : List ℕ) (type code checksum : ℕ) → 8 ≤ length packet → type ≡ slice_index packet 0
     → code ≡ slice_index packet 1 → fields ≡ slice_range packet 4 8 → payload ≡ drop 8 packet → length fields ≡ 4
     → total (header_bytes (record { type = type; code = code; fields = fields }) checksum) + total payload ≡ total (with_checksum 2 packet checksum)
@@ -46,7 +46,7 @@ total_written packet fields payload type code checksum enough is_type is_code is
     sym (total-append (header_bytes (record { type = type; code = code; fields = fields }) checksum) payload (omega (arith, four)))
     ∙ ap total (packet_written packet fields payload type code checksum enough is_type is_code is_fields is_payload)
 
--- the sum over IPv6 that the checksum of such a header is taken of
+-- the sum over IPv6 for the checksum of a header with these fields
 pub summed_icmpv6 : (source destination packet fields payload : List ℕ) (type code : ℕ) → 8 ≤ length packet → type ≡ slice_index packet 0
     → code ≡ slice_index packet 1 → fields ≡ slice_range packet 4 8 → payload ≡ drop 8 packet → length fields ≡ 4
     → checksummed source destination (record { icmp_type = Unknown type code fields; checksum = 0 }) payload
@@ -85,13 +85,13 @@ take_past (byte ∷ front) back (suc len) within =
     let left : suc len - suc (length front) ≡ len - length front = omega arith in
     ap (λ bytes. byte ∷ bytes) (take_past front back len (omega (arith, within)) ∙ ap (λ n. front ++ take n back) (sym left))
 
--- the first bytes of a buffer, at whose front these were written, are these and some of what was there before
+-- after bytes are written at the front of a buffer, its front is these bytes and some of its old bytes
 pub front_read : (bytes buffer : List ℕ) (len : ℕ) → length bytes ≤ len
     → take len (at_front bytes buffer) ≡ bytes ++ take (len - length bytes) (drop (length bytes) buffer)
 unfolding at_front
 front_read bytes buffer len within = take_past bytes (drop (length bytes) buffer) len within
 
--- what a call leaves in a buffer that has room
+-- the content of a buffer with enough bytes after a call
 pub written_front : (bytes made buffer after : List ℕ) (written before : ℕ) → made ≡ bytes → no_room (length bytes) (length buffer) ≡ None
     → after ≡ unless_refused (no_room (length made) (length buffer)) (at_front made buffer) buffer
     → written ≡ unless_refused (no_room (length made) (length buffer)) (length made) before

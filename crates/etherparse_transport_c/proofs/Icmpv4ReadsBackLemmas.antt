@@ -1,4 +1,4 @@
--- A written ICMPv4 header is read as `ReadsBack` says, and as the same header.
+-- A written ICMPv4 header is read as `ReadsBack` states, and as the same header.
 use Rattle.std.proofs.Common.{◌≡◌, ◌≢◌, ℕ, zero, suc, ◌-◌, ◌^◌, ◌<◌, ◌≤◌, Bool, true, false, List, [], ◌++◌, length, take, drop, length-drop, Option, None, Some, refl, sym, ap, ◌∙◌, subst, arith}
 use Rattle.std.proofs.lemmas.Bool.Decides.{nat_tests}
 use Rattle.std.proofs.lemmas.List.{drop_at, take-append-le, take_all}
@@ -28,7 +28,7 @@ use Rattle.etherparse_transport_c.specs.Icmpv4.{IsReadAs, IsSameHeader, ReadsBac
 use Rattle.etherparse_transport_c.specs.Numbers as numbers
 use Rattle.etherparse_transport_c.specs.declared.icmpv4.EtherparseIcmpv4Header.{EtherparseIcmpv4Header}
 
--- what the library reads of a packet, as C has it
+-- C reads from a packet what the library reads from it
 pub is_read_as : (message : Icmpv4Type) (checksum : ℕ) (payload : List ℕ) (found : Result (Icmpv4Header × List ℕ) LenError)
     → 4 ≤ length (written message).fields → part.IsReadAs (wire (icmpv4_header message checksum) ++ payload) found
     → IsReadAs message (wire (icmpv4_header message checksum) ++ payload) found
@@ -42,7 +42,7 @@ is_read_as message checksum payload (Ok found) enough read =
     let four : slice_range packet 4 8 ≡ take 4 (written message).fields = take-append-le 4 (written message).fields payload enough in
     (ap (option_map of_len) read.accepted, rw (before, after, read.fields, four) refl)
 
--- the fields of every message are four bytes at the least
+-- the fields of every message have at least four bytes
 pub fields_enough : (message : Icmpv4Type) → FieldsFit message → 4 ≤ length (written message).fields
 fields_enough (Unknown type code fields) fit = omega (arith, fit)
 fields_enough (Redirect header) fit = omega (arith, fit)
@@ -53,7 +53,7 @@ fields_enough other fit = omega arith
 from_some : {A : Type 0} (one other : A) → Some one ≡ Some other → one ≡ other
 from_some one other same = cc
 
--- a message that was made of a kind has that kind
+-- a message that has the fields of a kind has that kind
 made : (message other : Icmpv4Type) (kind : ℕ) → (message_fields message).kind ≡ kind → Some message ≡ Some other → (message_fields other).kind ≡ kind
 made message other kind is same = subst (λ m. (message_fields m).kind ≡ kind) (from_some message other same) is
 
@@ -62,7 +62,7 @@ made_of : {Part : Type 0} (variant : Part → Icmpv4Type) (part : Option Part) (
 made_of variant None other kind is same = cc
 made_of variant (Some p) other kind is same = made (variant p) other kind (is p) same
 
--- beyond the kinds there is no message
+-- a number above the kinds is the kind of no message
 kind_beyond : (fields : EtherparseIcmpv4Header) → 9 ≤ fields.kind → message_in fields ≡ None
 kind_beyond fields beyond = grind (arith, nat_tests)
 
@@ -100,7 +100,7 @@ problem_listed : (header : ParameterProblemHeader)
 problem_listed (problem.PointerIndicatesError at) = refl
 problem_listed other = refl
 
--- what is read of a message that is not raw says the message
+-- the fields that are read for a message that is not raw are the fields of the message
 said_again : (message : Icmpv4Type) (checksum : ℕ) → FieldsFit message → (message_fields message).kind ≢ numbers.icmpv4_kind_unknown
     → message_in (header_read message (icmpv4_header message checksum)) ≡ Some message
 said_again (Unknown type code fields) checksum fit some = absurd (some refl)
@@ -114,7 +114,7 @@ said_again other checksum fit some = refl
 
 -- ---- the header
 
--- what was found of a message that is not raw is the message, and of every message the checksum
+-- the found header contains this checksum, and this message unless it is raw
 abbrev Finds : Icmpv4Type → ℕ → Icmpv4Header → Type 0
 Finds message checksum found =
     (found.checksum ≡ checksum) × ((message_fields message).kind ≢ numbers.icmpv4_kind_unknown → found ≡ icmpv4_header message checksum)
@@ -136,7 +136,7 @@ same_header fields message found is fit four finds =
           (refl, refl, take_all 4 fields.bytes4to7 (omega (arith, four)));
     }
 
--- the header that is read of an accepted packet, if that is read as one of two
+-- the header that is read from an accepted packet, if the packet is read as one of two messages
 abbrev IsFound : Icmpv4Type → ℕ → List ℕ → Type 0
 IsFound message checksum packet = (found : Icmpv4Header) × Finds message checksum found × ((packet_of packet).header ≡ header_read message found)
 
@@ -145,7 +145,7 @@ found_if : (message : Icmpv4Type) (checksum : ℕ) (packet payload : List ℕ) (
 found_if message checksum packet payload true found error finds read accepted = (found, finds, ap (λ p. p.header) read.1)
 found_if message checksum packet payload false found error finds read accepted = cc
 
--- a raw header that is a timestamp message with the bytes after it, or what is listed
+-- a raw header is read as a timestamp message with the bytes after it, or as the listed message
 raw_found : (type code : ℕ) (bytes5to8 : List ℕ) (checksum : ℕ) (packet payload : List ℕ) (is_request is_reply : Bool)
     → IsReadAs (Unknown type code bytes5to8) packet (
     if is_request then raw_timestamp_reads_back TimestampRequest layers.Icmpv4Timestamp bytes5to8 checksum payload
@@ -183,7 +183,7 @@ is_same fields message packet payload is fit four read accepted =
 
 -- ---- the buffer
 
--- what is read of the first bytes of a buffer in which a header was written
+-- what is read from the first bytes of a buffer in which a header was written
 front : (message : Icmpv4Type) (checksum : ℕ) (buffer : List ℕ) (len : ℕ) → FieldsFit message
     → ((payload : List ℕ) → part.IsReadAs (wire (icmpv4_header message checksum) ++ payload) (reads_back message checksum payload))
     → length (wire (icmpv4_header message checksum)) ≤ len

@@ -1,4 +1,4 @@
--- A written ICMPv6 header is read as `ReadsBack` says, and as the same header.
+-- A written ICMPv6 header is read as `ReadsBack` states, and as the same header.
 use Rattle.std.proofs.Common.{◌≡◌, ◌≢◌, ℕ, zero, suc, ◌+◌, ◌-◌, ◌*◌, ◌≤◌, Bool, true, false, List, ◌++◌, length, take, drop, length-drop, Option, None, Some, refl, sym, ap, ◌∙◌, subst, arith}
 use Rattle.std.proofs.lemmas.Bool.Decides.{nat_tests}
 use Rattle.std.proofs.lemmas.List.{drop_at, take-append-le, take_all}
@@ -26,7 +26,7 @@ use Rattle.etherparse_transport_c.specs.Icmpv6.{IsReadAs, IsSameHeader, ReadsBac
 use Rattle.etherparse_transport_c.specs.Numbers as numbers
 use Rattle.etherparse_transport_c.specs.declared.icmpv6.EtherparseIcmpv6Header.{EtherparseIcmpv6Header}
 
--- what the library reads of a packet, as C has it
+-- C reads from a packet what the library reads from it
 pub is_read_as : (message : Icmpv6Type) (checksum : ℕ) (payload : List ℕ) (found : Result (Icmpv6Header × List ℕ) LenError)
     → 4 ≤ length (written message).fields → part.IsReadAs (wire (icmpv6_header message checksum) ++ payload) found
     → IsReadAs message (wire (icmpv6_header message checksum) ++ payload) found
@@ -46,7 +46,7 @@ is_read_as message checksum payload (Ok found) enough read =
 from_some : {A : Type 0} (one other : A) → Some one ≡ Some other → one ≡ other
 from_some one other same = cc
 
--- a message that was made of a kind has that kind
+-- a message that has the fields of a kind has that kind
 made : (message other : Icmpv6Type) (kind : ℕ) → (message_fields message).kind ≡ kind → Some message ≡ Some other → (message_fields other).kind ≡ kind
 made message other kind is same = subst (λ m. (message_fields m).kind ≡ kind) (from_some message other same) is
 
@@ -55,7 +55,7 @@ made_of : {Part : Type 0} (variant : Part → Icmpv6Type) (part : Option Part) (
 made_of variant None other kind is same = cc
 made_of variant (Some p) other kind is same = made (variant p) other kind (is p) same
 
--- beyond the kinds there is no message
+-- a number above the kinds is the kind of no message
 kind_beyond : (fields : EtherparseIcmpv6Header) → 12 ≤ fields.kind → message_in fields ≡ None
 kind_beyond fields beyond = grind (arith, nat_tests)
 
@@ -90,7 +90,7 @@ problem_listed : (code : ParameterProblemCode) → slice_get parameter_problem_c
 problem_listed problem.ErroneousHeaderField = refl
 problem_listed other = refl
 
--- the flags of the sum of their bits
+-- the flags that are read from the sum of their bits
 router_flags : (managed other : Bool)
     → (is_set (from_bool managed * 128 + from_bool other * 64) 128 ≡ managed) × (is_set (from_bool managed * 128 + from_bool other * 64) 64 ≡ other)
 router_flags false false = (refl, refl)
@@ -111,7 +111,7 @@ neighbor_flags true false true = (refl, refl, refl)
 neighbor_flags true true false = (refl, refl, refl)
 neighbor_flags true true true = (refl, refl, refl)
 
--- what is read of a message that is not raw says the message
+-- the fields that are read for a message that is not raw are the fields of the message
 said_again : (message : Icmpv6Type) (checksum : ℕ) → (message_fields message).kind ≢ numbers.icmpv6_kind_unknown
     → message_in (header_read message (icmpv6_header message checksum)) ≡ Some message
 said_again (Unknown type code fields) checksum some = absurd (some refl)
@@ -127,7 +127,7 @@ said_again (NeighborAdvertisement header) checksum some =
     rw (flags.0, flags.1, flags.2) refl
 said_again other checksum some = refl
 
--- a message that is not raw is read as it was
+-- a message that is not raw is read back unchanged
 stays : (message : Icmpv6Type) → (message_fields message).kind ≢ numbers.icmpv6_kind_unknown → message_reads_back message ≡ message
 stays (Unknown type code fields) some = absurd (some refl)
 stays other some = refl
@@ -152,7 +152,7 @@ same_header fields message is four =
           (refl, refl, take_all 4 fields.bytes4to7 (omega (arith, four)));
     }
 
--- so where the packet is accepted the header is the same
+-- if the packet is accepted, the header is the same
 same_within : (fields : EtherparseIcmpv6Header) (message : Icmpv6Type) (packet payload : List ℕ) (long : Bool) (error : LenError)
     → message_in fields ≡ Some message → length fields.bytes4to7 ≡ 4
     → IsReadAs message packet (if long then Err error else Ok (icmpv6_header (message_reads_back message) fields.checksum, payload))
@@ -167,7 +167,7 @@ is_same fields message packet payload is four read accepted = same_within fields
 
 -- ---- the buffer
 
--- what is read of the first bytes of a buffer in which a header was written
+-- what is read from the first bytes of a buffer in which a header was written
 front : (message : Icmpv6Type) (checksum : ℕ) (buffer : List ℕ) (len : ℕ) → FieldsFit message
     → ((payload : List ℕ) → part.IsReadAs (wire (icmpv6_header message checksum) ++ payload) (reads_back message checksum payload))
     → length (wire (icmpv6_header message checksum)) ≤ len

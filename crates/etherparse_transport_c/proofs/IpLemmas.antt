@@ -12,7 +12,7 @@ use Rattle.net_base.specs.IpHeaders.{version}
 use Rattle.etherparse_transport_c.specs.Ip.{HasPayload, found, transport_in}
 use Rattle.etherparse_transport_c.specs.declared.ip.EtherparseIpTransport.{EtherparseIpTransport}
 
--- the counted bytes are the front of the packet, and no more than are there
+-- the counted bytes are the front of the packet
 whole_front : (missing : Bool) (packet : List ℕ) → take (length (counted missing packet)) packet ≡ counted missing packet
 whole_front missing packet =
     ap (λ len. take len packet) (length-take (counted_len missing packet) packet) ∙ take_min (counted_len missing packet) packet
@@ -20,7 +20,7 @@ whole_front missing packet =
 counted_within : (missing : Bool) (packet : List ℕ) → length (counted missing packet) ≤ length packet
 counted_within missing packet = omega (arith, length-take (counted_len missing packet) packet)
 
--- what comes after a front of the counted bytes
+-- the bytes after a front of the counted bytes
 after_front : (missing : Bool) (packet : List ℕ) (from len : ℕ) → from + len ≡ length (counted missing packet)
     → slice_range packet from (from + len) ≡ drop from (counted missing packet)
 after_front missing packet from len ends =
@@ -54,7 +54,7 @@ value_of : Headers → Result Headers IpError → Headers
 value_of other (Ok headers) = headers
 value_of other (Err error) = other
 
--- the headers of a packet are the same for all that it carries
+-- the headers of a packet are the same for each transport that is found in it
 same_payload : (packet : List ℕ) (headers : Headers) (carried : TransportInIp) → headers_of carried.is_length_missing packet ≡ Ok headers
     → Carries packet carried → drop headers.len (counted carried.is_length_missing packet) ≡ carried.payload.now
 unfolding value_of
@@ -75,7 +75,7 @@ payload_in missing packet headers read within =
           ∙ same_payload packet headers carried (ap (λ missing. headers_of missing packet) same ∙ read) carries;
     }
 
--- where a packet carries a transport, its payload is there
+-- if a packet contains a transport, it contains the payload of the transport
 pub has_payload : (packet : List ℕ) (carried : TransportInIp) (before : EtherparseIpTransport) → Carries packet carried
     → HasPayload carried.is_length_missing packet (found carried.is_length_missing packet (headers_of carried.is_length_missing packet) before)
 has_payload packet carried before carries = rw carries.read (payload_in carried.is_length_missing packet carries.headers carries.read carries.within)

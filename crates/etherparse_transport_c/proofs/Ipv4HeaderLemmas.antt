@@ -14,7 +14,7 @@ use Rattle.etherparse_transport_c.specs.Errors.{Answers, of_ip}
 use Rattle.etherparse_transport_c.specs.Ipv4Header.{TestTells, header_refusal, refusal}
 use Rattle.etherparse_transport_c.specs.Numbers as numbers
 
--- bytes that are not refused begin with a header
+-- bytes that are not refused contain a header without an error
 no_error : (error : Option IpError) → option_map of_ip error ≡ None → error ≡ None
 no_error None none = refl
 no_error (Some error) none = cc
@@ -35,7 +35,7 @@ pub total_without : (header : List ℕ) → 20 ≤ length header
     → 0 + total (take 10 header) + total (drop 12 header) ≡ total (with_checksum 10 header 0)
 total_without header enough = omega (arith, total-with_checksum 10 header 0 refl (omega (arith, enough)) (omega arith))
 
--- with its checksum the header sums up to all ones
+-- the sum of a header with its checksum is all ones
 pub verifies : (header : List ℕ) (checksum : ℕ) → 20 ≤ length header → checksum < 65536
     → checksum ≡ checksum_of (total (with_checksum 10 header 0)) → Verifies [] (with_checksum 10 header checksum)
 verifies header checksum enough small is =
@@ -43,7 +43,7 @@ verifies header checksum enough small is =
     let within = total-with_checksum 10 header checksum refl (omega (arith, enough)) small in
     ap folded (omega arith) ∙ checksum_verifies (total (with_checksum 10 header 0)) checksum is
 
--- bytes that begin with a header still do so with another checksum in it, and the test accepts it if the header sums up to all ones
+-- a header at the front of bytes stays a header if its checksum is replaced, and the test accepts it if its sum is all ones
 pub passes : (bytes : List ℕ) (checksum : ℕ) → BeginsWithIpv4Header bytes → refusal bytes ≡ None
     → Verifies [] (with_checksum 10 (ipv4_header bytes) checksum)
     → Answers (TestTells (with_checksum 10 bytes checksum)) numbers.status_ok

@@ -9,13 +9,13 @@ use Rattle.ip_part.specs.declared.transport.TransportInIp.{TransportInIp}
 use Rattle.etherparse_transport_c.specs.PacketVerdict.{of_transport, transport_refusal}
 use Rattle.etherparse_transport_c.proofs.PacketVerdictLemmas.{refusal_by_headers}
 
--- a truth value as 1 or 0
+-- a truth value is told as 1 or 0
 pub as_number : (holds : Bool) (Holds : Type 0) (told : ℕ) → told ≡ from_bool holds → (IsTrue holds ↔ Holds)
     → ((told ≡ 1) × Holds) ⊎ ((told ≡ 0) × (Holds → ⊥))
 as_number true Holds told is whether = inl (is, whether.0 refl)
 as_number false Holds told is whether = inr (is, λ held. let clash : false ≡ true = whether.1 held in cc)
 
--- a transport that is accepted is not refused in the packet that carries it
+-- an accepted transport is not refused in the packet that contains it
 pub accepted_in : (packet : List ℕ) (carried : TransportInIp) → Carries packet carried → carried.is_length_missing ≡ false
     → transports.refusal carried ≡ None → transport_refusal false packet (headers_of false packet) ≡ None
 accepted_in packet carried carries stated accepted =

@@ -4,7 +4,7 @@ use Rattle.std.proofs.lemmas.List.{take_all}
 use Rattle.std.specs.Prelude.{⊤, ◌*◌, ◌==◌, ◌||◌, if◌then◌else◌, nat_lt, slice_index}
 use Rattle.icmp_part.specs.QuotedPackets.{quoted_by_icmpv4, quoted_by_icmpv6}
 
--- a quoted packet that is the front of these bytes
+-- the quoted packet, if there is one, is the front of these bytes
 abbrev IsFront : List ℕ → Option (List ℕ) → Type 0
 IsFront bytes None = ⊤
 IsFront bytes (Some packet) = take (length packet) bytes ≡ packet
@@ -17,7 +17,7 @@ take_again (suc len) (byte ∷ bytes) = ap (λ rest. byte ∷ rest) (take_again 
 whole : (bytes : List ℕ) → take (length bytes) bytes ≡ bytes
 whole bytes = take_all (length bytes) bytes (omega arith)
 
--- a message with a length field, one without, and one that is not an error
+-- the quoted packet in a message with a length field, in a message without it, and in a message that is not an error
 front : (len : ℕ) (bytes : List ℕ) (has_field is_error is_unused : Bool)
     → IsFront bytes (if has_field then Some (if is_unused then bytes else take len bytes) else (if is_error then Some bytes else None))
 front len bytes true is_error true = whole bytes

@@ -6,18 +6,18 @@ use Rattle.word_sum.specs.Checksum.{folded, total}
 use Rattle.word_sum.proofs.ChecksumLemmas.{folded-add, folded-lt, folded-none, folded-some, folded_congruent, total-append}
 use Rattle.etherparse_transport_c.specs.Sums.{total_at}
 
--- the first byte of each word
+-- the sum of the high bytes of all words
 abbrev first_bytes : List ℕ → ℕ
 first_bytes [] = 0
 first_bytes (high ∷ []) = high
 first_bytes (high ∷ (low ∷ rest)) = high + first_bytes rest
 
--- a byte is the high half of a word, and the bytes after it stand at the odd places
+-- the sum of a byte and of bytes after it: the byte is the high half of a word, and the bytes after it are at odd places
 pub total_after_byte : (byte : ℕ) (bytes : List ℕ) → total (byte ∷ bytes) ≡ byte * 256 + total (0 ∷ bytes)
 total_after_byte byte [] = omega arith
 total_after_byte byte (low ∷ rest) = omega arith
 
--- bytes that move by one place: their sum is 256 times the sum, modulo 65535
+-- the sum of bytes that move by one place is 256 times their sum, modulo 65535
 total_moved : (bytes : List ℕ) → total bytes * 256 ≡ total (0 ∷ bytes) + first_bytes bytes * 65535
 total_moved [] = omega arith
 total_moved (high ∷ []) = omega arith
@@ -28,15 +28,15 @@ first_bytes_within [] = omega arith
 first_bytes_within (high ∷ []) = omega arith
 first_bytes_within (high ∷ (low ∷ rest)) = omega (arith, first_bytes_within rest, total_after_byte low rest)
 
--- a factor of 256 doesn't notice that a sum was folded before
+-- 256 times a folded sum folds like 256 times the sum
 folded_times_in_sum : (value n : ℕ) → folded (value + folded n * 256) ≡ folded (value + n * 256)
 folded_times_in_sum value n = grind (arith, folded-none, folded-some)
 
--- a sum whose two bytes are swapped is 256 times the sum
+-- a sum with its two bytes swapped folds like 256 times the sum
 swapped_in_sum : (value n : ℕ) → folded (value + (n % 256 * 256 + n / 256)) ≡ folded (value + n * 256)
 swapped_in_sum value n = sym (folded_congruent (value + n * 256) (value + (n % 256 * 256 + n / 256)) (n / 256) (omega arith) (λ z. omega arith))
 
--- so the sum of a part, with its two bytes swapped, is the sum of the part at an odd place
+-- the sum of a part with its bytes swapped is the sum of the part at an odd place
 pub swapped_sum : (value sum : ℕ) (bytes : List ℕ) → sum ≡ folded (0 + total bytes)
     → folded (value + total (to_le_bytes w16 sum)) ≡ folded (value + total (0 ∷ bytes))
 swapped_sum value sum bytes is =
@@ -58,7 +58,7 @@ total-append_odd [] back odd = absurd (omega arith)
 total-append_odd (byte ∷ []) back odd = omega (arith, total_after_byte byte back)
 total-append_odd (high ∷ (low ∷ front)) back odd = omega (arith, total-append_odd front back (omega arith))
 
--- the sum of some bytes and of the bytes after them is the sum of all
+-- the sum of bytes and of the bytes after them is the sum of all these bytes
 total_joined : (offset : ℕ) (front back : List ℕ) → length front % 2 ≡ offset % 2 → total (front ++ back) ≡ total front + total_at offset back
 total_joined offset front back parity = grind (arith, nat_tests, total-append front back, total-append_odd front back)
 

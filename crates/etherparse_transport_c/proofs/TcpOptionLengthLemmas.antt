@@ -1,4 +1,4 @@
--- How many bytes TCP options have.
+-- The number of bytes of TCP options.
 use Rattle.std.proofs.Common.{◌≡◌, ℕ, ◌+◌, ◌*◌, ◌<◌, ◌≤◌, List, [], ◌∷◌, length, Option, None, Some, Ok, length-append, sym, ap, ◌∙◌, arith}
 use Rattle.std.proofs.lemmas.Bool.Decides.{nat_tests}
 use Rattle.std.specs.List.{flat_map}
@@ -34,7 +34,7 @@ one_byte SelectiveAcknowledgementPermitted = omega arith
 one_byte (SelectiveAcknowledgement first more) = omega arith
 one_byte (Timestamp value echo) = omega arith
 
--- elements have at least as many bytes as they are
+-- elements have at least one byte each
 pub join_len : (elements : List TcpOptionElement) → length elements ≤ length (join elements)
 join_len [] = omega arith
 join_len (element ∷ elements) = omega (arith, length-append (spelling element) (join elements), one_byte element, join_len elements)
@@ -42,7 +42,7 @@ join_len (element ∷ elements) = omega (arith, length-append (spelling element)
 too_long_above : (len : ℕ) → max_options_len < len → too_long len ≡ Some (NotEnoughSpace len)
 too_long_above len more = grind (arith, nat_tests)
 
--- more than 40 options are refused with the length of all
+-- more than 40 options are refused with the length of all options
 pub many_refused : (options : List EtherparseTcpOption) (found : List TcpOptionElement) (needed : ℕ) → gathered [] options ≡ Ok found
     → max_options_len < length found → needed ≡ saturated (length (join found)) → options_refusal options ≡ Some (of_options (NotEnoughSpace needed))
 many_refused options found needed whole many is =

@@ -7,7 +7,7 @@ use Rattle.etherparse_transport_c.proofs.IcmpLemmas.{take_past}
 use Rattle.etherparse_transport_c.specs.Errors.{at_front}
 use Rattle.etherparse_transport_c.specs.Text.{IsCut, max_text_len}
 
--- a text with some bytes after it, of which no more are kept than there is room for
+-- a text after bytes are appended, as many as fit
 appended_at : (text before bytes : List ℕ) (room : ℕ) (above : Bool) → nat_lt max_text_len (length before) ≡ above → IsCut text before
     → room + length text ≡ max_text_len → IsCut (text ++ take room bytes) (before ++ bytes)
 appended_at text before bytes room false is cut full =
@@ -25,7 +25,7 @@ pub appended : (text before bytes : List ℕ) (room : ℕ) → IsCut text before
     → IsCut (text ++ take room bytes) (before ++ bytes)
 appended text before bytes room cut full = appended_at text before bytes room _ refl cut full
 
--- a zero byte after what was written at the front of a buffer
+-- a zero byte follows the bytes at the front of a buffer
 pub zero_after : (front buffer : List ℕ) → length front < length buffer
     → slice_set (front ++ drop (length front) buffer) (length front) 0 ≡ at_front (front ++ (0 ∷ [])) buffer
 unfolding at_front

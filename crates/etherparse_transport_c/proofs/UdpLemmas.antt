@@ -22,13 +22,13 @@ use Rattle.etherparse_transport_c.specs.declared.udp.EtherparseUdpHeader.{Etherp
 use Rattle.etherparse_transport_c.proofs.AnswersLemmas.{answers_ok}
 use Rattle.etherparse_transport_c.proofs.ChecksumsLemmas.{length-with_checksum, take-with_checksum, total-with_checksum}
 
--- the two parts around the checksum sum up to the packet with zeros in its place
+-- the sum of the two parts around the checksum is the sum of the packet with zeros instead of the checksum
 pub total_parts : (packet : List ℕ) → 8 ≤ length packet → total (take 6 packet) + total (drop 8 packet) ≡ total (with_checksum 6 packet 0)
 total_parts packet enough = omega (arith, total-with_checksum 6 packet 0 (omega arith) (omega (arith, enough)) (omega arith))
 
 -- ---- packets that are built
 
--- pseudo header and packet sum up to all ones with the checksum of both
+-- the sum of pseudo header and packet with its checksum is all ones
 verifies : (pseudo_header : ℕ → List ℕ) (packet : List ℕ) (checksum : ℕ) → 8 ≤ length packet → checksum < 65536
     → checksum ≡ udp_checksum_of (total (pseudo_header (length packet)) + total (with_checksum 6 packet 0))
     → folded (total (pseudo_header (length (with_checksum 6 packet checksum))) + total (with_checksum 6 packet checksum)) ≡ 65535
@@ -59,7 +59,7 @@ built_ipv4 source destination packet checksum enough counted small is =
     let len = length-with_checksum 6 packet checksum (omega (arith, enough)) in
     inr (omega (arith, len, counted), verifies (ipv4_pseudo_header source destination 17) packet checksum enough small is)
 
--- no packet gets the checksum 0
+-- the checksum of a UDP packet is never 0
 stores_no_zero : (n checksum : ℕ) → checksum ≡ udp_checksum_of n → checksum ≢ 0
 stores_no_zero n checksum is none = absurd (grind (arith, nat_tests))
 
@@ -75,7 +75,7 @@ built_ipv6 source destination packet checksum enough counted small is =
 
 -- ---- the test of bytes that a checksum was stored in
 
--- the length field stands before the checksum
+-- the length field does not change, since it is before the checksum
 length_field-with_checksum : (bytes : List ℕ) (checksum : ℕ) → 8 ≤ length bytes
     → length_field (with_checksum 6 bytes checksum) ≡ length_field bytes
 unfolding with_checksum
@@ -87,7 +87,7 @@ length_field-with_checksum (a ∷ (b ∷ (c ∷ []))) checksum enough = absurd (
 length_field-with_checksum (a ∷ (b ∷ (c ∷ (d ∷ [])))) checksum enough = absurd (omega arith)
 length_field-with_checksum (a ∷ (b ∷ (c ∷ (d ∷ (e ∷ []))))) checksum enough = absurd (omega arith)
 
--- so the packet that they begin with is the same but for the checksum
+-- the packet at the front of these bytes does not change, except for its checksum
 cut_as : (bytes : List ℕ) (checksum : ℕ) (counts : Bool) → 8 ≤ length bytes → length_counts bytes ≡ counts
     → cut (with_checksum 6 bytes checksum) ≡ with_checksum 6 (cut bytes) checksum
 cut_as bytes checksum true enough is =
@@ -104,7 +104,7 @@ cut-with_checksum : (bytes : List ℕ) (checksum : ℕ) → 8 ≤ length bytes
     → cut (with_checksum 6 bytes checksum) ≡ with_checksum 6 (cut bytes) checksum
 cut-with_checksum bytes checksum enough = cut_as bytes checksum _ enough refl
 
--- and they are refused alike
+-- two packets that differ only by the checksum are refused alike
 refusal-with_checksum : (value_type : ValueType) (limit : ℕ) (bytes : List ℕ) (checksum : ℕ) → 8 ≤ length bytes → 8 ≤ length (cut bytes)
     → checksum_refusal value_type limit (with_checksum 6 bytes checksum) ≡ checksum_refusal value_type limit bytes
 refusal-with_checksum value_type limit bytes checksum enough whole =
@@ -115,7 +115,7 @@ refusal-with_checksum value_type limit bytes checksum enough whole =
     let strict : strict_refusal (with_checksum 6 bytes checksum) ≡ strict_refusal bytes = rw (len, field) refl in
     rw (strict, cut_len) refl
 
--- a checksum that is stored is there
+-- a stored checksum is present
 present : (bytes : List ℕ) (sum checksum : ℕ) → 8 ≤ length bytes → 8 ≤ length (cut bytes) → checksum < 65536 → checksum ≡ udp_checksum_of sum
     → has_no_checksum (cut (with_checksum 6 bytes checksum)) ≡ false
 present bytes sum checksum enough whole small is =
@@ -124,7 +124,7 @@ present bytes sum checksum enough whole small is =
     let some = stores_no_zero sum checksum is in
     rw field (grind (arith, nat_tests))
 
--- what is accepted has a header
+-- accepted bytes contain a header
 enough_cut : (bytes : List ℕ) (counts : Bool) → 8 ≤ length bytes → length_counts bytes ≡ counts → 8 ≤ length (cut bytes)
 enough_cut bytes true enough is =
     let within : (8 ≤ length_field bytes) × (length_field bytes ≤ length bytes) = grind (arith, nat_tests) in
@@ -165,7 +165,7 @@ passes_ipv6 source destination bytes checksum enough whole small is accepted val
 
 -- ---- the library's checksum of header and payload
 
--- the header but for its checksum sums up to the bytes before that
+-- the sum of a header without its checksum is the sum of the bytes before the checksum
 total_header : (packet : List ℕ) → IsBytes packet → 8 ≤ length packet
     → total (wire (record (header_of packet) { checksum = 0 })) ≡ total (take 6 packet)
 total_header (a ∷ (b ∷ (c ∷ (d ∷ (e ∷ (f ∷ rest)))))) fits enough = omega (arith, fits 0, fits 1, fits 2, fits 3, fits 4, fits 5)
@@ -176,7 +176,7 @@ total_header (a ∷ (b ∷ (c ∷ []))) fits enough = absurd (omega arith)
 total_header (a ∷ (b ∷ (c ∷ (d ∷ [])))) fits enough = absurd (omega arith)
 total_header (a ∷ (b ∷ (c ∷ (d ∷ (e ∷ []))))) fits enough = absurd (omega arith)
 
--- where the length field counts the packet, both are taken of the same sum
+-- if the length field counts the packet, both checksums are computed from the same sum
 covers : (pseudo_header : ℕ → List ℕ) (packet : List ℕ) → IsBytes packet → 8 ≤ length packet → length_field packet ≡ length packet
     → total (pseudo_header (length packet)) + total (with_checksum 6 packet 0)
     ≡ udp.checksummed (pseudo_header (length_field packet)) (header_of packet) (drop 8 packet)

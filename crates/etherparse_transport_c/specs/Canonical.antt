@@ -9,7 +9,7 @@ use Rattle.etherparse_transport_c.specs.Errors.{first_refusal, no_room, of_heade
 use Rattle.etherparse_transport_c.specs.Numbers as numbers
 use Rattle.etherparse_transport_c.specs.declared.error.EtherparseError.{EtherparseError}
 
--- the protocol with this number in IP headers, if it is one of the four
+-- the protocol with this number in IP headers, or `None` if it is not UDP, TCP, ICMPv4 or ICMPv6
 abbrev pub protocol_of : ℕ → Option Proto
 protocol_of number =
     if number == numbers.protocol_icmpv4 then Some Icmpv4
@@ -18,12 +18,12 @@ protocol_of number =
     else if number == numbers.protocol_icmpv6 then Some Icmpv6
     else None
 
--- the canonical header of accepted bytes; without a protocol there is none
+-- the canonical header for accepted bytes of this protocol; without a protocol it is empty
 abbrev pub canonical_bytes : Option Proto → List ℕ → List ℕ
 canonical_bytes None bytes = []
 canonical_bytes (Some protocol) bytes = take ((layout_of protocol bytes).header_len) (formats.canonical protocol bytes)
 
--- the first of these refusals that applies: an unknown protocol, a refused header, a buffer that is too small
+-- the first refusal that applies: the protocol is unknown, the header is refused, or the buffer is too small
 abbrev pub refusal : ℕ → Option Proto → List ℕ → ℕ → Option EtherparseError
 refusal number None bytes room = Some (of_protocol number)
 refusal number (Some protocol) bytes room =

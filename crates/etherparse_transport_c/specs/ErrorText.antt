@@ -40,13 +40,13 @@ use Rattle.etherparse_transport_c.specs.declared.error.EtherparseError.{Etherpar
 abbrev pub wrong_checksum_text : List ℕ
 wrong_checksum_text = codes "Checksum Error: the checksum is wrong."
 
--- The text of a refused echo request. A wrong checksum has the text of every wrong checksum, since it has the same status.
+-- The text for a refused echo request. A wrong checksum has the text that all wrong checksums have, since its status is the same.
 abbrev pub echo_text_in_c : AnswerEchoError → List ℕ
 echo_text_in_c echo.Checksum = wrong_checksum_text
 echo_text_in_c error = answer_echo_text error
 
--- The text of a packet that is not translated. The other IP version has the text of every version that a call does not accept, since it has
--- the same status.
+-- The text for a packet that is not translated. An IP version that the call does not accept has the text that all such versions have, since
+-- its status is the same.
 abbrev pub translate_text_in_c : ℕ → TranslateError → List ℕ
 translate_text_in_c other_version translate.OtherVersion = ip_text (ip.Version other_version)
 translate_text_in_c other_version error = translate_text error
@@ -98,7 +98,7 @@ value_type_at number =
     else if number == numbers.value_icmpv6_payload_length then Some values.Icmpv6PayloadLength
     else None
 
--- the reason why a checksum is not tested, with the verdict of this number
+-- the reason why a checksum is not tested, by the number of its verdict
 abbrev pub untested_at : ℕ → Option reasons.Untested
 untested_at number =
     if number == numbers.verdict_untested_fragment then Some Fragment
@@ -109,11 +109,11 @@ untested_at number =
     else if number == numbers.verdict_untested_too_long then Some TooLong
     else None
 
--- a number, if it fits into a byte
+-- the number, if it fits in a byte
 abbrev pub byte_in : ℕ → Option ℕ
 byte_in number = if nat_lt number 256 then Some number else None
 
--- the error of a length
+-- the error about a length
 abbrev pub len_error_in : EtherparseError → Option LenError
 len_error_in error = option_and_then
     (λ layer. option_map
@@ -127,7 +127,7 @@ len_error_in error = option_and_then
     (len_source_at error.len_source))
     (layer_at error.layer)
 
--- the error of a value that is too big
+-- the error about a value that is too big
 abbrev pub value_error_in : EtherparseError → Option (ValueTooBigError ℕ)
 value_error_in error = option_map
     (λ value_type. record { actual = error.actual; max_allowed = error.max_allowed; value_type = value_type })
@@ -175,7 +175,7 @@ answer_echo_error_in error =
     else if error.status == numbers.status_echo_reply_source then Some echo.ReplySource
     else None
 
--- the reason why a packet is not translated, for the statuses of its protocol, header, message and quoted packet
+-- the reason why a packet is not translated: its protocol, its transport header, its ICMP message, or the packet that it quotes
 abbrev pub translate_error_in : EtherparseError → Option TranslateError
 translate_error_in error =
     if error.status == numbers.status_translate_protocol then option_map (λ number. translate.Protocol (record { 0 = number })) (byte_in error.actual)
@@ -186,17 +186,17 @@ translate_error_in error =
 
 -- ---- the text of an error
 
--- the text of the library's error, or this other text if there is no such error
+-- the text of the error that the library in Rattle has, or this other text if it has no such error
 abbrev pub text_or : {E : Type 0} → List ℕ → (E → List ℕ) → Option E → List ℕ
 text_or other text None = other
 text_or other text (Some error) = text error
 
--- the text of a checksum that is not tested, with the verdict of this number
+-- the text for a checksum that is not tested, by the number of its verdict
 abbrev pub untested_text_at : ℕ → List ℕ
 untested_text_at number = text_or (codes "Unknown error.") untested_text (untested_at number)
 
--- The text of an error that exists only in the library for C, of numbers that no call returns, and of statuses from 44 on. These are not
--- next to the other statuses of their calls.
+-- The text of an error that exists only in the library for C, or whose numbers no call returns. Statuses from 44 on are also here, since
+-- they were added after the other statuses of their calls.
 abbrev pub own_text : EtherparseError → List ℕ
 own_text error =
     if error.status == numbers.status_ok then codes "No error."

@@ -1,4 +1,4 @@
--- Errors in the interface to C: the stable number of each variant, and one record for all kinds of errors.
+-- Errors in the interface to C: the number of each variant, and one record for all kinds of errors.
 use Rattle.std.specs.Prelude.{◌≡◌, ◌⊎◌, ℕ, Bool, true, false, if◌then◌else◌, ◌==◌, nat_lt, List, ◌++◌, length, drop, Option, None, Some}
 use Rattle.etherparse_transport.specs.declared.err.packet.answer_echo_error.AnswerEchoError.{AnswerEchoError}
 use Rattle.etherparse_transport.specs.declared.err.packet.answer_echo_error.AnswerEchoError.TheVariants as echo
@@ -48,7 +48,7 @@ layer_number layers.Icmpv4Timestamp = numbers.layer_icmpv4_timestamp
 layer_number layers.Icmpv4TimestampReply = numbers.layer_icmpv4_timestamp_reply
 layer_number layers.Icmpv6 = numbers.layer_icmpv6
 
--- the number in C of the source of a length
+-- the number in C of what states a length
 abbrev pub len_source_number : LenSource → ℕ
 len_source_number Slice = numbers.len_source_slice
 len_source_number UdpHeaderLen = numbers.len_source_udp_header_len
@@ -89,7 +89,7 @@ nothing = record {
   max_allowed = 0;
 }
 
--- a wrong length
+-- the error for a wrong length
 abbrev pub of_len : LenError → EtherparseError
 of_len error = record nothing {
   status = numbers.status_length;
@@ -100,12 +100,12 @@ of_len error = record nothing {
   layer_start_offset = error.layer_start_offset;
 }
 
--- a refused TCP header
+-- the error for a refused TCP header
 abbrev pub of_header_slice : HeaderSliceError → EtherparseError
 of_header_slice (Len error) = of_len error
 of_header_slice (Content (DataOffsetTooSmall data_offset)) = record nothing { status = numbers.status_data_offset; data_offset = data_offset }
 
--- a value that is too big
+-- the error for a value that is too big
 abbrev pub of_value : ValueTooBigError ℕ → EtherparseError
 of_value error = record nothing {
   status = numbers.status_value_too_big;
@@ -114,11 +114,11 @@ of_value error = record nothing {
   max_allowed = error.max_allowed;
 }
 
--- a buffer of the caller that is too small
+-- the error for a buffer of the caller that is too small
 abbrev pub of_buffer : ℕ → ℕ → EtherparseError
 of_buffer required_len len = record nothing { status = numbers.status_buffer_too_small; required_len = required_len; len = len }
 
--- flags of a TCP header with a bit other than the nine flags
+-- the error for flags of a TCP header with a bit that belongs to none of the nine flags
 abbrev pub of_flags : ℕ → EtherparseError
 of_flags flags = record nothing { status = numbers.status_flags_unknown; actual = flags; max_allowed = numbers.tcp_flags }
 
@@ -130,37 +130,37 @@ of_protocol number = record nothing { status = numbers.status_protocol_unknown; 
 abbrev pub of_status : ℕ → EtherparseError
 of_status status = record nothing { status = status }
 
--- TCP options that can't be written
+-- the error for TCP options that can't be written
 abbrev pub of_options : TcpOptionWriteError → EtherparseError
 of_options (NotEnoughSpace len) = record nothing { status = numbers.status_options_too_long; required_len = max_options_len; len = len }
 
--- an option of a known kind that can't be read
+-- the error for an option of a known kind that can't be read
 abbrev pub of_option : TcpOptionReadError → EtherparseError
 of_option (UnexpectedEndOfSlice kind expected left) = record nothing { status = numbers.status_option_cut_off; option_kind = kind; required_len = expected; len = left }
 of_option (UnexpectedSize kind size) = record nothing { status = numbers.status_option_size; option_kind = kind; option_size = size }
 of_option (UnknownId kind) = record nothing { status = numbers.status_option_unknown; option_kind = kind }
 
--- an option of any kind that can't be read; if the length byte is missing, two bytes are required and one is present
+-- the error for an option of any kind that can't be read; if the length byte is missing, two bytes are required and one is present
 abbrev pub of_raw_option : TcpRawOptionError → EtherparseError
 of_raw_option (NoLengthByte kind) = record nothing { status = numbers.status_option_cut_off; option_kind = kind; required_len = 2; len = 1 }
 of_raw_option (LengthBelowTwo kind size) = record nothing { status = numbers.status_option_size; option_kind = kind; option_size = size }
 of_raw_option (LengthBeyondEnd kind size left) =
     record nothing { status = numbers.status_option_cut_off; option_kind = kind; required_len = size; len = left }
 
--- a kind of option that is not known
+-- the error for an unknown kind of option
 abbrev pub of_option_kind : ℕ → EtherparseError
 of_option_kind kind = record nothing { status = numbers.status_option_unknown; option_kind = kind }
 
--- values that no option of this kind can have
+-- the error for values that an option of this kind can't have
 abbrev pub of_option_values : ℕ → EtherparseError
 of_option_values kind = record nothing { status = numbers.status_option_values; option_kind = kind }
 
--- a wrong length of an IP packet, and the length that the call would have accepted
+-- the error for a wrong length of an IP packet, with the length that the call would have accepted
 abbrev pub of_ip_length : ℕ → ℕ → ℕ → EtherparseError
 of_ip_length status required_len len = record nothing { status = status; required_len = required_len; len = len }
 
--- A refused IP packet. The required length is 20 for a header length, the length of the header for a total length, and 65,536 for a jumbo
--- payload length. The field `actual` contains the version, the number of an extension header, or a payload length that is not 0.
+-- The error for a refused IP packet. The required length is 20 for a header length, the length of the header for a total length, and 65,536
+-- for a jumbo payload length. `actual` is the version, the number of an extension header, or the payload length.
 abbrev pub of_ip : IpError → EtherparseError
 of_ip (ip.HeaderCutOff required_len len) = of_ip_length numbers.status_ip_header_cut_off required_len len
 of_ip (ip.Version version) = record nothing { status = numbers.status_ip_version; actual = version }
@@ -176,7 +176,7 @@ of_ip (ip.JumboPayloadUnexpected payload_len) =
 of_ip (ip.JumboPayloadFragment offset) =
     record nothing { status = numbers.status_ip_jumbo_payload_fragment; layer_start_offset = offset }
 
--- a refused echo request; a wrong checksum of the message has the status of every wrong checksum
+-- the error for a refused echo request; a wrong checksum of the message has the status that all wrong checksums have
 abbrev pub of_answer_echo : AnswerEchoError → EtherparseError
 of_answer_echo (echo.Ip error) = of_ip error
 of_answer_echo echo.Fragment = of_status numbers.status_echo_fragment
@@ -188,7 +188,7 @@ of_answer_echo echo.Checksum = of_status numbers.status_checksum_wrong
 of_answer_echo echo.RequestSource = of_status numbers.status_echo_request_source
 of_answer_echo echo.ReplySource = of_status numbers.status_echo_reply_source
 
--- a packet that is not translated; the other IP version has the status of every version that a call does not accept
+-- the error for a packet that is not translated; `other_version` is the IP version that the call does not accept
 abbrev pub of_translate : ℕ → TranslateError → EtherparseError
 of_translate other_version (translate.Ip error) = of_ip error
 of_translate other_version translate.OtherVersion = of_ip (ip.Version other_version)
@@ -200,7 +200,7 @@ of_translate other_version (translate.HeaderCutOff required_len len) =
 of_translate other_version translate.IcmpMessage = of_status numbers.status_translate_icmp_message
 of_translate other_version translate.QuotedPacket = of_status numbers.status_translate_quoted_packet
 
--- a packet in which no checksum is stored; if its checksum is not tested, the field `actual` contains the verdict
+-- the error for a packet in which no checksum is stored; if its checksum is not tested, `actual` is the number of the verdict
 abbrev pub of_write_checksum : WriteChecksumError → EtherparseError
 of_write_checksum (write.Ip error) = of_ip error
 of_write_checksum (write.Transport error) = of_header_slice error
@@ -221,12 +221,12 @@ of_build build.Icmpv4InIpv6 = of_protocol numbers.protocol_icmpv4
 
 -- ---- results of calls
 
--- the status of a call: 0, or the status of the refusal
+-- the status of a call: `OK`, or the status of the refusal
 abbrev pub status_of : Option EtherparseError → ℕ
 status_of None = numbers.status_ok
 status_of (Some error) = error.status
 
--- unless the pointer is NULL, it points to this error after the call
+-- if the pointer is not NULL, it points to this error after the call
 abbrev pub Leaves : ErrorPlace → Answer → EtherparseError → Type 0
 Leaves place answer error = (answer.pointer ≡ place.pointer) × (answer.error ≡ error)
 
@@ -235,7 +235,7 @@ abbrev pub unless_refused : {A : Type 0} → Option EtherparseError → A → A 
 unless_refused None made before = made
 unless_refused (Some error) made before = before
 
--- the refusal of a buffer that is too short for this number of bytes
+-- the refusal if a buffer of `len` bytes has no room for `needed` bytes
 abbrev pub no_room : ℕ → ℕ → Option EtherparseError
 no_room needed len = refused_if (nat_lt len needed) (of_buffer needed len)
 
@@ -250,13 +250,13 @@ Tells (Some error) absent Valid status = status ≡ error.status
 Tells None true Valid status = status ≡ numbers.status_checksum_absent
 Tells None false Valid status = ((status ≡ numbers.status_ok) × Valid) ⊎ ((status ≡ numbers.status_checksum_wrong) × (Valid → ⊥))
 
--- The error after a test that returned this status. If the packet is refused, it is the refusal. After `OK` the error is unchanged. After
--- any other status the error consists only of the status.
+-- The error after a test that returned this status. If the packet is refused, it is the refusal. If the status is `OK`, the error is
+-- unchanged. Otherwise it consists only of the status.
 abbrev pub test_error : Option EtherparseError → ℕ → EtherparseError → EtherparseError
 test_error (Some error) status before = error
 test_error None status before = if status == numbers.status_ok then before else of_status status
 
--- a test returns this status, and can return no other status
+-- the test returns this status and no other
 abbrev pub Answers : (ℕ → Type 0) → ℕ → Type 0
 Answers Told status = Told status × ((other : ℕ) → Told other → other ≡ status)
 

@@ -51,7 +51,7 @@ timestamp_fields kind message = record nothing {
   transmit_timestamp = message.transmit_timestamp;
 }
 
--- The number of a kind and the fields that only this kind has. The code determines the variant of a kind.
+-- The number of the kind, and the fields that only this kind has. The field `code_u8` contains the code.
 abbrev pub message_fields : Icmpv4Type → EtherparseIcmpv4Header
 message_fields (Unknown type code fields) = record nothing { kind = numbers.icmpv4_kind_unknown }
 message_fields (EchoReply echo) = echo_fields numbers.icmpv4_kind_echo_reply echo
@@ -67,7 +67,7 @@ message_fields (TimestampReply message) = timestamp_fields numbers.icmpv4_kind_t
 abbrev pub refusal : List ℕ → Option EtherparseError
 refusal bytes = option_map of_len (icmpv4.refusal bytes)
 
--- a header: the fields that every kind has are from `common`, and the fields of its kind are from `fields`
+-- a header with the checksum, type, code and four bytes of `common`, and all other fields of `fields`
 abbrev pub with_common : EtherparseIcmpv4Header → EtherparseIcmpv4Header → EtherparseIcmpv4Header
 with_common common fields = record fields {
   checksum = common.checksum;
@@ -95,19 +95,19 @@ TestTells bytes status = Tells (refusal bytes) false (IsValidIcmpv4 bytes) statu
 
 -- ---- writing
 
--- the first bytes of a header with this MTU of the next hop
+-- the first bytes of a header in which this is the MTU of the next hop
 abbrev pub with_next_hop_mtu : ℕ → List ℕ
 with_next_hop_mtu mtu = replicate 6 0 ++ to_be_bytes w16 mtu
 
--- the first bytes of a header with this pointer
+-- the first bytes of a header in which this is the pointer
 abbrev pub with_pointer : ℕ → List ℕ
 with_pointer pointer = replicate 4 0 ++ (pointer ∷ [])
 
--- the numbers of an echo message
+-- the identifier and the sequence number of an echo message
 abbrev pub echo_in : EtherparseIcmpv4Header → IcmpEchoHeader
 echo_in fields = record { id = fields.id; seq = fields.sequence_number }
 
--- the numbers of a timestamp message
+-- the identifier, the sequence number and the three times of a timestamp message
 abbrev pub timestamp_in : EtherparseIcmpv4Header → TimestampMessage
 timestamp_in fields = record {
   id = fields.id;
@@ -117,7 +117,7 @@ timestamp_in fields = record {
   transmit_timestamp = fields.transmit_timestamp;
 }
 
--- the message with these fields, or `None` if the kind is unknown, or if the code is unknown for this kind
+-- the message with these fields, or `None` if the kind is unknown, or if this kind has no such code
 abbrev pub message_in : EtherparseIcmpv4Header → Option Icmpv4Type
 message_in fields =
     if fields.kind == numbers.icmpv4_kind_unknown then Some (Unknown fields.type_u8 fields.code_u8 fields.bytes4to7)
@@ -136,15 +136,15 @@ abbrev pub header_bytes : ℕ → Option Icmpv4Type → List ℕ
 header_bytes checksum None = []
 header_bytes checksum (Some message) = icmpv4.wire (record { icmp_type = message; checksum = checksum })
 
--- the refusal to write a header: there is no message with these fields, or the buffer is too small
+-- the refusal to write a header: no message has these fields, or the buffer is too small
 abbrev pub write_refusal : ℕ → Option Icmpv4Type → ℕ → Option EtherparseError
 write_refusal checksum None room = Some (of_status numbers.status_message_unknown)
 write_refusal checksum (Some message) room = no_room (length (header_bytes checksum (Some message))) room
 
 -- ---- reading a written header
 
--- The header that is read after this message was written. Checksum and message are as the library reads them. Type, code and the four bytes
--- after the checksum are as they were written.
+-- The header that is read after this message was written. The checksum and the message are as the library reads them. The type, the code
+-- and the four bytes after the checksum are as they were written.
 abbrev pub header_read : Icmpv4Type → Icmpv4Header → EtherparseIcmpv4Header
 header_read message found = record (message_fields found.icmp_type) {
   checksum = found.checksum;
@@ -153,7 +153,7 @@ header_read message found = record (message_fields found.icmp_type) {
   bytes4to7 = take 4 (icmpv4.written message).fields;
 }
 
--- The packet begins with a header of this message. The call refuses the packet with this error, or reads this header and this payload.
+-- the call reads from the packet what the library reads: it refuses the packet with this error, or reads this header and this payload
 abbrev pub IsReadAs : Icmpv4Type → List ℕ → Result (Icmpv4Header × List ℕ) LenError → Type 0
 IsReadAs message packet (Err error) = refusal packet ≡ Some (of_len error)
 IsReadAs message packet (Ok found) = (refusal packet ≡ None) × (packet_of packet ≡ record {
@@ -162,16 +162,15 @@ IsReadAs message packet (Ok found) = (refusal packet ≡ None) × (packet_of pac
   payload_len = length found.1;
 })
 
--- The packet begins with a header of this message and checksum. It is read as the library reads such a header and the bytes after it. That
--- is the same message, except if an unknown message has a listed type and code: it is read as the listed message. A timestamp message that
--- is not 20 bytes long is refused.
+-- The packet begins with a header of this message and checksum. The library reads the header back as the same message. An unknown message
+-- whose type and code are listed is read as the listed message. A timestamp message that is not 20 bytes long is refused.
 abbrev pub ReadsBack : ℕ → Option Icmpv4Type → List ℕ → Type 0
 ReadsBack checksum None packet = ⊤
 ReadsBack checksum (Some message) packet =
     IsReadAs message packet (reads_back message checksum (drop (length (header_bytes checksum (Some message))) packet))
 
--- The header that was read is the header that was written: it has the same checksum, the same kind, and the same fields of this kind. If
--- the kind is unknown, it has the same type, code and four bytes.
+-- The header that was read is the header that was written: its checksum, its kind and the fields of its kind are equal. If the kind is
+-- unknown, its type, code and four bytes are equal.
 pub record IsSameHeader (fields read : EtherparseIcmpv4Header) : Type 0 where
   pub checksum : read.checksum ≡ fields.checksum
   pub kind : fields.kind ≢ numbers.icmpv4_kind_unknown → read.kind ≡ fields.kind

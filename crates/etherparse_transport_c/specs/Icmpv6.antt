@@ -43,15 +43,15 @@ bare kind = record nothing { kind = kind }
 abbrev pub echo_fields : ℕ → IcmpEchoHeader → EtherparseIcmpv6Header
 echo_fields kind echo = record (bare kind) { id = echo.id; sequence_number = echo.seq }
 
--- the flags of a router advertisement, at their bits in the packet
+-- the flags of a router advertisement as a byte
 abbrev pub router_flags : RouterAdvertisementHeader → ℕ
 router_flags header = icmpv6.router_advertisement_flags header
 
--- the flags of a neighbor advertisement, at their bits in the packet
+-- the flags of a neighbor advertisement as a byte
 abbrev pub neighbor_flags : NeighborAdvertisementHeader → ℕ
 neighbor_flags header = icmpv6.neighbor_advertisement_flags header
 
--- The number of a kind and the fields that only this kind has. The code determines the variant of a kind.
+-- The number of the kind, and the fields that only this kind has. The field `code_u8` contains the code.
 abbrev pub message_fields : Icmpv6Type → EtherparseIcmpv6Header
 message_fields (Unknown type code fields) = bare numbers.icmpv6_kind_unknown
 message_fields (DestinationUnreachable code) = bare numbers.icmpv6_kind_destination_unreachable
@@ -74,7 +74,7 @@ message_fields Redirect = bare numbers.icmpv6_kind_redirect
 abbrev pub refusal : List ℕ → Option EtherparseError
 refusal bytes = option_map of_len (icmpv6.refusal bytes)
 
--- a header: the fields that every kind has are from `common`, and the fields of its kind are from `fields`
+-- a header with the checksum, type, code and four bytes of `common`, and all other fields of `fields`
 abbrev pub with_common : EtherparseIcmpv6Header → EtherparseIcmpv6Header → EtherparseIcmpv6Header
 with_common common fields = record fields {
   checksum = common.checksum;
@@ -102,7 +102,7 @@ TestTells source destination bytes status = Tells (refusal bytes) false (IsValid
 
 -- ---- writing
 
--- the numbers of an echo message
+-- the identifier and the sequence number of an echo message
 abbrev pub echo_in : EtherparseIcmpv6Header → IcmpEchoHeader
 echo_in fields = record { id = fields.id; seq = fields.sequence_number }
 
@@ -127,7 +127,7 @@ neighbor_in fields = record {
   override_flag = is_set fields.flags numbers.icmpv6_neighbor_override;
 }
 
--- the message with these fields, or `None` if the kind is unknown, or if the code is unknown for this kind
+-- the message with these fields, or `None` if the kind is unknown, or if this kind has no such code
 abbrev pub message_in : EtherparseIcmpv6Header → Option Icmpv6Type
 message_in fields =
     if fields.kind == numbers.icmpv6_kind_unknown then Some (Unknown fields.type_u8 fields.code_u8 fields.bytes4to7)
@@ -149,15 +149,15 @@ abbrev pub header_bytes : ℕ → Option Icmpv6Type → List ℕ
 header_bytes checksum None = []
 header_bytes checksum (Some message) = icmpv6.wire (record { icmp_type = message; checksum = checksum })
 
--- the refusal to write a header: there is no message with these fields, or the buffer is too small
+-- the refusal to write a header: no message has these fields, or the buffer is too small
 abbrev pub write_refusal : ℕ → Option Icmpv6Type → ℕ → Option EtherparseError
 write_refusal checksum None room = Some (of_status numbers.status_message_unknown)
 write_refusal checksum (Some message) room = no_room (length (header_bytes checksum (Some message))) room
 
 -- ---- reading a written header
 
--- The header that is read after this message was written. Checksum and message are as the library reads them. Type, code and the four bytes
--- after the checksum are as they were written.
+-- The header that is read after this message was written. The checksum and the message are as the library reads them. The type, the code
+-- and the four bytes after the checksum are as they were written.
 abbrev pub header_read : Icmpv6Type → Icmpv6Header → EtherparseIcmpv6Header
 header_read message found = record (message_fields found.icmp_type) {
   checksum = found.checksum;
@@ -166,7 +166,7 @@ header_read message found = record (message_fields found.icmp_type) {
   bytes4to7 = take 4 (icmpv6.written message).fields;
 }
 
--- The packet begins with a header of this message. The call refuses the packet with this error, or reads this header and this payload.
+-- the call reads from the packet what the library reads: it refuses the packet with this error, or reads this header and this payload
 abbrev pub IsReadAs : Icmpv6Type → List ℕ → Result (Icmpv6Header × List ℕ) LenError → Type 0
 IsReadAs message packet (Err error) = refusal packet ≡ Some (of_len error)
 IsReadAs message packet (Ok found) = (refusal packet ≡ None) × (packet_of packet ≡ record {
@@ -175,16 +175,15 @@ IsReadAs message packet (Ok found) = (refusal packet ≡ None) × (packet_of pac
   payload_len = length found.1;
 })
 
--- The packet begins with a header of this message and checksum. It is read as the library reads such a header and the bytes after it. That
--- is the same message, except if an unknown message has a listed type and code: it is read as the listed message. A packet that is too long
--- is refused.
+-- The packet begins with a header of this message and checksum. The library reads the header back as the same message. An unknown message
+-- whose type and code are listed is read as the listed message. A packet that is too long is refused.
 abbrev pub ReadsBack : ℕ → Option Icmpv6Type → List ℕ → Type 0
 ReadsBack checksum None packet = ⊤
 ReadsBack checksum (Some message) packet =
     IsReadAs message packet (reads_back message checksum (drop (length (header_bytes checksum (Some message))) packet))
 
--- The header that was read is the header that was written: it has the same checksum, the same kind, and the same fields of this kind. If
--- the kind is unknown, it has the same type, code and four bytes.
+-- The header that was read is the header that was written: its checksum, its kind and the fields of its kind are equal. If the kind is
+-- unknown, its type, code and four bytes are equal.
 pub record IsSameHeader (fields read : EtherparseIcmpv6Header) : Type 0 where
   pub checksum : read.checksum ≡ fields.checksum
   pub kind : fields.kind ≢ numbers.icmpv6_kind_unknown → read.kind ≡ fields.kind

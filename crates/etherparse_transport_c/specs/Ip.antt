@@ -43,7 +43,7 @@ abbrev pub source_of : Addresses → List ℕ
 source_of (Ipv4 source destination) = ipv4_address source
 source_of (Ipv6 source destination) = source
 
--- the final destination in 16 bytes; it is 0 if it is not known
+-- the final destination in 16 bytes, which are 0 if it is not known
 abbrev pub destination_of : Addresses → List ℕ
 destination_of (Ipv4 source destination) = ipv4_address destination
 destination_of (Ipv6 source (Some destination)) = destination
@@ -85,7 +85,7 @@ header_fields packet = if version packet == 4 then ipv4_fields packet else ipv6_
 
 -- ---- the transport
 
--- the number of hops that are left, in the fixed part of an IP header; each accepted packet has a fixed part
+-- the number of hops that are left, from the fixed part of an IP header; each accepted packet has a fixed part
 abbrev pub hop_limit_in : Option Fixed → ℕ
 hop_limit_in (Some (fixed.Ipv4 source destination time_to_live protocol)) = time_to_live
 hop_limit_in (Some (fixed.Ipv6 source destination hop_limit next_header)) = hop_limit
@@ -113,12 +113,12 @@ transport_in is_length_missing packet headers = record {
   traffic_class = (header_fields packet).traffic_class;
 }
 
--- the result of reading a packet, if its headers can be read; a refused packet leaves the value before
+-- the value after the call: the result of reading a packet with these headers, or the value before if the headers are refused
 abbrev pub found : Bool → List ℕ → Result Headers IpError → EtherparseIpTransport → EtherparseIpTransport
 found is_length_missing packet (Ok headers) before = transport_in is_length_missing packet headers
 found is_length_missing packet (Err error) before = before
 
--- the payload is a part of the packet: it ends with the counted bytes, and is the payload that the packet carries
+-- The payload is a part of the packet. It ends with the last byte that the IP header counts, and is the payload that the library finds.
 pub record HasPayload (is_length_missing : Bool) (packet : List ℕ) (transport : EtherparseIpTransport) : Type 0 where
   pub ends : transport.payload_offset + transport.payload_len ≡ length (counted is_length_missing packet)
   pub within : transport.payload_offset + transport.payload_len ≤ length packet

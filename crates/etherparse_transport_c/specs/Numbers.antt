@@ -1,5 +1,5 @@
--- The numbers of the interface to C. Each number is defined only here. No number ever gets another meaning, and later versions may add
--- numbers. In C a name has the prefix `ETHERPARSE_`. `status_ok` is `ETHERPARSE_OK`, without `STATUS_`.
+-- The numbers of the interface to C. Each number is defined only here. The meaning of a number never changes, and later versions may add
+-- numbers. A name in C has the prefix `ETHERPARSE_`. The name of `status_ok` is `ETHERPARSE_OK`, without `STATUS_`.
 use Rattle.std.specs.Prelude.{ℕ}
 
 -- ---- statuses, which calls return; 25 to 30 are reserved for headers of IP
@@ -82,19 +82,19 @@ status_ip_jumbo_payload_fragment = 24
 abbrev pub status_option_values : ℕ
 status_option_values = 31
 
--- a fragment, which is not answered
+-- the packet is a fragment, and is not answered
 abbrev pub status_echo_fragment : ℕ
 status_echo_fragment = 32
 
--- a packet that is no echo request, or that has another IP version than the call accepts
+-- the packet is no echo request, or its IP version is not accepted by the call
 abbrev pub status_echo_no_request : ℕ
 status_echo_no_request = 33
 
--- IPv4 options, an authentication header or IPv6 extension headers before the message
+-- IPv4 options, an authentication header or IPv6 extension headers precede the message
 abbrev pub status_echo_has_options : ℕ
 status_echo_has_options = 34
 
--- an IPv4 header with a wrong checksum
+-- the checksum of the IPv4 header is wrong
 abbrev pub status_echo_header_checksum_wrong : ℕ
 status_echo_header_checksum_wrong = 35
 
@@ -106,15 +106,15 @@ status_echo_request_source = 36
 abbrev pub status_echo_reply_source : ℕ
 status_echo_reply_source = 37
 
--- an ICMP message that is not an error
+-- the ICMP message is not an error
 abbrev pub status_no_icmp_error : ℕ
 status_no_icmp_error = 38
 
--- reserved for the translation of a packet with IPv4 options; no call returns it
+-- reserved for translating a packet with IPv4 options; no call returns it
 abbrev pub status_translate_has_options : ℕ
 status_translate_has_options = 39
 
--- not translated: the protocol of the packet is not UDP, TCP or ICMP of its IP version
+-- not translated: the protocol of the packet is not UDP, TCP, or the ICMP of its IP version
 abbrev pub status_translate_protocol : ℕ
 status_translate_protocol = 40
 
@@ -122,15 +122,15 @@ status_translate_protocol = 40
 abbrev pub status_translate_header_cut_off : ℕ
 status_translate_header_cut_off = 41
 
--- not translated: the ICMP message is a redirect, or neither a query nor an error
+-- not translated: the ICMP message is a redirect, or it is neither a query nor an error
 abbrev pub status_translate_icmp_message : ℕ
 status_translate_icmp_message = 42
 
--- not translated: the packet that an ICMP error is about can't be translated
+-- not translated: the packet that an ICMP error quotes can't be translated
 abbrev pub status_translate_quoted_packet : ℕ
 status_translate_quoted_packet = 43
 
--- a packet that is not the reply to an echo request
+-- the packet is not the reply to an echo request
 abbrev pub status_echo_no_reply : ℕ
 status_echo_no_reply = 44
 
@@ -138,7 +138,7 @@ status_echo_no_reply = 44
 abbrev pub status_translate_source_route : ℕ
 status_translate_source_route = 45
 
--- a packet whose checksum is not tested, so that no checksum is stored in it
+-- the checksum of the packet is not tested, so no checksum is stored in it
 abbrev pub status_checksum_untested : ℕ
 status_checksum_untested = 46
 

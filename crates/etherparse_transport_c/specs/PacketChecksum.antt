@@ -1,4 +1,4 @@
--- The checksum in an IP packet, in the interface to C: the call that stores it, and the test whether it is partial.
+-- The checksum in an IP packet, in the interface to C: storing it, and testing whether it is partial.
 use Rattle.std.specs.Prelude.{◌≡◌, ◌⊎◌, ℕ, false, List, Option, Some, None, MatchOption}
 use Rattle.ip_part.specs.Addresses.{by_value}
 use Rattle.ip_part.specs.Ip.{Carries}
@@ -13,12 +13,12 @@ use Rattle.etherparse_transport_c.specs.declared.error.EtherparseError.{Etherpar
 
 -- ---- a checksum that is stored
 
--- the packet is refused for no reason
+-- the packet is not refused for any reason
 abbrev pub IsAccepted : List ℕ → Type 0
 IsAccepted packet = (why : WriteChecksumError) → ¬ IsRefusedFor packet why
 
 -- The status and the error of the call that stores a checksum. If the packet is accepted, the status is `OK`, and the error is unchanged.
--- If the packet is refused for a reason, both are those of this reason.
+-- If it is refused, the status and the error are those of the reason.
 abbrev pub StoreTells : List ℕ → ℕ → EtherparseError → EtherparseError → Type 0
 StoreTells packet status error before =
     (IsAccepted packet × (status ≡ numbers.status_ok) × (error ≡ before))
@@ -30,14 +30,14 @@ StoreTells packet status error before =
 abbrev pub HasPartial : TransportInIp → Type 0
 HasPartial carried = MatchOption (kept carried) ⊥ (λ transport. IsPartial (by_value carried.addresses) transport)
 
--- the number is 1 if the checksum of the transport that the packet carries is partial, and otherwise 0
+-- `told` is 1 if the transport that the packet carries has a partial checksum, and otherwise 0
 pub record IsTold (packet : List ℕ) (told : ℕ) : Type 0 where
   pub carried : TransportInIp
   pub carries : Carries packet carried
   pub length : carried.is_length_missing ≡ false
   pub tells : ((told ≡ 1) × HasPartial carried) ⊎ ((told ≡ 0) × (HasPartial carried → ⊥))
 
--- the result for a packet; a refused packet leaves the value before
+-- `told` is the result for an accepted packet; if the packet is refused, it is unchanged
 abbrev pub TellsPartial : Option EtherparseError → List ℕ → ℕ → ℕ → Type 0
 TellsPartial None packet told before = IsTold packet told
 TellsPartial (Some error) packet told before = told ≡ before

@@ -24,16 +24,16 @@ use Rattle.etherparse_transport_c.specs.declared.packet_verdict.EtherparseIpPack
 
 -- ---- refusals of packets
 
--- the protocol of the header that follows these headers; a fragment has none
+-- the protocol of the header that follows these IP headers; in a fragment no header follows
 abbrev pub proto_after : Headers → Option Proto
 proto_after headers = if headers.is_fragment then None else proto_over headers.addresses headers.protocol.0
 
--- the refusal of a transport whose header begins at this place of the packet
+-- the refusal of a transport whose header begins at this place in the packet
 abbrev pub of_transport : ℕ → HeaderSliceError → EtherparseError
 of_transport place (Len error) = record (of_len error) { layer_start_offset = place }
 of_transport place (Content error) = of_header_slice (Content error)
 
--- the refusal of the transport after headers that can be read
+-- the refusal of the transport after these IP headers, if the IP headers are accepted
 abbrev pub transport_refusal : Bool → List ℕ → Result Headers IpError → Option EtherparseError
 transport_refusal is_length_missing packet (Ok headers) =
     option_map (of_transport headers.len)
@@ -45,11 +45,11 @@ abbrev pub refusal_of_carried : List ℕ → TransportInIp → Option Etherparse
 refusal_of_carried packet carried =
     transport_refusal carried.is_length_missing packet (headers_of carried.is_length_missing packet)
 
--- the refusal of an IP packet, or otherwise of its transport
+-- the refusal of an IP packet, or the refusal of its transport if the IP headers are accepted
 abbrev pub refusal : List ℕ → Option EtherparseError
 refusal packet = first_refusal (ip.refusal packet) (transport_refusal false packet (headers_of false packet))
 
--- the refusal of an IP packet that may be cut off or state no length, or otherwise of its transport
+-- the refusal of an IP packet that may be cut off or state no length, or the refusal of its transport if the IP headers are accepted
 abbrev pub lax_refusal : List ℕ → Option EtherparseError
 lax_refusal packet =
     first_refusal (ip.lax_refusal packet) (transport_refusal (lacks_len packet) packet (headers_of (lacks_len packet) packet))
@@ -63,7 +63,7 @@ proto_number Tcp = numbers.protocol_tcp
 proto_number Icmpv4 = numbers.protocol_icmpv4
 proto_number Icmpv6 = numbers.protocol_icmpv6
 
--- the number of the protocol whose header can be read, or 0 if there is none
+-- the number of the protocol of this transport, or 0 without a transport
 abbrev pub header_protocol : Option TransportSlice → ℕ
 header_protocol None = 0
 header_protocol (Some transport) = proto_number (proto_of transport)
@@ -95,7 +95,7 @@ packet_in is_length_missing packet headers transport verdict = record {
   expected_checksum = expected_checksum verdict;
 }
 
--- the result `told` contains the transport that the packet carries, and the verdict on its checksum
+-- `told` contains the transport that the packet carries, and the verdict on its checksum
 pub record IsJudged (is_length_missing : Bool) (packet : List ℕ) (told : EtherparseIpPacket) : Type 0 where
   pub carried : TransportInIp
   pub carries : Carries packet carried
@@ -105,7 +105,7 @@ pub record IsJudged (is_length_missing : Bool) (packet : List ℕ) (told : Ether
   pub tells : told ≡ packet_in is_length_missing packet carries.headers (kept carried) verdict
   pub payload : HasPayload is_length_missing packet told.transport
 
--- the result for a packet; a refused packet leaves the value before
+-- `told` is the result for an accepted packet; if the packet is refused, it is unchanged
 abbrev pub Judges : Option EtherparseError → Bool → List ℕ → EtherparseIpPacket → EtherparseIpPacket → Type 0
 Judges None is_length_missing packet told before = IsJudged is_length_missing packet told
 Judges (Some error) is_length_missing packet told before = told ≡ before

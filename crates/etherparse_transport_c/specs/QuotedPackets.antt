@@ -7,20 +7,20 @@ use Rattle.etherparse_transport_c.specs.Icmpv6 as icmpv6
 use Rattle.etherparse_transport_c.specs.Numbers as numbers
 use Rattle.etherparse_transport_c.specs.declared.error.EtherparseError.{EtherparseError}
 
--- the refusal of a message that quotes no packet
+-- the refusal of a message, given the packet that it quotes: there is none, so the message is no error
 abbrev pub no_error : Option (List ℕ) → Option EtherparseError
 no_error None = Some (of_status numbers.status_no_icmp_error)
 no_error (Some packet) = None
 
--- the refusal of an ICMPv4 message: it can't be read, or it is not an error
+-- the refusal of an ICMPv4 message: its header is refused, or it is not an error
 abbrev pub icmpv4_refusal : List ℕ → Option EtherparseError
 icmpv4_refusal message = first_refusal (icmpv4.refusal message) (no_error (quoted_by_icmpv4 message))
 
--- the refusal of an ICMPv6 message: it can't be read, or it is not an error
+-- the refusal of an ICMPv6 message: its header is refused, or it is not an error
 abbrev pub icmpv6_refusal : List ℕ → Option EtherparseError
 icmpv6_refusal message = first_refusal (icmpv6.refusal message) (no_error (quoted_by_icmpv6 message))
 
--- the length of the quoted packet, or 0 if there is none
+-- the length of the quoted packet, or 0 without a quoted packet
 abbrev pub quoted_len : Option (List ℕ) → ℕ
 quoted_len None = 0
 quoted_len (Some packet) = length packet

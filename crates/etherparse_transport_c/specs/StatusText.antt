@@ -2,11 +2,11 @@
 use Rattle.std.specs.Prelude.{ℕ, ◌==◌, if◌then◌else◌, List, codes}
 use Rattle.etherparse_transport_c.specs.Numbers as numbers
 
--- the greatest length of a text in bytes, also of a text that a later version adds
+-- the greatest length of a text in bytes, for the texts of later versions too
 abbrev pub max_status_text_len : ℕ
 max_status_text_len = 127
 
--- the words for a status
+-- the meaning of a status in a few words
 abbrev pub status_text : ℕ → List ℕ
 status_text status =
     if status == numbers.status_ok then codes "no error"

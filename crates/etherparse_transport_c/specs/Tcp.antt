@@ -24,7 +24,7 @@ use Rattle.etherparse_transport_c.specs.declared.tcp_option.EtherparseTcpRawOpti
 
 -- ---- headers
 
--- the nine flags as one number: eight flags have their bits in byte 13, and NS has the next higher bit
+-- the nine flags as one number: NS is bit 0x100, and the other flags have the bits that they have in byte 13
 abbrev pub flags_of : TcpHeader → ℕ
 flags_of header = from_bool header.ns * 256 + tcp.flags_byte header
 
@@ -81,21 +81,21 @@ packet_of bytes = record {
   payload_len = length bytes - (tcp.layout_of bytes).header_len;
 }
 
--- the first of these refusals that applies: options of more than 40 bytes, a bit other than the nine flags
+-- the first refusal that applies: the options have more than 40 bytes, or the flags have a bit that belongs to none of the nine flags
 abbrev pub fields_refusal : EtherparseTcpHeader → List ℕ → Option EtherparseError
 fields_refusal fields options =
     first_refusal (option_map of_options (too_long (length options))) (refused_if (nat_lt numbers.tcp_flags fields.flags) (of_flags fields.flags))
 
--- the refusal to write a header: its fields or options are refused, or otherwise the buffer is too small
+-- the refusal to write a header: its options or flags are refused, or the buffer is too small
 abbrev pub write_refusal : EtherparseTcpHeader → List ℕ → ℕ → Option EtherparseError
 write_refusal fields options room =
     first_refusal (fields_refusal fields options) (no_room (length (tcp.wire (header_in fields options))) room)
 
--- the refusal to store a header in a segment: the segment is refused, or otherwise the fields
+-- the refusal to store a header in a segment: the segment is refused, or the flags are refused
 abbrev pub store_refusal : EtherparseTcpHeader → List ℕ → Option EtherparseError
 store_refusal fields bytes = first_refusal (refusal bytes) (fields_refusal fields (tcp.options_of bytes))
 
--- the segment with these fields; its options and the bytes after the header are unchanged
+-- the segment with these fields in its header; its options and the bytes after the header are unchanged
 abbrev pub with_fields : EtherparseTcpHeader → List ℕ → List ℕ
 with_fields fields bytes = at_front (tcp.wire (header_in fields (tcp.options_of bytes))) bytes
 
@@ -109,7 +109,7 @@ header_bytes bytes = take ((tcp.layout_of bytes).header_len) bytes
 abbrev pub payload_bytes : List ℕ → List ℕ
 payload_bytes bytes = drop ((tcp.layout_of bytes).header_len) bytes
 
--- the refusal of a checksum call: the segment is refused, or it is longer than a pseudo header can count
+-- the refusal of a call about checksums: the segment is refused, or it is too long for the length field of a pseudo header
 abbrev pub checksum_refusal : ValueType → ℕ → List ℕ → Option EtherparseError
 checksum_refusal value_type limit bytes = first_refusal (refusal bytes)
     (option_map of_value (too_big value_type (limit - length (header_bytes bytes)) (length (payload_bytes bytes))))
@@ -126,23 +126,23 @@ TestTellsIpv6 source destination bytes status =
 
 -- ---- options
 
--- the edges of a block; they are 0 if the block is absent
+-- the two edges of a block, or two zeros if the block is absent
 abbrev pub edges : Option (ℕ × ℕ) → List ℕ
 edges None = 0 ∷ 0 ∷ []
 edges (Some block) = block.0 ∷ block.1 ∷ []
 
--- the edges of some blocks
+-- the edges of some blocks, one block after the other
 abbrev pub all_edges : List (Option (ℕ × ℕ)) → List ℕ
 all_edges [] = []
 all_edges (block ∷ more) = edges block ++ all_edges more
 
--- the number of edges of the present blocks
+-- the number of edges of the blocks that are present
 abbrev pub edge_count : List (Option (ℕ × ℕ)) → ℕ
 edge_count [] = 0
 edge_count (None ∷ more) = edge_count more
 edge_count (Some block ∷ more) = 2 + edge_count more
 
--- an element as its kind and its values
+-- the option with the kind and the values of an element
 abbrev pub option_of : TcpOptionElement → EtherparseTcpOption
 option_of Noop = record { kind = numbers.tcp_option_noop; value_count = 0; values = replicate 8 0 }
 option_of (MaximumSegmentSize size) = record { kind = numbers.tcp_option_maximum_segment_size; value_count = 1; values = size ∷ replicate 7 0 }
@@ -151,26 +151,26 @@ option_of SelectiveAcknowledgementPermitted = record { kind = numbers.tcp_option
 option_of (SelectiveAcknowledgement first more) = record { kind = numbers.tcp_option_sack; value_count = 2 + edge_count more; values = first.0 ∷ first.1 ∷ all_edges more }
 option_of (Timestamp value echo) = record { kind = numbers.tcp_option_timestamp; value_count = 2; values = value ∷ echo ∷ replicate 6 0 }
 
--- the status after the item was read
+-- the status of a call that read this item
 abbrev pub item_status : Option Item → ℕ
 item_status None = numbers.status_options_end
 item_status (Some (Ok element)) = numbers.status_ok
 item_status (Some (Err error)) = (of_option error).status
 
--- the option after the item was read; without an element it is unchanged
+-- the option after a call that read this item; if the item is no element, the option is unchanged
 abbrev pub item_option : Option Item → EtherparseTcpOption → EtherparseTcpOption
 item_option (Some (Ok element)) before = option_of element
 item_option (Some (Err error)) before = before
 item_option None before = before
 
--- the error after the item was read; after an element it is unchanged
+-- the error after a call that read this item; if the item is an element, the error is unchanged
 abbrev pub item_error : Option Item → EtherparseError → EtherparseError
 item_error (Some (Err error)) before = of_option error
 item_error (Some (Ok element)) before = before
 item_error None before = of_status numbers.status_options_end
 
--- A call read the option at the place `from`, and moved the place to `to`. The item is what one call of `next` returns for the bytes from
--- the place `from` on. It determines status, option and error.
+-- A call read the option at the place `from`, and moved the place to `to`. The item is what `next` returns for the bytes that begin at
+-- `from`. The item determines the status, the option and the error.
 pub record ReadsFrom (options : List ℕ) (from to status : ℕ) (option option_before : EtherparseTcpOption) (error error_before : EtherparseError) : Type 0 where
   pub item : Option Item
   pub within : to ≤ length options
@@ -181,31 +181,31 @@ pub record ReadsFrom (options : List ℕ) (from to status : ℕ) (option option_
 
 -- ---- options of any kind
 
--- an option whose value ends at this place
+-- the option, given the place at which its value ends
 abbrev pub raw_option_of : RawOption → ℕ → EtherparseTcpRawOption
 raw_option_of option to =
     record { kind = option.kind; value_offset = to - length option.value; value_len = length option.value }
 
--- the status after the item was read
+-- the status of a call that read this item
 abbrev pub raw_item_status : Option RawItem → ℕ
 raw_item_status None = numbers.status_options_end
 raw_item_status (Some (Ok option)) = numbers.status_ok
 raw_item_status (Some (Err error)) = (of_raw_option error).status
 
--- the option after the item was read; without an option it is unchanged
+-- the option after a call that read this item; if the item is no option, the option is unchanged
 abbrev pub raw_item_option : Option RawItem → ℕ → EtherparseTcpRawOption → EtherparseTcpRawOption
 raw_item_option (Some (Ok option)) to before = raw_option_of option to
 raw_item_option (Some (Err error)) to before = before
 raw_item_option None to before = before
 
--- the error after the item was read; after an option it is unchanged
+-- the error after a call that read this item; if the item is an option, the error is unchanged
 abbrev pub raw_item_error : Option RawItem → EtherparseError → EtherparseError
 raw_item_error (Some (Err error)) before = of_raw_option error
 raw_item_error (Some (Ok option)) before = before
 raw_item_error None before = of_status numbers.status_options_end
 
--- A call read the option of any kind at the place `from`, and moved the place to `to`. The item is what one call of `next` returns for the
--- bytes from the place `from` on. It determines status, option and error.
+-- A call read the option of any kind at the place `from`, and moved the place to `to`. The item is what `next` returns for the bytes that
+-- begin at `from`. The item determines the status, the option and the error.
 pub record ReadsRawFrom (options : List ℕ) (from to status : ℕ) (option option_before : EtherparseTcpRawOption) (error error_before : EtherparseError) : Type 0 where
   pub item : Option RawItem
   pub within : to ≤ length options

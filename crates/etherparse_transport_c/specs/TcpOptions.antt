@@ -1,4 +1,4 @@
--- TCP options to be written, in the interface to C. An element is an option in the form of the Rattle library.
+-- TCP options to write, in the interface to C. An element is an option in the form of the library in Rattle.
 use Rattle.std.specs.Prelude.{ℕ, Bool, ◌+◌, ◌==◌, ◌&&◌, ◌||◌, not, nat_lt, if◌then◌else◌, List, [], ◌∷◌, ◌++◌, length, slice_index, Option, Some, None, Result, Ok, Err}
 use Rattle.std.specs.Option.{option_map}
 use Rattle.tcp_part.specs.TcpOptions.{join, pad, saturated, too_long}
@@ -11,25 +11,25 @@ use Rattle.etherparse_transport_c.specs.declared.tcp_option.EtherparseTcpOption.
 
 -- ---- one option
 
--- the value of the option at this place
+-- the value at this place of an option
 abbrev pub value : EtherparseTcpOption → ℕ → ℕ
 value option place = slice_index option.values place
 
--- an element without a value
+-- this element, if the option has no values
 abbrev pub bare_in : EtherparseTcpOption → TcpOptionElement → Option TcpOptionElement
 bare_in option element = if option.value_count == 0 then Some element else None
 
--- the maximum segment size, if the option has one value that fits into 16 bits (RFC 9293, section 3.1)
+-- the maximum segment size, if the option has exactly one value, and it fits in 16 bits (RFC 9293, section 3.1)
 abbrev pub size_in : EtherparseTcpOption → Option TcpOptionElement
 size_in option =
     if option.value_count == 1 && not (nat_lt 0xffff (value option 0)) then Some (MaximumSegmentSize (value option 0)) else None
 
--- the window scale, if the option has one value that fits into 8 bits (RFC 7323, section 2.2)
+-- the window scale, if the option has exactly one value, and it fits in 8 bits (RFC 7323, section 2.2)
 abbrev pub shift_in : EtherparseTcpOption → Option TcpOptionElement
 shift_in option =
     if option.value_count == 1 && not (nat_lt 0xff (value option 0)) then Some (WindowScale (value option 0)) else None
 
--- the block whose two edges begin at this place, if the option has them
+-- the block whose left edge is the value at this place, if the option has both edges
 abbrev pub block_in : EtherparseTcpOption → ℕ → Option (ℕ × ℕ)
 block_in option place = if nat_lt place option.value_count then Some (value option place, value option (place + 1)) else None
 
@@ -37,19 +37,19 @@ block_in option place = if nat_lt place option.value_count then Some (value opti
 abbrev pub has_whole_blocks : EtherparseTcpOption → Bool
 has_whole_blocks option = option.value_count == 2 || (option.value_count == 4 || (option.value_count == 6 || option.value_count == 8))
 
--- the blocks, if all are whole
+-- the selective acknowledgement, if the values of the option are whole blocks
 abbrev pub blocks_in : EtherparseTcpOption → Option TcpOptionElement
 blocks_in option =
     if has_whole_blocks option
     then Some (SelectiveAcknowledgement (value option 0, value option 1) (block_in option 2 ∷ block_in option 4 ∷ block_in option 6 ∷ []))
     else None
 
--- the timestamp value and its echo reply, if the option has two values (RFC 7323, section 3.2)
+-- the timestamp value and its echo reply, if the option has exactly two values (RFC 7323, section 3.2)
 abbrev pub timestamp_in : EtherparseTcpOption → Option TcpOptionElement
 timestamp_in option = if option.value_count == 2 then Some (Timestamp (value option 0) (value option 1)) else None
 
--- The element with the kind and the values of an option. It is `None` if the kind is unknown, or if no option of this kind has these
--- values. Only the first values are used, as many as `value_count` states.
+-- The element with the kind and the values of an option. It is `None` if the kind is unknown, or if an option of this kind can't have these
+-- values. Only the first `value_count` values are used.
 abbrev pub element_in : EtherparseTcpOption → Option TcpOptionElement
 element_in option =
     if option.kind == numbers.tcp_option_noop then bare_in option Noop
@@ -66,42 +66,42 @@ is_known kind =
     kind == numbers.tcp_option_noop || (kind == numbers.tcp_option_maximum_segment_size || (kind == numbers.tcp_option_window_scale
     || (kind == numbers.tcp_option_sack_permitted || (kind == numbers.tcp_option_sack || kind == numbers.tcp_option_timestamp))))
 
--- the error for an option that is no element: its kind is unknown, or no option of its kind has these values
+-- the error for an option that is no element: its kind is unknown, or an option of its kind can't have its values
 abbrev pub no_element : EtherparseTcpOption → EtherparseError
 no_element option = if is_known option.kind then of_option_values option.kind else of_option_kind option.kind
 
 -- ---- several options
 
--- Adds the element of an option to the elements `found`, and lets `further` continue with the next options. If the option is no element,
--- the result is its error.
+-- Appends the element of an option to the elements `found`, and continues with the next options by `further`. If the option is no element,
+-- the result is the error for this option.
 abbrev pub gathered_next : (List TcpOptionElement → Result (List TcpOptionElement) EtherparseError) → List TcpOptionElement
     → EtherparseTcpOption → Option TcpOptionElement → Result (List TcpOptionElement) EtherparseError
 gathered_next further found option None = Err (no_element option)
 gathered_next further found option (Some element) = further (found ++ (element ∷ []))
 
--- the elements `found` with the elements of some options after them, or the error of the first option that is no element
+-- the elements `found` and then the elements of these options, or the error for the first option that is no element
 abbrev pub gathered : List TcpOptionElement → List EtherparseTcpOption → Result (List TcpOptionElement) EtherparseError
 gathered found [] = Ok found
 gathered found (option ∷ options) = gathered_next (λ longer. gathered longer options) found option (element_in option)
 
--- the refusal of options: an option is no element, or the elements have more than 40 bytes
+-- the refusal of options: the error of an option that is no element, or an error if the elements have more than 40 bytes
 abbrev pub refusal_of : Result (List TcpOptionElement) EtherparseError → Option EtherparseError
 refusal_of (Ok elements) = option_map of_options (too_long (saturated (length (join elements))))
 refusal_of (Err error) = Some error
 
--- the bytes of elements, padded to whole words
+-- the bytes of elements, padded with zeros to whole words of four bytes
 abbrev pub bytes_of : Result (List TcpOptionElement) EtherparseError → List ℕ
 bytes_of (Ok elements) = pad (join elements)
 bytes_of (Err error) = []
 
--- the refusal of options: the error of the first option that is no element, or otherwise more than 40 bytes of elements
+-- the refusal of options: the error for the first option that is no element, or an error if the elements have more than 40 bytes
 abbrev pub options_refusal : List EtherparseTcpOption → Option EtherparseError
 options_refusal options = refusal_of (gathered [] options)
 
--- the bytes of accepted options, padded to whole words
+-- the bytes of accepted options, padded with zeros to whole words of four bytes
 abbrev pub joined_bytes : List EtherparseTcpOption → List ℕ
 joined_bytes options = bytes_of (gathered [] options)
 
--- the refusal to write options: they are refused, or otherwise the buffer is too small
+-- the refusal to write options: they are refused, or the buffer is too small
 abbrev pub write_refusal : List EtherparseTcpOption → ℕ → Option EtherparseError
 write_refusal options room = first_refusal (options_refusal options) (no_room (length (joined_bytes options)) room)

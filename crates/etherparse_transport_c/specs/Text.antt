@@ -6,11 +6,11 @@ use Rattle.etherparse_transport_c.specs.Errors.{at_front}
 abbrev pub max_text_len : ℕ
 max_text_len = 256
 
--- the text is the whole text, truncated at this length
+-- the text is the whole text, or its first `max_text_len` bytes
 abbrev pub IsCut : List ℕ → List ℕ → Type 0
 IsCut text whole = text ≡ take max_text_len whole
 
--- A buffer of C with a text in it. It contains as much of the text as leaves room for a zero byte, then the zero byte, and then its
--- unchanged rest. An empty buffer stays empty.
+-- A buffer of C after a text was written to it: the text, a zero byte, and the unchanged rest of the buffer. If the text is too long, only
+-- its beginning is written. An empty buffer stays empty.
 abbrev pub with_string : List ℕ → List ℕ → List ℕ
 with_string text buffer = if length buffer == 0 then buffer else at_front (take (length buffer - 1) text ++ (0 ∷ [])) buffer

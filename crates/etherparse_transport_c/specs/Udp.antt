@@ -41,7 +41,7 @@ header_in fields = record {
 abbrev pub header_refusal : List ℕ → Option EtherparseError
 header_refusal bytes = option_map of_len (udp.refusal bytes)
 
--- the refusal of a packet
+-- the refusal of the packet at the front of these bytes
 abbrev pub packet_refusal : List ℕ → Option EtherparseError
 packet_refusal bytes = option_map of_len (strict_refusal bytes)
 
@@ -56,23 +56,23 @@ packet_in packet = record {
 
 -- ---- checksums
 
--- the refusal of a checksum call: the packet is refused, or otherwise its payload is longer than this limit
+-- the refusal of a call about checksums: the packet is refused, or its payload is longer than this limit
 abbrev pub checksum_refusal : ValueType → ℕ → List ℕ → Option EtherparseError
 checksum_refusal value_type limit bytes =
     first_refusal (packet_refusal bytes) (option_map of_value (too_big value_type limit (length (cut bytes) - 8)))
 
--- The sum over IPv4 from which the checksum of a packet is computed. It covers the pseudo header, which counts the packet, and the packet
--- with zeros instead of its checksum, bytes 6 and 7.
+-- The sum from which the checksum of a packet over IPv4 is computed. It covers the pseudo header and the packet. The pseudo header contains
+-- the number of bytes of the packet. The checksum of the packet, bytes 6 and 7, counts as zeros.
 abbrev pub checksummed_ipv4 : List ℕ → List ℕ → List ℕ → ℕ
 checksummed_ipv4 source destination packet =
     total (ipv4_pseudo_header source destination numbers.protocol_udp (length packet)) + total (with_checksum 6 packet 0)
 
--- the same sum over IPv6
+-- The sum from which the checksum of a packet over IPv6 is computed. It covers the pseudo header and the packet, as over IPv4.
 abbrev pub checksummed_ipv6 : List ℕ → List ℕ → List ℕ → ℕ
 checksummed_ipv6 source destination packet =
     total (ipv6_pseudo_header source destination numbers.protocol_udp (length packet)) + total (with_checksum 6 packet 0)
 
--- the checksum field is 0, which means that there is no checksum (RFC 768)
+-- the checksum field is 0, which means that the packet has no checksum (RFC 768)
 abbrev pub has_no_checksum : List ℕ → Bool
 has_no_checksum packet = be_number packet 6 2 == 0
 

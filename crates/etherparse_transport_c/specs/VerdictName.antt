@@ -1,8 +1,8 @@
--- The names of verdicts, as the header spells them.
+-- The names of verdicts, as the C header spells them.
 use Rattle.std.specs.Prelude.{ℕ, ◌==◌, if◌then◌else◌, List, codes}
 use Rattle.etherparse_transport_c.specs.Numbers as numbers
 
--- the greatest length of a name in bytes, also of a name that a later version adds
+-- the greatest length of a name in bytes, for the names of later versions too
 abbrev pub max_verdict_name_len : ℕ
 max_verdict_name_len = 63
 

@@ -2,12 +2,12 @@
 use Rattle.std.specs.Prelude.{ℕ, ◌+◌, ◌*◌}
 use Rattle.etherparse_transport_c.specs.Numbers as numbers
 
--- The unit of the major version. The lowest eight bits contain the patch version, the eight bits above them the minor version, and all
--- other bits the major version.
+-- The factor of the major version. The lowest eight bits of the version are the patch version, the next eight bits the minor version, and
+-- all other bits the major version.
 abbrev pub major_step : ℕ
 major_step = 65536
 
--- the unit of the minor version
+-- the factor of the minor version
 abbrev pub minor_step : ℕ
 minor_step = 256
 

@@ -9,7 +9,7 @@ use crate::error::EtherparseError;
 use crate::status;
 use std::marker::Model;
 
-/// The place to which a call writes its error, in C `etherparse_error *error`. It is NULL if the caller does not want the error.
+/// The place to which a call writes its error: in C `etherparse_error *error`. It is NULL if the caller does not need the error.
 #[repr(C)]
 pub struct ErrorPlace {
     /// The pointer, or NULL.
@@ -19,11 +19,11 @@ pub struct ErrorPlace {
 }
 
 impl Model for ErrorPlace {
-    // Unless the pointer is NULL, the caller lends the memory that it points to. This memory contains `before`.
+    // If the pointer is not NULL, the caller lends the memory that it points to, which contains `before`.
     ghost also_owns = { λ place. holds place.pointer place.before };
 }
 
-/// The result of a call, in C an `etherparse_status`.
+/// The result of a call: in C an `etherparse_status`.
 #[repr(C)]
 pub struct Answer {
     /// The status: a number of `status`.
@@ -33,7 +33,7 @@ pub struct Answer {
 }
 
 impl Model for Answer {
-    // Unless the pointer is NULL, the caller gets back the memory that it points to. This memory contains `error`.
+    // If the pointer is not NULL, the caller gets back the memory that it points to, which contains `error`.
     ghost also_owns = { λ answer. holds answer.pointer answer.error };
 }
 
@@ -47,7 +47,7 @@ pub(crate) fn accept(place: ErrorPlace) -> Answer
     Answer { status: status::OK }
 }
 
-/// Returns the status of a refusal, and writes the refusal to the memory that the pointer points to, unless it is NULL.
+/// Returns the status of a refusal. If the pointer is not NULL, the refusal is written to the memory that it points to.
 pub(crate) fn refuse(place: ErrorPlace, refusal: EtherparseError) -> Answer
     ensures status { result.status ≡ refusal.status }
     ensures pointer { result.pointer ≡ place.pointer }

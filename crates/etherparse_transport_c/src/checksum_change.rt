@@ -6,7 +6,7 @@ ghost use Rattle.word_sum.specs.UpdatedChecksum.{PartReplaced, TurnsIntoBy, upda
 use crate::sum::added;
 use etherparse_transport::checksum_change::ChecksumChange;
 
-/// A change of the bytes that a checksum covers (RFC 1624). Some bytes are replaced by others. Any two numbers are a change.
+/// A change of the bytes that a checksum covers: some bytes are replaced by others (RFC 1624). Each pair of numbers is a valid change.
 #[repr(C)]
 #[derive(Clone, Copy)]
 pub struct EtherparseChecksumChange {
@@ -16,7 +16,7 @@ pub struct EtherparseChecksumChange {
     pub added: u16,
 }
 
-/// Returns the change as a value of the library.
+/// Returns the change as a value of the library in Rattle.
 fn change_of(change: EtherparseChecksumChange) -> ChecksumChange
     ensures removed { removed_value result ≡ change.removed }
     ensures added { added_value result ≡ change.added }
@@ -35,8 +35,9 @@ pub extern "C" fn etherparse_checksum_change_new() -> EtherparseChecksumChange
     }
 }
 
-/// Extends a change: it also replaces the old bytes by the new bytes (RFC 1624). Both begin at an even place of the bytes that the checksum
-/// covers. The two lengths are both even or both odd. They can differ, for example if a pseudo header of IPv6 is replaced by one of IPv4.
+/// Returns the change that also replaces the old bytes by the new bytes (RFC 1624). The old and the new bytes begin at an even place of the
+/// bytes that the checksum covers. Their lengths are both even, or both odd. The lengths can differ, for example if a pseudo header of IPv4
+/// replaces a pseudo header of IPv6.
 #[unsafe(no_mangle)]
 pub extern "C" fn etherparse_checksum_change_replace(
     change: EtherparseChecksumChange,
@@ -69,26 +70,27 @@ pub extern "C" fn etherparse_checksum_change_reversed(
 }
 
 /// Returns the checksum of the changed packet. `checksum` is the checksum before the change, as TCP, ICMP and the IPv4 header store it (RFC
-/// 1624, section 3, equation 3). The result is wrong in one case: if every byte that the checksum covers becomes zero, it is 0 instead of
-/// 65535.
+/// 1624, section 3, equation 3). The result is wrong in one case: if all bytes that the checksum covers are zeros after the change, it is 0
+/// instead of 65535.
 #[unsafe(no_mangle)]
 pub extern "C" fn etherparse_checksum_change_apply(
     change: EtherparseChecksumChange,
     checksum: u16,
 ) -> u16
     ensures equation { result ≡ updated_checksum_of checksum change.removed change.added }
-    // A right checksum becomes the right checksum of the changed packet, unless that packet consists of zeros.
+    // A right checksum becomes the right checksum of the changed packet, unless all bytes of the changed packet are zeros.
     ensures updated { (packet changed : ℕ) → TurnsIntoBy change.removed change.added packet changed → checksum ≡ checksum_of packet →
         (result ≡ checksum_of changed) ↔ (changed ≢ 0) }
-    // If a receiver accepts the packet, it accepts the changed packet, unless that packet and its checksum consist of zeros.
+    // If a receiver accepts the packet, it accepts the changed packet, unless all bytes of the changed packet, checksum included, are
+    // zeros.
     ensures verifies { (packet changed : ℕ) → TurnsIntoBy change.removed change.added packet changed → IsAllOnes (packet + checksum) →
         (IsAllOnes (changed + result)) ↔ (changed + result ≢ 0) }
 {
     change_of(change).apply(checksum)
 }
 
-/// Returns the checksum of the changed packet. `checksum` is the checksum before the change, as UDP stores it (RFC 768). A checksum of 0
-/// means that there is none, and stays 0. No other checksum becomes 0.
+/// Returns the checksum of the changed packet. `checksum` is the checksum before the change, as UDP stores it (RFC 768). A value of 0 means
+/// that the packet has no checksum, and it stays 0. No other checksum becomes 0.
 #[unsafe(no_mangle)]
 pub extern "C" fn etherparse_checksum_change_apply_udp(
     change: EtherparseChecksumChange,
@@ -99,7 +101,7 @@ pub extern "C" fn etherparse_checksum_change_apply_udp(
     // The new checksum is right exactly if the old checksum was right.
     ensures updated { (packet changed : ℕ) → TurnsIntoBy change.removed change.added packet changed →
         (result ≡ udp_checksum_of changed) ↔ (checksum ≡ udp_checksum_of packet) }
-    // Unless the checksum is 0, a receiver accepts the changed packet exactly if it accepts the packet.
+    // If the checksum is not 0, a receiver accepts the changed packet exactly if it accepts the packet.
     ensures verifies { (packet changed : ℕ) → TurnsIntoBy change.removed change.added packet changed → checksum ≢ 0 →
         (IsAllOnes (changed + result)) ↔ (IsAllOnes (packet + checksum)) }
 {

@@ -16,17 +16,17 @@ use etherparse_transport::ip::{
 };
 
 /// Turns the echo request in an IP packet of either version into its reply, in place. The reply goes from the destination of the request to
-/// its source. It is as long as the request, and the bytes after it are unchanged.
+/// its source. The reply is as long as the request. Bytes after the packet are unchanged.
 ///
 /// # Errors
 ///
 /// The status is `OK`, or the first of these that applies:
 /// - A status of `etherparse_transport_in_ip`.
-/// - `ECHO_FRAGMENT` for a fragment, and `ECHO_NO_REQUEST` for another protocol.
+/// - `ECHO_FRAGMENT` for a fragment, and `ECHO_NO_REQUEST` if the protocol is not ICMP.
 /// - `ECHO_HAS_OPTIONS` for IPv4 options, an authentication header, or IPv6 extension headers.
-/// - `LENGTH` as the call that reads the message returns it, and `ECHO_NO_REQUEST` for another message.
-/// - `CHECKSUM_WRONG`, and over IPv4 `ECHO_HEADER_CHECKSUM_WRONG`.
-/// - `ECHO_REQUEST_SOURCE` or `ECHO_REPLY_SOURCE` if this source is not the address of one host.
+/// - `LENGTH`, as the call that reads the message returns it, and `ECHO_NO_REQUEST` if the message is no echo request.
+/// - `CHECKSUM_WRONG`, and over IPv4 `ECHO_HEADER_CHECKSUM_WRONG`, if a checksum is wrong.
+/// - `ECHO_REQUEST_SOURCE` or `ECHO_REPLY_SOURCE` if the source of the request or reply is not the address of one host.
 ///
 /// After an error `error` contains the reason, and `packet` and `reply_len` are unchanged.
 #[unsafe(no_mangle)]
@@ -53,8 +53,8 @@ pub extern "C" fn etherparse_echo_answer(
     }
 }
 
-/// Turns the echo request in an IPv4 packet into its reply from `source`, like `etherparse_echo_answer`. If the request was sent to a
-/// multicast or broadcast address, pass an address of the host as `source`.
+/// Turns the echo request in an IPv4 packet into its reply, like `etherparse_echo_answer`. The source of the reply is `source`. If the
+/// request was sent to a multicast or broadcast address, pass an address of the host as `source`.
 ///
 /// # Errors
 ///
@@ -85,8 +85,8 @@ pub extern "C" fn etherparse_echo_answer_ipv4(
     }
 }
 
-/// Turns the echo request in an IPv6 packet into its reply from `source`, like `etherparse_echo_answer`. If the request was sent to a
-/// multicast address, pass an address of the host as `source`.
+/// Turns the echo request in an IPv6 packet into its reply, like `etherparse_echo_answer`. The source of the reply is `source`. If the
+/// request was sent to a multicast address, pass an address of the host as `source`.
 ///
 /// # Errors
 ///
@@ -118,13 +118,13 @@ pub extern "C" fn etherparse_echo_answer_ipv6(
     }
 }
 
-/// Tests whether the second packet is the reply to the echo request in the first packet (RFC 792, "Echo or Echo Reply Message"; RFC 1122,
-/// section 3.2.2.6; RFC 4443, sections 4.1 and 4.2). Both packets begin with their IP headers, and may contain options and extension
-/// headers. Bytes after a packet are ignored.
+/// Tests whether `packet` is the reply to the echo request in `request` (RFC 792, "Echo or Echo Reply Message"; RFC 1122, section 3.2.2.6;
+/// RFC 4443, sections 4.1 and 4.2). Both packets begin with their IP headers, and may contain options and extension headers. Bytes after a
+/// packet are ignored.
 ///
 /// # Errors
 ///
-/// The status is `OK` if the packet is the reply. Otherwise it is `ECHO_NO_REPLY`, also if one of the packets is refused.
+/// The status is `OK` if the packet is the reply. Otherwise, and if a packet is refused, it is `ECHO_NO_REPLY`.
 #[unsafe(no_mangle)]
 pub extern "C" fn etherparse_echo_is_reply(
     request: &[u8],
@@ -141,13 +141,13 @@ pub extern "C" fn etherparse_echo_is_reply(
     }
 }
 
-/// Tests whether the second packet is the reply to the echo request in the first packet, from the address of any host. A host replies to a
-/// request to an anycast address from its unicast address (RFC 4443, section 4.2). Otherwise the call does what
+/// Tests whether `packet` is the reply to the echo request in `request`. The reply may come from the address of any host. A host replies to
+/// a request to an anycast address from its unicast address (RFC 4443, section 4.2). Otherwise the call does what
 /// `etherparse_echo_is_reply` does.
 ///
 /// # Errors
 ///
-/// The status is `OK` if the packet is the reply. Otherwise it is `ECHO_NO_REPLY`, also if one of the packets is refused.
+/// The status is `OK` if the packet is the reply. Otherwise, and if a packet is refused, it is `ECHO_NO_REPLY`.
 #[unsafe(no_mangle)]
 pub extern "C" fn etherparse_echo_is_reply_from_any(
     request: &[u8],

@@ -59,7 +59,7 @@ fn value_type(number: u32) -> Option<ValueType>
     }
 }
 
-/// Returns the number as a byte, if it fits.
+/// Returns the number as a byte, or `None` if it is above 255.
 fn byte(number: usize) -> Option<u8>
     ensures { result ≡ specs.byte_in number }
 {
@@ -70,7 +70,7 @@ fn byte(number: usize) -> Option<u8>
     }
 }
 
-/// Returns the wrong length that the error contains, or `None` for numbers that no call returns.
+/// Returns the wrong length that the error states, or `None` if no call returns these numbers.
 fn len_error(error: &EtherparseError) -> Option<LenError>
     ensures { result ≡ specs.len_error_in error.now }
 {
@@ -86,7 +86,7 @@ fn len_error(error: &EtherparseError) -> Option<LenError>
     }
 }
 
-/// Returns the value that the error contains, or `None` for numbers that no call returns.
+/// Returns the value that the error states, or `None` if no call returns these numbers.
 fn value_error(error: &EtherparseError) -> Option<ValueTooBigError<usize>>
     ensures { result ≡ specs.value_error_in error.now }
 {
@@ -100,7 +100,7 @@ fn value_error(error: &EtherparseError) -> Option<ValueTooBigError<usize>>
     }
 }
 
-/// Returns the reason why a TCP header was refused, or `None` for numbers that no call returns.
+/// Returns the reason why a TCP header was refused, or `None` if no call returns these numbers.
 fn header_error(error: &EtherparseError) -> Option<HeaderError>
     ensures { result ≡ specs.header_error_in error.now }
 {
@@ -110,7 +110,7 @@ fn header_error(error: &EtherparseError) -> Option<HeaderError>
     }
 }
 
-/// Returns the reason why an option was refused, or `None` for numbers that no call returns.
+/// Returns the reason why an option was refused, or `None` if no call returns these numbers.
 fn option_error(error: &EtherparseError) -> Option<TcpOptionReadError>
     ensures { result ≡ specs.option_error_in error.now }
 {
@@ -132,7 +132,7 @@ fn option_error(error: &EtherparseError) -> Option<TcpOptionReadError>
     }
 }
 
-/// Returns the reason why an IP packet was refused, or `None` for numbers that no call returns.
+/// Returns the reason why an IP packet was refused, or `None` if no call returns these numbers.
 fn ip_error(error: &EtherparseError) -> Option<IpError>
     ensures { result ≡ specs.ip_error_in error.now }
 {
@@ -173,7 +173,7 @@ fn ip_error(error: &EtherparseError) -> Option<IpError>
     }
 }
 
-/// Returns the reason why an echo request was refused, or `None` for numbers that no call returns.
+/// Returns the reason why an echo request was refused, or `None` if no call returns these numbers.
 fn answer_echo_error(error: &EtherparseError) -> Option<AnswerEchoError>
     ensures { result ≡ specs.answer_echo_error_in error.now }
 {
@@ -188,7 +188,7 @@ fn answer_echo_error(error: &EtherparseError) -> Option<AnswerEchoError>
     }
 }
 
-/// Returns the reason why a packet was not translated, or `None` for numbers that no call returns.
+/// Returns the reason why a packet was not translated, or `None` if no call returns these numbers.
 fn translate_error(error: &EtherparseError) -> Option<TranslateError>
     ensures { result ≡ specs.translate_error_in error.now }
 {
@@ -207,7 +207,7 @@ fn translate_error(error: &EtherparseError) -> Option<TranslateError>
     }
 }
 
-/// Returns the reason why a checksum was not tested, from the number of its verdict.
+/// Returns the reason why a checksum was not tested. `number` is the number of the verdict.
 fn untested(number: usize) -> Option<Untested>
     ensures { result ≡ specs.untested_at number }
 {
@@ -222,7 +222,7 @@ fn untested(number: usize) -> Option<Untested>
     }
 }
 
-/// Returns the text of the error for a checksum that was not tested, from the number of its verdict.
+/// Returns the text of the error for a checksum that was not tested. `number` is the number of the verdict.
 fn untested_text(number: usize) -> ErrorText
     ensures { reads_as result ≡ specs.untested_text_at number }
 {
@@ -234,8 +234,8 @@ fn untested_text(number: usize) -> ErrorText
 
 /// Returns the text of an error in each of these cases:
 /// - The error exists only in the library for C.
-/// - The status is above 43. It is not next to the other statuses of its call.
-/// - No call returns these numbers.
+/// - The status is above 43, and so it is not next to the other statuses of its call.
+/// - No call returns an error with this status and these numbers.
 fn own_text(error: &EtherparseError) -> ErrorText
     ensures { reads_as result ≡ specs.own_text error.now }
 {
@@ -354,9 +354,9 @@ fn text(error: &EtherparseError) -> ErrorText
     }
 }
 
-/// Writes the text of an error in ASCII, with a zero byte at its end, and returns its length without that byte, at most
-/// 256. If the buffer is too small, the call writes the front of the text and the zero byte. It writes nothing to an
-/// empty buffer.
+/// Writes the text of an error in ASCII, with a zero byte at its end. Returns the length of the text without the zero
+/// byte, at most 256. If the buffer is too small, the call writes the beginning of the text and the zero byte. It
+/// writes nothing to an empty buffer.
 #[unsafe(no_mangle)]
 pub extern "C" fn etherparse_error_text(error: &EtherparseError, buffer: &mut [Char]) -> usize
     ensures len { result ≡ length (take max_text_len (text_of error.now)) }

@@ -22,8 +22,8 @@ use etherparse_transport::icmpv4::{
 };
 use etherparse_transport::{IcmpEchoHeader, Icmpv4Header, Icmpv4Slice, Icmpv4Type};
 
-/// An ICMPv4 header (RFC 792). A field that this kind of message does not have is 0. A time is in milliseconds since midnight UT. If its
-/// highest bit is set, it is not a standard value.
+/// An ICMPv4 header (RFC 792). A field that this kind of message does not have is 0. A time is in milliseconds since midnight UT. A time
+/// whose highest bit is set is not a standard value.
 #[repr(C)]
 #[derive(Clone, Copy)]
 pub struct EtherparseIcmpv4Header {
@@ -37,11 +37,12 @@ pub struct EtherparseIcmpv4Header {
     pub transmit_timestamp: u32,
     /// The checksum.
     pub checksum: u16,
-    /// In an echo or timestamp message, or in a reply: the identifier.
+    /// In an echo or timestamp message, and in its reply: the identifier.
     pub id: u16,
-    /// In an echo or timestamp message, or in a reply: the sequence number.
+    /// In an echo or timestamp message, and in its reply: the sequence number.
     pub sequence_number: u16,
-    /// If fragmentation is needed: the MTU of the next hop, in bytes (RFC 1191, section 4). It is 0 if the router does not report the MTU.
+    /// If the code is 4, fragmentation needed: the MTU of the next hop, in bytes (RFC 1191, section 4). It is 0 if the router does not
+    /// report the MTU.
     pub next_hop_mtu: u16,
     /// The type.
     pub type_u8: u8,
@@ -59,8 +60,8 @@ pub struct EtherparseIcmpv4Header {
 pub struct EtherparseIcmpv4Packet {
     /// The header.
     pub header: EtherparseIcmpv4Header,
-    /// The place at which the payload begins, in bytes from the first byte that was read. It is 20 in a timestamp message or reply of code
-    /// 0, and otherwise 8.
+    /// The place at which the payload begins, in bytes from the first byte that was read. It is 20 in a timestamp message or reply whose
+    /// code is 0, and 8 in any other message.
     pub payload_offset: usize,
     /// The length of the payload, in bytes.
     pub payload_len: usize,
@@ -110,7 +111,7 @@ fn set_timestamp(kind: u32, message: &TimestampMessage, header: &mut EtherparseI
     header.transmit_timestamp = message.transmit_timestamp;
 }
 
-/// Sets the kind of a message and its fields. Before the call none of these fields is set.
+/// Sets the kind of a message and the fields of this kind. Before the call the kind and these fields are 0.
 fn set_message(icmp_type: &Icmpv4Type, header: &mut EtherparseIcmpv4Header)
     requires { header.old ≡ specs.with_common header.old specs.nothing }
     ensures { header.new ≡ specs.with_common header.old (message_fields icmp_type.now) }
@@ -166,7 +167,8 @@ fn set_packet(slice: &Icmpv4Slice<'_>, read: &mut EtherparseIcmpv4Packet)
 ///
 /// # Errors
 ///
-/// The status is `OK`, or `LENGTH` if there are fewer than 8 bytes, or if a timestamp message or reply of code 0 is not 20 bytes long.
+/// The status is `OK` or `LENGTH`. It is `LENGTH` if there are fewer than 8 bytes. A timestamp message or reply with code 0 must have
+/// exactly 20 bytes.
 #[unsafe(no_mangle)]
 pub extern "C" fn etherparse_icmpv4_packet_read(
     bytes: &[u8],
@@ -210,7 +212,7 @@ fn echo_of(fields: &EtherparseIcmpv4Header) -> IcmpEchoHeader
     }
 }
 
-/// Returns the five numbers of a timestamp message.
+/// Returns the identifier, the sequence number and the three times of a timestamp message.
 fn timestamp_of(fields: &EtherparseIcmpv4Header) -> TimestampMessage
     ensures { result ≡ specs.timestamp_in fields.now }
 {
@@ -262,13 +264,13 @@ pub(crate) fn message_of(fields: &EtherparseIcmpv4Header) -> Option<Icmpv4Type>
     }
 }
 
-/// Writes a header (RFC 792). The kind determines the type, except for kind 0. A kind with only one code is written
-/// with code 0.
+/// Writes a header (RFC 792). The kind determines the type. For kind 0, `type_u8` and `code_u8` are written. If a kind has only one code,
+/// the code is 0.
 ///
 /// # Errors
 ///
 /// The status is `OK`, or the first of these that applies:
-/// - `MESSAGE_UNKNOWN` if the kind is unknown, or if it has several codes and `code_u8` is none of them.
+/// - `MESSAGE_UNKNOWN` if the kind is unknown, or if it has several codes and `code_u8` is not one of them.
 /// - `BUFFER_TOO_SMALL` if the buffer is shorter than the header.
 #[unsafe(no_mangle)]
 pub extern "C" fn etherparse_icmpv4_header_write(
@@ -283,7 +285,7 @@ pub extern "C" fn etherparse_icmpv4_header_write(
         (at_front (header_bytes fields.now.checksum (message_in fields.now)) buffer.old) buffer.old }
     ensures written { written.new ≡ unless_refused (write_refusal fields.now.checksum (message_in fields.now) (length buffer.old))
         (length (header_bytes fields.now.checksum (message_in fields.now))) written.old }
-    // The written header is read back, whatever bytes follow it. If the message is accepted, its header is the same.
+    // The written header is read back, whatever bytes follow it. If these bytes are accepted as a message, the message has this header.
     ensures reads_back { write_refusal fields.now.checksum (message_in fields.now) (length buffer.old) ≡ None
         → (len : ℕ) → written.new ≤ len → len ≤ length buffer.new → ReadsBack fields.now.checksum (message_in fields.now) (take len buffer.new) }
     ensures same { write_refusal fields.now.checksum (message_in fields.now) (length buffer.old) ≡ None
@@ -308,7 +310,7 @@ fn packet_checksum(packet: &Icmpv4Slice<'_>) -> u16
     ensures sum { result ≡ checksum_of (total (with_checksum 2 packet.now 0)) }
     ensures valid { IsValidIcmpv4 (with_checksum 2 packet.now result) }
 {
-    // A message of an unknown type and code keeps every bit of the bytes.
+    // A message of unknown type and code is written with exactly the bytes that were read.
     let message = Icmpv4Type::Unknown {
         type_u8: packet.type_u8(),
         code_u8: packet.code_u8(),
@@ -335,7 +337,8 @@ fn checksum_of_packet(bytes: &[u8]) -> Result<u16, EtherparseError>
 ///
 /// # Errors
 ///
-/// The status is `OK`, or `LENGTH` if there are fewer than 8 bytes, or if a timestamp message or reply of code 0 is not 20 bytes long.
+/// The status is `OK` or `LENGTH`. It is `LENGTH` if there are fewer than 8 bytes. A timestamp message or reply with code 0 must have
+/// exactly 20 bytes.
 #[unsafe(no_mangle)]
 pub extern "C" fn etherparse_icmpv4_checksum(
     bytes: &[u8],
@@ -363,7 +366,8 @@ pub extern "C" fn etherparse_icmpv4_checksum(
 ///
 /// # Errors
 ///
-/// The status is `OK`, or `LENGTH` if there are fewer than 8 bytes, or if a timestamp message or reply of code 0 is not 20 bytes long.
+/// The status is `OK` or `LENGTH`. It is `LENGTH` if there are fewer than 8 bytes. A timestamp message or reply with code 0 must have
+/// exactly 20 bytes.
 #[unsafe(no_mangle)]
 pub extern "C" fn etherparse_icmpv4_checksum_store(bytes: &mut [u8], error: ErrorPlace) -> Answer
     ensures status { result.status ≡ status_of (refusal bytes.old) }
@@ -387,7 +391,7 @@ pub extern "C" fn etherparse_icmpv4_checksum_store(bytes: &mut [u8], error: Erro
 /// # Errors
 ///
 /// The status is `OK` if the checksum is right, otherwise the first of these that applies:
-/// - `LENGTH` if there are fewer than 8 bytes, or if a timestamp message or reply of code 0 is not 20 bytes long.
+/// - `LENGTH` if there are fewer than 8 bytes. A timestamp message or reply with code 0 must have exactly 20 bytes.
 /// - `CHECKSUM_WRONG` if the checksum is wrong.
 #[unsafe(no_mangle)]
 pub extern "C" fn etherparse_icmpv4_checksum_test(bytes: &[u8], error: ErrorPlace) -> Answer

@@ -1,6 +1,6 @@
-//! The numbers of the kinds of ICMPv4 messages. They are part of the interface to C. No number ever gets another meaning.
+//! The numbers of the kinds of ICMPv4 messages. They are part of the interface to C. The meaning of a number never changes.
 
-/// Any other type and code.
+/// A message with a type or code that is not listed here.
 pub const UNKNOWN: u32 = 0;
 
 /// An echo reply message (RFC 792).

@@ -38,12 +38,12 @@ pub struct EtherparseIcmpv6Header {
     pub id: u16,
     /// In an echo request or reply: the sequence number.
     pub sequence_number: u16,
-    /// In a router advertisement: the time for which the router can be used as a default router, in seconds. It is 0 if the router is no
-    /// default router (RFC 4861, section 4.2).
+    /// In a router advertisement: the time for which the router can be used as a default router, in seconds. If the time is 0, the router
+    /// is no default router (RFC 4861, section 4.2).
     pub router_lifetime: u16,
-    /// In a router advertisement: the hop limit that the router proposes, or 0 if it proposes none (RFC 4861, section 4.2).
+    /// In a router advertisement: the hop limit that the router proposes, or 0 if it proposes no hop limit (RFC 4861, section 4.2).
     pub cur_hop_limit: u8,
-    /// In a router or neighbor advertisement: the flags, at their bits in the packet. `icmpv6_flag` lists them.
+    /// In a router or neighbor advertisement: the flags, with the bits that they have in the packet. The module `icmpv6_flag` lists them.
     pub flags: u8,
     /// The type.
     pub type_u8: u8,
@@ -90,7 +90,7 @@ fn set_echo(kind: u32, echo: &IcmpEchoHeader, header: &mut EtherparseIcmpv6Heade
     header.sequence_number = echo.seq;
 }
 
-/// Returns the flags of a router advertisement.
+/// Returns the flags of a router advertisement as a byte.
 fn router_flags(header: &RouterAdvertisementHeader) -> u8
     ensures { result ≡ specs.router_flags header.now }
 {
@@ -98,7 +98,7 @@ fn router_flags(header: &RouterAdvertisementHeader) -> u8
         + u8::from(header.other_config) * icmpv6_flag::ROUTER_OTHER_CONFIG
 }
 
-/// Returns the flags of a neighbor advertisement.
+/// Returns the flags of a neighbor advertisement as a byte.
 fn neighbor_flags(header: &NeighborAdvertisementHeader) -> u8
     ensures { result ≡ specs.neighbor_flags header.now }
 {
@@ -107,7 +107,7 @@ fn neighbor_flags(header: &NeighborAdvertisementHeader) -> u8
         + u8::from(header.override_flag) * icmpv6_flag::NEIGHBOR_OVERRIDE
 }
 
-/// Sets the kind of a message and its fields. Before the call none of these fields is set.
+/// Sets the kind of a message and the fields of this kind. Before the call the kind and these fields are 0.
 fn set_message(icmp_type: &Icmpv6Type, header: &mut EtherparseIcmpv6Header)
     requires { header.old ≡ specs.with_common header.old specs.nothing }
     ensures { header.new ≡ specs.with_common header.old (message_fields icmp_type.now) }
@@ -251,13 +251,13 @@ pub(crate) fn message_of(fields: &EtherparseIcmpv6Header) -> Option<Icmpv6Type>
     }
 }
 
-/// Writes a header (RFC 4443, section 2.1). The kind determines the type, except for kind 0. A kind with only one code
-/// is written with code 0.
+/// Writes a header (RFC 4443, section 2.1). The kind determines the type. For kind 0, `type_u8` and `code_u8` are written. If a kind has
+/// only one code, the code is 0.
 ///
 /// # Errors
 ///
 /// The status is `OK`, or the first of these that applies:
-/// - `MESSAGE_UNKNOWN` if the kind is unknown, or if it has several codes and `code_u8` is none of them.
+/// - `MESSAGE_UNKNOWN` if the kind is unknown, or if it has several codes and `code_u8` is not one of them.
 /// - `BUFFER_TOO_SMALL` if the buffer is shorter than 8 bytes.
 #[unsafe(no_mangle)]
 pub extern "C" fn etherparse_icmpv6_header_write(
@@ -272,7 +272,7 @@ pub extern "C" fn etherparse_icmpv6_header_write(
         (at_front (header_bytes fields.now.checksum (message_in fields.now)) buffer.old) buffer.old }
     ensures written { written.new ≡ unless_refused (write_refusal fields.now.checksum (message_in fields.now) (length buffer.old))
         (length (header_bytes fields.now.checksum (message_in fields.now))) written.old }
-    // The written header is read back, whatever bytes follow it. If the message is accepted, its header is the same.
+    // The written header is read back, whatever bytes follow it. If these bytes are accepted as a message, the message has this header.
     ensures reads_back { write_refusal fields.now.checksum (message_in fields.now) (length buffer.old) ≡ None
         → (len : ℕ) → written.new ≤ len → len ≤ length buffer.new → ReadsBack fields.now.checksum (message_in fields.now) (take len buffer.new) }
     ensures same { write_refusal fields.now.checksum (message_in fields.now) (length buffer.old) ≡ None
@@ -291,7 +291,7 @@ pub extern "C" fn etherparse_icmpv6_header_write(
     }
 }
 
-/// Computes the checksum of a message. Its checksum field is ignored. No message is too long.
+/// Computes the checksum of a message. Its checksum field is ignored. The message was read, so it is not too long.
 fn packet_checksum(
     packet: &Icmpv6Slice<'_>,
     source: [u8; 16],
@@ -303,7 +303,7 @@ fn packet_checksum(
         (total (pseudo_header source destination (length packet.now)) + total (with_checksum 2 packet.now 0))) }
     ensures valid { IfOk result (λ checksum. IsValidIcmpv6 source destination (with_checksum 2 packet.now checksum)) }
 {
-    // A message of an unknown type and code keeps every bit of the bytes.
+    // A message of unknown type and code is written with exactly the bytes that were read.
     let message = Icmpv6Type::Unknown {
         type_u8: packet.type_u8(),
         code_u8: packet.code_u8(),

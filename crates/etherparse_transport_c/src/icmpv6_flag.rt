@@ -1,4 +1,4 @@
-//! The flags of ICMPv6 advertisements in the interface to C, at their bits in the packet.
+//! The flags of ICMPv6 advertisements in the interface to C. They have the bits that they have in a packet.
 
 use etherparse_transport::icmpv6::{NeighborAdvertisementHeader, RouterAdvertisementHeader};
 

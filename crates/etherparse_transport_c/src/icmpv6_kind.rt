@@ -1,6 +1,6 @@
-//! The numbers of the kinds of ICMPv6 messages. They are part of the interface to C. No number ever gets another meaning.
+//! The numbers of the kinds of ICMPv6 messages. They are part of the interface to C. The meaning of a number never changes.
 
-/// Any other type and code.
+/// A message with a type or code that is not listed here.
 pub const UNKNOWN: u32 = 0;
 
 /// A destination unreachable message (RFC 4443, section 3.1).

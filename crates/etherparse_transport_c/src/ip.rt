@@ -14,35 +14,35 @@ use etherparse_transport::ip::{
 };
 use reassembly::ipv6_fragment_header;
 
-/// The transport in an IP packet (RFC 791, section 3.1; RFC 8200, sections 3 and 4).
+/// An IP packet that was read: its addresses, and the place of its payload (RFC 791, section 3.1; RFC 8200, sections 3 and 4).
 #[repr(C)]
 #[derive(Clone, Copy)]
 pub struct EtherparseIpTransport {
     /// The version, 4 or 6.
     pub version: u32,
-    /// The protocol of the payload, as its number in IP headers.
+    /// The number of the payload's protocol in IP headers.
     pub protocol: u32,
     /// The place at which the payload begins, in bytes from the first byte of the packet.
     pub payload_offset: usize,
-    /// The length of the payload in bytes. Padding after the packet is not counted, if the packet states its length.
+    /// The length of the payload, in bytes. If the packet states its length, padding after the packet is not counted.
     pub payload_len: usize,
     /// 1 if the packet is a fragment, otherwise 0. It is a fragment if more fragments follow, or if its fragment offset is above 0.
     pub is_fragment: u32,
     /// 1 if the IP header counts more bytes than were passed, otherwise 0.
     pub is_cut_off: u32,
-    /// 1 if the final destination is known, otherwise 0. It is 0 over IPv6 if a routing header with segments left does not name the last
-    /// address in a known way.
+    /// 1 if the final destination is known, otherwise 0. It is 0 if an IPv6 routing header with segments left is of a type for which the
+    /// last address is not known.
     pub has_destination: u32,
     /// The source that the checksum covers: the source in the IP header, or a home address (RFC 6275). An IPv4 address is in the first four
     /// bytes, and the other bytes are 0.
     pub source: [u8; 16],
-    /// The final destination, which the checksum covers, in the same form as the source. It is 0 if it is not known.
+    /// The final destination, which the checksum covers. It is stored like the source. All bytes are 0 if it is not known.
     pub destination: [u8; 16],
-    /// 1 if the IP header states no length, so that all bytes are counted. Otherwise it is 0. It can be 1 only after a call whose name ends
+    /// 1 if the IP header states no length, otherwise 0. Then all passed bytes are counted. It can be 1 only after a call whose name ends
     /// in `_lax`.
     pub is_length_missing: u32,
-    /// 1 if the packet is a later fragment, otherwise 0. The offset of a later fragment is above 0, so its payload begins within the
-    /// payload of the whole packet, and not with a transport header.
+    /// 1 if the packet is a later fragment, otherwise 0. The offset of a later fragment is above 0. Its payload is a later part of the
+    /// whole payload, so it does not begin with a transport header.
     pub is_later_fragment: u32,
     /// The number of hops that are left: the time to live of IPv4, or the hop limit of IPv6.
     pub hop_limit: u32,
@@ -67,7 +67,7 @@ struct HeaderFields {
     traffic_class: u32,
 }
 
-/// The first byte of an IPv4 packet without options: version 4, and a header of five words of four bytes (RFC 791, section 3.1).
+/// The first byte of an IPv4 packet without options: version 4, and a header length of five words of four bytes (RFC 791, section 3.1).
 const IPV4_WITHOUT_OPTIONS: u8 = 0x45;
 
 /// The bits of the fragment offset in bytes 6 and 7 of an IPv4 header (RFC 791, section 3.1).
@@ -238,7 +238,7 @@ fn find(bytes: &[u8], transport: &mut EtherparseIpTransport, error: ErrorPlace) 
     }
 }
 
-/// The same as `find`, but never inlined.
+/// Does what `find` does, but is never inlined.
 #[inline(never)]
 fn find_apart(bytes: &[u8], transport: &mut EtherparseIpTransport, error: ErrorPlace) -> Answer
     ensures status { result.status ≡ status_of (refusal bytes.now) }
@@ -251,8 +251,8 @@ fn find_apart(bytes: &[u8], transport: &mut EtherparseIpTransport, error: ErrorP
 }
 
 /// Finds the transport in the IP packet at the front of some bytes, after its options and extension headers (RFC 791, section 3.1; RFC
-/// 8200, sections 3 and 4). The payload is a part of these bytes. The IP header counts the bytes of the packet. All bytes after them are
-/// padding. No checksum is tested.
+/// 8200, sections 3 and 4). The IP header states the length of the packet. All bytes after the packet are padding. The payload is a part of
+/// `bytes`. No checksum is tested.
 ///
 /// # Errors
 ///
@@ -299,7 +299,7 @@ fn find_lax(bytes: &[u8], transport: &mut EtherparseIpTransport, error: ErrorPla
     }
 }
 
-/// The same as `find_lax`, but never inlined.
+/// Does what `find_lax` does, but is never inlined.
 #[inline(never)]
 fn find_lax_apart(bytes: &[u8], transport: &mut EtherparseIpTransport, error: ErrorPlace) -> Answer
     ensures status { result.status ≡ status_of (lax_refusal bytes.now) }
@@ -311,9 +311,9 @@ fn find_lax_apart(bytes: &[u8], transport: &mut EtherparseIpTransport, error: Er
     find_lax(bytes, transport, error)
 }
 
-/// Like `etherparse_transport_in_ip`, but accepts an IP packet that is cut off, or whose header states no length. If fewer bytes
-/// were passed than the IP header counts, the payload ends with the passed bytes, and `is_cut_off` is 1. If the header states no length, as
-/// `transport_in_ip_lax` defines it, all bytes are counted, and `is_length_missing` is 1.
+/// Like `etherparse_transport_in_ip`, but accepts an IP packet that is cut off, or whose header states no length. If the header counts more
+/// bytes than were passed, the payload ends with the passed bytes, and `is_cut_off` is 1. If the header states no length, as described at
+/// `transport_in_ip_lax`, all bytes are counted, and `is_length_missing` is 1.
 ///
 /// # Errors
 ///

@@ -19,7 +19,7 @@ pub struct EtherparseIpAddresses {
     pub version: u32,
     /// The source. An IPv4 address is in the first four bytes, and the other bytes are 0.
     pub source: [u8; 16],
-    /// The destination, in the same form as the source.
+    /// The destination. An IPv4 address is in the first four bytes, and the other bytes are 0.
     pub destination: [u8; 16],
 }
 
@@ -66,8 +66,8 @@ fn addresses(bytes: &[u8]) -> Result<EtherparseIpAddresses, EtherparseError>
 }
 
 /// Reads the addresses of the IP header at the front of these bytes (RFC 791, section 3.1; RFC 8200, section 3). Options and extension
-/// headers are not read. If they contain a source route, a routing header or a home address, `etherparse_transport_in_ip` returns other
-/// addresses, which the checksum covers.
+/// headers are not read. They can contain a source route, a routing header or a home address. Then the checksum covers other addresses, and
+/// `etherparse_transport_in_ip` returns those.
 ///
 /// # Errors
 ///

@@ -17,7 +17,7 @@ use etherparse_transport::checksum::Sum16BitWords;
 use etherparse_transport::ip::IpError;
 use etherparse_transport::{Ipv4Header, Ipv4HeaderSlice};
 
-/// Returns the reason why these bytes do not begin with an IPv4 header.
+/// Returns the error for bytes that do not begin with an IPv4 header.
 fn missing_header(bytes: &[u8]) -> IpError
     requires { header_refusal bytes.now ≢ None }
     ensures { header_refusal bytes.now ≡ Some result }
@@ -49,7 +49,7 @@ fn missing_header(bytes: &[u8]) -> IpError
     }
 }
 
-/// Returns the IPv4 header at the front of these bytes, with its options.
+/// Returns the IPv4 header at the front of these bytes. It includes the options.
 pub(crate) fn header(bytes: &[u8]) -> Result<Ipv4HeaderSlice<'_>, EtherparseError>
     ensures refused { RefusesExactly result (refusal bytes.now) }
     ensures kept { IfOk result (λ header. header ≡ ipv4_header bytes.now) }
@@ -86,8 +86,8 @@ fn computed(bytes: &[u8]) -> Result<u16, EtherparseError>
     }
 }
 
-/// Computes the checksum to store in the IPv4 header at the front of these bytes (RFC 791, section 3.1). Its checksum field is ignored, and
-/// so are the bytes after the header.
+/// Computes the checksum to store in the IPv4 header at the front of these bytes (RFC 791, section 3.1). Its checksum field and the bytes
+/// after the header are ignored.
 ///
 /// # Errors
 ///

@@ -16,15 +16,15 @@ use crate::packet_verdict::of_transport;
 use etherparse_transport::err::tcp::HeaderSliceError;
 use etherparse_transport::ip::{TransportInIp, transport_in_ip, transport_slice, write_checksum};
 
-/// Stores the right checksum of UDP, TCP or ICMP in an IP packet of either version, whatever checksum it contains, and writes the checksum
-/// to `checksum`. Afterwards `etherparse_packet_verdict` returns the verdict `RIGHT`. A partial checksum becomes a whole checksum. A UDP
-/// packet over IPv4 without a checksum gets a checksum. No other byte changes. The checksum of the IPv4 header is not tested.
+/// Stores the right checksum of UDP, TCP or ICMP in an IP packet of either version, whatever checksum the packet contains, and writes the
+/// checksum to `checksum`. Afterwards `etherparse_packet_verdict` returns the verdict `RIGHT`. A partial checksum becomes a whole checksum.
+/// A UDP packet over IPv4 without a checksum gets a checksum. No other byte changes. The checksum of the IPv4 header is not tested.
 ///
 /// # Errors
 ///
 /// The status is `OK`, or the first of these that applies:
 /// - A status of `etherparse_transport_in_ip`.
-/// - `LENGTH` or `DATA_OFFSET` as the call that reads a packet of the transport's protocol returns it.
+/// - `LENGTH` or `DATA_OFFSET`, as the call that reads a packet of this protocol returns it.
 /// - `CHECKSUM_UNTESTED` if `etherparse_packet_verdict` does not test the checksum. The error contains the verdict.
 ///
 /// After an error `error` contains the reason, and `packet` and `checksum` are unchanged.
@@ -53,7 +53,7 @@ pub extern "C" fn etherparse_packet_checksum_store(
     }
 }
 
-/// Returns whether the checksum of a transport is partial. No other protocol than UDP, TCP and ICMPv6 has a partial checksum.
+/// Returns whether the checksum of a transport is partial. Only UDP, TCP and ICMPv6 can have a partial checksum.
 fn has_partial(carried: &TransportInIp<'_>) -> Result<bool, HeaderSliceError>
     ensures refused { RefusesExactly result (transports.refusal carried.now) }
     ensures partial { IfOk result (λ partial. IsTrue partial ↔ HasPartial carried.now) }
@@ -65,10 +65,10 @@ fn has_partial(carried: &TransportInIp<'_>) -> Result<bool, HeaderSliceError>
     }
 }
 
-/// Tests whether the checksum of UDP, TCP or ICMPv6 in an IP packet is partial, and writes 1 or 0 to `is_partial`. A partial checksum is the
-/// sum of only the pseudo header. A host leaves the rest to its network card (checksum offload), so that a packet from a socket of the same
-/// host often contains one. The payload is not read. Before such a packet is changed or forwarded, `etherparse_packet_checksum_store`
-/// completes its checksum. For a fragment, and for any other protocol, the result is 0.
+/// Tests whether the checksum of UDP, TCP or ICMPv6 in an IP packet is partial, and writes 1 or 0 to `is_partial`. A partial checksum is
+/// the sum of only the pseudo header. A host leaves the rest to its network card (checksum offload). So a packet from a socket of the same
+/// host often contains a partial checksum. Call `etherparse_packet_checksum_store` to complete it before the packet is changed or
+/// forwarded. The payload is not read. The result is 0 for a fragment, and for any other protocol.
 ///
 /// # Errors
 ///

@@ -22,8 +22,8 @@ use etherparse_transport::{ChecksumVerdict, Proto};
 pub struct EtherparseIpPacket {
     /// The transport in the packet.
     pub transport: EtherparseIpTransport,
-    /// The protocol of the header at the start of the payload, as its number in IP headers. It is 0 for a fragment, for any protocol except
-    /// the four, and for ICMP of the wrong IP version.
+    /// The protocol of the header at the start of the payload, as its number in IP headers. It is 0 for a fragment, for a protocol other
+    /// than UDP, TCP and ICMP, and for ICMP of the wrong IP version.
     pub header_protocol: u32,
     /// The verdict. The module `verdict_kind` lists the numbers.
     pub verdict: u32,
@@ -43,7 +43,7 @@ fn number_of_proto(proto: Proto) -> u32
     }
 }
 
-/// Returns the number of the protocol whose header begins the payload, or 0 if there is none or the header is refused.
+/// Returns the number of the protocol whose header begins the payload, or 0 if the payload begins with no such header.
 fn header_protocol(carried: &TransportInIp<'_>) -> u32
     ensures { transports.refusal carried.now ≡ None → result ≡ specs.header_protocol (kept carried.now) }
 {
@@ -76,7 +76,7 @@ fn expected_checksum(verdict: ChecksumVerdict) -> u16
     }
 }
 
-/// Returns the error for a refused transport header, which begins at this place of the packet.
+/// Returns the error for a refused transport header that begins at this place in the packet.
 pub(crate) fn of_transport(place: usize, error: &HeaderSliceError) -> EtherparseError
     ensures { result ≡ specs.of_transport place error.now }
 {
@@ -121,8 +121,8 @@ fn judge(
 ///
 /// # Errors
 ///
-/// The status is a status of `etherparse_transport_in_ip`, or `LENGTH` or `DATA_OFFSET` as the call that reads a packet of the transport's
-/// protocol returns it. After an error `error` contains the reason, and `packet` is unchanged.
+/// The status is a status of `etherparse_transport_in_ip`. It can also be `LENGTH` or `DATA_OFFSET`, as the call that reads a packet of
+/// this protocol returns it. After an error `error` contains the reason, and `packet` is unchanged.
 #[unsafe(no_mangle)]
 pub extern "C" fn etherparse_packet_verdict(
     bytes: &[u8],
@@ -140,7 +140,7 @@ pub extern "C" fn etherparse_packet_verdict(
 }
 
 /// Finds the transport in a packet that may be cut off or state no length, as `etherparse_transport_in_ip_lax` does. Then it tests the
-/// checksum, unless the packet is cut off. A UDP packet that is cut off is read as by `etherparse_udp_packet_read_lax`.
+/// checksum, unless the packet is cut off. A UDP packet that is cut off is read as `etherparse_udp_packet_read_lax` reads it.
 ///
 /// # Errors
 ///

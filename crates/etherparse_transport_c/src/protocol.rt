@@ -1,4 +1,4 @@
-//! The numbers of the protocols in the interface to C. They are the protocol numbers of IP headers.
+//! The numbers of the protocols in the interface to C. IP headers contain the same numbers.
 
 use etherparse_transport::ip_number;
 

@@ -1,6 +1,6 @@
-//! The numbers that a call returns. They are part of the interface to C. No number ever gets another meaning.
+//! The numbers that a call returns. They are part of the interface to C. The meaning of a number never changes.
 
-/// The call did what was asked for.
+/// The call succeeded.
 pub const OK: u32 = 0;
 
 /// A length is too short or too long.
@@ -9,13 +9,13 @@ pub const LENGTH: u32 = 1;
 /// The data offset of a TCP header counts fewer than five words.
 pub const DATA_OFFSET: u32 = 2;
 
-/// A value is greater than the field for it.
+/// A value is greater than its field can contain.
 pub const VALUE_TOO_BIG: u32 = 3;
 
-/// The caller's buffer is too small for the bytes that would be written.
+/// The caller's buffer is too small for the bytes to write.
 pub const BUFFER_TOO_SMALL: u32 = 4;
 
-/// The checksum is wrong: the packet and its pseudo header do not sum up to all ones. ICMPv4 has no pseudo header.
+/// The checksum is wrong: the one's complement sum of the packet and its pseudo header is not all ones. ICMPv4 has no pseudo header.
 pub const CHECKSUM_WRONG: u32 = 5;
 
 /// The checksum field of a UDP packet is 0, which means that there is no checksum.
@@ -24,35 +24,35 @@ pub const CHECKSUM_ABSENT: u32 = 6;
 /// There are more than 40 bytes of TCP options.
 pub const OPTIONS_TOO_LONG: u32 = 7;
 
-/// The flags of a TCP header contain a bit that is none of the nine flags.
+/// The flags of a TCP header contain a bit that belongs to none of the nine flags.
 pub const FLAGS_UNKNOWN: u32 = 8;
 
 /// The call does not accept the protocol: it is none of the four, or ICMP of the other IP version.
 pub const PROTOCOL_UNKNOWN: u32 = 9;
 
-/// No option is left. The list or the bytes are at their end.
+/// No option is left: the list or the option bytes end here.
 pub const OPTIONS_END: u32 = 10;
 
 /// Fewer bytes are left than the option needs.
 pub const OPTION_CUT_OFF: u32 = 11;
 
-/// No option of this kind has this length byte.
+/// An option of this kind can't have this length byte.
 pub const OPTION_SIZE: u32 = 12;
 
 /// The kind of the option is unknown.
 pub const OPTION_UNKNOWN: u32 = 13;
 
-/// The kind of the message is unknown, or its code is unknown for this kind.
+/// The kind of the message is unknown, or this kind has no such code.
 pub const MESSAGE_UNKNOWN: u32 = 14;
 
-/// The bytes end within the IP header, or there are none. If the hop-by-hop options must contain the length, the bytes may also end within
-/// these options.
+/// The bytes end within the IP header, or there are no bytes. If the hop-by-hop options must contain the length, the bytes may also end
+/// within these options.
 pub const IP_HEADER_CUT_OFF: u32 = 15;
 
 /// The version of an IP packet is neither 4 nor 6.
 pub const IP_VERSION: u32 = 16;
 
-/// The header length of an IPv4 packet counts fewer than five words.
+/// The header length of an IPv4 packet is below five words.
 pub const IP_HEADER_LENGTH: u32 = 17;
 
 /// The total length of an IPv4 packet is below the length of its header.
@@ -67,25 +67,25 @@ pub const IP_EXTENSION_CUT_OFF: u32 = 20;
 /// The payload length of an IPv6 packet is 0, and its hop-by-hop options have no jumbo payload option.
 pub const IP_JUMBO_PAYLOAD_MISSING: u32 = 21;
 
-/// A jumbo payload length is at most 65,535, which a payload length can count.
+/// A jumbo payload length is at most 65,535, so the payload length field could contain it.
 pub const IP_JUMBO_PAYLOAD_LENGTH: u32 = 22;
 
-/// An IPv6 packet has a jumbo payload option, and a payload length that is not 0.
+/// An IPv6 packet has a jumbo payload option, but its payload length field is not 0.
 pub const IP_JUMBO_PAYLOAD_UNEXPECTED: u32 = 23;
 
-/// An IPv6 packet has a jumbo payload option, and a fragment header.
+/// An IPv6 packet has both a jumbo payload option and a fragment header.
 pub const IP_JUMBO_PAYLOAD_FRAGMENT: u32 = 24;
 
-/// No option of this kind has these values: their count is wrong, or a value is too big.
+/// An option of this kind can't have these values: their number is wrong, or a value is too big.
 pub const OPTION_VALUES: u32 = 31;
 
 /// The packet is a fragment. An echo request is answered only after its fragments are joined (RFC 1122, section 3.3.2).
 pub const ECHO_FRAGMENT: u32 = 32;
 
-/// The packet is no echo request, or it has another IP version than the call accepts.
+/// The packet is no echo request, or it has an IP version that the call does not accept.
 pub const ECHO_NO_REQUEST: u32 = 33;
 
-/// The packet contains IPv4 options, an authentication header, or IPv6 extension headers. The reply would need them too.
+/// The packet contains IPv4 options, an authentication header, or IPv6 extension headers. The reply would need these headers too.
 pub const ECHO_HAS_OPTIONS: u32 = 34;
 
 /// The checksum of the IPv4 header of an echo request is wrong.
@@ -103,7 +103,7 @@ pub const NO_ICMP_ERROR: u32 = 38;
 /// No call returns this status. It is reserved for the translation of a packet with IPv4 options.
 pub const TRANSLATE_HAS_OPTIONS: u32 = 39;
 
-/// The packet is not translated, because its protocol is not UDP, TCP or ICMP of its IP version.
+/// The packet is not translated, because its protocol is not UDP, TCP, or the ICMP of its IP version.
 pub const TRANSLATE_PROTOCOL: u32 = 40;
 
 /// The packet is not translated, because it ends within its transport header.

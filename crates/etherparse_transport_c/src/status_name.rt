@@ -5,7 +5,7 @@ ghost use Rattle.etherparse_transport_c.specs.Text.{with_string};
 use crate::status;
 use crate::text::{Char, put_string};
 
-/// Returns the name of a status, as the header spells it.
+/// Returns the name of a status, as the C header spells it.
 fn name(status: u32) -> &'static str
     ensures name { result.now ≡ status_name status }
     ensures fits { length result.now ≤ max_status_name_len }
@@ -62,8 +62,8 @@ fn name(status: u32) -> &'static str
     }
 }
 
-/// Writes the name of a status, as the header spells it, with a zero byte at its end, and returns its length without that byte. If the
-/// buffer is too small, the call writes the beginning of the name and the zero byte. It writes nothing to an empty buffer.
+/// Writes the name of a status, as the C header spells it, with a zero byte at its end. Returns the length of the name without the zero
+/// byte. If the buffer is too small, the call writes the beginning of the name and the zero byte. It writes nothing to an empty buffer.
 #[unsafe(no_mangle)]
 pub extern "C" fn etherparse_status_name(status: u32, buffer: &mut [Char]) -> usize
     ensures len { result ≡ length (status_name status) }

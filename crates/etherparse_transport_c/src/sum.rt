@@ -13,14 +13,14 @@ pub struct EtherparseSum {
     pub value: u16,
 }
 
-/// Returns the sum as a value of the library.
+/// Returns the sum as a value of the library in Rattle.
 fn sum_of(value: u16) -> Sum16BitWords
     ensures { sum_value result ≡ value }
 {
     Sum16BitWords::new().add_2bytes(value.to_be_bytes())
 }
 
-/// Returns the sum after the words of some bytes were added.
+/// Returns the sum after adding the words of some bytes.
 pub(crate) fn added(value: u16, bytes: &[u8]) -> u16
     ensures { result ≡ folded (value + total bytes.now) }
 {
@@ -35,8 +35,8 @@ pub extern "C" fn etherparse_sum_new() -> EtherparseSum
     EtherparseSum { value: 0 }
 }
 
-/// Adds the words of some bytes (RFC 1071, section 1). If the number of bytes is odd, the last byte is the high half of a word. So if
-/// several parts are added, only the last part may have an odd length.
+/// Adds the words of some bytes (RFC 1071, section 1). If the number of bytes is odd, the last byte is the high half of a word. So only the
+/// last part that is added may have an odd length.
 #[unsafe(no_mangle)]
 pub extern "C" fn etherparse_sum_add(sum: EtherparseSum, bytes: &[u8]) -> EtherparseSum
     ensures { result.value ≡ folded (sum.value + total bytes.now) }
@@ -46,8 +46,8 @@ pub extern "C" fn etherparse_sum_add(sum: EtherparseSum, bytes: &[u8]) -> Etherp
     }
 }
 
-/// Adds the words of some bytes. The sum already contains the `offset` bytes before them. If this number is odd, the first byte is the low
-/// half of a word. So if several parts are added, each part may have any length (RFC 1071, section 2 (B)).
+/// Adds the words of some bytes. The sum already contains the `offset` bytes before them. If `offset` is odd, the first byte is the low
+/// half of a word. So each part that is added may have any length (RFC 1071, section 2 (B)).
 #[unsafe(no_mangle)]
 pub extern "C" fn etherparse_sum_add_at(
     sum: EtherparseSum,
@@ -55,14 +55,14 @@ pub extern "C" fn etherparse_sum_add_at(
     bytes: &[u8],
 ) -> EtherparseSum
     ensures value { result.value ≡ folded (sum.value + total_at offset bytes.now) }
-    // If the sum is the sum of the bytes before these, the result is the sum of both.
+    // If the sum is the sum of the bytes before this part, the result is the sum of these bytes and this part.
     ensures joins { (before : List ℕ) → length before % 2 ≡ offset % 2 → sum.value ≡ folded (total before) →
         result.value ≡ folded (total (before ++ bytes.now)) }
 {
     if offset % 2 == 0 {
         return etherparse_sum_add(sum, bytes);
     }
-    // At an odd place every byte is in the other half of its word, so that the two bytes of the sum of the part are swapped.
+    // If the part begins at an odd place, each byte is in the other half of its word. So the two bytes of the part's sum are exchanged.
     EtherparseSum {
         value: added(sum.value, &added(0, bytes).to_le_bytes()),
     }

@@ -27,7 +27,7 @@ use net_base::check_payload_len;
 pub struct EtherparseTcpHeader {
     /// The sequence number.
     pub sequence_number: u32,
-    /// With the flag ACK: the next sequence number that the sender expects. Without the flag it has no meaning.
+    /// If the flag ACK is set: the next sequence number that the sender expects. Otherwise the field has no meaning.
     pub acknowledgment_number: u32,
     /// The port of the sender.
     pub source_port: u16,
@@ -35,11 +35,11 @@ pub struct EtherparseTcpHeader {
     pub destination_port: u16,
     /// The nine flags: FIN 0x001, SYN 0x002, RST 0x004, PSH 0x008, ACK 0x010, URG 0x020, ECE 0x040, CWR 0x080, NS 0x100.
     pub flags: u16,
-    /// The number of bytes that the sender is willing to accept, before any window scale (RFC 7323, section 2.2).
+    /// The number of bytes that the sender is willing to receive, before window scaling (RFC 7323, section 2.2).
     pub window_size: u16,
     /// The checksum.
     pub checksum: u16,
-    /// With the flag URG: the end of the urgent data, in bytes from the sequence number. Without the flag it has no meaning.
+    /// If the flag URG is set: the end of the urgent data, in bytes from the sequence number. Otherwise the field has no meaning.
     pub urgent_pointer: u16,
 }
 
@@ -53,7 +53,7 @@ pub struct EtherparseTcpPacket {
     pub options_offset: usize,
     /// The length of the options, in bytes. It is at most 40, and a multiple of 4.
     pub options_len: usize,
-    /// The place at which the payload begins, in bytes from the first byte that was read. It is 20 to 60.
+    /// The place at which the payload begins, in bytes from the first byte that was read. It is between 20 and 60.
     pub payload_offset: usize,
     /// The length of the payload, in bytes.
     pub payload_len: usize,
@@ -125,7 +125,7 @@ pub extern "C" fn etherparse_tcp_packet_read(
     }
 }
 
-/// Whether the flag with this bit is set.
+/// Whether the flag with this bit is set in `flags`.
 fn has(flags: u16, bit: u16) -> bool
     ensures { result ≡ is_set flags bit }
 {
@@ -196,7 +196,7 @@ pub extern "C" fn etherparse_tcp_header_write(
     }
 }
 
-/// Returns the header at the front of some bytes, with other fields. Its options stay.
+/// Returns the header at the front of some bytes, with the given fields and its own options.
 fn changed_header(fields: &EtherparseTcpHeader, bytes: &[u8]) -> Result<TcpHeader, EtherparseError>
     ensures refused { RefusesExactly result (store_refusal fields.now bytes.now) }
     ensures made { IfOk result (λ header. header ≡ header_in fields.now (options_of bytes.now)) }
@@ -208,13 +208,13 @@ fn changed_header(fields: &EtherparseTcpHeader, bytes: &[u8]) -> Result<TcpHeade
     }
 }
 
-/// Stores a header in the segment at the front of some bytes (RFC 9293, section 3.1). The options and the payload stay, and the reserved
-/// bits of the header are cleared.
+/// Stores a header in the segment at the front of some bytes (RFC 9293, section 3.1). The options and the payload are unchanged, and the
+/// reserved bits of the header are cleared.
 ///
 /// # Errors
 ///
 /// The status is `OK`, or the first of these that applies:
-/// - `LENGTH` or `DATA_OFFSET` as `etherparse_tcp_packet_read` returns it.
+/// - `LENGTH` or `DATA_OFFSET`, as `etherparse_tcp_packet_read` returns it.
 /// - `FLAGS_UNKNOWN` if `header.flags` is above 0x1FF.
 #[unsafe(no_mangle)]
 pub extern "C" fn etherparse_tcp_header_store(
@@ -225,7 +225,7 @@ pub extern "C" fn etherparse_tcp_header_store(
     ensures status { result.status ≡ status_of (store_refusal fields.now bytes.old) }
     ensures error { Leaves error result (unwrap_or (store_refusal fields.now bytes.old) error.before) }
     ensures stored { bytes.new ≡ unless_refused (store_refusal fields.now bytes.old) (with_fields fields.now bytes.old) bytes.old }
-    // The stored fields are read back, with the same options and the same bytes after them.
+    // The stored fields are read back. The options and the bytes after the header are unchanged.
     ensures reads_back { store_refusal fields.now bytes.old ≡ None
         → (fields_of (header_of bytes.new) ≡ fields.now) × (options_of bytes.new ≡ options_of bytes.old)
         × (payload_bytes bytes.new ≡ payload_bytes bytes.old) }
@@ -239,7 +239,7 @@ pub extern "C" fn etherparse_tcp_header_store(
     }
 }
 
-/// Computes the checksum of a segment over IPv4. The segment is all bytes, header and payload. Its checksum field is ignored.
+/// Computes the checksum of a segment over IPv4. All bytes are the segment, header and payload. Its checksum field is ignored.
 fn checksum_ipv4(
     bytes: &[u8],
     source: &[u8; 4],
@@ -264,7 +264,7 @@ fn checksum_ipv4(
     }
 }
 
-/// Computes the checksum to store in a segment over IPv4 (RFC 9293, section 3.1). The segment is all bytes, header and payload. Its
+/// Computes the checksum to store in a segment over IPv4 (RFC 9293, section 3.1). All bytes are the segment, header and payload. Its
 /// checksum field is ignored.
 ///
 /// # Errors
@@ -331,7 +331,7 @@ pub extern "C" fn etherparse_tcp_checksum_store_ipv4(
     }
 }
 
-/// Computes the checksum of a segment over IPv6. The segment is all bytes, header and payload. Its checksum field is ignored.
+/// Computes the checksum of a segment over IPv6. All bytes are the segment, header and payload. Its checksum field is ignored.
 fn checksum_ipv6(
     bytes: &[u8],
     source: &[u8; 16],
@@ -356,7 +356,7 @@ fn checksum_ipv6(
     }
 }
 
-/// Computes the checksum to store in a segment over IPv6 (RFC 9293, section 3.1; RFC 8200, section 8.1). The segment is all bytes, header
+/// Computes the checksum to store in a segment over IPv6 (RFC 9293, section 3.1; RFC 8200, section 8.1). All bytes are the segment, header
 /// and payload. Its checksum field is ignored.
 ///
 /// # Errors
@@ -423,7 +423,7 @@ pub extern "C" fn etherparse_tcp_checksum_store_ipv6(
     }
 }
 
-/// Returns the header of a segment and its payload, unless the segment is longer than a pseudo header can count.
+/// Returns the header of a segment and its payload. A segment that is too long for the length field of the pseudo header is refused.
 fn counted_parts<'a>(
     bytes: &'a [u8],
     limit: usize,
@@ -446,7 +446,7 @@ fn counted_parts<'a>(
     }
 }
 
-/// Tests the checksum of a segment over IPv4 (RFC 9293, section 3.1). The segment is all bytes, header and payload.
+/// Tests the checksum of a segment over IPv4 (RFC 9293, section 3.1). All bytes are the segment, header and payload.
 ///
 /// # Errors
 ///
@@ -473,8 +473,7 @@ pub extern "C" fn etherparse_tcp_checksum_test_ipv4(
     }
 }
 
-/// Tests the checksum of a segment over IPv6 (RFC 9293, section 3.1; RFC 8200, section 8.1). The segment is all bytes,
-/// header and payload.
+/// Tests the checksum of a segment over IPv6 (RFC 9293, section 3.1; RFC 8200, section 8.1). All bytes are the segment, header and payload.
 ///
 /// # Errors
 ///

@@ -1,7 +1,7 @@
-//! The flags of a TCP header. Eight flags have their bits in byte 13, and NS has the next higher bit. They are part of the interface to C.
-//! No number ever gets another meaning.
+//! The flags of a TCP header, in the interface to C. NS is bit 0x100. The other flags have the bits that they have in byte 13. The meaning
+//! of a bit never changes.
 
-/// No more data from the sender (RFC 9293, section 3.1).
+/// The sender sends no more data (RFC 9293, section 3.1).
 pub const FIN: u16 = 0x001;
 
 /// Synchronize sequence numbers (RFC 9293, section 3.1).

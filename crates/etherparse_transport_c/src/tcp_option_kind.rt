@@ -1,4 +1,4 @@
-//! The kinds of TCP options in the interface to C, as they are registered.
+//! The kinds of TCP options, as IANA registers them.
 
 use etherparse_transport::tcp_option;
 

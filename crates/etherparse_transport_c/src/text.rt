@@ -15,7 +15,7 @@ pub(crate) type Text = ArrayVec<u8, MAX_TEXT_LEN>;
 /// A byte of a text. In C its type is `char`.
 pub(crate) type Char = u8;
 
-/// Returns the first of these bytes, up to the number of bytes that the text has room for.
+/// Returns the first `room` bytes, or all bytes if there are fewer.
 #[tactic(auto, using(std::proofs::lemmas::List::take_all))]
 fn fitting(bytes: &[u8], room: usize) -> &[u8]
     ensures { result.now ≡ take room bytes.now }
@@ -27,16 +27,16 @@ fn fitting(bytes: &[u8], room: usize) -> &[u8]
     }
 }
 
-/// Appends the first of these bytes, up to the number of bytes that the text has room for.
+/// Appends bytes to a text. Bytes for which the text has no room are left out.
 fn put_bytes(text: &mut Text, bytes: &[u8])
     ensures { (before : List ℕ) → IsCut text.old.items before → IsCut text.new.items (before ++ bytes.now) }
 {
     let room = text.remaining_capacity();
-    // The bytes fit, so that this does not fail.
+    // This does not fail, since the bytes fit.
     let _ = text.try_extend_from_slice(fitting(bytes, room));
 }
 
-/// Appends the first bytes of some words, up to the number of bytes that the text has room for.
+/// Appends words to a text. Bytes for which the text has no room are left out.
 fn put(text: &mut Text, words: &str)
     ensures { (before : List ℕ) → IsCut text.old.items before → IsCut text.new.items (before ++ words.now) }
 {
@@ -51,7 +51,7 @@ fn put_digit(text: &mut Text, digit: usize)
     put_bytes(text, &[b'0' + digit as u8]);
 }
 
-/// Appends a number in decimal. If the text has no room for all digits, the last digits are left out.
+/// Appends a number in decimal. Digits for which the text has no room are left out.
 fn put_number(text: &mut Text, number: usize)
     ensures { (before : List ℕ) → IsCut text.old.items before → IsCut text.new.items (before ++ decimal number) }
 {

@@ -12,7 +12,7 @@ use etherparse_transport::ip::{
     translate_ipv6_with_quoted,
 };
 
-/// The values that an address translator replaces in an IPv4 packet (RFC 3022). If a flag is 0, the value in the packet stays.
+/// The values that an address translator replaces in an IPv4 packet (RFC 3022). If the flag of a value is 0, the value is not replaced.
 #[repr(C)]
 #[derive(Clone, Copy)]
 pub struct EtherparseIpv4Translation {
@@ -24,17 +24,17 @@ pub struct EtherparseIpv4Translation {
     pub source_port: u16,
     /// The new destination port of UDP and TCP, and the new identifier of an ICMP reply.
     pub destination_port: u16,
-    /// Whether the source address is replaced.
+    /// Not 0 if the source address is replaced.
     pub has_source: u8,
-    /// Whether the destination address is replaced.
+    /// Not 0 if the destination address is replaced.
     pub has_destination: u8,
-    /// Whether the source port is replaced.
+    /// Not 0 if the source port is replaced.
     pub has_source_port: u8,
-    /// Whether the destination port is replaced.
+    /// Not 0 if the destination port is replaced.
     pub has_destination_port: u8,
 }
 
-/// The values that an address translator replaces in an IPv6 packet. If a flag is 0, the value in the packet stays.
+/// The values that an address translator replaces in an IPv6 packet. If the flag of a value is 0, the value is not replaced.
 #[repr(C)]
 #[derive(Clone, Copy)]
 pub struct EtherparseIpv6Translation {
@@ -46,24 +46,24 @@ pub struct EtherparseIpv6Translation {
     pub source_port: u16,
     /// The new destination port of UDP and TCP, and the new identifier of an ICMP reply.
     pub destination_port: u16,
-    /// Whether the source address is replaced.
+    /// Not 0 if the source address is replaced.
     pub has_source: u8,
-    /// Whether the destination address is replaced.
+    /// Not 0 if the destination address is replaced.
     pub has_destination: u8,
-    /// Whether the source port is replaced.
+    /// Not 0 if the source port is replaced.
     pub has_source_port: u8,
-    /// Whether the destination port is replaced.
+    /// Not 0 if the destination port is replaced.
     pub has_destination_port: u8,
 }
 
-/// Returns the value if its flag is not 0.
+/// Returns the value, or `None` if its flag is 0.
 fn if_set<T: Copy>(flag: u8, value: T) -> Option<T>
     ensures { result ≡ specs.if_set flag value }
 {
     if flag == 0 { None } else { Some(value) }
 }
 
-/// Returns a translation of IPv4 as a value of the library.
+/// Returns a translation of IPv4 as a value of the library in Rattle.
 fn of_ipv4(translation: &EtherparseIpv4Translation) -> Ipv4Translation
     ensures { result ≡ ipv4_translation translation.now }
 {
@@ -78,7 +78,7 @@ fn of_ipv4(translation: &EtherparseIpv4Translation) -> Ipv4Translation
     }
 }
 
-/// Returns a translation of IPv6 as a value of the library.
+/// Returns a translation of IPv6 as a value of the library in Rattle.
 fn of_ipv6(translation: &EtherparseIpv6Translation) -> Ipv6Translation
     ensures { result ≡ ipv6_translation translation.now }
 {
@@ -105,7 +105,7 @@ fn of_ipv6(translation: &EtherparseIpv6Translation) -> Ipv6Translation
 /// - `TRANSLATE_PROTOCOL` if the protocol is not UDP, TCP or ICMPv4, and a port is set or the protocol covers the addresses.
 /// - `TRANSLATE_HEADER_CUT_OFF` if fewer than 8 bytes of UDP, TCP or ICMP are there.
 /// - `TRANSLATE_ICMP_MESSAGE` for a redirect, and for an ICMP message that is neither a query nor an error.
-/// - `TRANSLATE_QUOTED_PACKET` if the packet that an ICMP error is about can't be translated.
+/// - `TRANSLATE_QUOTED_PACKET` if the packet that an ICMP error quotes can't be translated.
 ///
 /// After an error `error` contains the reason, and `packet` is unchanged.
 #[unsafe(no_mangle)]
@@ -149,9 +149,9 @@ pub extern "C" fn etherparse_translate_ipv6(
     }
 }
 
-/// Translates an IPv4 packet in place, and the packet that an ICMP error quotes by a translation of its own. Source and destination of
-/// `quoted` are source and destination of the quoted packet, which went in the other direction (RFC 5508, section 4). Without a quoted
-/// packet only `translation` is used. Otherwise the call does what `etherparse_translate_ipv4` does.
+/// Translates an IPv4 packet in place. If it is an ICMP error, `quoted` replaces values in the packet that it quotes. The source of
+/// `quoted` is the source of the quoted packet, which went in the other direction (RFC 5508, section 4). If no packet is quoted, `quoted`
+/// is not used. Otherwise the call does what `etherparse_translate_ipv4` does.
 ///
 /// # Errors
 ///
@@ -175,7 +175,7 @@ pub extern "C" fn etherparse_translate_ipv4_with_quoted(
     }
 }
 
-/// Translates an IPv6 packet in place, and the packet that an ICMP error quotes by a translation of its own, otherwise as
+/// Translates an IPv6 packet in place. If it is an ICMP error, `quoted` replaces values in the packet that it quotes, as in
 /// `etherparse_translate_ipv4_with_quoted`.
 ///
 /// # Errors

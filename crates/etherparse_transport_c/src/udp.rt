@@ -34,7 +34,7 @@ pub struct EtherparseUdpHeader {
     /// The length of header and payload, in bytes. In a valid packet it is at least 8, or 0 in a jumbogram (RFC 2675,
     /// section 4).
     pub length: u16,
-    /// The checksum. Over IPv4 a 0 means that there is none. Over IPv6 a 0 is wrong.
+    /// The checksum. Over IPv4, 0 means that the packet has no checksum. Over IPv6, 0 is wrong.
     pub checksum: u16,
 }
 
@@ -48,14 +48,14 @@ pub struct EtherparseUdpPacket {
     pub payload_offset: usize,
     /// The length of the payload, in bytes.
     pub payload_len: usize,
-    /// The source of `payload_len`: a number of `len_source`.
+    /// What states `payload_len`: a number of `len_source`.
     pub payload_len_source: u32,
 }
 
-/// The length of the longest payload that a pseudo header can count, in bytes. Its length field has 16 bits over IPv4, and 32 bits over
-/// IPv6.
+/// The length of the longest UDP payload that a pseudo header of IPv4 can count, in bytes. Its length field has 16 bits.
 const MAX_PAYLOAD_LEN_IPV4: usize = u16::MAX as usize - UdpHeader::LEN;
 
+/// The length of the longest UDP payload that a pseudo header of IPv6 can count, in bytes. Its length field has 32 bits.
 const MAX_PAYLOAD_LEN_IPV6: usize = u32::MAX as usize - UdpHeader::LEN;
 
 /// Returns the header with these fields.
@@ -87,8 +87,8 @@ fn packet(slice: &UdpSlice<'_>) -> EtherparseUdpPacket
     }
 }
 
-/// Reads the packet at the front of some bytes (RFC 768). The length field counts the bytes of the packet. If the field is 0, all bytes are
-/// the packet.
+/// Reads the packet at the front of some bytes (RFC 768). The length field states the length of the packet. If it is 0, all bytes are the
+/// packet.
 ///
 /// # Errors
 ///
@@ -112,8 +112,8 @@ pub extern "C" fn etherparse_udp_packet_read(
     }
 }
 
-/// Reads the packet at the front of some bytes (RFC 768). The length field counts the bytes of the packet. If the field is 0 or invalid,
-/// all bytes are the packet.
+/// Reads the packet at the front of some bytes (RFC 768). The length field states the length of the packet. If it is 0 or invalid, all
+/// bytes are the packet.
 ///
 /// # Errors
 ///
@@ -159,9 +159,9 @@ pub extern "C" fn etherparse_udp_header_write(
     write(&header(fields).to_bytes(), buffer, written, error)
 }
 
-/// Returns the packet at the front of some bytes, unless its payload is longer than this limit.
-// perf: as a call, its result is stored in parts and loaded as a whole, which the processor waits for. The test of a checksum over 11 bytes
-// takes 93 instead of 140 instructions (29 Nov 2026).
+/// Returns the packet at the front of some bytes. A payload above this limit is refused.
+// perf: if it is not inlined, its result is stored in parts and loaded as a whole, for which the processor waits. The test of a checksum
+// over 11 bytes takes 93 instead of 140 instructions (29 Nov 2026).
 #[inline(always)]
 fn counted_packet(
     bytes: &[u8],
@@ -180,7 +180,7 @@ fn counted_packet(
     }
 }
 
-/// Computes the checksum of a packet over IPv4. Its checksum field is ignored, and the pseudo header contains the real length of the
+/// Computes the checksum of a packet over IPv4. Its checksum field is ignored. The pseudo header contains the number of bytes of the
 /// packet.
 fn computed_ipv4(source: [u8; 4], destination: [u8; 4], packet: &[u8]) -> u16
     requires header { 8 ≤ length packet.now }
@@ -194,7 +194,7 @@ fn computed_ipv4(source: [u8; 4], destination: [u8; 4], packet: &[u8]) -> u16
         .to_ones_complement_with_no_zero()
 }
 
-/// The same as `computed_ipv4`, with a contract about the checksum.
+/// Computes the checksum that `computed_ipv4` computes. Its contract states what a receiver accepts.
 fn packet_checksum_ipv4(source: [u8; 4], destination: [u8; 4], packet: &UdpSlice<'_>) -> u16
     requires header { 8 ≤ length packet.now }
     requires counted { length packet.now ≤ max_len_over_ipv4 }
@@ -206,7 +206,7 @@ fn packet_checksum_ipv4(source: [u8; 4], destination: [u8; 4], packet: &UdpSlice
     computed_ipv4(source, destination, packet.slice())
 }
 
-/// Computes the checksum of a packet over IPv6. Its checksum field is ignored, and the pseudo header contains the real length of the
+/// Computes the checksum of a packet over IPv6. Its checksum field is ignored. The pseudo header contains the number of bytes of the
 /// packet.
 fn computed_ipv6(source: [u8; 16], destination: [u8; 16], packet: &[u8]) -> u16
     requires header { 8 ≤ length packet.now }
@@ -220,7 +220,7 @@ fn computed_ipv6(source: [u8; 16], destination: [u8; 16], packet: &[u8]) -> u16
         .to_ones_complement_with_no_zero()
 }
 
-/// The same as `computed_ipv6`, with a contract about the checksum.
+/// Computes the checksum that `computed_ipv6` computes. Its contract states what a receiver accepts.
 fn packet_checksum_ipv6(source: [u8; 16], destination: [u8; 16], packet: &UdpSlice<'_>) -> u16
     requires header { 8 ≤ length packet.now }
     requires counted { length packet.now ≤ max_len_over_ipv6 }
@@ -232,7 +232,7 @@ fn packet_checksum_ipv6(source: [u8; 16], destination: [u8; 16], packet: &UdpSli
     computed_ipv6(source, destination, packet.slice())
 }
 
-/// Computes the checksum of the packet at the front of some bytes, over IPv4. Its checksum field is ignored.
+/// Computes the checksum of the UDP packet at the front of some bytes, over IPv4. The checksum field of the packet is ignored.
 fn checksum_ipv4(
     bytes: &[u8],
     source: &[u8; 4],
@@ -252,14 +252,14 @@ fn checksum_ipv4(
     }
 }
 
-/// Computes the checksum to store in the packet at the front of some bytes, over IPv4 (RFC 768). The packet is the packet that
-/// `etherparse_udp_packet_read` reads. Its checksum field is ignored. The pseudo header contains the length of these bytes, even if the
-/// length field of the packet is 0.
+/// Computes the checksum to store in the packet at the front of some bytes, over IPv4 (RFC 768). It is the packet that
+/// `etherparse_udp_packet_read` reads. Its checksum field is ignored. The pseudo header contains the number of bytes of the packet, even if
+/// the length field is 0.
 ///
 /// # Errors
 ///
 /// The status is `OK`, or the first of these that applies:
-/// - `LENGTH` as `etherparse_udp_packet_read` returns it.
+/// - `LENGTH`, as `etherparse_udp_packet_read` returns it.
 /// - `VALUE_TOO_BIG` if the payload is longer than 65,527 bytes.
 #[unsafe(no_mangle)]
 pub extern "C" fn etherparse_udp_checksum_ipv4(
@@ -279,7 +279,7 @@ pub extern "C" fn etherparse_udp_checksum_ipv4(
     // With this checksum the test of the packet returns `OK`.
     ensures passes { checksum_refusal UdpPayloadLengthIpv4 max_payload_len bytes.now ≡ None
         → Answers (TestTellsIpv4 source.now destination.now (with_checksum 6 bytes.now checksum.new)) numbers.status_ok }
-    // The sender of a packet with a right length field computes the same checksum.
+    // If the length field is right, the sender of the packet computes the same checksum.
     ensures agrees { checksum_refusal UdpPayloadLengthIpv4 max_payload_len bytes.now ≡ None → length_field (cut bytes.now) ≡ length (cut bytes.now)
         → checksum.new ≡ udp_checksum_of (udp.checksummed_ipv4 source.now destination.now (header_of (cut bytes.now)) (drop 8 (cut bytes.now))) }
 {
@@ -323,7 +323,7 @@ pub extern "C" fn etherparse_udp_checksum_store_ipv4(
     }
 }
 
-/// Computes the checksum of the packet at the front of some bytes, over IPv6. Its checksum field is ignored.
+/// Computes the checksum of the UDP packet at the front of some bytes, over IPv6. The checksum field of the packet is ignored.
 fn checksum_ipv6(
     bytes: &[u8],
     source: &[u8; 16],
@@ -343,14 +343,14 @@ fn checksum_ipv6(
     }
 }
 
-/// Computes the checksum to store in the packet at the front of some bytes, over IPv6 (RFC 768; RFC 8200, section 8.1). The packet is the
-/// packet that `etherparse_udp_packet_read` reads. Its checksum field is ignored. The pseudo header contains the length of these bytes,
-/// even if the length field of the packet is 0.
+/// Computes the checksum to store in the packet at the front of some bytes, over IPv6 (RFC 768; RFC 8200, section 8.1). It is the packet
+/// that `etherparse_udp_packet_read` reads. Its checksum field is ignored. The pseudo header contains the number of bytes of the packet,
+/// even if the length field is 0.
 ///
 /// # Errors
 ///
 /// The status is `OK`, or the first of these that applies:
-/// - `LENGTH` as `etherparse_udp_packet_read` returns it.
+/// - `LENGTH`, as `etherparse_udp_packet_read` returns it.
 /// - `VALUE_TOO_BIG` if the payload is longer than 4,294,967,287 bytes.
 #[unsafe(no_mangle)]
 pub extern "C" fn etherparse_udp_checksum_ipv6(
@@ -370,7 +370,7 @@ pub extern "C" fn etherparse_udp_checksum_ipv6(
     // With this checksum the test of the packet returns `OK`.
     ensures passes { checksum_refusal UdpPayloadLengthIpv6 max_payload_len_of_32_bits bytes.now ≡ None
         → Answers (TestTellsIpv6 source.now destination.now (with_checksum 6 bytes.now checksum.new)) numbers.status_ok }
-    // The sender of a packet with a right length field computes the same checksum.
+    // If the length field is right, the sender of the packet computes the same checksum.
     ensures agrees { checksum_refusal UdpPayloadLengthIpv6 max_payload_len_of_32_bits bytes.now ≡ None → length_field (cut bytes.now) ≡ length (cut bytes.now)
         → checksum.new ≡ udp_checksum_of (udp.checksummed_ipv6 source.now destination.now (header_of (cut bytes.now)) (drop 8 (cut bytes.now))) }
 {

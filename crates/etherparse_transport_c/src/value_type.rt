@@ -1,4 +1,4 @@
-//! The numbers of the values that can be too big. They are part of the interface to C. No number ever gets another meaning.
+//! The numbers of the values that can be too big. They are part of the interface to C. The meaning of a number never changes.
 
 /// The length of a UDP payload over IPv4.
 pub const UDP_PAYLOAD_LENGTH_IPV4: u32 = 1;

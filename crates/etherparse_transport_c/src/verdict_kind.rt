@@ -1,4 +1,4 @@
-//! The numbers of the verdicts on the checksum of an IP packet. They are part of the interface to C. No number ever gets another meaning.
+//! The numbers of the verdicts on the checksum of an IP packet. They are part of the interface to C. The meaning of a number never changes.
 
 /// The checksum is right.
 pub const RIGHT: u32 = 1;
@@ -21,7 +21,7 @@ pub const UNTESTED_CUT_OFF: u32 = 17;
 /// Not tested: the final destination is not known.
 pub const UNTESTED_UNKNOWN_DESTINATION: u32 = 18;
 
-/// Not tested: the protocol is none of the four.
+/// Not tested: the protocol is not UDP, TCP, or the ICMP of the IP version.
 pub const UNTESTED_OTHER_PROTOCOL: u32 = 19;
 
 /// Not tested: the length field of a UDP packet is 0.

@@ -5,7 +5,7 @@ ghost use Rattle.etherparse_transport_c.specs.VerdictName.{max_verdict_name_len,
 use crate::text::{Char, put_string};
 use crate::verdict_kind;
 
-/// Returns the name of a verdict, as the header spells it.
+/// Returns the name of a verdict, as the C header spells it.
 fn name(verdict: u32) -> &'static str
     ensures name { result.now ≡ verdict_name verdict }
     ensures fits { length result.now ≤ max_verdict_name_len }
@@ -26,8 +26,8 @@ fn name(verdict: u32) -> &'static str
     }
 }
 
-/// Writes the name of a verdict, as the header spells it, with a zero byte at its end, and returns its length without that byte. If the
-/// buffer is too small, the call writes the beginning of the name and the zero byte. It writes nothing to an empty buffer.
+/// Writes the name of a verdict, as the C header spells it, with a zero byte at its end. Returns the length of the name without the zero
+/// byte. If the buffer is too small, the call writes the beginning of the name and the zero byte. It writes nothing to an empty buffer.
 #[unsafe(no_mangle)]
 pub extern "C" fn etherparse_verdict_name(verdict: u32, buffer: &mut [Char]) -> usize
     ensures len { result ≡ length (verdict_name verdict) }

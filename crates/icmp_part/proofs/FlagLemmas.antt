@@ -9,7 +9,7 @@ use Rattle.net_base.proofs.MaskedLemmas.{flag-masked}
 
 -- ---- reading
 
--- a multiple of a bit by 0 or 1 is tested for 0
+-- testing a bit times 0 or 1 gives 0 or 1
 tested_bit : (kept bit times : ℕ) → 0 < bit → times < 2 → kept ≡ times * bit → from_bool (not (kept == 0)) * bit ≡ times * bit
 tested_bit kept bit zero some below e = let none : kept ≡ 0 = omega arith in rw none refl
 tested_bit kept zero (suc times) some below e = absurd (omega arith)
@@ -32,7 +32,7 @@ three_flags byte small =
     let mask : bit_and byte 0xe0 ≡ byte / 32 * 32 = and_high_mask 8 5 (omega arith) byte small in
     omega (arith, flag_bit byte 7 (lit≤ tt), flag_bit byte 6 (lit≤ tt), flag_bit byte 5 (lit≤ tt))
 
--- the same for the two highest flags
+-- the flags of the two highest bits, each times its bit, are the byte under the mask of the two
 pub two_flags : (byte : ℕ) → byte < 256
     → from_bool (not (bit_and byte 0x80 == 0)) * 0x80 + from_bool (not (bit_and byte 0x40 == 0)) * 0x40 ≡ bit_and byte 0xc0
 two_flags byte small =
@@ -54,6 +54,6 @@ tested_flag kept bit true some e =
     let some_kept : (kept == 0) ≡ false = grind (arith, nat_tests) in
     rw some_kept refl
 
--- a flag that is one bit of a number is read from it
+-- a flag that is written as one bit of a number is read from the number
 pub flag_read : (number k : ℕ) (set : Bool) → 0 < 2 ^ k → number / 2 ^ k % 2 ≡ from_bool set → set ≡ not (bit_and number (2 ^ k) == 0)
 flag_read number k set some e = tested_flag (bit_and number (2 ^ k)) (2 ^ k) set some (and_pow number k ∙ ap (λ n. n * 2 ^ k) e)

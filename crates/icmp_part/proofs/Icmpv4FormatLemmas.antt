@@ -26,14 +26,14 @@ use Rattle.icmp_part.proofs.IcmpEchoLemmas.{echo_lawful}
 
 -- ---- reading by the list
 
--- a packet is read by its type and code, or raw
+-- a packet is read as the format of its type and code, or raw if no format is listed for them
 pub icmp_type_of_listed : (bytes : List ℕ)
     → icmp_type_of bytes ≡ unwrap_or (listed (codes_of formats (slice_index bytes 0)) (slice_index bytes 1) bytes)
     (unknown.message_of bytes)
 unfolding format_of
 icmp_type_of_listed bytes = format_in-reads formats unknown (slice_index bytes 0) (slice_index bytes 1) bytes
 
--- and raw if type and code are not listed
+-- a packet is read raw if its type and code are not listed
 pub unlisted_is_unknown : (bytes : List ℕ) (type code : ℕ) (fields : List ℕ)
     → type ≡ slice_index bytes 0 → code ≡ slice_index bytes 1 → fields ≡ slice_range bytes 4 8
     → listed (codes_of formats (slice_index bytes 0)) (slice_index bytes 1) bytes ≡ None → Unknown type code fields ≡ icmp_type_of bytes
@@ -50,7 +50,7 @@ IsLen type code len = (len ≡ 8) ⊎ ((len ≡ 20) × (code ≡ 0) × ((type �
 abbrev pub IsLawfulIcmpv4 : ℕ → ℕ → MessageFormat Icmpv4Type → Type 0
 IsLawfulIcmpv4 type code format = IsLawful Icmpv4Type written IsLen type code format
 
--- the MTU of the next hop in bytes 6 and 7
+-- the format with the MTU of the next hop in bytes 6 and 7 is lawful
 with_next_hop_mtu_lawful : IsLawfulIcmpv4 3 4 (inside DestinationUnreachable with_next_hop_mtu)
 with_next_hop_mtu_lawful =
     eight_lawful written IsLen 3 4 0 0 255 255 (λ bytes. DestinationUnreachable (dest.FragmentationNeeded (be_number bytes 6 2))) (inl refl)
@@ -63,7 +63,7 @@ with_next_hop_mtu_lawful =
     let low = masked_alike_at (used 4 ++ (cleared 2 ++ used 2)) bytes other 7 fits other_fits refl same in
     cc)
 
--- the pointer in byte 4
+-- the format with the pointer in byte 4 is lawful
 with_pointer_lawful : IsLawfulIcmpv4 12 0 (inside ParameterProblem with_pointer)
 with_pointer_lawful =
     eight_lawful written IsLen 12 0 255 0 0 0 (λ bytes. ParameterProblem (problem.PointerIndicatesError (slice_index bytes 4))) (inl refl)
@@ -72,14 +72,14 @@ with_pointer_lawful =
     ap (λ at. ParameterProblem (problem.PointerIndicatesError at))
     (masked_alike_at (used 4 ++ (used 1 ++ cleared 3)) bytes other 4 fits other_fits refl same))
 
--- the gateway's address
+-- the format with the address of the gateway is lawful
 redirect_lawful : (code : RedirectCode) → IsLawfulIcmpv4 5 (redirect_code code) (redirect code)
 redirect_lawful code = all_used_lawful written IsLen 5 (redirect_code code) 8 _ (inl refl) refl refl refl refl refl
     (λ bytes fits enough is_type is_code.
     begins bytes 5 (redirect_code code) _ fits (omega arith) is_type is_code
     ∙ ap (λ later. take 4 bytes ++ later) (sym (drop_split bytes 4 8 (omega arith))))
 
--- identifier, sequence number and three times
+-- the fields of a timestamp message are written as they were read
 timestamp_fields-timestamp_of : (bytes : List ℕ) → IsBytes bytes → 20 ≤ length bytes
     → timestamp_fields (timestamp_of bytes 4) ++ drop 20 bytes ≡ drop 4 bytes
 timestamp_fields-timestamp_of bytes fits enough =
@@ -100,7 +100,7 @@ timestamp_lawful type variant is_timestamp is_written =
     ∙ begins bytes type 0 _ fits (omega arith) is_type is_code
     ∙ ap (λ later. take 4 bytes ++ later) (timestamp_fields-timestamp_of bytes fits enough))
 
--- every type and code, listed or not
+-- the raw format of every type and code is lawful
 unknown_lawful : (type code : ℕ) → IsLawfulIcmpv4 type code unknown
 unknown_lawful type code = all_used_lawful written IsLen type code 8 _ (inl refl) refl refl refl refl refl
     (λ bytes fits enough is_type is_code.
@@ -171,7 +171,7 @@ formats_lawful =
 format_at-lawful : (type code : ℕ) → IsLawfulIcmpv4 type code (format_at type code)
 format_at-lawful type code = format_in-lawful written IsLen formats unknown formats_lawful unknown_lawful type code
 
--- and so is the format of each packet
+-- the format of each packet is lawful
 pub format_of-lawful : (bytes : List ℕ) → IsLawfulIcmpv4 (slice_index bytes 0) (slice_index bytes 1) (format_of bytes)
 unfolding format_of
 format_of-lawful bytes = format_at-lawful (slice_index bytes 0) (slice_index bytes 1)

@@ -41,7 +41,7 @@ whole-accepted bytes whole =
     let reply : slice_index bytes 0 ≡ 14 → slice_index bytes 1 ≡ 0 → length bytes ≡ 20 = λ type code. whole.timestamp (inr type) code in
     grind (arith, nat_tests)
 
--- and so is a packet with a header of eight bytes
+-- a packet with a whole header of eight bytes is accepted
 eight-accepted : (bytes : List ℕ) → 8 ≤ length bytes → (layout_of bytes).header_len ≡ 8 → refusal bytes ≡ None
 eight-accepted bytes enough eight = whole-accepted bytes (record {
   shortest = enough;
@@ -181,7 +181,7 @@ timestamp_back type variant message checksum small fit is_written twenty read =
     let P : List ℕ → Type 0 = λ b. DecodesAs b (record { icmp_type = variant message; checksum = checksum }) [] in
     subst P (ap (λ w. w.type ∷ (w.code ∷ (checksum / 256 % 256 ∷ (checksum % 256 ∷ w.fields)))) (sym is_written)) decodes
 
--- with a payload they are refused
+-- a timestamp message with a payload is refused
 whole_or_refused : (bytes payload : List ℕ) (layer : Layer) (header : Icmpv4Header) (none : Bool) → (length payload == 0) ≡ none
     → DecodesAs bytes header []
     → (length payload ≢ 0 → refusal (bytes ++ payload) ≡ Some (wrong_length layer 20 (20 + length payload)))
@@ -194,7 +194,7 @@ whole_or_refused bytes payload layer header false is_none read refused = refused
 
 -- ---- raw headers
 
--- a code after the first is not listed if there is only one code
+-- a code other than 0 is not listed if only code 0 is listed
 alone_alike : (format : MessageFormat Icmpv4Type) (code : ℕ) (bytes other : List ℕ) → code ≢ 0
     → listed (format ∷ []) code bytes ≡ listed (format ∷ []) code other
 alone_alike format zero bytes other later = absurd (later refl)
@@ -238,7 +238,7 @@ raw_back type code checksum a b c d payload small other =
       after_header = ap (λ n. drop n bytes) (sym eight);
     }
 
--- a raw header with the type and code of a timestamp message
+-- a raw header with the type and code of a timestamp message is read back as that message
 raw_timestamp_back : (type code checksum a b c d : ℕ) (payload : List ℕ) (variant : TimestampMessage → Icmpv4Type) (layer : Layer)
     (whole : Bool)
     → (length payload == 12) ≡ whole → checksum < 2 ^ 16 → (type ≡ 13) ⊎ (type ≡ 14) → code ≡ 0
@@ -276,7 +276,7 @@ neither : (type code : ℕ) → (type ≡ 13 → code ≢ 0) → (type ≡ 14 �
 neither type code request reply (inl is_type) = request is_type
 neither type code request reply (inr is_type) = reply is_type
 
--- each raw header, by comparing its type and code
+-- each raw header is read back
 raw_reads_back : (type code checksum a b c d : ℕ) (payload : List ℕ) (is_request is_reply : Bool) → checksum < 2 ^ 16
     → ((type == 13) && (code == 0)) ≡ is_request → ((type == 14) && (code == 0)) ≡ is_reply
     → IsReadAs (wire (icmpv4_header (Unknown type code (a ∷ (b ∷ (c ∷ (d ∷ []))))) checksum) ++ payload)

@@ -7,7 +7,7 @@ use Rattle.icmp_part.specs.declared.icmpv4_type.Icmpv4Type.{Icmpv4Type}
 use Rattle.icmp_part.specs.declared.icmpv4_type.Icmpv4Type.TheVariants.{Unknown, EchoReply, DestinationUnreachable, Redirect, EchoRequest, TimeExceeded, ParameterProblem, TimestampRequest, TimestampReply}
 use Rattle.word_sum.specs.Checksum.{total}
 
--- the sum over a header of this message
+-- the sum for the checksum of this message and payload
 abbrev pub message_sum : Icmpv4Type → List ℕ → ℕ
 message_sum message payload = checksummed (record { icmp_type = message; checksum = 0 }) payload
 

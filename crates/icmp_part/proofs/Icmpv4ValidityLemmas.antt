@@ -16,13 +16,13 @@ use Rattle.icmp_part.proofs.MessageChecksumLemmas.{total_header}
 
 -- ---- built packets
 
--- no word of a header is cut in two
+-- the fields of a message consist of whole words
 pub fields_even : (message : Icmpv4Type) → FieldsFit message → length (written message).fields % 2 ≡ 0
 fields_even (Unknown type code bytes5to8) fit = omega (arith, fit)
 fields_even (Redirect header) fit = omega (arith, fit)
 fields_even other fit = refl
 
--- a header and a payload that sum up to all ones with their checksum form a valid packet
+-- if the sum of a header and a payload with their checksum is all ones, they form a valid packet
 pub built_valid : (header : Icmpv4Header) (payload : List ℕ) → length (wire header) % 2 ≡ 0 → header.checksum < 2 ^ 16
     → IsAllOnes (checksummed header payload + header.checksum) → IsValidIcmpv4 (wire header ++ payload)
 built_valid header payload even small verifies =

@@ -23,7 +23,7 @@ use Rattle.icmp_part.specs.declared.icmpv4_type.Icmpv4Type.TheVariants as kinds
 fragmentation_needed : Icmpv4Type
 fragmentation_needed = kinds.DestinationUnreachable (dest.FragmentationNeeded 1500)
 
--- the next hop's MTU is 1500
+-- a packet with a next-hop MTU of 1500
 fragmentation_needed_bytes : List ℕ
 fragmentation_needed_bytes = 3 ∷ 4 ∷ 0 ∷ 0 ∷ 1 ∷ 2 ∷ 5 ∷ 0xDC ∷ []
 
@@ -35,7 +35,7 @@ fragmentation_needed_canonical : canonical fragmentation_needed_bytes ≡ 3 ∷ 
 unfolding format_of fragmentation_needed_bytes
 fragmentation_needed_canonical = refl
 
--- a byte comes after the header
+-- a packet with a byte after its header
 pointed : List ℕ
 pointed = 0x0C ∷ 0 ∷ 0 ∷ 0 ∷ 7 ∷ 1 ∷ 1 ∷ 1 ∷ 9 ∷ []
 
@@ -47,7 +47,7 @@ pointed_canonical : canonical pointed ≡ 0x0C ∷ 0 ∷ 0 ∷ 0 ∷ 7 ∷ 0 ∷
 unfolding format_of pointed
 pointed_canonical = refl
 
--- the gateway is 192.168.0.1
+-- a redirect message with the gateway 192.168.0.1
 redirect_for_host : icmp_type_of (5 ∷ 1 ∷ 0 ∷ 0 ∷ 192 ∷ 168 ∷ 0 ∷ 1 ∷ [])
     ≡ kinds.Redirect (record { code = redirected.RedirectForHost; gateway_internet_address = 192 ∷ 168 ∷ 0 ∷ 1 ∷ [] })
 unfolding format_of
@@ -92,7 +92,7 @@ short_timestamp : refusal (13 ∷ 0 ∷ []) ≡ Some (expects layers.Icmpv4 8 2)
 unfolding expects
 short_timestamp = refl
 
--- a timestamp message with a byte after it
+-- a timestamp message with a byte after it is refused
 timestamp_of_21 : refusal (13 ∷ 0 ∷ replicate 19 0) ≡ Some (expects layers.Icmpv4Timestamp 20 21)
 unfolding expects
 timestamp_of_21 = refl
@@ -105,7 +105,7 @@ timestamp_reply_of_19 : refusal (14 ∷ 0 ∷ replicate 17 0) ≡ Some (expects 
 unfolding expects
 timestamp_reply_of_19 = refl
 
--- the same with code 1, which is not listed
+-- a timestamp type with code 1, which is not listed, is read raw
 code_1 : DecodesAs (13 ∷ 1 ∷ replicate 19 0) (record { icmp_type = kinds.Unknown 13 1 (replicate 4 0); checksum = 0 }) (replicate 13 0)
 unfolding format_of
 code_1 = record { accepted = refl; fields = refl; after_header = refl }
@@ -179,7 +179,7 @@ echo_valid : IsValidIcmpv4 echo_bytes
 unfolding echo_bytes folded
 echo_valid = refl
 
--- the byte of payload is the word 0100
+-- a message with one byte of payload, which is the word 0100
 echo_with_a_byte_valid : IsValidIcmpv4 (8 ∷ 0 ∷ 0xF6 ∷ 0xFC ∷ 0 ∷ 1 ∷ 0 ∷ 2 ∷ 1 ∷ [])
 unfolding folded
 echo_with_a_byte_valid = refl
@@ -269,7 +269,7 @@ raw_pointer : reads_back (kinds.Unknown 12 0 (7 ∷ 1 ∷ 1 ∷ 1 ∷ [])) 7 []
     ≡ Ok (record { icmp_type = kinds.ParameterProblem (problem.PointerIndicatesError 7); checksum = 7 }, [])
 raw_pointer = refl
 
--- with an unlisted type or code it stays raw
+-- a raw header with an unlisted type or code stays raw
 raw_unlisted : reads_back (kinds.Unknown 13 1 (1 ∷ 2 ∷ 3 ∷ 4 ∷ [])) 7 (replicate 12 0)
     ≡ Ok (record { icmp_type = kinds.Unknown 13 1 (1 ∷ 2 ∷ 3 ∷ 4 ∷ []); checksum = 7 }, replicate 12 0)
 raw_unlisted = refl

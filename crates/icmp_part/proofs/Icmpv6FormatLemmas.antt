@@ -26,14 +26,14 @@ use Rattle.icmp_part.proofs.MessageFormatLemmas.{◌⊗◌, AllAreLawful, AreLaw
 
 -- ---- reading by the list
 
--- a packet is read by its type and code, or raw
+-- a packet is read as the format of its type and code, or raw if no format is listed for them
 pub icmp_type_of_listed : (bytes : List ℕ)
     → icmp_type_of bytes ≡ unwrap_or (listed (codes_of formats (slice_index bytes 0)) (slice_index bytes 1) bytes)
     (unknown.message_of bytes)
 unfolding format_of
 icmp_type_of_listed bytes = format_in-reads formats unknown (slice_index bytes 0) (slice_index bytes 1) bytes
 
--- and raw if type and code are not listed
+-- a packet is read raw if its type and code are not listed
 pub unlisted_is_unknown : (bytes : List ℕ) (type code : ℕ) (fields : List ℕ)
     → type ≡ slice_index bytes 0 → code ≡ slice_index bytes 1 → fields ≡ slice_range bytes 4 8
     → listed (codes_of formats (slice_index bytes 0)) (slice_index bytes 1) bytes ≡ None → Unknown type code fields ≡ icmp_type_of bytes
@@ -68,7 +68,7 @@ from_bool-lt : (set : Bool) → from_bool set < 2
 from_bool-lt true = omega arith
 from_bool-lt false = omega arith
 
--- the flags in a byte are read from it
+-- the flags of a neighbor advertisement are read from the byte in which they are written
 pub neighbor_advertisement_read : (header : NeighborAdvertisementHeader) (bytes : List ℕ) (from : ℕ)
     → slice_index bytes from ≡ neighbor_advertisement_flags header → neighbor_advertisement_of bytes from ≡ header
 neighbor_advertisement_read header bytes from is =
@@ -109,7 +109,7 @@ router_same limit managed other lifetime header e f g h =
     ∙ ap (λ o. router_record header.cur_hop_limit header.managed_address_config o lifetime) g
     ∙ ap (router_record header.cur_hop_limit header.managed_address_config header.other_config) h
 
--- written fields are read back
+-- the fields of a router advertisement are read back
 pub router_advertisement_read : (header : RouterAdvertisementHeader) (bytes : List ℕ) (from : ℕ) → header.router_lifetime < 2 ^ 16
     → slice_index bytes from ≡ header.cur_hop_limit
     → slice_index bytes (from + 1) ≡ router_advertisement_flags header
@@ -140,7 +140,7 @@ dest_unreachable_lawful code = unused_lawful written IsLen 1 (dest_unreachable_c
 time_exceeded_lawful : (code : TimeExceededCode) → IsLawfulIcmpv6 3 (time_exceeded_code code) (unused (TimeExceeded code))
 time_exceeded_lawful code = unused_lawful written IsLen 3 (time_exceeded_code code) (TimeExceeded code) refl refl
 
--- a header in which every bit is used
+-- the format of a header in which every bit is used is lawful
 whole_lawful : (type code : ℕ) (message_of : List ℕ → Icmpv6Type) (fields_of : List ℕ → List ℕ)
     → ((bytes : List ℕ) → written (message_of bytes) ≡ record { type = type; code = code; fields = fields_of bytes })
     → ((bytes : List ℕ) → IsBytes bytes → 8 ≤ length bytes → fields_of bytes ++ drop 8 bytes ≡ drop 4 bytes)
@@ -152,7 +152,7 @@ whole_lawful type code message_of fields_of is_written fields =
     ∙ begins bytes type code _ fits (omega arith) is_type is_code
     ∙ ap (λ later. take 4 bytes ++ later) (fields bytes fits enough))
 
--- a number in bytes 4 to 7
+-- a number in bytes 4 to 7 is written as it was read
 number_fields : (bytes : List ℕ) → IsBytes bytes → 8 ≤ length bytes → to_be_bytes w32 (be_number bytes 4 4) ++ drop 8 bytes ≡ drop 4 bytes
 number_fields bytes fits enough = to_be_bytes-be_number_4 bytes 4 8 _ _ fits refl (omega arith) refl refl
 
@@ -201,7 +201,7 @@ redirect_lawful = unused_lawful written IsLen 137 0 Redirect refl refl
 neighbor_solicitation_lawful : IsLawfulIcmpv6 135 0 (unused NeighborSolicitation)
 neighbor_solicitation_lawful = unused_lawful written IsLen 135 0 NeighborSolicitation refl refl
 
--- every type and code, listed or not
+-- the raw format of every type and code is lawful
 unknown_lawful : (type code : ℕ) → IsLawfulIcmpv6 type code unknown
 unknown_lawful type code = all_used_lawful written IsLen type code 8 _ refl refl refl refl refl refl
     (λ bytes fits enough is_type is_code.
@@ -210,12 +210,12 @@ unknown_lawful type code = all_used_lawful written IsLen type code 8 _ refl refl
 
 -- ---- the list is lawful
 
--- the numbers from this one on
+-- this number of numbers from `first` on
 numbers_from : ℕ → ℕ → List ℕ
 numbers_from first zero = []
 numbers_from first (suc count) = first ∷ numbers_from (suc first) count
 
--- the formats of codes in the order of their numbers
+-- the formats of codes, in the order of their numbers, are lawful
 mapped_lawful : {Code : Type 0} (type : ℕ) (number : Code → ℕ) (format_of_code : Code → MessageFormat Icmpv6Type)
     → ((code : Code) → IsLawfulIcmpv6 type (number code) (format_of_code code))
     → (first : ℕ) (codes : List Code) → map number codes ≡ numbers_from first (length codes)
@@ -249,12 +249,12 @@ formats_lawful =
 format_at-lawful : (type code : ℕ) → IsLawfulIcmpv6 type code (format_at type code)
 format_at-lawful type code = format_in-lawful written IsLen formats unknown formats_lawful unknown_lawful type code
 
--- and so is the format of each packet
+-- the format of each packet is lawful
 pub format_of-lawful : (bytes : List ℕ) → IsLawfulIcmpv6 (slice_index bytes 0) (slice_index bytes 1) (format_of bytes)
 unfolding format_of
 format_of-lawful bytes = format_at-lawful (slice_index bytes 0) (slice_index bytes 1)
 
--- so every header is eight bytes long
+-- every header is eight bytes long
 pub header_len_eight : (bytes : List ℕ) → (layout_of bytes).header_len ≡ 8
 header_len_eight bytes = (format_of-lawful bytes).header_len
 

@@ -125,7 +125,7 @@ echo_back type variant echo checksum payload small within fit is_written read =
     let seq : be_number bytes 6 2 ≡ echo.seq = omega (arith, fit.1) in
     read bytes ∙ ap variant (echo_of-same bytes 4 echo id seq))
 
--- every message, with a payload that is not too long
+-- every message is read back if its payload is not too long
 within_back : (message : Icmpv6Type) (checksum : ℕ) (payload : List ℕ) → checksum < 2 ^ 16 → length payload ≤ max_payload_len
     → FieldsFit message
     → DecodesAs (wire (icmpv6_header message checksum) ++ payload) (icmpv6_header (message_reads_back message) checksum) payload
@@ -184,7 +184,7 @@ pub fields_len : (message : Icmpv6Type) → FieldsFit message → length (writte
 fields_len (Unknown type code bytes5to8) fit = fit
 fields_len other fit = refl
 
--- longer packets are refused
+-- a packet with a payload that is too long is refused
 long_refused : (bytes payload : List ℕ) → length bytes ≡ 8 + length payload → max_payload_len < length payload
     → refusal bytes ≡ Some (wrong_length layers.Icmpv6 max_packet_len (8 + length payload))
 long_refused bytes payload len long =

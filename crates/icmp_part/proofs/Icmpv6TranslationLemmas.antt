@@ -9,11 +9,11 @@ use Rattle.word_sum.specs.Checksum.{total}
 use Rattle.word_sum.proofs.ChecksumLemmas.{total-append_twice}
 use Rattle.word_sum.proofs.ChecksumChangeLemmas.{total_replaced}
 
--- the sum over a header of this message
+-- the sum for the checksum of this message and payload
 abbrev pub message_sum : List ℕ → List ℕ → Icmpv6Type → List ℕ → ℕ
 message_sum source destination message payload = checksummed source destination (record { icmp_type = message; checksum = 0 }) payload
 
--- the length of the packet
+-- the length of the packet with this message and payload
 abbrev packet_len : Icmpv6Type → List ℕ → ℕ
 packet_len message payload = length (wire (record { icmp_type = message; checksum = 0 })) + length payload
 
@@ -52,7 +52,7 @@ pub destination_replaced : (source old new : List ℕ) (message : Icmpv6Type) (p
 destination_replaced source old new message payload even alike =
     omega (arith, total_replaced source old new (to_be_bytes w32 (packet_len message payload) ++ (0 ∷ 0 ∷ 0 ∷ 58 ∷ [])) even alike)
 
--- the next header in the pseudo header is not 0
+-- the sum of a pseudo header is not 0, since its next header is not 0
 pub some_sum : (source destination : List ℕ) (message : Icmpv6Type) (payload : List ℕ) → length source % 2 ≡ 0 → length destination % 2 ≡ 0
     → message_sum source destination message payload ≢ 0
 some_sum source destination message payload even even_too none =

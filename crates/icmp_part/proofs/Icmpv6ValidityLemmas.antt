@@ -7,7 +7,7 @@ use Rattle.icmp_part.specs.Icmpv6Validity.{IsValidIcmpv6}
 use Rattle.icmp_part.specs.declared.icmpv6_header.Icmpv6Header.{Icmpv6Header}
 use Rattle.icmp_part.proofs.MessageChecksumLemmas.{total_header}
 
--- a header and a payload that sum up to all ones with their pseudo header and checksum form a valid packet
+-- if the sum of a header and a payload with their pseudo header and checksum is all ones, they form a valid packet
 pub built_valid : (source destination payload : List ℕ) (header : Icmpv6Header) → length (wire header) ≡ header_len
     → length payload ≤ max_payload_len
     → header.checksum < 2 ^ 16 → IsAllOnes (checksummed source destination header payload + header.checksum)

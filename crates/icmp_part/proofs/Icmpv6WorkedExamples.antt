@@ -34,7 +34,7 @@ advertisement_canonical : canonical advertisement_bytes ≡ 0x88 ∷ 0 ∷ 0 ∷
 unfolding format_of advertisement_bytes
 advertisement_canonical = refl
 
--- each flag by itself
+-- neighbor advertisements with one flag each
 router_alone : icmp_type_of (0x88 ∷ 0 ∷ 0 ∷ 0 ∷ 0x9F ∷ 0 ∷ 0 ∷ 0 ∷ [])
     ≡ kinds.NeighborAdvertisement (record { router = true; solicited = false; override_flag = false })
 unfolding format_of
@@ -50,7 +50,7 @@ override_alone : icmp_type_of (0x88 ∷ 0 ∷ 0 ∷ 0 ∷ 0x3F ∷ 0 ∷ 0 ∷ 0
 unfolding format_of
 override_alone = refl
 
--- a byte comes after the header
+-- a packet with a byte after its header
 address_unreachable_bytes : List ℕ
 address_unreachable_bytes = 1 ∷ 3 ∷ 0x12 ∷ 0x34 ∷ 0xFF ∷ 0xFF ∷ 0xFF ∷ 0xFF ∷ 9 ∷ []
 
@@ -104,7 +104,7 @@ solicitation : icmp_type_of (0x85 ∷ 0 ∷ 0 ∷ 0 ∷ 1 ∷ 2 ∷ 3 ∷ 4 ∷ 
 unfolding format_of
 solicitation = refl
 
--- a hop limit of 64, the M flag, five reserved bits, and a lifetime of 1800 seconds
+-- a router advertisement with a hop limit of 64, the M flag, five reserved bits, and a lifetime of 1800 seconds
 router_advertised : icmp_type_of (0x86 ∷ 0 ∷ 0x32 ∷ 0x35 ∷ 0x40 ∷ 0xBF ∷ 7 ∷ 8 ∷ [])
     ≡ kinds.RouterAdvertisement (record { cur_hop_limit = 64; managed_address_config = true; other_config = false; router_lifetime = 1800 })
 unfolding format_of
@@ -136,7 +136,7 @@ payload_too_long = refl
 
 -- ---- writing
 
--- a hop limit of 64, the M flag, and a lifetime of 1800 seconds
+-- a router advertisement with a hop limit of 64, the M flag, and a lifetime of 1800 seconds
 advertised : Icmpv6Type
 advertised =
     kinds.RouterAdvertisement (record { cur_hop_limit = 64; managed_address_config = true; other_config = false; router_lifetime = 1800 })
@@ -160,7 +160,7 @@ zeros = replicate 16 0
 ping : Icmpv6Type
 ping = kinds.EchoRequest (record { id = 0; seq = 0 })
 
--- next header 58 and length 8
+-- the sum of a pseudo header with next header 58 and length 8
 pseudo_header_total : total (pseudo_header zeros zeros 8) ≡ 66
 unfolding zeros
 pseudo_header_total = refl
@@ -169,7 +169,7 @@ ping_checksum : checksum_of (checksummed zeros zeros (record { icmp_type = ping;
 unfolding folded ping zeros
 ping_checksum = refl
 
--- the length counts the byte of payload, which is the word 0100
+-- a message with one byte of payload, which is the word 0100 and is counted in the length
 ping_with_a_byte : checksummed zeros zeros (record { icmp_type = ping; checksum = 0 }) (1 ∷ []) ≡ 0x8143
 unfolding ping zeros
 ping_with_a_byte = refl
@@ -200,7 +200,7 @@ exchanged_valid : IsValidIcmpv6 zeros zeros (0x80 ∷ 0 ∷ 0xC1 ∷ 0xBB ∷ 0x
 unfolding folded zeros
 exchanged_valid = (omega arith, refl)
 
--- two words exchanged, one word changed, and one byte
+-- a packet, in which two words are exchanged, one word is changed, or a byte is added
 sent : List ℕ
 sent = 0x80 ∷ 0 ∷ 0xC1 ∷ 0xBB ∷ 0x12 ∷ 0x34 ∷ 0xAB ∷ 0xCD ∷ []
 
@@ -282,7 +282,7 @@ raw_address_unreachable : reads_back (kinds.Unknown 1 3 (1 ∷ 2 ∷ 3 ∷ 4 ∷
 unfolding address_unreachable
 raw_address_unreachable = refl
 
--- with an unlisted type or code it stays raw
+-- a raw message with an unlisted type or code stays raw
 raw_unlisted : reads_back (kinds.Unknown 136 1 (replicate 4 0xFF)) 7 []
     ≡ Ok (record { icmp_type = kinds.Unknown 136 1 (replicate 4 0xFF); checksum = 7 }, [])
 raw_unlisted = refl

@@ -6,12 +6,12 @@ use Rattle.word_sum.specs.Checksum.{AcceptsChecksum, IsAllOnes, total}
 use Rattle.word_sum.proofs.ChecksumLemmas.{accepted_checksum}
 use Rattle.icmp_part.specs.MessageFormat.{Written, header_bytes, with_zero_checksum}
 
--- the checksum adds itself to the total of a header
+-- a header with a checksum has the sum of the header without it, plus the checksum
 pub total_header : (message : Written) (checksum : ℕ) → checksum < 2 ^ 16
     → total (header_bytes message checksum) ≡ total (header_bytes message 0) + checksum
 total_header message checksum small = omega (arith, small)
 
--- and to the total of a packet
+-- a packet with a checksum has the sum of the packet without it, plus the checksum
 total_packet : (bytes : List ℕ) → 4 ≤ length bytes → total bytes ≡ total (with_zero_checksum bytes) + be_number bytes 2 2
 total_packet (a ∷ (b ∷ (c ∷ (d ∷ rest)))) enough = omega arith
 total_packet [] enough = absurd (omega arith)
@@ -19,7 +19,7 @@ total_packet (a ∷ []) enough = absurd (omega arith)
 total_packet (a ∷ (b ∷ [])) enough = absurd (omega arith)
 total_packet (a ∷ (b ∷ (c ∷ []))) enough = absurd (omega arith)
 
--- pseudo header and packet sum up to all ones exactly if a receiver accepts the stored checksum
+-- the sum of pseudo header and packet is all ones exactly if a receiver accepts the stored checksum
 pub agrees : (pseudo : ℕ) (bytes : List ℕ) → IsBytes bytes → 4 ≤ length bytes
     → IsAllOnes (pseudo + total bytes) ↔ AcceptsChecksum (pseudo + total (with_zero_checksum bytes)) (be_number bytes 2 2)
 agrees pseudo bytes fits enough =

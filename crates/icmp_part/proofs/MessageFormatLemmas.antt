@@ -40,7 +40,7 @@ pub record IsLawful (Message : Type 0) (write : Message → Written) (IsLen : �
       → slice_index bytes 1 ≡ code
       → header_bytes (write (format.message_of bytes)) (be_number bytes 2 2) ++ drop format.layout.header_len bytes
       ≡ masked format.layout.masks bytes
-  -- and the message is read only from the kept bits
+  -- the message is read only from the bits that the masks keep
   pub reads_kept : (bytes other : List ℕ) → IsBytes bytes → IsBytes other
       → masked format.layout.masks bytes ≡ masked format.layout.masks other
       → format.message_of bytes ≡ format.message_of other
@@ -58,7 +58,7 @@ begins (a ∷ (b ∷ (c ∷ (d ∷ bytes)))) type code later fits enough is_type
     let low : be_number (a ∷ (b ∷ (c ∷ (d ∷ bytes)))) 2 2 % 256 ≡ d = omega (arith, fits 2, fits 3) in
     cc
 
--- a header in which every bit is used
+-- the format of a header in which every bit is used is lawful
 pub all_used_lawful : {Message : Type 0} (write : Message → Written) (IsLen : ℕ → ℕ → ℕ → Type 0) (type code len : ℕ)
     (message_of : List ℕ → Message)
     → IsLen type code len
@@ -80,7 +80,7 @@ all_used_lawful write IsLen type code len message_of is_len masks_len first seco
       ap message_of (sym (masked-all len bytes fits) ∙ same ∙ masked-all len other other_fits);
 }
 
--- a header of eight bytes; the last four have masks of their own
+-- the format of a header of eight bytes is lawful; the last four bytes have masks of their own
 pub eight_lawful : {Message : Type 0} (write : Message → Written) (IsLen : ℕ → ℕ → ℕ → Type 0) (type code fifth sixth seventh eighth : ℕ)
     (message_of : List ℕ → Message) → IsLen type code 8
     → ((bytes : List ℕ) → IsBytes bytes → write (message_of bytes) ≡ record {
@@ -111,7 +111,7 @@ eight_lawful write IsLen type code fifth sixth seventh eighth message_of is_len 
   reads_kept = reads_kept;
 }
 
--- a header whose bytes after the checksum are unused
+-- the format of a header whose bytes after the checksum are unused is lawful
 pub unused_lawful : {Message : Type 0} (write : Message → Written) (IsLen : ℕ → ℕ → ℕ → Type 0) (type code : ℕ) (message : Message)
     → IsLen type code 8 → write message ≡ record { type = type; code = code; fields = cleared 4 }
     → IsLawful Message write IsLen type code (unused message)
@@ -121,12 +121,12 @@ unused_lawful write IsLen type code message is_len is_written = eight_lawful wri
 
 -- ---- laws of each format of a list
 
--- facts, one after the other
+-- two facts as a pair
 infixr 4 ◌⊗◌
 pub ◌⊗◌ : {A B : Type 0} → A → B → A × B
 a ⊗ b = (a, b)
 
--- the formats of one type, from a code on
+-- the formats of one type from this code on are lawful
 unfoldable pub AreLawful : {Message : Type 0} (write : Message → Written) (IsLen : ℕ → ℕ → ℕ → Type 0) → ℕ → ℕ
     → List (MessageFormat Message) → Type 0
 AreLawful write IsLen type code [] = Unit {0}
@@ -138,7 +138,7 @@ unfoldable pub AllAreLawful : {Message : Type 0} (write : Message → Written) (
 AllAreLawful write IsLen [] = Unit {0}
 AllAreLawful write IsLen (listed ∷ others) = AreLawful write IsLen listed.0 0 listed.1 × AllAreLawful write IsLen others
 
--- so is the format at a code, or raw if the code is not listed
+-- the format at a code is lawful, and so is the raw format if the code is not listed
 unwrap_lawful : {Message : Type 0} (write : Message → Written) (IsLen : ℕ → ℕ → ℕ → Type 0) (unknown : MessageFormat Message)
     → ((type code : ℕ) → IsLawful Message write IsLen type code unknown)
     → (type first : ℕ) (formats : List (MessageFormat Message)) (at : ℕ) → AreLawful write IsLen type first formats
@@ -182,7 +182,7 @@ format_in-lawful {Message} write IsLen formats unknown all unknown_lawful type c
     let P : ℕ → Type 0 = λ c. IsLawful Message write IsLen type c (unwrap_or (slice_get (codes_of formats type) code) unknown) in
     subst P e (unwrap_lawful write IsLen unknown unknown_lawful type 0 (codes_of formats type) code (codes_lawful write IsLen formats type all))
 
--- if one format masks bytes alike, it reads them alike
+-- if bytes are equal under the masks of a format, the format reads them alike
 reads_alike : {Message : Type 0} (write : Message → Written) (IsLen : ℕ → ℕ → ℕ → Type 0) (format : MessageFormat Message)
     (bytes other : List ℕ) (type code : ℕ) → IsLawful Message write IsLen type code format → IsBytes bytes → IsBytes other
     → masked format.layout.masks other ≡ masked format.layout.masks bytes
@@ -199,7 +199,7 @@ reads_alike write IsLen format bytes other type code lawful fits other_fits same
       sym (drop-masked_after masks other len within) ∙ ap (drop len) same ∙ drop-masked_after masks bytes len within,
     )
 
--- Packets with the same canonical bytes are read alike: these bytes keep type and code, which determine the format.
+-- Packets with the same canonical bytes are read alike: their type and code are equal, and determine the format.
 pub canonical_alike : {Message : Type 0} (write : Message → Written) (IsLen : ℕ → ℕ → ℕ → Type 0)
     (format_at : ℕ → ℕ → MessageFormat Message)
     → ((type code : ℕ) → IsLawful Message write IsLen type code (format_at type code))

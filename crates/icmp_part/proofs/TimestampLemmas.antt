@@ -10,7 +10,7 @@ abbrev with_times : ℕ → ℕ → ℕ → ℕ → ℕ → TimestampMessage
 with_times id seq originate receive transmit =
     record { id = id; seq = seq; originate_timestamp = originate; receive_timestamp = receive; transmit_timestamp = transmit }
 
--- the five numbers are the fields
+-- five equal numbers are equal fields
 timestamp_same : (id seq originate receive transmit : ℕ) (message : TimestampMessage) → id ≡ message.id → seq ≡ message.seq
     → originate ≡ message.originate_timestamp → receive ≡ message.receive_timestamp → transmit ≡ message.transmit_timestamp
     → with_times id seq originate receive transmit ≡ message
@@ -34,7 +34,7 @@ timestamp_read a b c d message later fit =
     timestamp_same (be_number bytes 4 2) (be_number bytes 6 2) (be_number bytes 8 4) (be_number bytes 12 4)
     (be_number bytes 16 4) message id seq originate receive transmit
 
--- and by themselves
+-- the fields of a timestamp message are read back
 pub timestamp_fields_read : (message : TimestampMessage) → TimestampFits message → timestamp_of (timestamp_fields message) 0 ≡ message
 timestamp_fields_read message fit =
     let bytes = timestamp_fields message in

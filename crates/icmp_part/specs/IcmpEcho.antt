@@ -8,18 +8,18 @@ use Rattle.net_base.specs.Bytes.{be_number}
 use Rattle.icmp_part.specs.MessageFormat.{MessageFormat, all_used}
 use Rattle.icmp_part.specs.declared.icmp_echo_header.IcmpEchoHeader.{IcmpEchoHeader}
 
--- the identifier, and two bytes later the sequence number
+-- the identifier at this place, and the sequence number two bytes later
 abbrev pub echo_of : List ℕ → ℕ → IcmpEchoHeader
 echo_of bytes from = record { id = be_number bytes from 2; seq = be_number bytes (from + 2) 2 }
 
--- the bytes of both fields
+-- the bytes of the identifier and the sequence number
 abbrev pub echo_fields : IcmpEchoHeader → List ℕ
 echo_fields echo = to_be_bytes w16 echo.id ++ to_be_bytes w16 echo.seq
 
--- a header of eight bytes; the last four are these two fields
+-- the format of a header of eight bytes whose last four bytes are the identifier and the sequence number
 abbrev pub echo : {Message : Type 0} → (IcmpEchoHeader → Message) → MessageFormat Message
 echo variant = all_used 8 (λ bytes. variant (echo_of bytes 4))
 
--- both fields are numbers of 16 bits
+-- both fields fit in 16 bits
 abbrev pub EchoFits : IcmpEchoHeader → Type 0
 EchoFits echo = (echo.id < 2 ^ 16) × (echo.seq < 2 ^ 16)

@@ -27,7 +27,7 @@ use Rattle.icmp_part.specs.declared.icmpv4_type.Icmpv4Type.TheVariants.{Unknown,
 
 -- ---- the table: for each code of each type the message, the length of its header, and the used bits
 
--- the MTU of the next hop in bytes 6 and 7 (RFC 1191, section 4)
+-- code 4 of type 3: the MTU of the next hop is in bytes 6 and 7 (RFC 1191, section 4)
 abbrev pub with_next_hop_mtu : MessageFormat DestUnreachableHeader
 with_next_hop_mtu = record {
   layout = record { header_len = 8; masks = used 4 ++ (cleared 2 ++ used 2) };
@@ -56,7 +56,7 @@ dest_unreachable_formats =
     ∷ unused PrecedenceCutoff  -- 15
     ∷ []
 
--- type 5: RFC 792, "Redirect Message"
+-- type 5, by code: which datagrams are redirected (RFC 792, "Redirect Message")
 abbrev pub redirect_codes : List RedirectCode
 redirect_codes =
     RedirectForNetwork  -- 0
@@ -65,25 +65,25 @@ redirect_codes =
     ∷ RedirectForTypeOfServiceAndHost  -- 3
     ∷ []
 
--- the gateway's address in bytes 4 to 7
+-- type 5: the gateway's address is in bytes 4 to 7
 abbrev pub redirect : RedirectCode → MessageFormat Icmpv4Type
 redirect code = all_used 8 (λ bytes. Redirect (record { code = code; gateway_internet_address = slice_range bytes 4 8 }))
 
--- type 11: RFC 792, "Time Exceeded Message"
+-- type 11, by code: which time was exceeded (RFC 792, "Time Exceeded Message")
 abbrev pub time_exceeded_codes : List TimeExceededCode
 time_exceeded_codes =
     TtlExceededInTransit  -- 0
     ∷ FragmentReassemblyTimeExceeded  -- 1
     ∷ []
 
--- the pointer to the error in byte 4 (RFC 792, "Parameter Problem Message")
+-- code 0 of type 12: the pointer to the error is in byte 4 (RFC 792, "Parameter Problem Message")
 abbrev pub with_pointer : MessageFormat ParameterProblemHeader
 with_pointer = record {
   layout = record { header_len = 8; masks = used 4 ++ (used 1 ++ cleared 3) };
   message_of = λ bytes. PointerIndicatesError (slice_index bytes 4);
 }
 
--- type 12: code 0 of RFC 792, "Parameter Problem Message", and 1 of RFC 1122, section 3.2.2.5; code 2 is in no RFC
+-- type 12: code 0 is from RFC 792, "Parameter Problem Message", code 1 from RFC 1122, section 3.2.2.5, and code 2 is in no RFC
 abbrev pub parameter_problem_formats : List (MessageFormat ParameterProblemHeader)
 parameter_problem_formats =
     with_pointer  -- 0
@@ -91,7 +91,8 @@ parameter_problem_formats =
     ∷ unused BadLength  -- 2
     ∷ []
 
--- types 13 and 14: identifier, sequence number and three times in bytes 4 to 19 (RFC 792, "Timestamp or Timestamp Reply Message")
+-- the fields of types 13 and 14, in bytes 4 to 19: identifier, sequence number and three times (RFC 792, "Timestamp or Timestamp Reply
+-- Message")
 abbrev pub timestamp_of : List ℕ → ℕ → TimestampMessage
 timestamp_of bytes from = record {
   id = be_number bytes from 2;
@@ -101,7 +102,7 @@ timestamp_of bytes from = record {
   transmit_timestamp = be_number bytes (from + 12) 4;
 }
 
--- a header of twenty bytes
+-- the format of types 13 and 14, whose header has twenty bytes
 abbrev pub timestamp : (TimestampMessage → Icmpv4Type) → MessageFormat Icmpv4Type
 timestamp variant = all_used 20 (λ bytes. variant (timestamp_of bytes 4))
 
@@ -118,11 +119,11 @@ formats =
     ∷ (14, timestamp TimestampReply ∷ [])
     ∷ []
 
--- any other type and code: the bytes themselves
+-- the format of any other type and code: the type, the code, and bytes 4 to 7 unchanged
 abbrev pub unknown : MessageFormat Icmpv4Type
 unknown = all_used 8 (λ bytes. Unknown (slice_index bytes 0) (slice_index bytes 1) (slice_range bytes 4 8))
 
--- the format of a type and code
+-- the format of this type and code
 abbrev pub format_at : ℕ → ℕ → MessageFormat Icmpv4Type
 format_at type code = format_in formats unknown type code
 
@@ -132,7 +133,7 @@ format_of bytes = format_at (slice_index bytes 0) (slice_index bytes 1)
 
 -- ---- reading
 
--- the length of the header and its masks
+-- the length of the header, and the masks of its used bits
 abbrev pub layout_of : List ℕ → HeaderLayout
 layout_of bytes = (format_of bytes).layout
 
@@ -140,18 +141,19 @@ layout_of bytes = (format_of bytes).layout
 abbrev pub icmp_type_of : List ℕ → Icmpv4Type
 icmp_type_of bytes = (format_of bytes).message_of bytes
 
--- the same with the checksum
+-- the message with its fields, and the checksum
 abbrev pub header_of : List ℕ → Icmpv4Header
 header_of bytes = record { icmp_type = icmp_type_of bytes; checksum = be_number bytes 2 2 }
 
--- a timestamp message or its reply consists only of its header (RFC 792, "Timestamp or Timestamp Reply Message")
+-- the error for a timestamp message or reply of this type that does not consist of exactly 20 bytes (RFC 792, "Timestamp or Timestamp Reply
+-- Message")
 abbrev pub timestamp_refusal : ℕ → Layer → List ℕ → Option LenError
 timestamp_refusal type layer bytes = refused_if
     ((slice_index bytes 0 == type) && (slice_index bytes 1 == 0) && not (length bytes == 20))
     (wrong_length layer 20 (length bytes))
 
--- the errors, in this order: fewer bytes than the shortest header; a timestamp message or reply, of code 0, that is
--- not 20 bytes long
+-- The error for a packet, if there is one: it has fewer bytes than the shortest header, or it is a timestamp message or reply with code 0
+-- that is not 20 bytes long.
 abbrev pub refusal : List ℕ → Option LenError
 refusal bytes = first_of (
     refused_if (nat_lt (length bytes) 8) (wrong_length layers.Icmpv4 8 (length bytes))
@@ -159,7 +161,7 @@ refusal bytes = first_of (
     ∷ timestamp_refusal 14 layers.Icmpv4TimestampReply bytes
     ∷ [])
 
--- the same as a fact: the bytes contain a whole header, and no bytes follow the header of a timestamp message or reply
+-- the packet is accepted: it contains a whole header, and no bytes follow the header of a timestamp message or reply
 pub record HasWholeHeader (bytes : List ℕ) : Type 0 where
   pub shortest : 8 ≤ length bytes
   pub timestamp : (slice_index bytes 0 ≡ 13) ⊎ (slice_index bytes 0 ≡ 14) → slice_index bytes 1 ≡ 0 → length bytes ≡ 20
@@ -176,7 +178,7 @@ canonical bytes = masked (layout_of bytes).masks bytes
 
 -- ---- writing
 
--- the codes of type 3
+-- the code of a message of type 3
 abbrev pub dest_unreachable_code : DestUnreachableHeader → ℕ
 dest_unreachable_code Network = 0
 dest_unreachable_code Host = 1
@@ -195,35 +197,35 @@ dest_unreachable_code FilterProhibited = 13
 dest_unreachable_code HostPrecedenceViolation = 14
 dest_unreachable_code PrecedenceCutoff = 15
 
--- the MTU of the next hop, or 0 if there is none
+-- the MTU of the next hop, or 0 if the message contains no MTU
 abbrev pub next_hop_mtu : DestUnreachableHeader → ℕ
 next_hop_mtu (FragmentationNeeded mtu) = mtu
 next_hop_mtu other = 0
 
--- the codes of type 5
+-- the code of a message of type 5
 abbrev pub redirect_code : RedirectCode → ℕ
 redirect_code RedirectForNetwork = 0
 redirect_code RedirectForHost = 1
 redirect_code RedirectForTypeOfServiceAndNetwork = 2
 redirect_code RedirectForTypeOfServiceAndHost = 3
 
--- the codes of type 11
+-- the code of a message of type 11
 abbrev pub time_exceeded_code : TimeExceededCode → ℕ
 time_exceeded_code TtlExceededInTransit = 0
 time_exceeded_code FragmentReassemblyTimeExceeded = 1
 
--- the codes of type 12
+-- the code of a message of type 12
 abbrev pub parameter_problem_code : ParameterProblemHeader → ℕ
 parameter_problem_code (PointerIndicatesError pointer) = 0
 parameter_problem_code MissingRequiredOption = 1
 parameter_problem_code BadLength = 2
 
--- the pointer, or 0 if there is none
+-- the pointer, or 0 if the message contains no pointer
 abbrev pub pointer : ParameterProblemHeader → ℕ
 pointer (PointerIndicatesError at) = at
 pointer other = 0
 
--- identifier, sequence number and three times
+-- the bytes of the identifier, the sequence number and the three times
 abbrev pub timestamp_fields : TimestampMessage → List ℕ
 timestamp_fields message =
     to_be_bytes w16 message.id ++ (to_be_bytes w16 message.seq ++ (to_be_bytes w32 message.originate_timestamp
@@ -246,12 +248,12 @@ written (TimestampReply message) = record { type = 14; code = 0; fields = timest
 abbrev pub wire : Icmpv4Header → List ℕ
 wire header = header_bytes (written header.icmp_type) header.checksum
 
--- the number of bytes after the header of a message that consists only of its header
+-- the number of bytes after the header, if the kind of the message fixes it
 abbrev pub fixed_payload_size : Icmpv4Type → Option ℕ
 fixed_payload_size (TimestampRequest message) = Some 0
 fixed_payload_size (TimestampReply message) = Some 0
 fixed_payload_size other = None
 
--- the sum for a checksum: the header with a zero instead of the checksum, and the payload
+-- the sum from which the checksum is computed: the header with a zero instead of the checksum, and the payload
 abbrev pub checksummed : Icmpv4Header → List ℕ → ℕ
 checksummed header payload = total (wire (record header { checksum = 0 })) + total payload

@@ -1,4 +1,4 @@
--- How a written ICMPv4 header is read, with a payload after it.
+-- How an ICMPv4 header is read back if a payload follows it.
 use Rattle.std.specs.Prelude.{◌≡◌, ◌<◌, ◌^◌, ℕ, ◌+◌, ◌==◌, ◌&&◌, if◌then◌else◌, List, [], ◌∷◌, ◌++◌, length, Option, Some, Result}
 use Rattle.std.specs.Option.{unwrap_or}
 use Rattle.std.specs.declared.result.Result.TheVariants.{Ok, Err}
@@ -14,7 +14,7 @@ use Rattle.icmp_part.specs.declared.icmpv4_header.Icmpv4Header.{Icmpv4Header}
 use Rattle.icmp_part.specs.declared.icmpv4_type.Icmpv4Type.{Icmpv4Type}
 use Rattle.icmp_part.specs.declared.icmpv4_type.Icmpv4Type.TheVariants.{Unknown, EchoReply, DestinationUnreachable, Redirect, EchoRequest, TimeExceeded, ParameterProblem, TimestampRequest, TimestampReply}
 
--- the bytes are refused with this error, or read as this header and these bytes after it
+-- the result of reading these bytes: this error, or this header and the bytes after it
 abbrev pub IsReadAs : List ℕ → Result (Icmpv4Header × List ℕ) LenError → Type 0
 IsReadAs bytes (Ok found) = DecodesAs bytes found.0 found.1
 IsReadAs bytes (Err error) = refusal bytes ≡ Some error
@@ -23,26 +23,26 @@ IsReadAs bytes (Err error) = refusal bytes ≡ Some error
 abbrev pub icmpv4_header : Icmpv4Type → ℕ → Icmpv4Header
 icmpv4_header message checksum = record { icmp_type = message; checksum = checksum }
 
--- a timestamp message is the whole packet, so it is refused with a payload
+-- A timestamp message is read back only without a payload, since it is the whole packet. With a payload it is refused.
 abbrev pub timestamp_reads_back : Icmpv4Type → Layer → ℕ → List ℕ → Result (Icmpv4Header × List ℕ) LenError
 timestamp_reads_back message layer checksum payload =
     if length payload == 0 then Ok (icmpv4_header message checksum, [])
     else Err (wrong_length layer 20 (20 + length payload))
 
--- a raw header with the type and code of a timestamp message is read as a timestamp message together with the twelve
--- bytes after it, and is refused with any other number of bytes
+-- An unknown message with the type and code of a timestamp message is read back as a timestamp message. The twelve
+-- bytes after its header are the three times. With any other number of bytes it is refused.
 abbrev pub raw_timestamp_reads_back : (TimestampMessage → Icmpv4Type) → Layer → List ℕ → ℕ → List ℕ
     → Result (Icmpv4Header × List ℕ) LenError
 raw_timestamp_reads_back variant layer bytes5to8 checksum payload =
     if length payload == 12 then Ok (icmpv4_header (variant (timestamp_of (bytes5to8 ++ payload) 0)) checksum, [])
     else Err (wrong_length layer 20 (8 + length payload))
 
--- the message in the table at this type and code, with its fields from these four bytes; None if nothing is listed
+-- The message that is listed at this type and code, with its fields from these four bytes. `None` if no message is listed there.
 abbrev pub listed_kind : ℕ → ℕ → List ℕ → Option Icmpv4Type
 listed_kind type code bytes5to8 = listed (codes_of formats type) code (type ∷ code ∷ 0 ∷ 0 ∷ bytes5to8)
 
--- timestamp messages and replies by the rules above; any other raw header as the message listed at its type and code,
--- or unchanged; and any other header unchanged
+-- The result of reading a written header and this payload. For timestamp messages and replies the rules above apply. An unknown message is
+-- read as the message that is listed at its type and code, if there is one. Any other message is read unchanged.
 abbrev pub reads_back : Icmpv4Type → ℕ → List ℕ → Result (Icmpv4Header × List ℕ) LenError
 reads_back (TimestampRequest message) checksum payload =
     timestamp_reads_back (TimestampRequest message) layers.Icmpv4Timestamp checksum payload

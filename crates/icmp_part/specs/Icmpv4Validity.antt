@@ -2,6 +2,6 @@
 use Rattle.std.specs.Prelude.{ℕ, List, []}
 use Rattle.word_sum.specs.Checksum.{Verifies}
 
--- the packet, checksum included, sums up to all ones; there is no pseudo header
+-- the one's complement sum of the packet, checksum included, is all ones; there is no pseudo header
 abbrev pub IsValidIcmpv4 : List ℕ → Type 0
 IsValidIcmpv4 bytes = Verifies [] bytes

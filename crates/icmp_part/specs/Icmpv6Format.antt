@@ -28,11 +28,11 @@ use Rattle.icmp_part.specs.declared.icmpv6_type.Icmpv6Type.TheVariants.{Unknown,
 
 -- ---- the table: for each code of each type the message, and the used bits
 
--- every header is eight bytes long: type, code, checksum, and the first four bytes of the message body of RFC 4443, section 2.1
+-- the length of every header: type, code, checksum, and the first four bytes of the message body (RFC 4443, section 2.1)
 abbrev pub header_len : ℕ
 header_len = 8
 
--- type 1: RFC 4443, section 3.1
+-- type 1, by code: why a packet could not be delivered (RFC 4443, section 3.1)
 abbrev pub dest_unreachable_codes : List DestUnreachableCode
 dest_unreachable_codes =
     NoRoute  -- 0
@@ -44,19 +44,19 @@ dest_unreachable_codes =
     ∷ RejectRoute  -- 6
     ∷ []
 
--- type 2: the MTU of the next link in bytes 4 to 7 (RFC 4443, section 3.2); a sender sets code 0, and no other code is listed
+-- type 2: the MTU of the next link is in bytes 4 to 7 (RFC 4443, section 3.2); a sender sets code 0, and no other code is listed
 abbrev pub packet_too_big : MessageFormat Icmpv6Type
 packet_too_big = all_used header_len (λ bytes. PacketTooBig (be_number bytes 4 4))
 
--- type 3: RFC 4443, section 3.3
+-- type 3, by code: which time was exceeded (RFC 4443, section 3.3)
 abbrev pub time_exceeded_codes : List TimeExceededCode
 time_exceeded_codes =
     HopLimitExceeded  -- 0
     ∷ FragmentReassemblyTimeExceeded  -- 1
     ∷ []
 
--- type 4: codes 0 to 2 of RFC 4443, section 3.4, 3 of RFC 7112, section 5, 4 of RFC 8754, section 4.3.1.2, and 5 to 10 of RFC 8883,
--- section 2
+-- type 4, by code: 0 to 2 of RFC 4443, section 3.4; 3 of RFC 7112, section 5; 4 of RFC 8754, section 4.3.1.2; 5 to 10 of RFC 8883, section
+-- 2
 abbrev pub parameter_problem_codes : List ParameterProblemCode
 parameter_problem_codes =
     ErroneousHeaderField  -- 0
@@ -72,12 +72,12 @@ parameter_problem_codes =
     ∷ OptionTooBig  -- 10
     ∷ []
 
--- the pointer to the error in bytes 4 to 7 (RFC 4443, section 3.4)
+-- type 4: the pointer to the error is in bytes 4 to 7 (RFC 4443, section 3.4)
 abbrev pub parameter_problem : ParameterProblemCode → MessageFormat Icmpv6Type
 parameter_problem code = all_used header_len (λ bytes. ParameterProblem (record { code = code; pointer = be_number bytes 4 4 }))
 
--- type 134 (RFC 4861, section 4.2): the current hop limit; a byte of flags, M and O, whose other bits are reserved; the router
--- lifetime
+-- type 134, from byte 4 on (RFC 4861, section 4.2): the current hop limit; a byte with the flags M and O, whose other bits are reserved;
+-- the router lifetime
 abbrev pub managed_bit : ℕ
 managed_bit = 0x80
 
@@ -95,14 +95,14 @@ router_advertisement_of bytes from = record {
   router_lifetime = be_number bytes (from + 2) 2;
 }
 
--- in bytes 4 to 7
+-- the format of a router advertisement; its fields are in bytes 4 to 7
 abbrev pub router_advertisement : MessageFormat Icmpv6Type
 router_advertisement = record {
   layout = record { header_len = header_len; masks = used 4 ++ router_advertisement_masks };
   message_of = λ bytes. RouterAdvertisement (router_advertisement_of bytes 4);
 }
 
--- type 136 (RFC 4861, section 4.4): a byte of flags, R, S and O; all other bits are reserved
+-- type 136, from byte 4 on (RFC 4861, section 4.4): a byte with the flags R, S and O; all other bits are reserved
 abbrev pub router_bit : ℕ
 router_bit = 0x80
 
@@ -122,7 +122,7 @@ neighbor_advertisement_of bytes from = record {
   override_flag = flag bytes from override_bit;
 }
 
--- in bytes 4 to 7
+-- the format of a neighbor advertisement; its fields are in bytes 4 to 7
 abbrev pub neighbor_advertisement : MessageFormat Icmpv6Type
 neighbor_advertisement = record {
   layout = record { header_len = header_len; masks = used 4 ++ neighbor_advertisement_masks };
@@ -145,11 +145,11 @@ formats =
     ∷ (137, unused Redirect ∷ [])
     ∷ []
 
--- any other type and code: the bytes themselves
+-- the format of any other type and code: the type, the code, and bytes 4 to 7 unchanged
 abbrev pub unknown : MessageFormat Icmpv6Type
 unknown = all_used header_len (λ bytes. Unknown (slice_index bytes 0) (slice_index bytes 1) (slice_range bytes 4 8))
 
--- the format of a type and code
+-- the format of this type and code
 abbrev pub format_at : ℕ → ℕ → MessageFormat Icmpv6Type
 format_at type code = format_in formats unknown type code
 
@@ -159,29 +159,29 @@ format_of bytes = format_at (slice_index bytes 0) (slice_index bytes 1)
 
 -- ---- reading
 
--- the length of the header and its masks
+-- the length of the header, and the masks of its used bits
 abbrev pub layout_of : List ℕ → HeaderLayout
 layout_of bytes = (format_of bytes).layout
 
--- the message with its fields
+-- the message with its fields, and the header, which also contains the checksum
 abbrev pub icmp_type_of : List ℕ → Icmpv6Type
 icmp_type_of bytes = (format_of bytes).message_of bytes
 
 abbrev pub header_of : List ℕ → Icmpv6Header
 header_of bytes = record { icmp_type = icmp_type_of bytes; checksum = be_number bytes 2 2 }
 
--- the length of the longest packet: the pseudo header counts header and payload in four bytes (RFC 8200, section 8.1)
+-- the length of the longest packet; the pseudo header counts header and payload in 32 bits (RFC 8200, section 8.1)
 abbrev pub max_packet_len : ℕ
 max_packet_len = 4294967295
 
--- the errors, in this order: fewer bytes than a header; more bytes than the pseudo header can count
+-- the error for a packet, if there is one: it has fewer bytes than a header, or more bytes than the pseudo header can count
 abbrev pub refusal : List ℕ → Option LenError
 refusal bytes = first_of (
     refused_if (nat_lt (length bytes) header_len) (wrong_length layers.Icmpv6 header_len (length bytes))
     ∷ refused_if (nat_lt max_packet_len (length bytes)) (wrong_length layers.Icmpv6 max_packet_len (length bytes))
     ∷ [])
 
--- the same as a fact
+-- the packet is accepted: its length is within these limits
 pub record HasPacketLength (bytes : List ℕ) : Type 0 where
   pub shortest : header_len ≤ length bytes
   pub longest : length bytes ≤ max_packet_len
@@ -224,7 +224,7 @@ parameter_problem_code TooManyExtensionHeaders = 8
 parameter_problem_code TooManyOptionsInExtensionHeader = 9
 parameter_problem_code OptionTooBig = 10
 
--- the sum of the flags that are set
+-- the byte of flags, and the bytes of all fields, of both advertisements
 abbrev pub neighbor_advertisement_flags : NeighborAdvertisementHeader → ℕ
 neighbor_advertisement_flags header =
     from_bool header.router * router_bit + from_bool header.solicited * solicited_bit + from_bool header.override_flag * override_bit
@@ -260,7 +260,7 @@ wire header = header_bytes (written header.icmp_type) header.checksum
 
 -- ---- the checksum
 
--- the longest payload: a header comes before it
+-- the length of the longest payload; it follows a header of eight bytes
 abbrev pub max_payload_len : ℕ
 max_payload_len = max_packet_len - header_len
 
@@ -268,7 +268,7 @@ max_payload_len = max_packet_len - header_len
 abbrev pub pseudo_header : List ℕ → List ℕ → ℕ → List ℕ
 pseudo_header source destination len = ipv6_pseudo_header source destination icmpv6_number len
 
--- the sum for a checksum: pseudo header, header with a zero instead of the checksum, and payload
+-- the sum from which the checksum is computed: the pseudo header, the header with a zero instead of the checksum, and the payload
 abbrev pub checksummed : List ℕ → List ℕ → Icmpv6Header → List ℕ → ℕ
 checksummed source destination header payload =
     total (pseudo_header source destination (length (wire header) + length payload))

@@ -1,4 +1,4 @@
--- The order of ICMPv6 messages and their parts, and their input to a hasher.
+-- The order of ICMPv6 messages and of their parts, and what a hash covers.
 use Rattle.std.specs.Prelude.{ℕ, [], ◌++◌}
 use Rattle.std.specs.Cmp.Lexicographic.{slice_cmp}
 use Rattle.std.specs.Hash.{HashWrites}
@@ -64,7 +64,7 @@ kind NeighborSolicitation = 9
 kind (NeighborAdvertisement header) = 10
 kind Redirect = 11
 
--- two messages of one kind
+-- the order of two messages of the same kind
 abbrev pub fields_cmp : Icmpv6Type → Icmpv6Type → Ordering
 fields_cmp (Unknown type code bytes5to8) (Unknown other_type other_code other_bytes5to8) =
     ordering_then (nat_cmp type other_type) (ordering_then (nat_cmp code other_code) (slice_cmp nat_cmp bytes5to8 other_bytes5to8))

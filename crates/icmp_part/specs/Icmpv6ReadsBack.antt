@@ -1,4 +1,4 @@
--- How a written ICMPv6 header is read, with a payload after it.
+-- How an ICMPv6 header is read back if a payload follows it.
 use Rattle.std.specs.Prelude.{◌≡◌, ◌<◌, ◌^◌, ℕ, ◌+◌, nat_lt, if◌then◌else◌, List, ◌∷◌, length, Option, Some, Result}
 use Rattle.std.specs.Option.{unwrap_or}
 use Rattle.std.specs.declared.result.Result.TheVariants.{Ok, Err}
@@ -12,7 +12,7 @@ use Rattle.icmp_part.specs.declared.icmpv6_header.Icmpv6Header.{Icmpv6Header}
 use Rattle.icmp_part.specs.declared.icmpv6_type.Icmpv6Type.{Icmpv6Type}
 use Rattle.icmp_part.specs.declared.icmpv6_type.Icmpv6Type.TheVariants.{Unknown, DestinationUnreachable, PacketTooBig, TimeExceeded, ParameterProblem, EchoRequest, EchoReply, RouterSolicitation, RouterAdvertisement, NeighborSolicitation, NeighborAdvertisement, Redirect}
 
--- the bytes are refused with this error, or read as this header and these bytes after it
+-- the result of reading these bytes: this error, or this header and the bytes after it
 abbrev pub IsReadAs : List ℕ → Result (Icmpv6Header × List ℕ) LenError → Type 0
 IsReadAs bytes (Ok found) = DecodesAs bytes found.0 found.1
 IsReadAs bytes (Err error) = refusal bytes ≡ Some error
@@ -21,16 +21,17 @@ IsReadAs bytes (Err error) = refusal bytes ≡ Some error
 abbrev pub icmpv6_header : Icmpv6Type → ℕ → Icmpv6Header
 icmpv6_header message checksum = record { icmp_type = message; checksum = checksum }
 
--- the message in the table at this type and code, with its fields from these four bytes; None if nothing is listed
+-- The message that is listed at this type and code, with its fields from these four bytes. `None` if no message is listed there.
 abbrev pub listed_kind : ℕ → ℕ → List ℕ → Option Icmpv6Type
 listed_kind type code bytes5to8 = listed (codes_of formats type) code (type ∷ code ∷ 0 ∷ 0 ∷ bytes5to8)
 
--- a raw message is read as the message listed at its type and code, or unchanged; any other message is unchanged
+-- An unknown message is read back as the message that is listed at its type and code, if there is one. Any other message is read back
+-- unchanged.
 abbrev pub message_reads_back : Icmpv6Type → Icmpv6Type
 message_reads_back (Unknown type code bytes5to8) = unwrap_or (listed_kind type code bytes5to8) (Unknown type code bytes5to8)
 message_reads_back other = other
 
--- a packet with too long a payload is refused; otherwise the checksum is read back, and the payload comes after the header
+-- The result of reading a written header and this payload. If the payload is too long, the packet is refused.
 abbrev pub reads_back : Icmpv6Type → ℕ → List ℕ → Result (Icmpv6Header × List ℕ) LenError
 reads_back message checksum payload =
     if nat_lt max_payload_len (length payload)

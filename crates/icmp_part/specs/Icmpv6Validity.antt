@@ -3,6 +3,6 @@ use Rattle.std.specs.Prelude.{ℕ, List}
 use Rattle.net_base.specs.IpNumbers.{icmpv6_number}
 use Rattle.net_base.specs.PseudoHeader.{VerifiesOverIpv6}
 
--- pseudo header and packet, checksum included, sum up to all ones
+-- the one's complement sum of pseudo header and packet, checksum included, is all ones
 abbrev pub IsValidIcmpv6 : List ℕ → List ℕ → List ℕ → Type 0
 IsValidIcmpv6 source destination bytes = VerifiesOverIpv6 source destination icmpv6_number bytes

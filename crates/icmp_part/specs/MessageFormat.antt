@@ -8,44 +8,44 @@ use Rattle.std.specs.Option.{option_map, unwrap_or}
 use Rattle.net_base.specs.Bytes.{HeaderLayout}
 use Rattle.net_base.specs.StoredChecksum.{icmp_checksum_place, with_checksum}
 
--- the layout of the header, and the message with its fields, read at their places in the packet
+-- the layout of a header, and how a message with its fields is read from a packet
 pub record MessageFormat (Message : Type 0) : Type 0 where
   pub layout : HeaderLayout
   pub message_of : List ℕ → Message
 
--- the masks of used bytes and of unused bytes
+-- the masks for this number of bytes: all bits used, and all bits unused
 abbrev pub used : ℕ → List ℕ
 used count = replicate count 255
 
 abbrev pub cleared : ℕ → List ℕ
 cleared count = replicate count 0
 
--- a header in which every bit is used
+-- the format of a header in which every bit is used
 abbrev pub all_used : {Message : Type 0} → ℕ → (List ℕ → Message) → MessageFormat Message
 all_used len message_of = record { layout = record { header_len = len; masks = used len }; message_of = message_of }
 
--- a header of eight bytes; the last four are unused
+-- the format of a header of eight bytes whose last four bytes are unused
 abbrev pub unused : {Message : Type 0} → Message → MessageFormat Message
 unused message = record { layout = record { header_len = 8; masks = used 4 ++ cleared 4 }; message_of = λ bytes. message }
 
--- the format of a part, as the format of the message that contains it
+-- the format of a message that consists of a part with this format
 abbrev pub inside : {Part Message : Type 0} → (Part → Message) → MessageFormat Part → MessageFormat Message
 inside variant format = record { layout = format.layout; message_of = λ bytes. variant (format.message_of bytes) }
 
--- the formats of a type's codes, in their order from 0 on; no format if the type is not listed
+-- the formats of all codes of this type, from code 0 on; empty if the type is not listed
 abbrev pub codes_of : {Message : Type 0} → List (ℕ × List (MessageFormat Message)) → ℕ → List (MessageFormat Message)
 codes_of [] type = []
 codes_of (listed ∷ others) type = if type == listed.0 then listed.1 else codes_of others type
 
--- the message that a packet with this code is read as; None if the code is not listed
+-- The message that a packet with this code is read as. `None` if the code is not listed.
 abbrev pub listed : {Message : Type 0} → List (MessageFormat Message) → ℕ → List ℕ → Option Message
 listed formats code bytes = option_map (λ format. format.message_of bytes) (slice_get formats code)
 
--- the format of a type and code, or `unknown` if they are not listed
+-- the format of this type and code, or `unknown` if they are not listed
 abbrev pub format_in : {Message : Type 0} → List (ℕ × List (MessageFormat Message)) → MessageFormat Message → ℕ → ℕ → MessageFormat Message
 format_in formats unknown type code = unwrap_or (slice_get (codes_of formats type) code) unknown
 
--- the written form of a message: type, code, and the bytes after the checksum
+-- a message as it is written: type, code, and the bytes after the checksum
 pub record Written : Type 0 where
   pub type : ℕ
   pub code : ℕ

@@ -1,12 +1,12 @@
--- The packet that an ICMP error is about, as far as the error contains it.
+-- The packet that an ICMP error quotes, as far as the error contains it.
 use Rattle.std.specs.Prelude.{ℕ, ◌*◌, ◌==◌, ◌||◌, Bool, if◌then◌else◌, nat_lt, List, drop, slice_index, take, None, Option, Some}
 
--- An extended error quotes at least this many bytes (RFC 4884, section 3).
+-- the least number of bytes that an extended error quotes (RFC 4884, section 3)
 abbrev pub min_extended_len : ℕ
 min_extended_len = 128
 
--- The bytes that a length field counts. If it counts fewer bytes, the error is not extended and quotes all of them: a sender that does not use
--- the field writes 0 (RFC 4884, section 5.4).
+-- The first bytes, as many as a length field states. If the field states less than the least length of an extended error, the error is not
+-- extended, and the result is all bytes. A sender that does not use the field writes 0 (RFC 4884, section 5.4).
 abbrev pub counted : ℕ → List ℕ → List ℕ
 counted len bytes = if nat_lt len min_extended_len then bytes else take len bytes
 
@@ -14,20 +14,21 @@ counted len bytes = if nat_lt len min_extended_len then bytes else take len byte
 abbrev pub after_header : List ℕ → List ℕ
 after_header message = drop 8 message
 
--- the packet quoted by a destination unreachable (3), time exceeded (11) or parameter problem (12) message, where byte 5 counts units of
--- four bytes (RFC 4884, sections 4.1 to 4.3), or by a source quench (4) or redirect (5) message, without a length field (RFC 792)
+-- The packet that an ICMPv4 error quotes. In a destination unreachable (3), time exceeded (11) or parameter problem (12) message, byte 5 is
+-- a length in units of four bytes (RFC 4884, sections 4.1 to 4.3). A source quench (4) or redirect (5) message has no length field (RFC
+-- 792).
 abbrev pub quoted_by_icmpv4 : List ℕ → Option (List ℕ)
 quoted_by_icmpv4 message =
     let type = slice_index message 0 in
     if type == 3 || (type == 11 || type == 12) then Some (counted (slice_index message 5 * 4) (after_header message))
     else (if type == 4 || type == 5 then Some (after_header message) else None)
 
--- the types of errors (RFC 4443, section 2.1)
+-- this is the type of an error (RFC 4443, section 2.1)
 abbrev pub is_icmpv6_error : ℕ → Bool
 is_icmpv6_error type = nat_lt type 128
 
--- the packet quoted by a destination unreachable (1) or time exceeded (3) message, where byte 4 counts units of eight bytes (RFC 4884,
--- sections 4.4 and 4.5), or by any other error, without a length field (RFC 4443, section 2.4)
+-- The packet that an ICMPv6 error quotes. In a destination unreachable (1) or time exceeded (3) message, byte 4 is a length in units of
+-- eight bytes (RFC 4884, sections 4.4 and 4.5). Any other error has no length field (RFC 4443, section 2.4).
 abbrev pub quoted_by_icmpv6 : List ℕ → Option (List ℕ)
 quoted_by_icmpv6 message =
     let type = slice_index message 0 in

@@ -21,13 +21,13 @@ impl IcmpEchoHeader {
     ghost use Rattle.std.specs.Prelude.{◌≡◌};
     ghost use Rattle.icmp_part.specs.IcmpEcho.{EchoFits, echo_fields, echo_of};
 
-    /// The length of the two fields, in bytes.
+    /// The length of both fields together, in bytes.
     pub const LEN: usize = 4;
 
     /// The place of the identifier, in bytes from the start of the ICMP header.
     pub const ID_AT: usize = 4;
 
-    /// The bytes of the two fields: bytes 4 to 7 of the header (RFC 792; RFC 4443, sections 4.1 and 4.2).
+    /// The bytes of both fields, which are bytes 4 to 7 of the header (RFC 792; RFC 4443, sections 4.1 and 4.2).
     pub fn to_bytes(&self) -> [u8; 4]
         ensures written { result ≡ echo_fields self.now }
         ensures read_back { echo_of result 0 ≡ self.now }
@@ -38,7 +38,7 @@ impl IcmpEchoHeader {
         [id[0], id[1], seq[0], seq[1]]
     }
 
-    /// The two fields, read from bytes 4 to 7 of the header (RFC 792; RFC 4443, sections 4.1 and 4.2).
+    /// Reads both fields from bytes 4 to 7 of the header (RFC 792; RFC 4443, sections 4.1 and 4.2).
     pub fn from_bytes(bytes5to8: [u8; 4]) -> IcmpEchoHeader
         ensures read { result ≡ echo_of bytes5to8 0 }
         ensures written_back { echo_fields result ≡ bytes5to8 }

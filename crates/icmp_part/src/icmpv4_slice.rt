@@ -15,7 +15,7 @@ use net_base::wrong_length;
 use std::marker::Model;
 use word_sum::checksum::Sum16BitWords;
 
-/// The bytes that 1 in the length field of an error stands for (RFC 4884, section 4).
+/// The unit of the length field of an error, in bytes (RFC 4884, section 4).
 const LENGTH_UNIT: usize = 4;
 
 /// The bytes of an ICMPv4 packet: the header and the payload after it (RFC 792).
@@ -56,14 +56,14 @@ impl<'a> Icmpv4Slice<'a> {
     ghost use Rattle.std.specs.Option.{option_map};
     ghost use Rattle.icmp_part.specs.QuotedPackets.{quoted_by_icmpv4};
 
-    /// The packet in this slice (RFC 792). The slice must end at the end of the IP packet. The checksum is not checked.
+    /// Reads the packet in this slice (RFC 792). The slice must end at the end of the IP packet. The checksum is not checked.
     ///
     /// # Errors
     ///
     /// The call checks these cases, in this order:
     /// - `LenError` of the layer `Icmpv4` if the slice is shorter than 8 bytes.
-    /// - `LenError` of the layer `Icmpv4Timestamp` or `Icmpv4TimestampReply` if the slice contains a timestamp message
-    ///   or reply, of code 0, and is not 20 bytes long.
+    /// - `LenError` of the layer `Icmpv4Timestamp` or `Icmpv4TimestampReply` if the slice contains a timestamp message or reply with code
+    ///   0, and is not 20 bytes long.
     #[inline(always)]
     pub fn from_slice(slice: &'a [u8]) -> Result<Icmpv4Slice<'a>, LenError>
         ensures refused { RefusesExactly result (refusal slice.now) }
@@ -124,23 +124,23 @@ impl<'a> Icmpv4Slice<'a> {
         [self.slice[4], self.slice[5], self.slice[6], self.slice[7]]
     }
 
-    /// Whether the bytes of the packet, checksum included, sum up to all ones, as a receiver checks it (RFC 1071,
-    /// section 1; RFC 792). There is no pseudo header. The slice must end at the end of the IP packet.
+    /// Whether the checksum is right: the one's complement sum of the packet, checksum included, is all ones (RFC 1071, section 1; RFC
+    /// 792). There is no pseudo header. The slice must end at the end of the IP packet.
     ///
-    /// In a valid packet this check detects each change of one byte, and of one aligned two-byte word except between
-    /// 0000 and FFFF. It also detects such a change if only zeros are left, which are not valid. It misses an
-    /// exchange of two aligned words.
+    /// This check detects each change of one byte of a valid packet. It detects each change of one aligned two-byte word, except between
+    /// 0000 and FFFF. If all bytes are zeros after the change, it detects that too, since zeros are not valid. It does not detect that two
+    /// aligned words were exchanged.
     pub fn is_checksum_valid(&self) -> bool
         ensures valid { IsTrue result ↔ IsValidIcmpv4 self.now }
-        // The stored checksum is the checksum computed with zeros instead of it, or FFFF if that is 0.
+        // The stored checksum is right exactly if it is the checksum computed with zeros in its place, or FFFF if that is 0.
         ensures agrees { IsTrue result ↔ AcceptsChecksum (total (with_zero_checksum self.now)) (be_number self.now 2 2) }
-        // A packet that sums up to zero is valid or consists of zeros.
+        // These are the changes that the check detects, and a change that it does not detect.
         ensures detects { IsTrue result → DetectsWithoutPseudoHeader self.now }
     {
         is_valid(self.slice)
     }
 
-    /// The message with its fields (RFC 792). They exclude bits that the kind does not use. `bytes5to8` contains these
+    /// The message with its fields (RFC 792). The fields exclude bits that this kind of message does not use. `bytes5to8` contains these
     /// bits.
     #[inline(always)]
     pub fn icmp_type(&self) -> Icmpv4Type
@@ -152,8 +152,9 @@ impl<'a> Icmpv4Slice<'a> {
         }
     }
 
-    /// The message, and a number that nothing reads. It is never an error, which would be the length of a slice without a header.
-    // `Icmpv6Slice::message` gives the reason for the number.
+    /// The message, in a `Result` that is never `Err`: it would contain the length of a slice without a header. The number next to the
+    /// message is not used.
+    // `Icmpv6Slice::message` gives the reason for the unused number.
     #[inline(always)]
     #[tactic(auto, using(std::proofs::lemmas::Option::slice_get_past, crate::proofs::ListedLemmas::listed_mapped, crate::proofs::ListedLemmas::listed_inside, crate::proofs::Icmpv4FormatLemmas::icmp_type_of_listed))]
     fn message(&self) -> Result<(Icmpv4Type, usize), usize>
@@ -242,7 +243,7 @@ impl<'a> Icmpv4Slice<'a> {
         }
     }
 
-    /// The length of the header, in bytes: 20 for a timestamp message or its reply, of code 0, otherwise 8.
+    /// The length of the header, in bytes. It is 20 for a timestamp message or reply with code 0, and otherwise 8.
     pub fn header_len(&self) -> usize
         ensures layout { result ≡ (layout_of self.now).header_len }
         ensures written { result ≡ length (wire (header_of self.now)) }
@@ -258,10 +259,10 @@ impl<'a> Icmpv4Slice<'a> {
         &self.slice[header_len(self.slice)..]
     }
 
-    /// The packet that this error is about, as far as the message contains it: destination unreachable, source quench, redirect, time
-    /// exceeded and parameter problem quote the packet that caused them, from its IP header on (RFC 792). None if the message is not an
-    /// error. The length field in byte 5 ends the quoted packet, if it counts at least 128 bytes. Otherwise the error is not extended (RFC
-    /// 4884, sections 3 and 4).
+    /// The packet that this error quotes, from its IP header on, as far as the message contains it (RFC 792). `None` if the message is not
+    /// an error. Errors are destination unreachable, source quench, redirect, time exceeded and parameter problem messages. If the length
+    /// field in byte 5 counts at least 128 bytes, it states where the quoted packet ends. Otherwise the error is not extended (RFC 4884,
+    /// sections 3 and 4).
     pub fn quoted_packet(&self) -> Option<&'a [u8]>
         ensures { option_map (λ packet. packet.now) result ≡ quoted_by_icmpv4 self.now }
     {
@@ -289,7 +290,7 @@ fn header_len(packet: &[u8]) -> usize
     }
 }
 
-/// Whether the bytes of a packet sum up to all ones.
+/// Whether the one's complement sum of the packet is all ones.
 fn is_valid(packet: &[u8]) -> bool
     ensures valid { IsTrue result ↔ IsValidIcmpv4 packet.now }
     ensures bytes { IsBytes packet.now }

@@ -7,32 +7,33 @@ use crate::{Icmpv4Header, Icmpv4Type};
 use std::mem;
 use word_sum::checksum_change::ChecksumChange;
 
-/// Changes to an ICMPv4 header by an address translator (RFC 3022, section 4). They need no payload.
+/// Changes of an ICMPv4 header by an address translator (RFC 3022, section 4). The payload is not needed.
 impl Icmpv4Header {
     ghost use Rattle.icmp_part.specs.EchoIdentifier.{icmpv4_echo_id, icmpv4_with_echo_id};
     ghost use Rattle.icmp_part.specs.Icmpv4Format.{checksummed};
 
-    /// Replaces the identifier of an echo request or its reply, updates the checksum, and returns the old identifier.
-    /// For any other message the call returns `None`, and the header is unchanged.
+    /// Replaces the identifier of an echo request or its reply, updates the checksum, and returns the old identifier. For any other message
+    /// the call returns `None`, and the header is unchanged.
     ///
-    /// The checksum is wrong in one case: if header and payload become all zeros, it is 0 instead of 65535. This is
-    /// possible only for an echo reply. `update_checksum` sums it again.
+    /// The checksum is wrong in one case: if all bytes of header and payload are zeros after the change, it is 0 instead of 65535. This is
+    /// possible only for an echo reply. Call `update_checksum` to correct it.
     ///
     /// In a fragmented packet only the first fragment contains the header, and its checksum covers all fragments (RFC 791).
     pub fn translate_echo_id(&mut self, id: u16) -> Option<u16>
         ensures was { result ≡ icmpv4_echo_id self.old.icmp_type }
         ensures replaced { self.new.icmp_type ≡ icmpv4_with_echo_id self.old.icmp_type id }
         ensures unchanged { IfNone result (self.new ≡ self.old) }
-        // A right checksum becomes the right checksum of the new header, except if the packet is all zeros.
+        // A right checksum becomes the right checksum of the new header, unless all bytes of the changed packet are zeros.
         ensures updated { IfSome result (λ _. (payload : List ℕ) → self.old.checksum ≡ checksum_of (checksummed self.old payload) →
             (self.new.checksum ≡ checksum_of (checksummed self.new payload)) ↔ (checksummed self.new payload ≢ 0)) }
-        // A packet of zeros gets 0, and its checksum is 65535.
+        // If all bytes of the changed packet are zeros, the result is 0, while the right checksum is 65535.
         ensures zeros { IfSome result (λ _. (payload : List ℕ) → self.old.checksum ≡ checksum_of (checksummed self.old payload) →
             checksummed self.new payload ≡ 0 → self.new.checksum ≡ 0) }
-        // If a receiver accepts a packet, it accepts the changed packet, unless that packet and its checksum are all zeros.
+        // If a receiver accepts the packet, it accepts the changed packet, unless all bytes of the changed packet, checksum included, are
+        // zeros.
         ensures verifies { IfSome result (λ _. (payload : List ℕ) → IsAllOnes (checksummed self.old payload + self.old.checksum) →
             (IsAllOnes (checksummed self.new payload + self.new.checksum)) ↔ (checksummed self.new payload + self.new.checksum ≢ 0)) }
-        // The new checksum is the number of RFC 1624, section 3, equation 3, which decides between the two zeros.
+        // The new checksum is the result of RFC 1624, section 3, equation 3, which decides between 0 and 65535.
         ensures equation { IfSome result (λ was. self.new.checksum
             ≡ updated_checksum_of self.old.checksum (folded (total (to_be_bytes w16 was))) (folded (total (to_be_bytes w16 id)))) }
     {

@@ -14,8 +14,7 @@ pub use parameter_problem_header::ParameterProblemHeader;
 pub use router_advertisement_header::RouterAdvertisementHeader;
 pub use time_exceeded_code::TimeExceededCode;
 
-/// The length of the longest packet, header and payload, in bytes: the pseudo header of its checksum counts them in 32 bits (RFC
-/// 8200, section 8.1).
+/// The length of the longest packet, header and payload, in bytes. The pseudo header counts these bytes in 32 bits (RFC 8200, section 8.1).
 pub const MAX_ICMPV6_BYTE_LEN: usize = u32::MAX as usize;
 
 /// The type of a destination unreachable message (RFC 4443, section 3.1).
@@ -72,9 +71,9 @@ pub const CODE_DST_UNREACH_SOURCE_ADDRESS_FAILED_POLICY: u8 = 5;
 /// Destination unreachable: the route to the destination is a reject route (RFC 4443, section 3.1).
 pub const CODE_DST_UNREACH_REJECT_ROUTE_TO_DEST: u8 = 6;
 
-/// Time exceeded: the hop limit, in transit (RFC 4443, section 3.3).
+/// Time exceeded: the hop limit was exceeded in transit (RFC 4443, section 3.3).
 pub const CODE_TIME_EXCEEDED_HOP_LIMIT_EXCEEDED: u8 = 0;
-/// Time exceeded: the time for reassembling the fragments (RFC 4443, section 3.3).
+/// Time exceeded: the time for reassembling the fragments was exceeded (RFC 4443, section 3.3).
 pub const CODE_TIME_EXCEEDED_FRAGMENT_REASSEMBLY_TIME_EXCEEDED: u8 = 1;
 
 /// Parameter problem: a header field is erroneous (RFC 4443, section 3.4).
@@ -85,8 +84,8 @@ pub const CODE_PARAM_PROBLEM_UNRECOG_NEXT_HEADER: u8 = 1;
 pub const CODE_PARAM_PROBLEM_UNRECOG_IPV6_OPTION: u8 = 2;
 /// Parameter problem: the first fragment has an incomplete IPv6 header chain (RFC 7112, section 5).
 pub const CODE_PARAM_PROBLEM_IPV6_FIRST_FRAG_INCOMP_HEADER_CHAIN: u8 = 3;
-/// Parameter problem: the node does not process this upper-layer header of a packet to its segment identifier (RFC
-/// 8754, section 4.3.1.2).
+/// Parameter problem: the node does not process this upper-layer header in a packet whose destination is its segment identifier (RFC 8754,
+/// section 4.3.1.2).
 pub const CODE_PARAM_PROBLEM_SR_UPPER_LAYER_HEADER_ERROR: u8 = 4;
 /// Parameter problem: the type of the next header is unrecognized by an intermediate node (RFC 8883, section 2).
 pub const CODE_PARAM_PROBLEM_UNRECOG_NEXT_HEADER_BY_INTERMEDIATE_NODE: u8 = 5;

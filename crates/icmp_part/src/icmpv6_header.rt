@@ -42,7 +42,7 @@ impl Icmpv6Header {
     pub const MIN_SERIALIZED_SIZE: usize = Icmpv6Header::MIN_LEN;
 
     /// The capacity of the bytes that `to_bytes` returns: a header, and the two addresses after the header of a
-    /// redirect message (RFC 4861, section 4.5). Every header is `MIN_LEN` bytes long.
+    /// redirect message (RFC 4861, section 4.5). The length of every header is `MIN_LEN`.
     pub const MAX_LEN: usize = 40;
 
     /// An older name of `MAX_LEN`.
@@ -51,7 +51,7 @@ impl Icmpv6Header {
     /// The place of the checksum, in bytes from the start of the header.
     pub const CHECKSUM_AT: usize = 2;
 
-    /// A header without a checksum: the field is 0 until `update_checksum` stores the checksum.
+    /// A header whose checksum field is 0. Call `update_checksum` to store the checksum.
     pub fn new(icmp_type: Icmpv6Type) -> Icmpv6Header
         ensures { result ≡ record { icmp_type = icmp_type; checksum = 0 } }
     {
@@ -61,8 +61,8 @@ impl Icmpv6Header {
         }
     }
 
-    /// A header with the checksum over the pseudo header, itself and this payload (RFC 4443, section 2.3). With a
-    /// routing header, pass the final destination.
+    /// A header with the checksum over the pseudo header, the header and this payload (RFC 4443, section 2.3). If the
+    /// packet has a routing header, pass the final destination.
     ///
     /// # Errors
     ///
@@ -86,13 +86,13 @@ impl Icmpv6Header {
         })
     }
 
-    /// Stores the checksum over the pseudo header, this header and this payload (RFC 4443, section 2.3). With a
-    /// routing header, pass the final destination.
+    /// Stores the checksum over the pseudo header, this header and this payload (RFC 4443, section 2.3). If the packet
+    /// has a routing header, pass the final destination.
     ///
     /// # Errors
     ///
-    /// `ValueTooBigError` of `Icmpv6PayloadLength` if the payload is longer than 4,294,967,287 bytes. The header is
-    /// then unchanged.
+    /// `ValueTooBigError` of `Icmpv6PayloadLength` if the payload is longer than 4,294,967,287 bytes. After this error
+    /// the header is unchanged.
     pub fn update_checksum(
         &mut self,
         source_ip: [u8; 16],
@@ -112,9 +112,9 @@ impl Icmpv6Header {
         Ok(())
     }
 
-    /// Reads a header (RFC 4443, section 2.1), and returns it with the bytes after it. The slice must end at the end of
-    /// the IP packet. Bits that the kind of the message does not use are not kept, including the bits of RFC 4884. The
-    /// checksum is not checked.
+    /// Reads a header (RFC 4443, section 2.1). Returns the header and the bytes after it. The slice must end at the end
+    /// of the IP packet. Bits that the kind of the message does not use are not kept, including the bits of RFC 4884.
+    /// The checksum is not checked.
     ///
     /// # Errors
     ///
@@ -133,8 +133,8 @@ impl Icmpv6Header {
 
     /// The bytes of the header (RFC 4443, section 2.1). Unused bytes are zero.
     ///
-    /// With a payload of at most 4,294,967,287 bytes after them, these bytes are read back as the same header. But
-    /// `Unknown` with the type and code of another kind is read back as that kind.
+    /// With a payload of at most 4,294,967,287 bytes after them, these bytes are read back as the same header. There is
+    /// one exception: `Unknown` with the type and code of another kind is read back as that kind.
     #[inline(always)]
     #[tactic(auto, using(crate::proofs::Icmpv6ReadsBackLemmas::written_reads_back))]
     pub fn to_bytes(&self) -> ArrayVec<u8, 40>
@@ -149,7 +149,7 @@ impl Icmpv6Header {
     ///
     /// # Errors
     ///
-    /// `LenError` of the layer `Icmpv6` if the slice is shorter than 8 bytes. Nothing is written then.
+    /// `LenError` of the layer `Icmpv6` if the slice is shorter than 8 bytes. After this error the slice is unchanged.
     #[inline(always)]
     pub fn write_to_slice(&self, slice: &mut [u8]) -> Result<usize, LenError>
         ensures refused { RefusesExactly result (no_room Layer.Icmpv6 (wire self.now) (length slice.old)) }

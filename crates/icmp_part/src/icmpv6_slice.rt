@@ -17,10 +17,10 @@ use net_base::err::{Layer, LenError};
 use net_base::{ip_number, pseudo_header_ipv6};
 use std::marker::Model;
 
-/// The bytes that 1 in the length field of an error stands for (RFC 4884, section 4).
+/// The unit of the length field of an error, in bytes (RFC 4884, section 4).
 const LENGTH_UNIT: usize = 8;
 
-/// The largest type of an error (RFC 4443, section 2.1).
+/// The greatest type of an error (RFC 4443, section 2.1).
 const MAX_ERROR_TYPE: u8 = 127;
 
 /// The bytes of an ICMPv6 packet: the header and the payload after it (RFC 4443, section 2.1).
@@ -64,8 +64,7 @@ impl<'a> Icmpv6Slice<'a> {
     ghost use Rattle.std.specs.Option.{option_map};
     ghost use Rattle.icmp_part.specs.QuotedPackets.{quoted_by_icmpv6};
 
-    /// The packet in this slice (RFC 4443, section 2.1). The slice must end at the end of the IP packet. The checksum
-    /// is not checked.
+    /// Reads the packet in this slice (RFC 4443, section 2.1). The slice must end at the end of the IP packet. The checksum is not checked.
     ///
     /// # Errors
     ///
@@ -120,14 +119,14 @@ impl<'a> Icmpv6Slice<'a> {
         [self.slice[4], self.slice[5], self.slice[6], self.slice[7]]
     }
 
-    /// Whether pseudo header and packet sum up to all ones, as a receiver checks it (RFC 1071, section 1; RFC 4443,
-    /// section 2.3). With a routing header, pass the final destination.
+    /// Whether the checksum is right: the one's complement sum of pseudo header and packet is all ones (RFC 1071, section 1; RFC 4443,
+    /// section 2.3). If the packet has a routing header, pass the final destination.
     ///
-    /// In a valid packet this check detects each change of one byte, and of one aligned two-byte word except between
-    /// 0000 and FFFF. It misses an exchange of two aligned words.
+    /// This check detects each change of one byte of a valid packet. It detects each change of one aligned two-byte word, except between
+    /// 0000 and FFFF. It does not detect that two aligned words were exchanged.
     pub fn is_checksum_valid(&self, source_ip: [u8; 16], destination_ip: [u8; 16]) -> bool
         ensures valid { IsTrue result ↔ IsValidIcmpv6 source_ip destination_ip self.now }
-        // The stored checksum is the checksum computed with zeros instead of it, or FFFF if that is 0.
+        // The stored checksum is right exactly if it is the checksum computed with zeros in its place, or FFFF if that is 0.
         ensures agrees { IsTrue result ↔ AcceptsChecksum
             (total (pseudo_header source_ip destination_ip (length self.now)) + total (with_zero_checksum self.now)) (be_number self.now 2 2) }
         ensures detects { IsTrue result → Detects (IsValidIcmpv6 source_ip destination_ip) self.now }
@@ -135,7 +134,7 @@ impl<'a> Icmpv6Slice<'a> {
         is_valid(self.slice, source_ip, destination_ip)
     }
 
-    /// The message with its fields (RFC 4443, RFC 4861). They exclude bits that the kind does not use. `bytes5to8`
+    /// The message with its fields (RFC 4443, RFC 4861). The fields exclude bits that this kind of message does not use. `bytes5to8`
     /// contains these bits.
     #[inline(always)]
     pub fn icmp_type(&self) -> Icmpv6Type
@@ -147,12 +146,13 @@ impl<'a> Icmpv6Slice<'a> {
         }
     }
 
-    /// The message, and a number that nothing reads. It is never an error, which would be the length of a slice without a header.
-    // perf: a single match, whose arms return the message that they build (23 Nov 2026). As the value of an arm, or from a call for one
-    // arm, the message is copied by loads that are wider than the stores before them, and takes four times as long. The bytes of `Unknown`
-    // overlap the numbers of the other kinds, so by itself that message is stored in two parts and loaded as one. The number places a
-    // message at a multiple of eight bytes, where an error has its own number, so that the first eight bytes of a message are one number in
-    // a register. This halves the time of an unknown message (26 Nov 2026).
+    /// The message, in a `Result` that is never `Err`: it would contain the length of a slice without a header. The number next to the
+    /// message is not used.
+    // perf: each arm of this single match returns the message that it builds (23 Nov 2026). If a message is the value of an arm, or comes
+    // from a call in an arm, it is copied by loads that are wider than the stores before them. That takes four times as long. The bytes of
+    // `Unknown` overlap the numbers of the other kinds, so that message alone is stored in two parts and loaded as one. The unused number,
+    // like that of an `Err`, makes the message begin at a multiple of eight bytes. So its first eight bytes are one number in a register.
+    // This halves the time of an unknown message (26 Nov 2026).
     #[inline(always)]
     #[tactic(auto, using(std::proofs::lemmas::Option::slice_get_past, crate::proofs::ListedLemmas::listed_mapped, crate::proofs::Icmpv6FormatLemmas::icmp_type_of_listed))]
     fn message(&self) -> Result<(Icmpv6Type, usize), usize>
@@ -244,10 +244,10 @@ impl<'a> Icmpv6Slice<'a> {
         &self.slice[header_len(self.slice)..]
     }
 
-    /// The packet that this error is about, as far as the message contains it: each message of a type below 128 is an error, and quotes the
-    /// packet that caused it, from its IPv6 header on (RFC 4443, sections 2.1 and 2.4). None for any other message. The length field in byte
-    /// 4 of destination unreachable and time exceeded ends the quoted packet, if it counts at least 128 bytes. Otherwise the error is not
-    /// extended (RFC 4884, sections 3 and 4).
+    /// The packet that this error quotes, from its IPv6 header on, as far as the message contains it (RFC 4443, sections 2.1 and 2.4).
+    /// `None` if the message is not an error. Each message with a type below 128 is an error. Destination unreachable and time exceeded
+    /// messages have a length field in byte 4. If it counts at least 128 bytes, it states where the quoted packet ends. Otherwise the error
+    /// is not extended (RFC 4884, sections 3 and 4).
     pub fn quoted_packet(&self) -> Option<&'a [u8]>
         ensures { option_map (λ packet. packet.now) result ≡ quoted_by_icmpv6 self.now }
     {
@@ -272,7 +272,7 @@ fn header_len(packet: &[u8]) -> usize
     Icmpv6Header::MIN_LEN
 }
 
-/// Whether pseudo header and packet sum up to all ones.
+/// Whether the one's complement sum of pseudo header and packet is all ones.
 fn is_valid(packet: &[u8], source_ip: [u8; 16], destination_ip: [u8; 16]) -> bool
     requires { HasPacketLength packet.now }
     ensures valid { IsTrue result ↔ IsValidIcmpv6 source_ip destination_ip packet.now }

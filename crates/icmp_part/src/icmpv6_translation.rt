@@ -7,7 +7,7 @@ use crate::{Icmpv6Header, Icmpv6Type};
 use std::mem;
 use word_sum::checksum_change::ChecksumChange;
 
-/// Changes to an ICMPv6 header by an address translator (RFC 3022, section 4). They need no payload.
+/// Changes of an ICMPv6 header by an address translator (RFC 3022, section 4). The payload is not needed.
 impl Icmpv6Header {
     ghost use Rattle.icmp_part.specs.EchoIdentifier.{icmpv6_echo_id, icmpv6_with_echo_id};
     ghost use Rattle.icmp_part.specs.Icmpv6Format.{checksummed};
@@ -28,7 +28,7 @@ impl Icmpv6Header {
         ensures verifies { (source destination payload : List ℕ) → length source ≡ 16 → length destination ≡ 16 →
             (IsAllOnes (checksummed source destination self.new payload + self.new.checksum))
             ↔ (IsAllOnes (checksummed source destination self.old payload + self.old.checksum)) }
-        // The new checksum is the number of RFC 1624, section 3, equation 3, which decides between the two zeros.
+        // The new checksum is the result of RFC 1624, section 3, equation 3, which decides between 0 and 65535.
         ensures equation { IfSome result (λ was. self.new.checksum
             ≡ updated_checksum_of self.old.checksum (folded (total (to_be_bytes w16 was))) (folded (total (to_be_bytes w16 id)))) }
     {
@@ -38,11 +38,11 @@ impl Icmpv6Header {
         Some(old)
     }
 
-    /// Updates the checksum of any message for its source or destination `new` instead of `old`. With a routing
-    /// header the checksum covers the final destination.
+    /// Updates the checksum of any message after its source or destination `old` was replaced by `new`. If the packet has a routing header,
+    /// the checksum covers the final destination.
     ///
-    /// A header that was read contains no unused bits, but the checksum of its packet covers them. If a message may
-    /// contain some, replace its bytes with `ChecksumChange`.
+    /// The checksum of a packet covers the unused bits of its header. If they may be set, change the bytes of the packet, and its checksum
+    /// by `ChecksumChange`, since a header that was read does not keep them.
     ///
     /// In a fragmented packet only the first fragment contains the header, and its checksum covers all fragments (RFC 8200, section 4.5).
     pub fn translate_address(&mut self, old: [u8; 16], new: [u8; 16])
@@ -61,7 +61,7 @@ impl Icmpv6Header {
         ensures destination_verifies { (source payload : List ℕ) → length source ≡ 16 →
             (IsAllOnes (checksummed source new self.new payload + self.new.checksum))
             ↔ (IsAllOnes (checksummed source old self.old payload + self.old.checksum)) }
-        // The new checksum is the number of RFC 1624, section 3, equation 3, which decides between the two zeros.
+        // The new checksum is the result of RFC 1624, section 3, equation 3, which decides between 0 and 65535.
         ensures equation { self.new.checksum ≡ updated_checksum_of self.old.checksum (folded (total old)) (folded (total new)) }
     {
         self.checksum = ChecksumChange::new()

@@ -31,10 +31,10 @@ use net_base::{check_payload_len, ip_number, pseudo_header_ipv6};
 /// ```
 #[derive(Clone, Copy, Debug, PartialEq, Eq, PartialOrd, Ord, Hash)]
 pub enum Icmpv6Type {
-    /// A message of any other type and code, unchanged.
+    /// A message of any other type and code. Its bytes are kept unchanged.
     ///
-    /// With the type and code of another kind, it is written raw, and is read back as that kind, without the bits
-    /// that the kind does not use.
+    /// With the type and code of another kind, it is written unchanged, but read back as that kind, without the bits that the kind does not
+    /// use.
     Unknown {
         /// The type (byte 0).
         type_u8: u8,
@@ -45,9 +45,10 @@ pub enum Icmpv6Type {
     },
     /// A packet could not be delivered (RFC 4443, section 3.1).
     DestinationUnreachable(DestUnreachableCode),
-    /// A packet was larger than the MTU of the next link (RFC 4443, section 3.2). Only code 0, which a sender sets, is read as this.
+    /// A packet was larger than the MTU of the next link (RFC 4443, section 3.2). Only a message with code 0, which senders use, is read as
+    /// this variant.
     PacketTooBig {
-        /// The MTU of that link, in bytes (bytes 4 to 7).
+        /// The MTU of the next link, in bytes (bytes 4 to 7).
         mtu: u32,
     },
     /// A packet was discarded because its time ran out (RFC 4443, section 3.3).
@@ -60,13 +61,14 @@ pub enum Icmpv6Type {
     EchoReply(IcmpEchoHeader),
     /// A request for router advertisements (RFC 4861, section 4.1).
     RouterSolicitation,
-    /// A router announces itself, with parameters of the link (RFC 4861, section 4.2). Its two timers begin the payload.
+    /// A router announces itself and parameters of the link (RFC 4861, section 4.2). The payload begins with two timers.
     RouterAdvertisement(RouterAdvertisementHeader),
-    /// A request for a neighbor's link-layer address (RFC 4861, section 4.3). The target's address begins the payload.
+    /// A request for a neighbor's link-layer address (RFC 4861, section 4.3). The payload begins with the target's address.
     NeighborSolicitation,
-    /// The answer to a neighbor solicitation, or unsolicited (RFC 4861, section 4.4). The target's address begins the payload.
+    /// The answer to a neighbor solicitation, or an unsolicited message (RFC 4861, section 4.4). The payload begins with the target's
+    /// address.
     NeighborAdvertisement(NeighborAdvertisementHeader),
-    /// There is a better first hop for a destination (RFC 4861, section 4.5). The addresses of both begin the payload.
+    /// A router tells a host a better first hop for a destination (RFC 4861, section 4.5). The payload begins with the addresses of both.
     Redirect,
 }
 
@@ -91,13 +93,13 @@ impl Icmpv6Type {
         self.start().code_u8()
     }
 
-    /// The header without the checksum. Unused bits are zero.
+    /// The first eight bytes of the header. The checksum is missing, and unused bits are zero.
     #[inline(always)]
     pub(crate) fn start(&self) -> MessageStart
         ensures written { result ≡ written self.now }
         ensures fits { FieldsFit self.now }
     {
-        // The bytes of `Unknown` are read one by one: an array would be loaded at once, across the numbers of the other kinds.
+        // The bytes of `Unknown` are read one by one. An array would be loaded at once, and overlaps the numbers of the other kinds.
         match self {
             Self::Unknown {
                 type_u8,
@@ -154,9 +156,9 @@ impl Icmpv6Type {
         None
     }
 
-    /// The checksum over the pseudo header, a header of this message and this payload (RFC 4443, section 2.3). With a
-    /// routing header, pass the final destination. To check a received packet, use `Icmpv6Slice::is_checksum_valid`,
-    /// which sums its bytes as received.
+    /// The checksum over the pseudo header, a header of this message and this payload (RFC 4443, section 2.3). If the packet has a routing
+    /// header, pass the final destination. To check a received packet, use `Icmpv6Slice::is_checksum_valid`, which sums its bytes as
+    /// received.
     ///
     /// # Errors
     ///
@@ -208,8 +210,8 @@ impl Icmpv6Type {
             .ones_complement()
     }
 
-    /// A header of this message with the checksum over the pseudo header, itself and this payload (RFC 4443, section
-    /// 2.3). With a routing header, pass the final destination.
+    /// A header of this message with the checksum over the pseudo header, the header and this payload (RFC 4443, section 2.3). If the
+    /// packet has a routing header, pass the final destination.
     ///
     /// # Errors
     ///

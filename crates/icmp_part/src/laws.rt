@@ -3,7 +3,7 @@
 //!
 //! # Errors
 //!
-//! None: each clone succeeds.
+//! No call returns an error: each clone succeeds.
 
 pub mod icmpv4;
 pub mod icmpv6;
@@ -16,7 +16,7 @@ use std::alloc::AllocError;
 use std::cmp::Ordering;
 use std::hash::{Hash, Hasher};
 
-/// A clone is the same.
+/// A clone is the same value.
 pub fn cloned_echo(echo: &IcmpEchoHeader) -> Result<IcmpEchoHeader, AllocError>
     ensures same { IsOkAnd result (λ copy. copy ≡ echo.now) }
 {
@@ -30,7 +30,7 @@ pub fn equal_echo(a: &IcmpEchoHeader, b: &IcmpEchoHeader) -> bool
     a == b
 }
 
-/// The identifier decides, and then the sequence number.
+/// Values are ordered by the identifier, and then by the sequence number.
 pub fn ordered_echo(a: &IcmpEchoHeader, b: &IcmpEchoHeader) -> Ordering
     ensures by_fields { result ≡ echo_cmp a.now b.now }
 {

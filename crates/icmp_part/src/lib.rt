@@ -1,8 +1,8 @@
-//! ICMPv4 (RFC 792) and ICMPv6 (RFC 4443, RFC 4861): the headers read and written, their checksums, and slices of packets.
+//! ICMPv4 (RFC 792) and ICMPv6 (RFC 4443, RFC 4861): reading and writing headers, checksums, and slices of packets.
 //!
-//! `Icmpv4Header` and `Icmpv6Header` are headers as a message kind with its fields, `Icmpv4Slice` and `Icmpv6Slice`
-//! the bytes of whole packets. A slice returns bytes borrowed from its input. This crate re-exports the errors of
-//! `net_base`, and the sum of `word_sum`. No call allocates.
+//! `Icmpv4Header` and `Icmpv6Header` contain the kind of a message with its fields, and a checksum. `Icmpv4Slice` and `Icmpv6Slice` are the
+//! bytes of whole packets. A slice returns bytes borrowed from its input. This crate re-exports the errors of `net_base`, and the sum of
+//! `word_sum`. No call allocates.
 //!
 //! ```
 //! let request = Icmpv4Slice::from_slice(&icmpv4_packet)?;

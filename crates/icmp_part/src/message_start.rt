@@ -10,8 +10,8 @@ use word_sum::checksum::Sum16BitWords;
 
 /// The first eight bytes of a header without the checksum: type, code, and bytes 4 to 7.
 ///
-/// Type and code are one number, and bytes 4 to 7 are one number, whose lowest byte is the first byte. So each kind of
-/// message makes them in one width, and the eight bytes are one number that is stored at once.
+/// Type and code are stored as one number, and bytes 4 to 7 as another number. The lowest byte of each number is the first byte. So each
+/// kind of message makes numbers of the same width, and the eight bytes become one number that is stored at once.
 #[derive(Drop)]
 pub(crate) struct MessageStart {
     type_and_code: u32,
@@ -68,21 +68,22 @@ impl MessageStart {
         (self.type_and_code / 0x100) as u8
     }
 
-    /// The eight bytes with this checksum.
+    /// The eight bytes of the header with this checksum.
     #[inline(always)]
     pub(crate) fn to_array(self, checksum: u16) -> [u8; 8]
         ensures { result ≡ header_bytes self checksum }
     {
-        // perf: one number, so that the header is one move. As eight bytes it was eight moves, or sixteen instructions that
-        // joined them (27 Nov 2026).
+        // perf: the header is one number, so that it is stored by one instruction. As eight bytes it was eight moves, or sixteen
+        // instructions that joined them (27 Nov 2026).
         let number = u64::from(self.type_and_code)
             + u64::from(checksum.swap_bytes()) * 0x1_0000
             + u64::from(self.bytes5to8) * 0x1_0000_0000;
         number.to_le_bytes()
     }
 
-    /// The same as a list with room for more bytes.
-    // Each byte is pushed, so that the bytes are not stored before they are written together. Extending by a slice takes twice as long.
+    /// The eight bytes of the header with this checksum, as a list with room for more bytes.
+    // perf: each byte is pushed, so that the bytes are not stored before they are written together. Extending by a slice takes twice as
+    // long.
     #[inline(always)]
     pub(crate) fn to_bytes<const CAPACITY: usize>(self, checksum: u16) -> ArrayVec<u8, CAPACITY>
         requires { 8 ≤ CAPACITY }
@@ -101,7 +102,7 @@ impl MessageStart {
         bytes
     }
 
-    /// Adds the words of the eight bytes, with a zero instead of the checksum.
+    /// Adds the words of the eight bytes to a sum. The checksum counts as zero.
     #[inline(always)]
     pub(crate) fn add_to(self, sum: Sum16BitWords) -> Sum16BitWords
         ensures { sum_value result ≡ folded (sum_value sum + total (header_bytes self 0)) }
@@ -131,7 +132,7 @@ pub(crate) fn write_array<const N: usize>(
     Ok(N)
 }
 
-/// The error if a packet has this length and its layer requires another length, both in bytes.
+/// The error for a packet of length `len` whose layer requires another length. Both lengths are in bytes.
 // perf: as a call, the refusal is out of the way of accepted packets, as in `UdpHeader::from_slice` (27 Nov 2026).
 #[cold]
 #[inline(never)]

@@ -1,11 +1,11 @@
--- The fixed part of an IP header, by the bytes of the header and by the packet.
+-- The fixed part of an IP header, given the bytes of the header or the packet.
 use Rattle.std.proofs.Common.{◌≡◌, ◌≤◌, ◌-◌, ◌+◌, ◌==◌, ◌&&◌, ℕ, true, nat_le, if◌then◌else◌, List, length, take, drop, slice_range, Option, Some, None, sym, ◌∙◌, ap, arith}
 use Rattle.std.proofs.lemmas.Bool.Decides.{nat_tests}
 use Rattle.std.proofs.lemmas.List.{drop-take, get_or-take, take-take}
 use Rattle.net_base.specs.IpHeaders.{version}
 use Rattle.ip_part.specs.FixedHeaders.{fixed_header, fixed_ipv4, fixed_ipv6}
 
--- a range of a beginning
+-- a range of a beginning is a range of all elements
 range_within : (a b n : ℕ) (xs : List ℕ) → a ≤ b → b ≤ n → slice_range (take n xs) a b ≡ slice_range xs a b
 range_within a b n xs order within =
     let split : n ≡ a + (n - a) = omega arith in
@@ -13,7 +13,7 @@ range_within a b n xs order within =
     ∙ ap (λ ys. take (b - a) ys) (drop-take a (n - a) xs)
     ∙ take-take (b - a) (n - a) (drop a xs) (omega arith)
 
--- the header of a packet has the fixed part of the packet
+-- the header of a packet and the packet have the same fixed part
 ipv4_kept : (n : ℕ) (packet : List ℕ) → 20 ≤ n → fixed_ipv4 (take n packet) ≡ fixed_ipv4 packet
 ipv4_kept n packet long = cc (
   range_within 12 16 n packet (omega arith) (omega (arith, long)),

@@ -4,20 +4,20 @@ use Rattle.ip_part.specs.Ip.{extension_header, extension_refusal, headers_after,
 use Rattle.ip_part.specs.Headers.{Headers}
 use Rattle.ip_part.specs.declared.ip_error.IpError.{IpError}
 
--- one more header
+-- the headers after another extension header is read
 extended : (more : ℕ) (headers : Headers) (bytes : List ℕ) → is_extended headers ≡ true
     → headers_to_transport (suc more) headers bytes
     ≡ unless_refused (extension_refusal headers (drop headers.len bytes)) (headers_to_transport more (headers_after headers (extension_header headers (drop headers.len bytes))) bytes)
 unfolding headers_to_transport
 extended more headers bytes is = rw is refl
 
--- no more headers
+-- without another extension header, the headers are complete
 pub ended : (more : ℕ) (headers : Headers) (bytes : List ℕ) → is_extended headers ≡ false
     → headers_to_transport (suc more) headers bytes ≡ Ok headers
 unfolding headers_to_transport
 ended more headers bytes is = rw is refl
 
--- reading from these headers gives the same as from the first headers, and each byte left is enough for one more header
+-- reading from these headers gives the same result as reading from the first headers; each byte left is enough for another header
 pub record IsReached (first headers : Headers) (bytes : List ℕ) : Type 0 where
   pub more : ℕ
   pub within : headers.len ≤ length bytes

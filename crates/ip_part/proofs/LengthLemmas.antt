@@ -46,7 +46,7 @@ stated_by false total payload next None len is = some_unless (payload == 0 && no
 pub stated_is_counted : (packet : List ℕ) (len : ℕ) → stated_len packet ≡ Some len → len ≡ counted_len false packet
 stated_is_counted packet len is = stated_by (version packet == 4) (total_len packet) (payload_len packet) (next_header packet) (jumbo_len packet) len is
 
--- a header that may state no length then counts its own bytes
+-- a header that may state no length, and states none, counts its own bytes
 own_by : (is_four : Bool) (four six : Headers) (source destination : List ℕ) (total payload next : ℕ) (jumbo : Option ℕ)
     → four.addresses ≡ Ipv4 source destination → six.len ≡ 40
     → (if is_four then (if total == 0 then None else Some total) else ipv6_stated_len jumbo payload next) ≡ None
@@ -65,7 +65,7 @@ own_is_counted packet none accepted =
     own_by (version packet == 4) (ipv4_headers (ipv4_header_len packet) (ipv4_header packet)) (ipv6_headers (is_jumbogram packet) (ipv6_header packet))
     _ _ (total_len packet) (payload_len packet) (next_header packet) (jumbo_len packet) refl refl none accepted
 
--- if a length may be missing, the stated length or all bytes are counted
+-- if the length may be missing, the stated length or all bytes are counted
 lax_by : (stated : Option ℕ) (counts len : ℕ) → ((n : ℕ) → stated ≡ Some n → n ≡ counts)
     → unwrap_or stated len ≡ (if is_none stated then len else counts)
 lax_by None counts len same = refl
@@ -97,7 +97,7 @@ no_byte_left : (headers : Headers) (rest : List ℕ) → length rest ≡ 0
 no_byte_left headers [] none = refl
 no_byte_left headers (byte ∷ rest) none = absurd (omega (arith, none))
 
--- no extension header comes if the header counts only its own bytes
+-- no extension header follows if the first headers fill the counted bytes
 none_comes : (is : Bool) (packet : List ℕ) → is_extended (first_headers packet) ≡ is → (first_headers packet).len ≡ counted_len false packet
     → counted_len false packet ≤ length packet → error_of (headers_of false packet) ≡ None → is ≡ false
 none_comes false packet extended own there none = refl
@@ -135,7 +135,7 @@ accepted_too packet none =
     accepted_by (lacks_len packet) packet refl (both_none (header_refusal packet) _ parts.0).1
     (none_if (is_cut_off false packet) (PacketCutOff (counted_len false packet) (length packet)) parts.1) parts.2
 
--- so there is no error if the strict call accepts the packet
+-- there is no error if the strict call accepts the packet
 pub no_error : (packet : List ℕ) (error : IpError) → headers_of (lacks_len packet) packet ≡ Err error → refusal packet ≡ None → ⊥
 no_error packet error is none = some_is_none error (sym (ap error_of is) ∙ (accepted_too packet none).1)
 

@@ -6,7 +6,7 @@ use Rattle.std.proofs.lemmas.Bool.Decides.{nat_tests}
 use Rattle.std.proofs.lemmas.List.{take-append-drop, take_min}
 use Rattle.ip_part.specs.Options.{AreOptions, home_address_or, ipv4_option, ipv6_option, is_ipv6_option, options_of, options_within, with_first}
 
--- one more option, and no more options
+-- the options after another option, and at their end
 option_more : (front : List ℕ → Option (List ℕ)) (more : ℕ) (bytes option : List ℕ) → front bytes ≡ Some option
     → options_within front (suc more) bytes ≡ option ∷ options_within front more (drop (length option) bytes)
 unfolding options_within
@@ -16,7 +16,7 @@ option_none : (front : List ℕ → Option (List ℕ)) (more : ℕ) (bytes : Lis
 unfolding options_within
 option_none front more bytes is = ap (λ first. with_first first (λ option. options_within front more (drop (length option) bytes))) is
 
--- searching the options that are left gives the same as searching all options, and each byte left is enough for one more option
+-- searching the options that are left gives the same result as searching all options; each byte left is enough for another option
 pub record IsSought (test : List ℕ → Bool) (front : List ℕ → Option (List ℕ)) (bytes rest : List ℕ) : Type 0 where
   pub more : ℕ
   pub room : length rest < more
@@ -67,7 +67,7 @@ none_at test front bytes rest sought is = none_in test front sought.more bytes r
 
 -- ---- the options in the bytes
 
--- an option is at the front of the bytes and at least one byte long
+-- the option is at the front of the bytes, and has at least one byte
 record IsFront (bytes option : List ℕ) : Type 0 where
   pub count : ℕ
   pub some : 1 ≤ count
@@ -129,7 +129,7 @@ are_in front fronts (suc more) bytes room = are_from front fronts more bytes (fr
 pub are_ipv4_options : (bytes : List ℕ) → AreOptions ipv4_option bytes (options_of ipv4_option bytes)
 are_ipv4_options bytes = are_in ipv4_option ipv4_front (suc (length bytes)) bytes (omega arith)
 
--- and so do the option bytes of an extension header
+-- the option bytes of an extension header begin with their first option
 ipv6_front : (bytes option : List ℕ) → ipv6_option bytes ≡ Some option → IsFront bytes option
 ipv6_front bytes option =
     front_by (length bytes == 0) (slice_index bytes 0 == 0) (nat_lt (length bytes) 2 || nat_lt (length bytes) (2 + slice_index bytes 1))
@@ -170,8 +170,7 @@ none_of_short kind len bytes rest sought short = sought.same ∙ no_room_within 
 
 -- ---- folding over the options from the first on
 
--- folding the options that are left over this source gives the same as folding all options over the first source, and
--- each byte left is enough for one more option
+-- folding the options that are left gives the same result as folding all options; each byte left is enough for another option
 pub record IsFolded (front : List ℕ → Option (List ℕ)) (after : List ℕ → List ℕ → List ℕ) (first source bytes rest : List ℕ) : Type 0 where
   pub more : ℕ
   pub room : length rest < more

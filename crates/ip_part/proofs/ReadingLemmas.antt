@@ -17,7 +17,7 @@ use Rattle.ip_part.specs.declared.transport.TransportInIp.{TransportInIp}
 
 -- ---- only one reading
 
--- the second byte of a front of at least eight bytes
+-- the second byte of a front of at least eight bytes is the second byte of all bytes
 second_byte : (front rest : List ℕ) → 8 ≤ length front → slice_index (front ++ rest) 1 ≡ slice_index front 1
 second_byte [] rest long = absurd (omega (arith, long))
 second_byte (a ∷ []) rest long = absurd (omega (arith, long))
@@ -36,7 +36,7 @@ same_len number other front rest front' rest' same long long' len len' whole =
     sym (second_byte front rest long) ∙ ap (λ bytes. slice_index bytes 1) whole ∙ second_byte front' rest' long' in
     len ∙ ap (λ n. len_by n (slice_index front 1)) same ∙ ap (len_by other) words ∙ sym len'
 
--- two fronts of the same length
+-- two fronts of equal bytes, with the same length, are equal
 same_fronts : (front rest front' rest' : List ℕ) → front ++ rest ≡ front' ++ rest' → length front ≡ length front'
     → (front ≡ front') × (rest ≡ rest')
 same_fronts front rest front' rest' whole len =
@@ -54,7 +54,7 @@ same_header : (a b : ExtensionHeader) → a.number ≡ b.number → a.bytes ≡ 
 same_header a b numbers bytes =
     ap (λ number. record { number = number; bytes = a.bytes }) numbers ∙ ap (λ bytes. record { number = b.number; bytes = bytes }) bytes
 
--- chains that begin alike are the same
+-- two chains in the same bytes with the same first number are equal
 one_chain : (six may : Bool) (number : ℕ) (headers others : List ExtensionHeader) (protocol other : ℕ) (payload left : List ℕ)
     → IsChain six may number headers protocol → IsChain six may number others other → bytes_of headers ++ payload ≡ bytes_of others ++ left
     → (others ≡ headers) × (other ≡ protocol) × (left ≡ payload)
@@ -91,12 +91,12 @@ one_reading missing packet headers others protocol other payload left reads agai
 
 -- ---- the headers that are found form a reading
 
--- the addresses with these extension headers after the headers
+-- the addresses after these extension headers, given the addresses after the IP header
 pub with_extensions : Addresses → List ExtensionHeader → Addresses
 with_extensions (Ipv4 source destination) extensions = Ipv4 source destination
 with_extensions (Ipv6 source destination) extensions = Ipv6 (source_by source extensions) (destination_by destination extensions)
 
--- extension headers come between these headers and the last headers
+-- extension headers lead from these headers to the last headers
 pub record IsFound (headers last : Headers) (bytes : List ℕ) : Type 0 where
   pub extensions : List ExtensionHeader
   pub chain : IsChain (is_ipv6 headers.addresses) headers.may_be_extended headers.protocol.0 extensions last.protocol.0
@@ -129,14 +129,14 @@ found_last last bytes ended = record {
   is_later_fragment = sym (or-false last.is_later_fragment);
 }
 
--- one more header
+-- the addresses after another extension header
 with_one_more : (addresses : Addresses) (header : ExtensionHeader) (extensions : List ExtensionHeader)
     → with_extensions (with_header addresses header.number header.bytes) extensions ≡ with_extensions addresses (header ∷ extensions)
 unfolding with_extensions
 with_one_more (Ipv4 source destination) header extensions = refl
 with_one_more (Ipv6 source destination) header extensions = refl
 
--- addresses of the same version
+-- an extension header does not change the version of the addresses
 pub same_version : (addresses : Addresses) (number : ℕ) (bytes : List ℕ) → is_ipv6 (with_header addresses number bytes) ≡ is_ipv6 addresses
 same_version (Ipv4 source destination) number bytes = refl
 same_version (Ipv6 source destination) number bytes = refl
@@ -300,7 +300,7 @@ only_authentication : (is_four : Bool) (number number_too : ℕ) (whole : Bool) 
 only_authentication true number number_too whole is may = number_is number (and_parts (number == 51) whole may).0
 only_authentication false number number_too whole is may = absurd (cc is)
 
--- the contents of the headers give the reading of the packet
+-- the headers of an accepted packet are a reading of the packet
 pub after_headers : (packet : List ℕ) (transport : TransportInIp) → Carries packet transport → IsAfterHeaders packet transport
 after_headers packet transport carries =
     let missing : Bool = transport.is_length_missing in
@@ -348,7 +348,7 @@ after_headers packet transport carries =
 
 -- ---- an authentication header over IPv4
 
--- after an IPv4 header come an authentication header and the payload, or only the payload
+-- after an IPv4 header, an authentication header and the payload follow, or only the payload
 pub after_ipv4 : (is : Bool) (number : ℕ) (extensions : List ExtensionHeader) (protocol : ℕ) (after payload : List ℕ)
     → (is ≡ true → number ≡ 51) → IsChain false is number extensions protocol → after ≡ bytes_of extensions ++ payload
     → (protocol ≡ (if is then next_number after else number)) × (payload ≡ (if is then drop (extension_len 51 after) after else after))

@@ -28,7 +28,7 @@ is_equal a b is = grind (arith, nat_tests)
 same_error : (a b : IpError) → Some a ≡ Some b → a ≡ b
 same_error a b is = cc is
 
--- by the rules of RFC 2675
+-- the refusals by the rules of RFC 2675
 jumbogram_by : (unexpected fragments : Bool) (headers : Headers) (rest : List ℕ) (error : IpError)
     → (not (headers.payload_len == 0) && (is_first_options headers && is_some (jumbo_payload_len (extension_header headers rest)))) ≡ unexpected
     → (headers.is_jumbogram && headers.protocol.0 == 44) ≡ fragments
@@ -80,7 +80,7 @@ refused_by false false headers rest error is is_too known refuses =
 
 -- ---- the extension headers before it
 
--- extension headers come between these headers and the header that is refused
+-- extension headers lead from these headers to the header that is refused
 record IsRefused (headers : Headers) (bytes : List ℕ) (error : IpError) : Type 0 where
   pub extensions : List ExtensionHeader
   pub number : ℕ
@@ -117,7 +117,7 @@ refused_here headers bytes error is refuses =
           (refused_by _ _ headers rest error refl refl known.1 refuses);
     }
 
--- a header that is not refused complies with the rules
+-- two rules that do not refuse do not hold
 neither : (unexpected fragments : Bool) (a b : IpError) → first_of (refused_if unexpected a ∷ refused_if fragments b ∷ []) ≡ None
     → (unexpected ≡ false) × (fragments ≡ false)
 neither true fragments a b none = absurd (cc none)
@@ -212,7 +212,7 @@ first_leads false four six number number_too may extensions next v v_too m m_too
 not_zero : (n : ℕ) → n ≢ 0 → not (n == 0) ≡ true
 not_zero n some = grind (arith, nat_tests)
 
--- over IPv4 there is no payload length, and an IPv6 header is 40 bytes long
+-- an IPv4 packet has no payload length, and an IPv6 header has 40 bytes
 payload_by : (is_four : Bool) (four six : Headers) (extensions : List ExtensionHeader) → four.payload_len ≡ 0 → six.len ≡ 40
     → (not ((if is_four then four else six).payload_len == 0) && ((if is_four then four else six).len == 40 && begins_with_jumbo_payload extensions)) ≡ false
     → (if is_four then four else six).payload_len ≢ 0 → begins_with_jumbo_payload extensions ≡ false

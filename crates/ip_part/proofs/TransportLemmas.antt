@@ -13,7 +13,7 @@ use Rattle.ip_part.specs.Headers.{Headers}
 use Rattle.ip_part.specs.declared.ip_error.IpError.{IpError}
 use Rattle.ip_part.specs.declared.transport.TransportInIp.{TransportInIp}
 
--- reading the first headers and the counted bytes is reading the packet
+-- reading the first headers in the counted bytes is reading the packet
 pub read_of_packet : (missing : Bool) (packet bytes : List ℕ) (first : Headers) (result : Result Headers IpError) → first ≡ first_headers packet
     → bytes ≡ counted missing packet → result ≡ headers_to_transport (suc (length bytes)) first bytes → headers_of missing packet ≡ result
 read_of_packet missing packet bytes first result is same read =
@@ -21,7 +21,7 @@ read_of_packet missing packet bytes first result is same read =
     ∙ ap (λ first. headers_to_transport (suc (length bytes)) first bytes) (sym is)
     ∙ sym read
 
--- a success has one value
+-- the value of a result, or another value if the result is an error
 value_of : Headers → Result Headers IpError → Headers
 value_of other (Ok headers) = headers
 value_of other (Err error) = other
@@ -34,7 +34,7 @@ first_is_last packet transport carries last =
     ap (value_of (first_headers packet)) (sym carries.read
     ∙ ended (length (counted transport.is_length_missing packet)) (first_headers packet) (counted transport.is_length_missing packet) last)
 
--- this many bytes, or all bytes if the length is missing
+-- the counted bytes: `len` bytes, or all bytes if the length is missing
 counted_by : (missing : Bool) (packet : List ℕ) (len : ℕ) → take (if missing then length packet else len) packet ≡ (if missing then packet else take len packet)
 counted_by true packet len = take_all (length packet) packet (omega arith)
 counted_by false packet len = refl

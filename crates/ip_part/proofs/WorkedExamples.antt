@@ -11,7 +11,7 @@ use Rattle.ip_part.specs.declared.ip_error.IpError.TheVariants.{ExtensionHeaderC
 
 -- ---- IPv4
 
--- an IPv4 packet of this total length, with these bytes 6 and 7, and no options
+-- an IPv4 packet with this total length, these bytes 6 and 7, and no options
 ipv4_packet : ℕ → ℕ → ℕ → List ℕ → List ℕ
 ipv4_packet total flags offset after =
     0x45 ∷ 0 ∷ 0 ∷ total ∷ 0 ∷ 0 ∷ flags ∷ offset ∷ 64 ∷ 17 ∷ 0 ∷ 0 ∷ 10 ∷ 0 ∷ 0 ∷ 1 ∷ 10 ∷ 0 ∷ 0 ∷ 2 ∷ after
@@ -29,7 +29,7 @@ over_ipv4 : headers_of false (ipv4_packet 21 0x40 0 (7 ∷ 8 ∷ [])) ≡ Ok (re
 unfolding ipv4_packet headers_to_transport options_within
 over_ipv4 = refl
 
--- the fixed part of the header, also if the packet is refused because its six words are cut off
+-- the fixed part of a header is read, even if the packet is refused because its six words are cut off
 fixed_over_ipv4 : fixed_header (ipv4_packet 21 0x40 0 (7 ∷ 8 ∷ [])) ≡ Some (fixed.Ipv4 (10 ∷ 0 ∷ 0 ∷ 1 ∷ []) (10 ∷ 0 ∷ 0 ∷ 2 ∷ []) 64 17)
 unfolding ipv4_packet
 fixed_over_ipv4 = refl
@@ -100,12 +100,12 @@ strict_route_of_two : destination_of (route_of_two 137 4) ≡ 10 ∷ 0 ∷ 0 ∷
 unfolding destination_of route_of_two options_within
 strict_route_of_two = refl
 
--- the last address is the next one
+-- a source route whose pointer is at its last address
 one_address_left : destination_of (route_of_two 131 8) ≡ 10 ∷ 0 ∷ 0 ∷ 4 ∷ []
 unfolding destination_of route_of_two options_within
 one_address_left = refl
 
--- the pointer is at a byte within the last address, not at its first byte
+-- a source route whose pointer is at a byte within the last address, but not its first byte
 between_two_addresses : destination_of (route_of_two 131 9) ≡ 10 ∷ 0 ∷ 0 ∷ 2 ∷ []
 unfolding destination_of route_of_two options_within
 between_two_addresses = refl
@@ -179,7 +179,7 @@ routed_over_ipv4 = refl
 
 -- ---- authentication headers over IPv4
 
--- an IPv4 packet of this total length, with these bytes 6 and 7, whose protocol is 51
+-- an IPv4 packet with this total length, these bytes 6 and 7, and protocol 51
 authenticated : ℕ → ℕ → ℕ → List ℕ → List ℕ
 authenticated total flags offset after =
     0x45 ∷ 0 ∷ 0 ∷ total ∷ 0 ∷ 0 ∷ flags ∷ offset ∷ 64 ∷ 51 ∷ 0 ∷ 0 ∷ 10 ∷ 0 ∷ 0 ∷ 1 ∷ 10 ∷ 0 ∷ 0 ∷ 2 ∷ after
@@ -188,7 +188,7 @@ authenticated total flags offset after =
 six_words_before : ℕ → List ℕ → List ℕ
 six_words_before number after = number ∷ 4 ∷ replicate 22 5 ++ after
 
--- the contents of the headers of such a packet
+-- the headers of a packet with an authentication header over IPv4, as they are read
 over_authenticated_ipv4 : ℕ → ℕ → Bool → Bool → Headers
 over_authenticated_ipv4 protocol len is_fragment is_later_fragment = record {
   addresses = Ipv4 (10 ∷ 0 ∷ 0 ∷ 1 ∷ []) (10 ∷ 0 ∷ 0 ∷ 2 ∷ []);
@@ -205,7 +205,7 @@ authentication_over_ipv4 : headers_of false (authenticated 46 0 0 (six_words_bef
 unfolding authenticated six_words_before over_authenticated_ipv4 headers_to_transport options_within
 authentication_over_ipv4 = refl
 
--- a second authentication header is the protocol, and so is an extension header of IPv6
+-- a second authentication header, or an extension header of IPv6, is the protocol
 second_authentication : headers_of false (authenticated 68 0 0 (six_words_before 51 (six_words_before 17 []))) ≡ Ok (over_authenticated_ipv4 51 44 false false)
 unfolding authenticated six_words_before over_authenticated_ipv4 headers_to_transport options_within
 second_authentication = refl
@@ -238,7 +238,7 @@ ipv6_packet : ℕ → ℕ → List ℕ → List ℕ
 ipv6_packet payload_length next_header after =
     0x60 ∷ 0 ∷ 0 ∷ 0 ∷ 0 ∷ payload_length ∷ next_header ∷ 64 ∷ (replicate 16 1 ++ (replicate 16 2 ++ after))
 
--- the contents of the headers of such a packet
+-- the headers of an IPv6 packet, as they are read
 over_ipv6 : ℕ → ℕ → ℕ → Bool → Bool → Headers
 over_ipv6 payload_length protocol len is_fragment may_be_extended = record {
   addresses = Ipv6 (replicate 16 1) (Some (replicate 16 2));
@@ -308,7 +308,7 @@ other_experiment : headers_of false (ipv6_packet 10 254 (6 ∷ 0 ∷ replicate 6
 unfolding ipv6_packet over_ipv6 headers_to_transport
 other_experiment = refl
 
--- a fragment header with offset 0 and no more fragments
+-- a packet with a fragment header with offset 0 and no more fragments is whole
 only_fragment : headers_of false (ipv6_packet 10 44 (17 ∷ 0 ∷ 0 ∷ 0 ∷ replicate 4 9 ++ (7 ∷ 8 ∷ []))) ≡ Ok (over_ipv6 10 17 48 false true)
 unfolding ipv6_packet over_ipv6 headers_to_transport
 only_fragment = refl
@@ -350,7 +350,7 @@ lax_jumbo_len_of_16_bits : lax_refusal (options_packet 0 17 (jumbo 0 255 255) (7
 unfolding options_packet ipv6_packet jumbo headers_to_transport options_within
 lax_jumbo_len_of_16_bits = refl
 
--- the first option counts
+-- the first of two jumbo payload options counts
 first_of_two_options : jumbo_len (ipv6_packet 0 0 (17 ∷ 1 ∷ jumbo 1 0 0 ++ (jumbo 2 0 0 ++ (0 ∷ 0 ∷ [])))) ≡ Some 65536
 unfolding ipv6_packet jumbo options_within
 first_of_two_options = refl
@@ -359,7 +359,7 @@ option_of_three_bytes : jumbo_len (options_packet 0 17 (0xC2 ∷ 3 ∷ 1 ∷ 0 �
 unfolding options_packet ipv6_packet options_within
 option_of_three_bytes = refl
 
--- hop-by-hop options that are cut off
+-- hop-by-hop options that are cut off are refused
 options_cut_off : refusal (ipv6_packet 0 0 (17 ∷ 1 ∷ jumbo 1 0 0)) ≡ Some (HeaderCutOff 56 48)
 unfolding ipv6_packet jumbo headers_to_transport
 options_cut_off = refl
@@ -368,12 +368,12 @@ no_options : refusal (ipv6_packet 0 0 []) ≡ Some (HeaderCutOff 48 40)
 unfolding ipv6_packet headers_to_transport
 no_options = refl
 
--- a jumbo payload option next to a payload length
+-- a jumbo payload option with a payload length other than 0 is refused
 with_payload_length : refusal (options_packet 10 17 (jumbo 1 0 0) (7 ∷ 8 ∷ [])) ≡ Some (JumboPayloadUnexpected 10)
 unfolding options_packet ipv6_packet jumbo headers_to_transport options_within
 with_payload_length = refl
 
--- in any other place the option is not read
+-- a jumbo payload option in destination options is not read
 in_destination_options : refusal (ipv6_packet 10 60 (17 ∷ 0 ∷ jumbo 1 0 0 ++ (7 ∷ 8 ∷ []))) ≡ None
 unfolding ipv6_packet jumbo headers_to_transport options_within
 in_destination_options = refl
@@ -437,7 +437,7 @@ lax_no_jumbo_option = refl
 extension : ℕ → List ℕ → ExtensionHeader
 extension number bytes = record { number = number; bytes = bytes }
 
--- no extension header, and a byte of padding
+-- a packet without extension headers, and with a byte of padding
 reads_at_once : Reads false (ipv6_packet 1 58 (7 ∷ 8 ∷ [])) [] 58 (7 ∷ [])
 unfolding ipv6_packet
 reads_at_once = record { whole = refl; chain = (refl, refl) }
@@ -565,7 +565,7 @@ second_is_used_up : destination_by (Some (replicate 16 2)) (route 1 3 ∷ route 
 unfolding route
 second_is_used_up = refl
 
--- these bytes name an address only in a routing header
+-- a header of another type does not name an address, even with the bytes of a routing header
 no_routing_header : destination_by (Some (replicate 16 2)) (extension 60 (17 ∷ 2 ∷ 0 ∷ 1 ∷ replicate 4 0 ++ replicate 16 3) ∷ [])
     ≡ Some (replicate 16 2)
 unfolding extension
@@ -591,7 +591,7 @@ routed = refl
 source_with : ℕ → List ℕ → List ℕ
 source_with number bytes = source_by (replicate 16 1) (extension number bytes ∷ [])
 
--- two bytes of padding, and the option
+-- the home address option follows two bytes of padding
 after_padding : source_with 60 (17 ∷ 2 ∷ 1 ∷ 2 ∷ 0 ∷ 0 ∷ 0xC9 ∷ 16 ∷ replicate 16 7) ≡ replicate 16 7
 unfolding source_with extension options_within
 after_padding = refl
@@ -600,7 +600,7 @@ after_single_bytes_of_padding : source_with 60 (17 ∷ 2 ∷ 0 ∷ 0 ∷ 0 ∷ 0
 unfolding source_with extension options_within
 after_single_bytes_of_padding = refl
 
--- the last of two home addresses counts, also if it is not in the last option
+-- the last of two home addresses counts, even if another option follows it
 last_of_two_home_addresses : source_with 60 (17 ∷ 5 ∷ 1 ∷ 2 ∷ 0 ∷ 0 ∷ 0xC9 ∷ 16 ∷ replicate 16 7 ++ (1 ∷ 2 ∷ 0 ∷ 0 ∷ 0xC9 ∷ 16 ∷ replicate 16 8 ++ (1 ∷ 0 ∷ [])))
     ≡ replicate 16 8
 unfolding source_with extension options_within

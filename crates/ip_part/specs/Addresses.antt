@@ -1,12 +1,12 @@
--- The addresses of an IP packet as bytes, wherever the bytes are stored.
+-- The addresses of an IP packet as bytes. Where the bytes are stored does not matter.
 use Rattle.std.specs.Prelude.{ℕ, Bool, true, false, List, Option}
 use Rattle.std.specs.Option.{option_map}
 use Rattle.std.specs.Borrow.{Bor}
 use Rattle.ip_part.specs.declared.ip_addresses.IpAddresses.{IpAddresses}
 use Rattle.ip_part.specs.declared.ip_addresses.IpAddresses.TheVariants as borrowed
 
--- Source and final destination over IPv4 (RFC 791, section 3.1) or IPv6 (RFC 8200, section 3). Over IPv6 the final destination may be
--- unknown.
+-- The source and the final destination over IPv4 (RFC 791, section 3.1) or IPv6 (RFC 8200, section 3). Over IPv6 the final destination may
+-- be unknown.
 pub data Addresses : Type 0 where
   Ipv4 : List ℕ → List ℕ → Addresses
   Ipv6 : List ℕ → Option (List ℕ) → Addresses

@@ -1,11 +1,11 @@
--- The text of each error.
+-- The text of each `IpError`.
 use Rattle.std.specs.Prelude.{List, ℕ, [], ◌∷◌, codes}
 use Rattle.std.specs.Fmt.{decimal}
 use Rattle.std.specs.List.{concat}
 use Rattle.ip_part.specs.declared.ip_error.IpError.{IpError}
 use Rattle.ip_part.specs.declared.ip_error.IpError.TheVariants.{HeaderCutOff, Version, HeaderLength, TotalLength, PacketCutOff, ExtensionHeaderCutOff, JumboPayloadMissing, JumboPayloadLength, JumboPayloadUnexpected, JumboPayloadFragment}
 
--- the text of an error of a packet whose transport was not found
+-- the text of an error
 abbrev pub ip_text : IpError → List ℕ
 ip_text (HeaderCutOff required_len len) = concat (
     codes "IP Error: the header has at least " ∷ decimal required_len ∷ codes " bytes, and " ∷ decimal len ∷ codes " are there." ∷ [])

@@ -1,5 +1,5 @@
--- The extension headers of IPv6 (RFC 8200, section 4), and the authentication header of both versions (RFC 4302):
--- their numbers and lengths, their contents, and how they follow one another.
+-- The extension headers of IPv6 (RFC 8200, section 4), and the authentication header of both versions (RFC 4302): their numbers, their
+-- lengths, their contents, and their order.
 use Rattle.std.specs.Prelude.{◌≡◌, ◌≢◌, ◌≤◌, ◌<◌, ◌⊎◌, ℕ, ◌+◌, ◌-◌, ◌*◌, ◌/◌, ◌==◌, Bool, true, false, not, ◌&&◌, ◌||◌, nat_lt, if◌then◌else◌, List, [], ◌∷◌, length, take, is_some, slice_index, slice_range, Option, Some, None}
 use Rattle.std.specs.List.{flat_map, fold, list_any}
 use Rattle.net_base.specs.Bytes.{be_number, flag}
@@ -9,40 +9,41 @@ use Rattle.ip_part.specs.declared.ip_error.IpError.TheVariants.{ExtensionHeaderC
 
 -- ---- numbers and lengths
 
--- RFC 8200, section 4.3
+-- the number of hop-by-hop options (RFC 8200, section 4.3)
 abbrev pub hop_by_hop_options : ℕ
 hop_by_hop_options = 0
 
--- RFC 8200, section 4.4
+-- the number of a routing header (RFC 8200, section 4.4)
 abbrev pub routing : ℕ
 routing = 43
 
--- RFC 8200, section 4.5
+-- the number of a fragment header (RFC 8200, section 4.5)
 abbrev pub fragment : ℕ
 fragment = 44
 
--- RFC 4302, section 2
+-- the number of an authentication header (RFC 4302, section 2)
 abbrev pub authentication : ℕ
 authentication = 51
 
--- RFC 8200, section 4.6
+-- the number of destination options (RFC 8200, section 4.6)
 abbrev pub destination_options : ℕ
 destination_options = 60
 
--- RFC 6275, section 6.1
+-- the number of a mobility header (RFC 6275, section 6.1)
 abbrev pub mobility : ℕ
 mobility = 135
 
--- RFC 7401, section 5.1
+-- the number of a Host Identity Protocol header (RFC 7401, section 5.1)
 abbrev pub host_identity : ℕ
 host_identity = 139
 
--- RFC 5533, section 5.1
+-- the number of a Shim6 header (RFC 5533, section 5.1)
 abbrev pub shim6 : ℕ
 shim6 = 140
 
--- The numbers of the extension headers that are skipped: the numbers that IANA lists, except 50, 253 and 254. Encapsulating Security
--- Payload, 50, encrypts the bytes after it. 253 and 254 are for experiments (RFC 3692; RFC 4727), and these headers have no agreed layout.
+-- This is the number of an extension header that is skipped. These are the numbers that IANA lists, except 50, 253 and 254. Encapsulating
+-- Security Payload, 50, encrypts the bytes after it. 253 and 254 are for experiments (RFC 3692; RFC 4727), and their headers have no agreed
+-- layout.
 abbrev pub is_extension : ℕ → Bool
 is_extension number =
     number == hop_by_hop_options
@@ -54,21 +55,21 @@ is_extension number =
     || (number == host_identity
     || number == shim6))))))
 
--- the length in bytes of an extension header at the front of some bytes. A fragment header is 8 bytes long (RFC 8200,
--- section 4.5). The length byte of an authentication header counts words of four bytes after the first two (RFC 4302,
--- section 2.2). The length byte of any other header counts words of eight bytes after the first (RFC 8200, sections
--- 4.3, 4.4 and 4.6; RFC 6275, section 6.1.1; RFC 7401, section 5.1; RFC 5533, section 5.1)
+-- The length in bytes of the extension header at the front of some bytes. A fragment header is 8 bytes long (RFC 8200, section 4.5). The
+-- length byte of an authentication header counts the words of four bytes after the first two words (RFC 4302, section 2.2). The length byte
+-- of any other header counts the words of eight bytes after the first word (RFC 8200, sections 4.3, 4.4 and 4.6; RFC 6275, section 6.1.1;
+-- RFC 7401, section 5.1; RFC 5533, section 5.1).
 abbrev pub extension_len : ℕ → List ℕ → ℕ
 extension_len number bytes =
     if number == fragment then 8
     else if number == authentication then (slice_index bytes 1 + 2) * 4
     else (slice_index bytes 1 + 1) * 8
 
--- the length of the longest extension header, whose length byte is 255: 256 words of eight bytes
+-- the length of the longest extension header, in bytes: 256 words of eight bytes, since the length byte is at most 255
 abbrev pub max_extension_len : ℕ
 max_extension_len = 2048
 
--- the number of the header or protocol after an extension header (RFC 8200, section 4)
+-- the number of the header or protocol that follows an extension header (RFC 8200, section 4)
 abbrev pub next_number : List ℕ → ℕ
 next_number bytes = slice_index bytes 0
 
@@ -82,30 +83,30 @@ fragment_offset bytes = be_number bytes 2 2 / 8
 abbrev pub is_later_fragment : ℕ → List ℕ → Bool
 is_later_fragment number bytes = number == fragment && not (fragment_offset bytes == 0)
 
--- these bytes are a fragment header, and more fragments follow (the bit 0x01 of byte 3)
+-- these bytes are a fragment header after which more fragments follow (the bit 0x01 of byte 3)
 abbrev pub has_more_fragments : ℕ → List ℕ → Bool
 has_more_fragments number bytes = number == fragment && flag bytes 3 1
 
--- These bytes are the fragment header of a packet with several fragments: its offset is above 0, or more fragments follow. An atomic
--- fragment has neither (RFC 6946).
+-- These bytes are the fragment header of a packet with several fragments: its offset is above 0, or more fragments follow. For an atomic
+-- fragment neither is true (RFC 6946).
 abbrev pub is_one_of_fragments : ℕ → List ℕ → Bool
 is_one_of_fragments number bytes = is_later_fragment number bytes || has_more_fragments number bytes
 
 -- ---- routing
 
--- a routing header with segments left, whose number is in byte 3 (RFC 8200, section 4.4)
+-- these bytes are a routing header with segments left; byte 3 is the number of segments left (RFC 8200, section 4.4)
 abbrev pub has_segments_left : ℕ → List ℕ → Bool
 has_segments_left number bytes = number == routing && not (slice_index bytes 3 == 0)
 
--- an entry of a routing header: an address of 16 bytes; the first entry comes after eight bytes (RFC 2460, section
+-- the entry at this index in a routing header: an address of 16 bytes; the first entry follows the first eight bytes (RFC 2460, section
 -- 4.4; RFC 6275, section 6.4.1; RFC 8754, section 2)
 abbrev pub entry : List ℕ → ℕ → List ℕ
 entry bytes index = slice_range bytes (8 + index * 16) (24 + index * 16)
 
--- The final destination by a routing header with segments left. In type 0 it is the last address of the header, and the length byte is
--- twice the number of addresses (RFC 2460, section 4.4). In type 2 it is the home address (RFC 6275, section 6.4.1). In type 4 it is the
--- first entry of the segment list, which is the last segment (RFC 8754, section 2). In any other type, or if there is no address, it is
--- unknown.
+-- The final destination that a routing header with segments left states. In type 0 it is the last address of the header, and the length
+-- byte is twice the number of addresses (RFC 2460, section 4.4). In type 2 it is the home address (RFC 6275, section 6.4.1). In type 4 it
+-- is the first entry of the segment list, which is the last segment (RFC 8754, section 2). For any other type, or if the header contains no
+-- address, it is unknown.
 abbrev pub final_destination : List ℕ → Option (List ℕ)
 final_destination bytes =
     let words : ℕ = slice_index bytes 1 in
@@ -114,48 +115,50 @@ final_destination bytes =
     else if slice_index bytes 2 == 2 || slice_index bytes 2 == 4 then Some (entry bytes 0)
     else None
 
--- the final destination after one more extension header; only a routing header with segments left changes it
+-- the final destination after this extension header is added; only a routing header with segments left changes it
 abbrev pub destination_after : Option (List ℕ) → ℕ → List ℕ → Option (List ℕ)
 destination_after destination number bytes = if has_segments_left number bytes then final_destination bytes else destination
 
 -- ---- home address
 
--- the source after one more extension header; only destination options with a home address change it (RFC 6275, sections 6.3 and 9.3.1)
+-- the source after this extension header is added; only destination options with a home address change it (RFC 6275, sections 6.3 and
+-- 9.3.1)
 abbrev pub source_after : List ℕ → ℕ → List ℕ → List ℕ
 source_after source number bytes = if number == destination_options then home_address_after source bytes else source
 
 -- ---- chains of extension headers
 
--- An extension header of a packet: its bytes, and its number, which the previous header contains.
+-- An extension header of a packet: its bytes, and its number, which the header before it contains.
 pub record ExtensionHeader : Type 0 where
   pub number : ℕ
   pub bytes : List ℕ
 
--- the extension header has exactly the length that it states
+-- the bytes of the extension header are exactly as many as it states
 pub record IsWhole (header : ExtensionHeader) : Type 0 where
   pub known : is_extension header.number ≡ true
   pub shortest : 8 ≤ length header.bytes
   pub len : length header.bytes ≡ extension_len header.number header.bytes
 
--- Extension headers, one after the other. The first has this number, and each contains the number of the next. The last contains the number
--- of the protocol. `is_ipv6` is true over IPv6. `may_be_extended` is true if an extension header may come next. Over IPv4 no second
--- extension header follows. Over IPv6 no extension header follows the fragment header of a later fragment, since the payload of such a
--- fragment is from the middle of a packet. Where an extension header may come next, the protocol is not the number of one.
+-- Extension headers, one after the other. The first header has the number `number`. Each header contains the number of the next header, and
+-- the last header contains the number of the protocol. `is_ipv6` is true over IPv6. `may_be_extended` is true if an extension header may
+-- come next. Over IPv4 no second extension header follows. Over IPv6 no extension header follows the fragment header of a later fragment,
+-- since its payload is a later part of a packet. If an extension header may come next, the protocol is not the number of an extension
+-- header.
 abbrev pub IsChain : Bool → Bool → ℕ → List ExtensionHeader → ℕ → Type 0
 IsChain is_ipv6 may_be_extended number [] protocol = (number ≡ protocol) × (may_be_extended && is_extension number ≡ false)
 IsChain is_ipv6 may_be_extended number (header ∷ headers) protocol =
     (may_be_extended ≡ true) × (header.number ≡ number) × IsWhole header
     × IsChain is_ipv6 (is_ipv6 && not (is_later_fragment header.number header.bytes)) (next_number header.bytes) headers protocol
 
--- Extension headers, one after the other, as in `IsChain`. After them one more extension header may come, and it has this number. It is the
--- extension header that is refused.
+-- Extension headers, one after the other, as in `IsChain`. After them another extension header may come, and it has the number `next`. This
+-- is the extension header that is refused.
 abbrev pub LeadsTo : Bool → Bool → ℕ → List ExtensionHeader → ℕ → Type 0
 LeadsTo is_ipv6 may_be_extended number [] next = (number ≡ next) × (may_be_extended ≡ true) × (is_extension next ≡ true)
 LeadsTo is_ipv6 may_be_extended number (header ∷ headers) next =
     (may_be_extended ≡ true) × (header.number ≡ number) × IsWhole header
     × LeadsTo is_ipv6 (is_ipv6 && not (is_later_fragment header.number header.bytes)) (next_number header.bytes) headers next
 
--- the bytes of extension headers
+-- the bytes of these extension headers, one after the other
 abbrev pub bytes_of : List ExtensionHeader → List ℕ
 bytes_of headers = flat_map (λ header. header.bytes) headers
 
@@ -178,21 +181,20 @@ begins_with_jumbo_payload (header ∷ headers) = header.number == hop_by_hop_opt
 
 -- ---- what is refused
 
--- an extension header of this number at the front of the rest
+-- the extension header of this number at the front of these bytes
 abbrev pub front_of : ℕ → List ℕ → ExtensionHeader
 front_of number rest = record { number = number; bytes = take (extension_len number rest) rest }
 
--- The rest is too short for an extension header of this number. It is shorter than 8 bytes, the least length of an extension header, or
--- shorter than the length that the header states.
+-- The bytes are too few for an extension header of this number. There are fewer than 8 bytes, the least length of an extension header, or
+-- fewer bytes than the header states.
 abbrev pub LacksBytes : ℕ → List ℕ → ℕ → Type 0
 LacksBytes number rest required_len =
     ((length rest < 8) × (required_len ≡ 8))
     ⊎ ((8 ≤ length rest) × (length rest < extension_len number rest) × (required_len ≡ extension_len number rest))
 
--- This error refuses the extension header of this number at the front of the rest. The header begins at this offset. The payload length of
--- the packet is given, and whether the packet is a jumbogram. The header is cut off, or it breaks RFC 2675, section 3. Two headers break
--- it: hop-by-hop options with a jumbo payload option directly after an IPv6 header whose payload length is not 0, and a fragment header in
--- a jumbogram.
+-- This error refuses the extension header of this number at the front of `rest`. The header begins at `offset` in a packet with this
+-- payload length. It is cut off, or it breaks RFC 2675, section 3. Two headers break it: hop-by-hop options with a jumbo payload option
+-- directly after an IPv6 header whose payload length is not 0, and a fragment header in a jumbogram.
 abbrev pub RefusesNext : ℕ → Bool → ℕ → ℕ → List ℕ → IpError → Type 0
 RefusesNext payload_len is_jumbogram offset number rest (ExtensionHeaderCutOff protocol place required_len len) =
     (protocol.0 ≡ number) × (place ≡ offset) × (len ≡ length rest) × LacksBytes number rest required_len
@@ -211,11 +213,11 @@ RefusesNext payload_len is_jumbogram offset number rest (PacketCutOff required_l
 
 -- ---- the addresses with all extension headers
 
--- the final destination of a packet with these extension headers, by the last routing header with segments left
+-- the final destination of a packet with these extension headers; the last routing header with segments left decides
 abbrev pub destination_by : Option (List ℕ) → List ExtensionHeader → Option (List ℕ)
 destination_by destination headers =
     fold (λ destination header. destination_after destination header.number header.bytes) destination headers
 
--- the source of a packet with these extension headers: the last home address, if there is one
+-- the source of a packet with these extension headers: the last home address, or this source if there is none
 abbrev pub source_by : List ℕ → List ExtensionHeader → List ℕ
 source_by source headers = fold (λ source header. source_after source header.number header.bytes) source headers

@@ -1,13 +1,13 @@
--- The contents of the headers of an IP packet, with the addresses as bytes.
+-- The contents of the headers of an IP packet that were read, with the addresses as bytes.
 use Rattle.std.specs.Prelude.{ℕ, Bool, Result, Ok, Err}
 use Rattle.net_base.specs.declared.ip_number.IpNumber.{IpNumber}
 use Rattle.ip_part.specs.Addresses.{Addresses, by_value}
 use Rattle.ip_part.specs.declared.headers.Headers as borrowed
 
 -- What the headers read so far contain: the addresses, the number of the next header, and the length of these headers. `is_fragment` is
--- true if the bytes after them are only a part of a packet, and `is_later_fragment` if these bytes are from its middle. `may_be_extended`
--- is true if an extension header may come next. `payload_len` is the payload length of an IPv6 header, or 0 over IPv4. `is_jumbogram` is
--- true if hop-by-hop options directly after the IPv6 header contain the length.
+-- true if the bytes after these headers are only a part of a packet, and `is_later_fragment` if they are a later part. `may_be_extended` is
+-- true if an extension header may come next. `payload_len` is the payload length of an IPv6 header, or 0 over IPv4. `is_jumbogram` is true
+-- if hop-by-hop options directly after the IPv6 header contain the length.
 pub record Headers : Type 0 where
   pub addresses : Addresses
   pub protocol : IpNumber

@@ -1,5 +1,5 @@
--- From an IP packet to its transport (RFC 791, section 3.1; RFC 8200, sections 3 and 4; RFC 2675): which packets are
--- refused, which bytes the IP header counts, where the headers end, and what they contain.
+-- The transport in an IP packet (RFC 791, section 3.1; RFC 8200, sections 3 and 4; RFC 2675): which packets are refused, which bytes the IP
+-- header counts, where the headers end, and what they contain.
 use Rattle.std.specs.Prelude.{◌≡◌, ◌≢◌, ◌≤◌, ℕ, zero, suc, ◌+◌, ◌==◌, Bool, true, false, not, ◌&&◌, ◌||◌, nat_lt, nat_le, if◌then◌else◌, List, [], ◌∷◌, ◌++◌, length, take, drop, slice_index, slice_range, Option, Some, None, is_some, is_none, unwrap_or, Result, Ok, Err}
 use Rattle.net_base.specs.Bytes.{be_number}
 use Rattle.net_base.specs.IpHeaders.{ipv4_fragment_offset, ipv4_header_len, ipv4_is_fragment, version}
@@ -15,7 +15,7 @@ use Rattle.ip_part.specs.declared.transport.TransportInIp.{TransportInIp}
 
 -- ---- the IP header
 
--- the bytes of an IPv4 header, options included (RFC 791, section 3.1)
+-- the bytes of an IPv4 header with its options (RFC 791, section 3.1)
 abbrev pub ipv4_header : List ℕ → List ℕ
 ipv4_header packet = take (ipv4_header_len packet) packet
 
@@ -27,7 +27,7 @@ ipv6_header packet = take 40 packet
 abbrev pub total_len : List ℕ → ℕ
 total_len packet = be_number (ipv4_header packet) 2 2
 
--- the errors of an IPv4 header: it states a length below five words, or it is cut off
+-- the error of an IPv4 header, if there is one: it states a length below five words, or it is cut off
 abbrev pub ipv4_header_refusal : List ℕ → Option IpError
 ipv4_header_refusal packet = first_of (
     refused_if (nat_lt (length packet) 20) (HeaderCutOff 20 (length packet))
@@ -35,8 +35,8 @@ ipv4_header_refusal packet = first_of (
     ∷ refused_if (nat_lt (length packet) (ipv4_header_len packet)) (HeaderCutOff (ipv4_header_len packet) (length packet))
     ∷ [])
 
--- The errors of an IPv4 header, and then the error for a total length below the header length. A total length of 0 is no error here, since
--- it states no length.
+-- The error of an IPv4 header, if there is one, or the error for a total length below the header length. A total length of 0 is no error
+-- here, since it states no length.
 abbrev pub ipv4_refusal : List ℕ → Option IpError
 ipv4_refusal packet = first_of (
     ipv4_header_refusal packet
@@ -56,22 +56,22 @@ next_header packet = slice_index (ipv6_header packet) 6
 abbrev pub has_len_in_options : List ℕ → Bool
 has_len_in_options packet = payload_len packet == 0 && next_header packet == hop_by_hop_options
 
--- hop-by-hop options at the front of the bytes after an IPv6 header
+-- the hop-by-hop options at the front of `rest`, the bytes after an IPv6 header
 abbrev pub options_at : List ℕ → List ℕ
 options_at rest = take (extension_len hop_by_hop_options rest) rest
 
--- the length that these options contain
+-- the length that these hop-by-hop options contain
 abbrev pub len_in_options : List ℕ → Option ℕ
 len_in_options rest = jumbo_payload_len (options_at rest)
 
--- the jumbo payload length of a packet, if it has one; it counts the bytes after the IPv6 header
+-- the jumbo payload length of a packet, if it has one, which counts the bytes after the IPv6 header; and whether it has one
 abbrev pub jumbo_len : List ℕ → Option ℕ
 jumbo_len packet = if has_len_in_options packet then len_in_options (drop 40 packet) else None
 
 abbrev pub is_jumbogram : List ℕ → Bool
 is_jumbogram packet = is_some (jumbo_len packet)
 
--- the error for hop-by-hop options that must contain the length and are cut off, so that the number of counted bytes is unknown
+-- the error for hop-by-hop options that must contain the length and are cut off, so that the length is unknown
 abbrev pub options_refusal : List ℕ → Option IpError
 options_refusal rest = first_of (
     refused_if (nat_lt (length rest) 8) (HeaderCutOff 48 (40 + length rest))
@@ -79,7 +79,8 @@ options_refusal rest = first_of (
     (HeaderCutOff (40 + extension_len hop_by_hop_options rest) (40 + length rest))
     ∷ [])
 
--- the greatest number of bytes that the payload length can count; a jumbo payload length must be greater (RFC 2675, section 2)
+-- The greatest length that the payload length field can state. A jumbo payload length is refused unless it is greater (RFC 2675, section
+-- 2).
 abbrev pub max_payload_len : ℕ
 max_payload_len = 65535
 
@@ -87,21 +88,22 @@ abbrev pub jumbo_len_refusal : Option ℕ → Option IpError
 jumbo_len_refusal None = None
 jumbo_len_refusal (Some len) = refused_if (nat_le len max_payload_len) (JumboPayloadLength len)
 
--- the error for hop-by-hop options that are cut off, and then the error for a jumbo payload length that is too small
+-- the first error that applies: for hop-by-hop options that are cut off, for a jumbo payload length that is too small
 abbrev pub len_in_options_refusal : List ℕ → Option IpError
 len_in_options_refusal rest = first_of (options_refusal rest ∷ jumbo_len_refusal (len_in_options rest) ∷ [])
 
 abbrev pub jumbo_refusal : List ℕ → Option IpError
 jumbo_refusal packet = if has_len_in_options packet then len_in_options_refusal (drop 40 packet) else None
 
--- the error for an IPv6 header that is cut off, and then the errors of hop-by-hop options that must contain the length
+-- the first error that applies: for an IPv6 header that is cut off, for hop-by-hop options that must contain the length
 abbrev pub ipv6_refusal : List ℕ → Option IpError
 ipv6_refusal packet = first_of (
     refused_if (nat_lt (length packet) 40) (HeaderCutOff 40 (length packet))
     ∷ jumbo_refusal packet
     ∷ [])
 
--- the errors of an IP header: the slice is empty, the version is neither 4 nor 6, or the header of that version has an error
+-- the error of an IP header, if there is one: the slice is empty, the version is neither 4 nor 6, or the header of this version has an
+-- error
 abbrev pub header_refusal : List ℕ → Option IpError
 header_refusal packet =
     if length packet == 0 then Some (HeaderCutOff 1 0)
@@ -109,17 +111,17 @@ header_refusal packet =
     else if version packet == 6 then ipv6_refusal packet
     else Some (Version (version packet))
 
--- the number of bytes that an IPv4 header states, header included: its total length (RFC 791, section 3.1); 0 states no length
+-- the number of bytes that an IPv4 header states, including the header itself: its total length (RFC 791, section 3.1); 0 states no length
 abbrev pub ipv4_stated_len : List ℕ → Option ℕ
 ipv4_stated_len packet = if total_len packet == 0 then None else Some (total_len packet)
 
--- the number in a header that nothing follows, "no next header" (RFC 8200, section 4.7)
+-- the number "no next header", which states that nothing follows a header (RFC 8200, section 4.7)
 abbrev pub no_next_header : ℕ
 no_next_header = 59
 
--- The number of bytes that an IPv6 header states, header included. It is 40 plus the jumbo payload length, if there is one (RFC 2675,
--- section 2), and otherwise 40 plus the payload length (RFC 8200, section 3). A payload length of 0 states no length. But if the next
--- header is "no next header", the packet ends with its header (RFC 8200, section 4.7).
+-- The number of bytes that an IPv6 header states, including the header itself. It is 40 plus the jumbo payload length, if there is one (RFC
+-- 2675, section 2), and otherwise 40 plus the payload length (RFC 8200, section 3). A payload length of 0 states no length, except if the
+-- next header is "no next header". Then the packet ends with its header (RFC 8200, section 4.7).
 abbrev pub ipv6_stated_len : Option ℕ → ℕ → ℕ → Option ℕ
 ipv6_stated_len (Some jumbo_len) payload_len next_header = Some (40 + jumbo_len)
 ipv6_stated_len None payload_len next_header =
@@ -129,28 +131,28 @@ abbrev pub stated_len : List ℕ → Option ℕ
 stated_len packet =
     if version packet == 4 then ipv4_stated_len packet else ipv6_stated_len (jumbo_len packet) (payload_len packet) (next_header packet)
 
--- The header states no length. A host that captures its own packets sees this before its network card splits them.
+-- The header states no length. This occurs in packets that a host captures before its network card splits them.
 abbrev pub lacks_len : List ℕ → Bool
 lacks_len packet = is_none (stated_len packet)
 
--- The number of bytes that the header counts, header included. If the first argument is true, the length is missing, and all bytes are
--- counted. Otherwise it is the stated length, or 40 for an IPv6 header that states no length.
+-- The number of bytes that the header counts, including the header itself. If the length is missing, all bytes are counted. Otherwise it is
+-- the stated length, or 40 for an IPv6 header that states no length.
 abbrev pub counted_len : Bool → List ℕ → ℕ
 counted_len is_length_missing packet =
     if is_length_missing then length packet
     else if version packet == 4 then total_len packet
     else 40 + unwrap_or (jumbo_len packet) (payload_len packet)
 
--- the available bytes that the header counts; the bytes after them are padding
+-- the bytes of the packet that the header counts; the bytes after them are padding
 abbrev pub counted : Bool → List ℕ → List ℕ
 counted is_length_missing packet = take (counted_len is_length_missing packet) packet
 
--- the final destination of an IPv4 packet, according to the options in its header
+-- the final destination of an IPv4 packet, by the source route in its header if there is one
 abbrev pub ipv4_destination : List ℕ → List ℕ
 ipv4_destination header = ipv4_destination_by (slice_range header 16 20) (options_of ipv4_option (drop 20 header))
 
--- An authentication header comes directly after the IPv4 header. The protocol of the IPv4 header is 51 (RFC 4302, section 3.1), and the
--- packet is not a later fragment, whose bytes are from the middle of a packet.
+-- An authentication header follows the IPv4 header directly. The protocol of the IPv4 header is 51 (RFC 4302, section 3.1), and the packet
+-- is not a later fragment, whose bytes are a later part of a packet.
 abbrev pub has_authentication : List ℕ → Bool
 has_authentication header = slice_index header 9 == authentication && ipv4_fragment_offset header == 0
 
@@ -186,8 +188,8 @@ first_headers packet =
     if version packet == 4 then ipv4_headers (ipv4_header_len packet) (ipv4_header packet)
     else ipv6_headers (is_jumbogram packet) (ipv6_header packet)
 
--- The error of a header that states no length although it must. The total length of IPv4 counts at least the header (RFC 791, section 3.1).
--- If the payload length of IPv6 is 0, hop-by-hop options after the header must contain the length (RFC 2675, section 3).
+-- The error of a header that must state a length and does not. The total length of IPv4 counts at least the header (RFC 791, section 3.1).
+-- If the payload length of IPv6 is 0 and hop-by-hop options follow the header, they must contain the length (RFC 2675, section 3).
 abbrev pub own_len_refusal : Addresses → ℕ → ℕ → Option IpError
 own_len_refusal (Ipv4 source destination) number len = Some (TotalLength 0 len)
 own_len_refusal (Ipv6 source destination) number len = refused_if (number == hop_by_hop_options) JumboPayloadMissing
@@ -195,7 +197,7 @@ own_len_refusal (Ipv6 source destination) number len = refused_if (number == hop
 abbrev pub missing_len_refusal : Headers → Option IpError
 missing_len_refusal headers = own_len_refusal headers.addresses headers.protocol.0 headers.len
 
--- the errors of an IP header, and then the error of a header that states no length
+-- the error of an IP header, if there is one, or the error of a header that must state a length and does not
 abbrev pub strict_header_refusal : List ℕ → Option IpError
 strict_header_refusal packet = first_of (
     header_refusal packet
@@ -212,11 +214,12 @@ is_extended headers = headers.may_be_extended && is_extension headers.protocol.0
 abbrev pub extension_header : Headers → List ℕ → List ℕ
 extension_header headers rest = take (extension_len headers.protocol.0 rest) rest
 
--- hop-by-hop options come directly after the IPv6 header
+-- hop-by-hop options follow the IPv6 header directly
 abbrev pub is_first_options : Headers → Bool
 is_first_options headers = headers.len == 40 && headers.protocol.0 == hop_by_hop_options
 
--- the errors of RFC 2675, section 3: a jumbo payload option in a packet whose payload length is not 0, and a fragment header in a jumbogram
+-- the error if an extension header breaks RFC 2675, section 3: a jumbo payload option in a packet whose payload length is not 0, or a
+-- fragment header in a jumbogram
 abbrev pub jumbogram_refusal : Headers → List ℕ → Option IpError
 jumbogram_refusal headers header = first_of (
     refused_if (not (headers.payload_len == 0) && (is_first_options headers && is_some (jumbo_payload_len header)))
@@ -224,7 +227,7 @@ jumbogram_refusal headers header = first_of (
     ∷ refused_if (headers.is_jumbogram && headers.protocol.0 == fragment) (JumboPayloadFragment headers.len)
     ∷ [])
 
--- the errors of the next extension header: it is cut off, or it breaks RFC 2675, section 3
+-- the error of the next extension header, if there is one: it is cut off, or it breaks RFC 2675, section 3
 abbrev pub extension_refusal : Headers → List ℕ → Option IpError
 extension_refusal headers rest = first_of (
     refused_if (nat_lt (length rest) 8) (ExtensionHeaderCutOff headers.protocol headers.len 8 (length rest))
@@ -233,17 +236,17 @@ extension_refusal headers rest = first_of (
     ∷ jumbogram_refusal headers (extension_header headers rest)
     ∷ [])
 
--- the addresses after one more extension header of this number
+-- the addresses after an extension header of this number is added
 abbrev pub with_header : Addresses → ℕ → List ℕ → Addresses
 with_header (Ipv4 source destination) number header = Ipv4 source destination
 with_header (Ipv6 source destination) number header = Ipv6 (source_after source number header) (destination_after destination number header)
 
--- the addresses after an extension header
+-- the addresses after the next extension header is added
 abbrev pub addresses_after : Headers → List ℕ → Addresses
 addresses_after headers header = with_header headers.addresses headers.protocol.0 header
 
--- The contents of the headers after one more extension header. No header follows the fragment header of a later fragment, since the bytes
--- after it are from the middle of a packet. Over IPv4 no second extension header follows.
+-- The contents of the headers after the next extension header is added. No header follows the fragment header of a later fragment, since
+-- its payload is a later part of a packet. Over IPv4 no second extension header follows.
 abbrev pub headers_after : Headers → List ℕ → Headers
 headers_after headers header = record {
   addresses = addresses_after headers header;
@@ -258,12 +261,12 @@ headers_after headers header = record {
 
 -- ---- all headers
 
--- the error if there is one, otherwise this result
+-- the error, or this result if there is no error
 abbrev pub unless_refused : {T E : Type 0} → Option E → Result T E → Result T E
 unless_refused (Some error) result = Err error
 unless_refused None result = result
 
--- the contents of the headers after all further extension headers; at most this number of them is read
+-- the contents of the headers after all extension headers that follow are added; at most this number of headers is read
 unfoldable pub headers_to_transport : ℕ → Headers → List ℕ → Result Headers IpError
 headers_to_transport zero headers bytes = Ok headers
 headers_to_transport (suc more) headers bytes =
@@ -272,7 +275,7 @@ headers_to_transport (suc more) headers bytes =
     (headers_to_transport more (headers_after headers (extension_header headers (drop headers.len bytes))) bytes)
     else Ok headers
 
--- the contents of the headers of a packet up to its transport; each header is at least one byte long
+-- The contents of all headers of a packet up to its transport. Each header has at least one byte, so the bytes limit the number of headers.
 abbrev pub headers_of : Bool → List ℕ → Result Headers IpError
 headers_of is_length_missing packet =
     headers_to_transport (suc (length (counted is_length_missing packet))) (first_headers packet) (counted is_length_missing packet)
@@ -287,8 +290,8 @@ error_of (Err error) = Some error
 abbrev pub is_cut_off : Bool → List ℕ → Bool
 is_cut_off is_length_missing packet = nat_lt (length packet) (counted_len is_length_missing packet)
 
--- The error that refuses a packet. The errors come in this order: errors of the IP header, which is cut off, invalid or without a length; a
--- packet that is cut off; errors of the extension headers.
+-- The error that refuses a packet. The first error that applies counts: an error of the IP header, which is cut off, invalid or without a
+-- length; a packet that is cut off; an error of an extension header.
 abbrev pub refusal : List ℕ → Option IpError
 refusal packet = first_of (
     strict_header_refusal packet
@@ -296,11 +299,11 @@ refusal packet = first_of (
     ∷ error_of (headers_of false packet)
     ∷ [])
 
--- the error that refuses a packet in the lax call, which accepts a header without a length and a packet that is cut off
+-- the error that refuses a packet in the lax call, which accepts a packet that is cut off or states no length
 abbrev pub lax_refusal : List ℕ → Option IpError
 lax_refusal packet = first_of (header_refusal packet ∷ error_of (headers_of (lacks_len packet) packet) ∷ [])
 
--- the transport of a packet, from the contents of its headers and from the counted bytes after them
+-- the transport of a packet; it consists of the contents of all headers, and of the bytes after them that the IP header counts
 pub record Carries (packet : List ℕ) (transport : TransportInIp) : Type 0 where
   pub headers : Headers
   pub read : headers_of transport.is_length_missing packet ≡ Ok headers
@@ -318,21 +321,20 @@ pub record Carries (packet : List ℕ) (transport : TransportInIp) : Type 0 wher
   pub header_len : transport.header_len ≡ (first_headers packet).len
   pub counted_len : transport.counted_len ≡ counted_len transport.is_length_missing packet
 
--- the counted bytes after an IPv4 header, or all bytes after it if its length is missing
+-- the bytes after an IPv4 header that it counts, or all bytes after it if its length is missing
 abbrev pub after_ipv4_header : Bool → List ℕ → List ℕ
 after_ipv4_header is_length_missing packet =
     drop (ipv4_header_len packet) (if is_length_missing then packet else take (total_len packet) packet)
 
--- The protocol number of an IPv4 packet, from its header and the bytes after it. If there is an authentication header, the number is in
--- that header.
+-- The protocol number of an IPv4 packet. If an authentication header follows the IPv4 header, it contains the number.
 abbrev pub ipv4_protocol : List ℕ → List ℕ → ℕ
 ipv4_protocol header after = if has_authentication header then next_number after else slice_index header 9
 
--- the payload of an IPv4 packet, from its header and the bytes after it
+-- the payload of an IPv4 packet, given its header and the bytes after the header
 abbrev pub ipv4_payload : List ℕ → List ℕ → List ℕ
 ipv4_payload header after = if has_authentication header then drop (extension_len authentication after) after else after
 
--- the transport of an IPv4 packet, by its header and the authentication header after it
+-- this is the transport of an IPv4 packet, by its header and by the authentication header if there is one
 pub record IsOverIpv4 (packet : List ℕ) (transport : TransportInIp) : Type 0 where
   pub options : List (List ℕ)
   pub are_options : AreOptions ipv4_option (drop 20 (ipv4_header packet)) options
@@ -344,7 +346,7 @@ pub record IsOverIpv4 (packet : List ℕ) (transport : TransportInIp) : Type 0 w
   pub payload : transport.payload.now ≡ ipv4_payload (ipv4_header packet) (after_ipv4_header transport.is_length_missing packet)
   pub header_len : transport.header_len ≡ ipv4_header_len packet
 
--- the transport of an IPv6 packet without an extension header
+-- this is the transport of an IPv6 packet without extension headers
 pub record IsOverIpv6 (packet : List ℕ) (transport : TransportInIp) : Type 0 where
   pub addresses : by_value transport.addresses ≡ Ipv6 (slice_range (ipv6_header packet) 8 24) (Some (slice_range (ipv6_header packet) 24 40))
   pub protocol : transport.protocol.0 ≡ next_header packet
@@ -359,7 +361,7 @@ padding is_length_missing packet = drop (counted_len is_length_missing packet) p
 
 -- ---- the parts of a packet
 
--- the IP header, options included
+-- the IP header, with its options
 abbrev pub ip_header : List ℕ → List ℕ
 ip_header packet = if version packet == 4 then ipv4_header packet else ipv6_header packet
 
@@ -367,7 +369,7 @@ ip_header packet = if version packet == 4 then ipv4_header packet else ipv6_head
 abbrev pub first_number : List ℕ → ℕ
 first_number packet = if version packet == 4 then slice_index (ipv4_header packet) 9 else next_header packet
 
--- an extension header may come directly after the IP header: any over IPv6, and only an authentication header over IPv4
+-- An extension header may follow the IP header directly: any extension header over IPv6, and only an authentication header over IPv4.
 abbrev pub may_be_extended : List ℕ → Bool
 may_be_extended packet = if version packet == 4 then has_authentication (ipv4_header packet) else true
 
@@ -387,14 +389,14 @@ addresses_by packet extensions =
 abbrev pub is_fragment : List ℕ → List ExtensionHeader → Bool
 is_fragment packet extensions = if version packet == 4 then ipv4_is_fragment (ipv4_header packet) else is_fragment_by extensions
 
--- the fragment offset of a packet with these extension headers is above 0: the offset in its IPv4 header (RFC 791,
--- section 3.1), or over IPv6 in its fragment header (RFC 8200, section 4.5)
+-- The fragment offset of a packet with these extension headers is above 0. The offset is in the IPv4 header (RFC 791, section 3.1), or over
+-- IPv6 in the fragment header (RFC 8200, section 4.5).
 abbrev pub has_fragment_offset : List ℕ → List ExtensionHeader → Bool
 has_fragment_offset packet extensions =
     if version packet == 4 then not (ipv4_fragment_offset (ipv4_header packet) == 0) else is_later_fragment_by extensions
 
--- The packet consists of its headers and the payload of this transport, and no other transport fits the packet. Options in the extension
--- headers follow one another.
+-- The packet consists of its headers and the payload of this transport, and no other transport fits the packet. The options in each
+-- extension header follow one another.
 pub record IsAfterHeaders (packet : List ℕ) (transport : TransportInIp) : Type 0 where
   pub extensions : List ExtensionHeader
   pub reads : Reads transport.is_length_missing packet extensions transport.protocol.0 transport.payload.now
@@ -407,8 +409,8 @@ pub record IsAfterHeaders (packet : List ℕ) (transport : TransportInIp) : Type
       → Reads transport.is_length_missing packet others protocol payload
       → (others ≡ extensions) × (protocol ≡ transport.protocol.0) × (payload ≡ transport.payload.now)
 
--- This error refuses the packet after its IP header. The packet consists of the IP header, whole extension headers, the
--- rest of the counted bytes, and the padding. The extension header at the front of the rest is the first that is refused.
+-- This error refuses the packet after its IP header. The packet consists of the IP header, whole extension headers, the rest of the counted
+-- bytes, and the padding. The extension header at the front of the rest is refused.
 pub record IsRefusedAfterHeaders (is_length_missing : Bool) (packet : List ℕ) (error : IpError) : Type 0 where
   pub extensions : List ExtensionHeader
   pub number : ℕ
@@ -420,7 +422,7 @@ pub record IsRefusedAfterHeaders (is_length_missing : Bool) (packet : List ℕ) 
   pub refuses : RefusesNext (first_headers packet).payload_len (first_headers packet).is_jumbogram
       (length (ip_header packet) + length (bytes_of extensions)) number rest error
 
--- two transports have equal fields, with addresses, payloads and fixed headers compared by their bytes
+-- all fields of both transports are equal; addresses, payloads and fixed headers are compared by their bytes
 abbrev pub AreAlike : TransportInIp → TransportInIp → Type 0
 AreAlike a b = (by_value a.addresses ≡ by_value b.addresses) × (a.protocol ≡ b.protocol) × (a.payload.now ≡ b.payload.now)
     × (a.payload_offset ≡ b.payload_offset) × (a.is_fragment ≡ b.is_fragment) × (a.is_later_fragment ≡ b.is_later_fragment)

@@ -5,7 +5,7 @@ use Rattle.ip_part.specs.Addresses.{Addresses, Ipv4, Ipv6}
 use Rattle.ip_part.specs.declared.proto.Proto.{Proto}
 use Rattle.ip_part.specs.declared.proto.Proto.TheVariants as protos
 
--- the protocol of this number (RFC 5237): ICMPv4 only over IPv4, and ICMPv6 only over IPv6
+-- the protocol with this number (RFC 5237); ICMPv4 is a protocol only over IPv4, and ICMPv6 only over IPv6
 abbrev pub proto_over : Addresses → ℕ → Option Proto
 proto_over (Ipv4 source destination) number =
     if number == udp_number then Some protos.Udp else if number == tcp_number then Some protos.Tcp else if number == icmpv4_number then Some protos.Icmpv4 else None

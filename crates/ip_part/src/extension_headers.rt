@@ -14,19 +14,19 @@ use crate::ipv6_options::{home_address_after, jumbo_payload_len};
 use crate::{IpAddresses, IpError};
 use net_base::{IpNumber, ip_number};
 
-/// The shortest extension header, and the length of a fragment header, in bytes (RFC 8200, section 4).
+/// The length of the shortest extension header, which is also the length of a fragment header, in bytes (RFC 8200, section 4).
 pub(crate) const MIN_LEN: usize = 8;
 
-/// The routing header of RFC 2460, section 4.4, which RFC 5095 deprecates.
+/// The routing type of RFC 2460, section 4.4, which RFC 5095 deprecates.
 const ROUTING_TYPE_SOURCE_ROUTE: u8 = 0;
 
-/// The routing header of a mobile node (RFC 6275, section 6.4).
+/// The routing type for a mobile node (RFC 6275, section 6.4).
 const ROUTING_TYPE_MOBILITY: u8 = 2;
 
-/// The segment routing header (RFC 8754, section 2).
+/// The routing type for segment routing (RFC 8754, section 2).
 const ROUTING_TYPE_SEGMENTS: u8 = 4;
 
-/// Reads the headers up to the transport, in the bytes that the IP header counts.
+/// Reads the headers up to the transport. `counted` are the bytes that the IP header counts.
 #[inline(always)]
 pub(crate) fn read_extension_headers<'a>(
     counted: &'a [u8],
@@ -68,7 +68,7 @@ fn is_extension(protocol: IpNumber) -> bool
         || protocol == ip_number::SHIM6
 }
 
-/// The extension header at the front of the bytes that are left.
+/// The extension header at the front of `rest`, the bytes after the headers that were read.
 #[inline(always)]
 fn extension_header<'a>(headers: &Headers<'_>, rest: &'a [u8]) -> Result<&'a [u8], IpError>
     ensures refused { RefusesExactly result (extension_refusal (headers_by_value headers.now) rest.now) }
@@ -96,7 +96,7 @@ fn extension_header<'a>(headers: &Headers<'_>, rest: &'a [u8]) -> Result<&'a [u8
     Ok(header)
 }
 
-/// Refuses an extension header that can't be in one packet with a jumbo payload option (RFC 2675, section 3).
+/// Refuses an extension header that breaks the rules for jumbograms (RFC 2675, section 3).
 #[inline(always)]
 fn check_jumbo_payload(headers: &Headers<'_>, header: &[u8]) -> Result<(), IpError>
     requires { 8 ≤ length header.now }
@@ -118,7 +118,7 @@ fn check_jumbo_payload(headers: &Headers<'_>, header: &[u8]) -> Result<(), IpErr
     Ok(())
 }
 
-/// Whether hop-by-hop options come directly after the IPv6 header.
+/// Whether hop-by-hop options follow the IPv6 header directly.
 #[inline(always)]
 fn is_first_options(headers: &Headers<'_>) -> bool
     ensures { result ≡ specs.is_first_options (headers_by_value headers.now) }
@@ -126,7 +126,7 @@ fn is_first_options(headers: &Headers<'_>) -> bool
     headers.len == IPV6_LEN && headers.protocol == ip_number::IPV6_HEADER_HOP_BY_HOP
 }
 
-/// The length of an extension header, in bytes.
+/// The length of the extension header at the front of `rest`, in bytes.
 #[inline(always)]
 pub(crate) fn extension_len(protocol: IpNumber, rest: &[u8]) -> usize
     requires { 8 ≤ length rest.now }
@@ -144,7 +144,7 @@ pub(crate) fn extension_len(protocol: IpNumber, rest: &[u8]) -> usize
     }
 }
 
-/// The contents of the headers after this further extension header.
+/// The contents of the headers after this extension header is added.
 #[inline(always)]
 fn headers_after<'a>(headers: &Headers<'a>, header: &'a [u8]) -> Headers<'a>
     requires whole { length header.now ≡ extension_len headers.now.protocol.0 header.now }
@@ -177,7 +177,7 @@ fn is_later_fragment(number: IpNumber, header: &[u8]) -> bool
     number == ip_number::IPV6_FRAGMENTATION_HEADER && offset != 0
 }
 
-/// Whether an extension header is the fragment header of a packet that has other fragments.
+/// Whether an extension header is a fragment header that belongs to one of several fragments.
 #[inline(always)]
 fn is_one_of_fragments(number: IpNumber, header: &[u8]) -> bool
     requires { 8 ≤ length header.now }
@@ -186,7 +186,7 @@ fn is_one_of_fragments(number: IpNumber, header: &[u8]) -> bool
     is_later_fragment(number, header) || has_more_fragments(number, header)
 }
 
-/// Whether an extension header is the fragment header of a fragment that is not the last.
+/// Whether an extension header is a fragment header after which more fragments follow.
 #[inline(always)]
 fn has_more_fragments(number: IpNumber, header: &[u8]) -> bool
     requires { 8 ≤ length header.now }
@@ -195,7 +195,7 @@ fn has_more_fragments(number: IpNumber, header: &[u8]) -> bool
     number == ip_number::IPV6_FRAGMENTATION_HEADER && header[3] & 1 != 0
 }
 
-/// The addresses after this further extension header.
+/// The addresses after this extension header is added.
 #[inline(always)]
 fn addresses_after<'a>(headers: &Headers<'a>, header: &'a [u8]) -> IpAddresses<'a>
     requires whole { length header.now ≡ extension_len headers.now.protocol.0 header.now }
@@ -214,7 +214,7 @@ fn addresses_after<'a>(headers: &Headers<'a>, header: &'a [u8]) -> IpAddresses<'
     }
 }
 
-/// The source after this further extension header.
+/// The source after this extension header is added.
 #[inline(always)]
 fn source_after<'a>(source: &'a [u8; 16], number: IpNumber, header: &'a [u8]) -> &'a [u8; 16]
     requires { 8 ≤ length header.now }
@@ -226,7 +226,7 @@ fn source_after<'a>(source: &'a [u8; 16], number: IpNumber, header: &'a [u8]) ->
     home_address_after(source, header)
 }
 
-/// The final destination after this further extension header.
+/// The final destination after this extension header is added.
 #[inline(always)]
 fn destination_after<'a>(
     destination: Option<&'a [u8; 16]>,
@@ -243,7 +243,7 @@ fn destination_after<'a>(
     final_destination(header)
 }
 
-/// The final destination by a routing header with segments left.
+/// The final destination that a routing header with segments left states.
 fn final_destination(header: &[u8]) -> Option<&[u8; 16]>
     requires whole { length header.now ≡ (slice_index header.now 1 + 1) * 8 }
     requires shortest { 8 ≤ length header.now }
@@ -260,7 +260,7 @@ fn final_destination(header: &[u8]) -> Option<&[u8; 16]>
     }
 }
 
-/// The entry of a routing header at this index: an address after the first eight bytes.
+/// The entry at this index in a routing header. An entry is an address, and the first entry follows the first eight bytes.
 fn entry(header: &[u8], index: usize) -> &[u8; 16]
     requires { 24 + index * 16 ≤ length header.now }
     ensures { result.now ≡ extensions.entry header.now index }

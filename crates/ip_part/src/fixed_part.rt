@@ -20,7 +20,7 @@ pub(crate) const IPV6_SOURCE_AT: usize = Ipv6Header::SOURCE_AT;
 pub(crate) const IPV6_DESTINATION_AT: usize = Ipv6Header::DESTINATION_AT;
 
 /// The fixed part of an IP header: the first 20 bytes of an IPv4 header (RFC 791, section 3.1), or the 40 bytes of an IPv6 header (RFC
-/// 8200, section 3). Options and extension headers don't change it.
+/// 8200, section 3). Options and extension headers do not change the fixed part.
 ///
 /// ```
 /// use etherparse_transport::ip::{FixedHeader, transport_in_ip};
@@ -37,34 +37,35 @@ pub(crate) const IPV6_DESTINATION_AT: usize = Ipv6Header::DESTINATION_AT;
 /// ```
 #[derive(Clone, Copy, Debug, PartialEq, Eq)]
 pub enum FixedHeader<'a> {
-    /// Over IPv4 (RFC 791, section 3.1).
+    /// The fixed part of an IPv4 header (RFC 791, section 3.1).
     Ipv4 {
         /// The address of the sender: bytes 12 to 15.
         source: &'a [u8; 4],
-        /// The address of the receiver: bytes 16 to 19. A checksum covers the final address. If a source route has an address left, the
-        /// final address is another one (RFC 1122, section 3.2.1.8).
+        /// The address of the receiver: bytes 16 to 19. If a source route has an address left, it differs from the final address, which a
+        /// checksum covers (RFC 1122, section 3.2.1.8).
         destination: &'a [u8; 4],
         /// The number of hops that are left: byte 8.
         time_to_live: u8,
-        /// The protocol of the bytes after the IP header: byte 9.
+        /// The protocol of the bytes that follow the IP header: byte 9.
         protocol: IpNumber,
     },
-    /// Over IPv6 (RFC 8200, section 3).
+    /// An IPv6 header (RFC 8200, section 3).
     Ipv6 {
-        /// The address of the sender: bytes 8 to 23. A mobile node may have another home address (RFC 6275, section 9.3.1).
+        /// The address of the sender: bytes 8 to 23. A mobile node may also have a home address (RFC 6275, section 9.3.1).
         source: &'a [u8; 16],
-        /// The address of the receiver: bytes 24 to 39. A checksum covers the final address, which can differ if there is a routing header
-        /// (RFC 8200, section 8.1).
+        /// The address of the receiver: bytes 24 to 39. If there is a routing header, it may differ from the final address, which a
+        /// checksum covers (RFC 8200, section 8.1).
         destination: &'a [u8; 16],
         /// The number of hops that are left: byte 7.
         hop_limit: u8,
-        /// The kind of header after the IPv6 header: byte 6.
+        /// The kind of header that follows the IPv6 header: byte 6.
         next_header: IpNumber,
     },
 }
 
-/// The fixed part of the IP header at the front of a packet. None if the version is neither 4 nor 6, or if the slice contains fewer than 20
-/// bytes of version 4 or 40 bytes of version 6. No length is checked, so that the fixed part of a refused packet can be read too.
+/// The fixed part of the IP header at the front of a packet. `None` if the version is neither 4 nor 6, or if the slice is shorter than 20
+/// bytes for version 4, or 40 bytes for version 6. The lengths in the header are not checked, so the fixed part of a refused packet can be
+/// read too.
 pub fn fixed_header(packet: &[u8]) -> Option<FixedHeader<'_>>
     ensures { option_map fixed_by_value result ≡ specs.fixed_header packet.now }
 {

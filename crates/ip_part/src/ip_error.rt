@@ -21,11 +21,11 @@ use thiserror::Error;
 #[derive(Clone, Copy, Debug, PartialEq, Eq, Error)]
 #[error("{}", self.text())]
 pub enum IpError {
-    /// The slice is empty, or ends within the IP header. Or it ends within the hop-by-hop options that must contain
-    /// the packet length (RFC 2675, section 3), so that the number of counted bytes is unknown.
+    /// The slice is empty, or ends within the IP header. Or it ends within hop-by-hop options that must contain the packet length (RFC
+    /// 2675, section 3), so that the length is unknown.
     HeaderCutOff {
-        /// The number of bytes needed, as far as it is known: 1 for an empty slice, 20 or the stated header length
-        /// for IPv4, 40 for IPv6, and 48 or the end of the hop-by-hop options if they must contain the length.
+        /// The least number of bytes that are needed: 1 for an empty slice, 20 or the stated header length for IPv4, and 40 for IPv6. If
+        /// hop-by-hop options must contain the length, it is 48 or the end of these options.
         required_len: usize,
         /// The length of the slice, in bytes.
         len: usize,
@@ -40,24 +40,25 @@ pub enum IpError {
         /// The stated header length, in bytes.
         header_len: usize,
     },
-    /// The total length of an IPv4 packet is below its header length (RFC 791, section 3.1). `transport_in_ip_lax` does not refuse 0.
+    /// The total length of an IPv4 packet is below its header length (RFC 791, section 3.1). `transport_in_ip_lax` accepts a total length
+    /// of 0.
     TotalLength {
         /// The total length, in bytes.
         total_len: usize,
         /// The length of the header, in bytes.
         header_len: usize,
     },
-    /// The payload length of an IPv6 packet is 0, and the hop-by-hop options directly after its header contain no
-    /// jumbo payload option (RFC 2675, section 3). `transport_in_ip_lax` does not refuse it.
+    /// The payload length of an IPv6 packet is 0, and the hop-by-hop options directly after its header contain no jumbo payload option (RFC
+    /// 2675, section 3). `transport_in_ip_lax` accepts it.
     JumboPayloadMissing,
-    /// A jumbo payload length that is not above 65,535 (RFC 2675, section 3).
+    /// A jumbo payload length is at most 65,535, so the payload length field could state it (RFC 2675, section 3).
     JumboPayloadLength {
         /// The jumbo payload length, in bytes.
         jumbo_payload_len: usize,
     },
     /// The header counts more bytes than the slice contains.
     PacketCutOff {
-        /// The number of bytes that the header counts, header included.
+        /// The number of bytes that the header counts, including the header itself.
         required_len: usize,
         /// The length of the slice, in bytes.
         len: usize,
@@ -68,17 +69,17 @@ pub enum IpError {
         protocol: IpNumber,
         /// The start of the extension header, in bytes from the start of the packet.
         offset: usize,
-        /// The length of the extension header in bytes, or the minimum 8 if its length byte may be missing.
+        /// The length of the extension header in bytes, or 8, the least length, if its length byte may be missing.
         required_len: usize,
-        /// The number of bytes of the packet from there on.
+        /// The number of bytes of the packet from this place on.
         len: usize,
     },
-    /// A jumbo payload option in an IPv6 packet whose payload length is not 0 (RFC 2675, section 3).
+    /// An IPv6 packet has a jumbo payload option, but its payload length is not 0 (RFC 2675, section 3).
     JumboPayloadUnexpected {
         /// The payload length, in bytes.
         payload_len: usize,
     },
-    /// A fragment header in an IPv6 packet with a jumbo payload option (RFC 2675, section 3).
+    /// An IPv6 packet has both a jumbo payload option and a fragment header (RFC 2675, section 3).
     JumboPayloadFragment {
         /// The start of the fragment header, in bytes from the start of the packet.
         offset: usize,

@@ -19,17 +19,17 @@ use crate::ipv6_options::jumbo_payload_len;
 use crate::{IpAddresses, IpError};
 use net_base::{IpNumber, Ipv4Header, Ipv6Header, Ipv6HeaderSlice, ip_number};
 
-/// The shortest IPv4 header, in bytes (RFC 791, section 3.1).
+/// The length of the shortest IPv4 header, in bytes (RFC 791, section 3.1).
 pub(crate) const IPV4_MIN_LEN: usize = Ipv4Header::MIN_LEN;
 
 /// The length of an IPv6 header, in bytes (RFC 8200, section 3).
 pub(crate) const IPV6_LEN: usize = Ipv6Header::LEN;
 
-/// The longest payload that the payload length of IPv6 can count (RFC 2675, section 2).
+/// The greatest length that the payload length field of IPv6 can state, in bytes (RFC 2675, section 2).
 const MAX_PAYLOAD_LEN: usize = 65_535;
 
-/// Reads the IP header and the number of bytes that it counts, header included. If a header states no length, it is refused if it must
-/// state one. Otherwise it counts only its own bytes.
+/// Reads the IP header, and returns the number of bytes that it counts, including the header itself. A header that must state a length and
+/// does not is refused. Any other header without a length counts only its own bytes.
 #[inline(always)]
 pub(crate) fn read_ip_header_with_len(packet: &[u8]) -> Result<(Headers<'_>, usize), IpError>
     ensures refused { RefusesExactly result (strict_header_refusal packet.now) }
@@ -48,7 +48,8 @@ pub(crate) fn read_ip_header_with_len(packet: &[u8]) -> Result<(Headers<'_>, usi
     }
 }
 
-/// The number of bytes that an IPv6 header counts if it states no length, which is its own length.
+/// The number of bytes that an IPv6 header without a stated length counts. It is the length of the header itself. If the header must state
+/// a length, it is refused.
 fn len_of_header(headers: &Headers<'_>) -> Result<usize, IpError>
     requires { is_ipv6 (by_value headers.now.addresses) ≡ true }
     ensures refused { RefusesExactly result (missing_len_refusal (headers_by_value headers.now)) }
@@ -60,7 +61,8 @@ fn len_of_header(headers: &Headers<'_>) -> Result<usize, IpError>
     Ok(headers.len)
 }
 
-/// Reads the IP header and the number of bytes that it states, header included, if it states a length.
+/// Reads the IP header, and returns the number of bytes that it states, including the header itself. The number is `None` if it states no
+/// length.
 #[inline(always)]
 pub(crate) fn read_ip_header(packet: &[u8]) -> Result<(Headers<'_>, Option<usize>), IpError>
     ensures refused { RefusesExactly result (header_refusal packet.now) }
@@ -83,7 +85,8 @@ pub(crate) fn read_ip_header(packet: &[u8]) -> Result<(Headers<'_>, Option<usize
     }
 }
 
-/// Reads an IPv4 header and the number of bytes that it counts. A total length of 0 is below the length of every header.
+/// Reads an IPv4 header, and returns the number of bytes that it counts. A total length of 0 is refused, since it is below the length of
+/// the header.
 #[inline(always)]
 fn read_ipv4_header_with_len(packet: &[u8]) -> Result<(Headers<'_>, usize), IpError>
     requires { version packet.now ≡ 4 }
@@ -122,7 +125,7 @@ fn is_fragment(header: &[u8]) -> bool
     u16::from_be_bytes([header[6], header[7]]) & 0x3fff != 0
 }
 
-/// The place of a fragment over IPv4 in its packet, in units of 8 bytes.
+/// The offset of an IPv4 fragment in its packet, in units of 8 bytes.
 #[inline(always)]
 fn fragment_offset(header: &[u8]) -> u16
     requires { 20 ≤ length header.now }
@@ -131,7 +134,7 @@ fn fragment_offset(header: &[u8]) -> u16
     u16::from_be_bytes([header[6], header[7]]) & 0x1fff
 }
 
-/// Whether an authentication header comes directly after an IPv4 header.
+/// Whether an authentication header follows an IPv4 header directly.
 #[inline(always)]
 fn has_authentication(header: &[u8]) -> bool
     requires { 20 ≤ length header.now }
@@ -163,7 +166,7 @@ fn ipv4_headers(header: &[u8]) -> Headers<'_>
     }
 }
 
-/// Reads an IPv4 header and the number of bytes that it states.
+/// Reads an IPv4 header, and returns the number of bytes that it states.
 #[inline(always)]
 fn read_ipv4_header(packet: &[u8]) -> Result<(Headers<'_>, Option<usize>), IpError>
     requires { version packet.now ≡ 4 }
@@ -222,7 +225,7 @@ fn ipv4_header(packet: &[u8]) -> Result<&[u8], IpError>
     Ok(&packet[..header_len])
 }
 
-/// Reads an IPv6 header and the number of bytes that it states.
+/// Reads an IPv6 header, and returns the number of bytes that it states.
 #[inline(always)]
 fn read_ipv6_header(packet: &[u8]) -> Result<(Headers<'_>, Option<usize>), IpError>
     requires { version packet.now ≡ 6 }
@@ -259,7 +262,7 @@ fn read_ipv6_header(packet: &[u8]) -> Result<(Headers<'_>, Option<usize>), IpErr
     Ok((headers, stated_len))
 }
 
-/// The jumbo payload length of a packet with an IPv6 header, if it has one.
+/// The jumbo payload length of a packet with an IPv6 header, if the packet has one.
 #[inline(always)]
 fn jumbo_len(
     packet: &[u8],
@@ -287,7 +290,7 @@ fn has_len_in_options(payload_len: usize, next_header: IpNumber) -> bool
     payload_len == 0 && next_header == ip_number::IPV6_HEADER_HOP_BY_HOP
 }
 
-/// The jumbo payload length in hop-by-hop options at the front of the bytes after an IPv6 header.
+/// The jumbo payload length in the hop-by-hop options at the front of `rest`, the bytes after an IPv6 header.
 fn len_in_options(rest: &[u8]) -> Result<Option<usize>, IpError>
     ensures refused { RefusesExactly result (len_in_options_refusal rest.now) }
     ensures len { IfOk result (λ len. len ≡ specs.len_in_options rest.now) }
@@ -301,7 +304,7 @@ fn len_in_options(rest: &[u8]) -> Result<Option<usize>, IpError>
     }
 }
 
-/// The hop-by-hop options at the front of the bytes after an IPv6 header.
+/// The hop-by-hop options at the front of `rest`, the bytes after an IPv6 header.
 fn first_options(rest: &[u8]) -> Result<&[u8], IpError>
     ensures refused { RefusesExactly result (options_refusal rest.now) }
     ensures kept { IfOk result (λ options. options.now ≡ specs.options_at rest.now) }
@@ -324,7 +327,7 @@ fn first_options(rest: &[u8]) -> Result<&[u8], IpError>
     Ok(&rest[..options_len])
 }
 
-/// The number of bytes that an IPv6 header states, header included.
+/// The number of bytes that an IPv6 header states, including the header itself.
 #[inline(always)]
 fn ipv6_stated_len(
     jumbo_len: Option<usize>,

@@ -15,7 +15,7 @@ const OPTIONS_AT: usize = Ipv4Header::MIN_LEN;
 /// The kind that ends the list of options (RFC 791, section 3.1).
 const END_OF_LIST: u8 = 0;
 
-/// The kind of no operation, which has no length byte (RFC 791, section 3.1).
+/// The kind of the option "no operation", which has no length byte (RFC 791, section 3.1).
 const NO_OPERATION: u8 = 1;
 
 /// The kind of a loose source route (RFC 791, section 3.1).
@@ -24,8 +24,8 @@ const LOOSE_SOURCE_ROUTE: u8 = 131;
 /// The kind of a strict source route (RFC 791, section 3.1).
 const STRICT_SOURCE_ROUTE: u8 = 137;
 
-/// The final destination of a packet: the last address of its source route if the route has an address left (RFC
-/// 1122, section 3.2.1.8), otherwise the destination in its header.
+/// The final destination of a packet. If its source route has an address left, it is the last address of the route (RFC 1122, section
+/// 3.2.1.8), otherwise the destination in the header.
 pub(crate) fn final_destination(header: &[u8]) -> &[u8; 4]
     requires { 20 ≤ length header.now }
     ensures { result.now ≡ ip.ipv4_destination header.now }
@@ -36,8 +36,8 @@ pub(crate) fn final_destination(header: &[u8]) -> &[u8; 4]
     }
 }
 
-/// Whether the options of an IPv4 header contain a loose or strict source route, option 131 or 137 (RFC 791, section 3.1). A route of any
-/// form counts, with or without an address left. Options are read up to the end of their list, or to a length that is below 2 or beyond the
+/// Whether the options of an IPv4 header contain a loose or strict source route, option 131 or 137 (RFC 791, section 3.1). A route counts
+/// with or without an address left. Options are read up to the end of their list, or up to an option whose length is below 2 or beyond the
 /// bytes.
 pub fn has_source_route(options: &[u8]) -> bool
     ensures { result ≡ is_some (find specs.is_source_route (specs.options_of specs.ipv4_option options.now)) }
@@ -45,7 +45,7 @@ pub fn has_source_route(options: &[u8]) -> bool
     source_route(options).is_some()
 }
 
-/// The first source route among options.
+/// The first source route among these options.
 fn source_route(options: &[u8]) -> Option<&[u8]>
     ensures found { MatchOption result
         (find specs.is_source_route (specs.options_of specs.ipv4_option options.now) ≡ None)
@@ -90,8 +90,8 @@ fn is_source_route(option: &[u8]) -> bool
     option[0] == LOOSE_SOURCE_ROUTE || option[0] == STRICT_SOURCE_ROUTE
 }
 
-/// Whether a source route contains an address that the packet has not reached yet. Then its pointer, which counts
-/// from 1, is at the first byte of an address.
+/// Whether a source route contains an address that the packet has not reached yet. Then the pointer of the route states the place of an
+/// address. The first byte of the route has the place 1.
 fn is_route_left(route: &[u8]) -> bool
     ensures left { result ≡ specs.is_route_left route.now }
     ensures shortest { result ≡ true → 7 ≤ length route.now }

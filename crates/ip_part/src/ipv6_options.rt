@@ -4,7 +4,7 @@ ghost use Rattle.ip_part.specs.Options as specs;
 
 use crate::address::ipv6_address;
 
-/// The type of padding of one byte, which has no length byte (RFC 8200, section 4.2).
+/// The type of the padding option of one byte, which has no length byte (RFC 8200, section 4.2).
 const PAD_1: u8 = 0;
 
 /// The type of the home address option (RFC 6275, section 6.3).
@@ -16,7 +16,7 @@ const JUMBO_PAYLOAD: u8 = 0xC2;
 /// The length of a home address, in bytes (RFC 6275, section 6.3).
 const HOME_ADDRESS_LEN: usize = 16;
 
-/// The last home address in destination options, or this source if there is none.
+/// The last home address in these destination options, or this source if they contain none.
 pub(crate) fn home_address_after<'a>(source: &'a [u8; 16], header: &'a [u8]) -> &'a [u8; 16]
     requires { 8 ≤ length header.now }
     ensures { result.now ≡ specs.home_address_after source.now header.now }
@@ -30,7 +30,7 @@ pub(crate) fn home_address_after<'a>(source: &'a [u8; 16], header: &'a [u8]) -> 
     address
 }
 
-/// The home address in an option, or this source if there is none.
+/// The home address in this option, or this source if the option contains none.
 fn home_address_or<'a>(source: &'a [u8; 16], option: &'a [u8]) -> &'a [u8; 16]
     requires { 1 ≤ length option.now }
     ensures { result.now ≡ specs.home_address_or source.now option.now }
@@ -41,7 +41,7 @@ fn home_address_or<'a>(source: &'a [u8; 16], option: &'a [u8]) -> &'a [u8; 16]
     ipv6_address(option, 2)
 }
 
-/// The jumbo payload length in hop-by-hop options, if there is one.
+/// The jumbo payload length in hop-by-hop options. `None` if they contain none.
 pub(crate) fn jumbo_payload_len(header: &[u8]) -> Option<usize>
     requires { 8 ≤ length header.now }
     ensures len { result ≡ specs.jumbo_payload_len header.now }
@@ -56,7 +56,7 @@ pub(crate) fn jumbo_payload_len(header: &[u8]) -> Option<usize>
     }
 }
 
-/// The first option with this type and this many bytes of data.
+/// The first option that has this type and this number of bytes of data.
 fn find_option(options: &[u8], kind: u8, len: usize) -> Option<&[u8]>
     requires { len ≤ 255 }
     ensures found { MatchOption result
@@ -74,8 +74,8 @@ fn find_option(options: &[u8], kind: u8, len: usize) -> Option<&[u8]>
     None
 }
 
-/// The option at the front. Bytes shorter than this length are not read, since they cannot contain the option.
-// perf: most destination options have eight bytes, and a home address needs 18. So the search ends at once (25 Nov 2026).
+/// The option at the front. `None` if the bytes are shorter than `len`, since then they can't contain the option that is looked for.
+// perf: most destination options have eight bytes, and a home address needs 18. So the search usually ends at once (25 Nov 2026).
 fn option_with_room(bytes: &[u8], len: usize) -> Option<&[u8]>
     ensures front { MatchOption result ((length bytes.now < len) ⊎ (specs.ipv6_option bytes.now ≡ None))
         (λ option. specs.ipv6_option bytes.now ≡ Some option.now) }
@@ -87,7 +87,7 @@ fn option_with_room(bytes: &[u8], len: usize) -> Option<&[u8]>
     first_option(bytes)
 }
 
-/// Whether an option has this type and this many bytes of data.
+/// Whether an option has this type and this number of bytes of data.
 fn is_option(option: &[u8], kind: u8, len: usize) -> bool
     requires shortest { 1 ≤ length option.now }
     requires longest { len ≤ 255 }

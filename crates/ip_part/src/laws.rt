@@ -1,10 +1,9 @@
-//! Laws of the types: a clone is the same value, and `==` holds exactly if two values are the same, with
-//! addresses and payload compared by their bytes. Each law is the contract of a function, so that it is checked with
-//! the calls.
+//! Laws of the types: a clone is the same value, and `==` holds exactly if two values are the same. Addresses and
+//! payloads are compared by their bytes. Each law is the contract of a function, so that it is checked with the calls.
 //!
 //! # Errors
 //!
-//! None: each clone succeeds.
+//! No call returns an error: each clone succeeds.
 
 ghost use Rattle.std.specs.Prelude.{◌≡◌, ◌↔◌, IsTrue, IsOkAnd};
 ghost use Rattle.ip_part.specs.Addresses.{by_value};
@@ -79,8 +78,8 @@ pub fn cloned_transport_in_ip<'a>(
     value.clone()
 }
 
-/// `==` holds for two values of `TransportInIp` exactly if their fields are equal, with the payload and the fixed
-/// header compared by their bytes.
+/// `==` holds for two values of `TransportInIp` exactly if all their fields are equal. Payloads and fixed headers are
+/// compared by their bytes.
 pub fn equal_transport_in_ip<'a>(a: &TransportInIp<'a>, b: &TransportInIp<'a>) -> bool
     ensures same { IsTrue result ↔ AreAlike a.now b.now }
 {

@@ -1,5 +1,5 @@
-//! From an IP packet to its transport: which bytes a captured packet's IP header counts, and what they contain (RFC
-//! 791, section 3.1; RFC 8200, sections 3 and 4; RFC 4302; RFC 2675).
+//! The transport in an IP packet: which bytes the IP header counts, and what they contain (RFC 791, section 3.1; RFC
+//! 8200, sections 3 and 4; RFC 4302; RFC 2675).
 //!
 //! `transport_in_ip` reads a packet of either version. It returns the addresses that a checksum covers, the protocol
 //! number, and the payload without padding. It skips the options of IPv4, the extension headers of IPv6, and an

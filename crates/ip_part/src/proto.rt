@@ -27,8 +27,8 @@ pub enum Proto {
     Icmpv6,
 }
 
-/// The protocol of this number between these addresses (RFC 5237). `None` for any other protocol, and for ICMP of the
-/// wrong IP version: ICMPv4 is a protocol only over IPv4, and ICMPv6 only over IPv6.
+/// The protocol with this number between these addresses (RFC 5237). `None` for a protocol other than UDP, TCP and
+/// ICMP. `None` also for ICMP of the wrong IP version: ICMPv4 is a protocol only over IPv4, and ICMPv6 only over IPv6.
 #[inline(always)]
 pub fn proto_over(addresses: IpAddresses<'_>, number: IpNumber) -> Option<Proto>
     ensures { result ≡ specs.proto_over (by_value addresses.entry) number.0 }

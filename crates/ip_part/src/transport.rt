@@ -10,7 +10,7 @@ use crate::ip_header::{read_ip_header, read_ip_header_with_len};
 use crate::{FixedHeader, IpAddresses, IpError, Proto, proto_over};
 use net_base::IpNumber;
 
-/// The transport in an IP packet (RFC 791, section 3.1; RFC 8200, sections 3 and 4).
+/// A transport that was found in an IP packet (RFC 791, section 3.1; RFC 8200, sections 3 and 4).
 ///
 /// ```
 /// use etherparse_transport::Proto;
@@ -35,29 +35,30 @@ pub struct TransportInIp<'a> {
     pub payload: &'a [u8],
     /// The start of the payload, in bytes from the start of the packet: the length of all headers.
     pub payload_offset: usize,
-    /// The payload is only a part of the payload of the original packet: more fragments follow, or the fragment offset is above 0. Then its
-    /// checksum can't be checked. A fragment header for which neither is true belongs to a whole packet (RFC 6946).
+    /// Whether the payload is only a part of the payload of the original packet: more fragments follow, or the fragment offset is above 0.
+    /// Then its checksum can't be checked. If a fragment header states neither, the packet is whole (RFC 6946).
     pub is_fragment: bool,
-    /// The payload is a later fragment: its fragment offset is above 0. Then its first bytes are from the middle of a
-    /// packet, not a transport header.
+    /// Whether the packet is a later fragment: its fragment offset is above 0. Then the payload does not begin with a transport header,
+    /// since it is a later part of the original payload.
     pub is_later_fragment: bool,
-    /// The IP header counts more bytes than the slice contains. It is false in a result of `transport_in_ip`.
+    /// Whether the IP header counts more bytes than the slice contains. It is always false after `transport_in_ip`.
     pub is_cut_off: bool,
-    /// The IP header states no length, and all bytes of the slice are counted. The total length is 0, or the payload length is 0
-    /// without a jumbo payload option and with a next header other than "no next header". It is false in a result of `transport_in_ip`.
+    /// Whether the IP header states no length, so that all bytes of the slice are counted. Then the total length of IPv4 is 0. Or the
+    /// payload length of IPv6 is 0, there is no jumbo payload option, and the next header is not "no next header". It is always false after
+    /// `transport_in_ip`.
     pub is_length_missing: bool,
     /// The fixed part of the IP header, with its addresses and its hop limit.
     pub fixed_header: FixedHeader<'a>,
-    /// The length of the IP header, in bytes: 20 to 60 over IPv4, options included, and 40 over IPv6, without extension headers.
+    /// The length of the IP header, in bytes. Over IPv4 it is 20 to 60, and includes the options. Over IPv6 it is 40, and excludes
+    /// extension headers.
     pub header_len: usize,
-    /// The number of bytes that the IP header counts, header included. If the packet is cut off, the slice contains fewer bytes. If the
-    /// IP header states no length, it is the number of all bytes of the slice.
+    /// The number of bytes that the IP header counts, including the header itself. If the packet is cut off, the slice contains fewer
+    /// bytes. If the IP header states no length, all bytes of the slice are counted.
     pub counted_len: usize,
 }
 
 impl<'a> TransportInIp<'a> {
-    /// The protocol of the payload, by its number and the version of the addresses, as `proto_over` returns it. A fragment has a protocol
-    /// too.
+    /// The protocol of the payload, as `proto_over` returns it for its number and the addresses. A fragment has a protocol too.
     #[inline(always)]
     pub fn proto(&self) -> Option<Proto>
         ensures { result ≡ specs.proto_over (by_value self.now.addresses) self.now.protocol.0 }
@@ -65,7 +66,7 @@ impl<'a> TransportInIp<'a> {
         proto_over(self.addresses, self.protocol)
     }
 
-    /// The number of bytes that the IP header counts and the slice does not contain. It is 0 unless the packet is cut off.
+    /// The number of bytes that the IP header counts but the slice does not contain. It is above 0 only if the packet is cut off.
     pub fn missing_len(&self) -> usize
         ensures { result ≡ self.now.counted_len - self.now.payload_offset - length self.now.payload.now }
     {
@@ -75,26 +76,26 @@ impl<'a> TransportInIp<'a> {
     }
 }
 
-/// Finds the transport in the IP packet at the front of the slice, as it follows a link layer header in a frame. The
-/// bytes after the bytes that the IP header counts are padding, and are left out. No checksum is checked.
+/// Finds the transport in the IP packet at the front of the slice. Bytes after the bytes that the IP header counts are padding, and are
+/// left out. No checksum is checked.
 ///
-/// Over IPv4 the call skips the options and an authentication header directly after them (RFC 4302, section 3.1). A second
-/// authentication header is the protocol. In a later fragment no header follows the IPv4 header. A loose or strict source route, option
-/// 131 or 137, makes its last address the destination if its pointer isn't past its end (RFC 791, section 3.1; RFC 1122, section
-/// 3.2.1.8). The first route counts. Options are read up to the end of their list, or to a length that is below 2 or beyond the header.
-/// A route is ignored if its number of addresses is not whole, or if its pointer is not at the first byte of an address.
+/// Over IPv4 the call skips the options and an authentication header directly after them (RFC 4302, section 3.1). A second authentication
+/// header is not skipped: its number is the protocol. In a later fragment no header follows the IPv4 header. If the pointer of a loose or
+/// strict source route, option 131 or 137, is not past its end, its last address is the destination (RFC 791, section 3.1; RFC 1122,
+/// section 3.2.1.8). The first route counts. Options are read up to the end of their list, or up to an option whose length is below 2 or
+/// beyond the header. A route is ignored if it does not contain whole addresses, or if its pointer is not at the first byte of an address.
 ///
 /// Over IPv6 the call skips these extension headers, in any order: hop-by-hop options, routing, fragment, destination options (RFC 8200,
 /// section 4), authentication (RFC 4302, section 2), mobility (RFC 6275, section 6.1), Host Identity Protocol (RFC 7401, section 5.1) and
 /// Shim6 (RFC 5533, section 5.1). Any other number is the protocol, including Encapsulating Security Payload, "no next header", and the two
-/// experimental numbers, 253 and 254. A later fragment has no further headers, and its fragment header names its protocol. The last routing
-/// header with segments left gives the final destination (RFC 8200, sections 4.4 and 8.1). The source is the last home address, option 0xC9
-/// with 16 bytes of data, in the last destination options that contain one (RFC 6275, sections 6.3 and 9.3.1). An option of another length
-/// is ignored. Nothing is read after an option that goes beyond its header.
+/// experimental numbers, 253 and 254. In a later fragment no header follows the fragment header, which states the protocol. The last
+/// routing header with segments left states the final destination (RFC 8200, sections 4.4 and 8.1). If destination options contain home
+/// addresses, option 0xC9 with 16 bytes of data, the last home address is the source (RFC 6275, sections 6.3 and 9.3.1). An option 0xC9 of
+/// another length is ignored. Nothing is read after an option that goes beyond its header.
 ///
-/// A payload length of 0 counts no bytes after the IPv6 header. If hop-by-hop options follow directly, they must
-/// contain the length, as in a jumbogram: the number in their first option 0xC2 with 4 bytes of data counts the bytes
-/// after the IPv6 header (RFC 2675, section 2). In any other place that option is not read.
+/// If the payload length is 0, no bytes after the IPv6 header are counted. There is one exception: if hop-by-hop options follow the IPv6
+/// header directly, they must contain the length, as in a jumbogram. The number in their first option 0xC2 with 4 bytes of data counts the
+/// bytes after the IPv6 header (RFC 2675, section 2). This option is read in no other place.
 ///
 /// # Errors
 ///
@@ -148,13 +149,12 @@ pub fn transport_in_ip(packet: &[u8]) -> Result<TransportInIp<'_>, IpError>
     })
 }
 
-/// Finds the transport in an IP packet that may be cut off or state no length. Captures often keep only the first bytes of each packet,
-/// and a host may leave the length to its network card. The call differs from `transport_in_ip` only for these packets, and refuses
-/// neither kind:
-/// - If the slice contains fewer bytes than the header counts, `payload` contains the bytes that are there, and `is_cut_off` is true.
+/// Finds the transport in an IP packet that may be cut off or state no length. Captures often keep only the first bytes of each packet, and
+/// a host may leave the length to its network card. The call differs from `transport_in_ip` only for these packets, which it accepts:
+/// - If the slice contains fewer bytes than the header counts, `payload` contains the bytes that are present, and `is_cut_off` is true.
 /// - For IPv4 with total length 0, and for IPv6 with payload length 0 and no jumbo payload length, all bytes of the slice are counted,
-///   possible padding included, and `is_length_missing` is true. An IPv6 packet with payload length 0 and "no next header" ends with its
-///   header (RFC 8200, section 4.7): no byte after the header is counted, and `is_length_missing` is false.
+///   padding too, and `is_length_missing` is true. An IPv6 packet with payload length 0 and "no next header" ends with its header (RFC
+///   8200, section 4.7): no byte after the header is counted, and `is_length_missing` is false.
 ///
 /// # Errors
 ///

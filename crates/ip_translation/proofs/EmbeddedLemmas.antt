@@ -32,7 +32,7 @@ embedded_is (Bits96 start) ipv4 len four =
     subst₂ (λ start ipv4. is_embedded (Bits96 start) (embedded (Bits96 start) ipv4) ≡ true) (whole start 11 len) (whole ipv4 4 four)
     (equal_self (listed start 0 11))
 
--- and this IPv4 address is the same
+-- an IPv4 address that is embedded is extracted again
 pub extracted_back : (prefix : Prefix64) (ipv4 : List ℕ) → length (octets prefix) ≡ octet_count prefix → length ipv4 ≡ 4
     → extracted prefix (embedded prefix ipv4) ≡ ipv4
 extracted_back (Bits32 start) ipv4 len four =
@@ -76,6 +76,6 @@ embedded_again (Bits96 start) address sixteen begins =
     (subst (λ address. embedded (Bits96 (take 11 (without_reserved address))) (extracted (Bits96 (take 11 (without_reserved address))) address)
     ≡ with_zero_suffix (Bits96 (take 11 (without_reserved address))) address) (whole address 16 sixteen) refl)
 
--- the test of the prefix is right
+-- an address that passes the test begins with the prefix
 pub begins_with : (a b : List ℕ) → pointwise nat_eq a b ≡ true → a ≡ b
 begins_with a b same = (bytes_decides a b).0 same

@@ -23,7 +23,7 @@ total_ipv6 source destination protocol len sixteen sixteen_too short =
       total-append_twice source destination (to_be_bytes w32 len ++ (0 ∷ 0 ∷ 0 ∷ protocol ∷ [])) (omega (arith, sixteen)) (omega (arith, sixteen_too)),
     )
 
--- the steps of the change, one address after the other
+-- replacing the source and then the destination turns one pseudo header into the other
 pub turns : (empty first both : ChecksumChange) (old_source old_destination new_source new_destination : List ℕ) (protocol len rest : ℕ)
     → length old_source ≡ 4 → length old_destination ≡ 4 → length new_source ≡ 16 → length new_destination ≡ 16 → len ≤ max_len_over_ipv4
     → ((packet : ℕ) → TurnsInto empty packet packet)

@@ -16,43 +16,43 @@ use Rattle.ip_translation.specs.declared.translation_error.TranslationError.TheV
 test_net : List ℕ
 test_net = 192 ∷ 0 ∷ 2 ∷ 33 ∷ []
 
--- 2001:db8::/32 and 2001:db8:c000:221::
+-- the prefix 2001:db8::/32, and the address 2001:db8:c000:221::
 row_32 : embedded (Bits32 (0x20 ∷ 0x01 ∷ 0x0d ∷ 0xb8 ∷ [])) test_net
     ≡ 0x20 ∷ 0x01 ∷ 0x0d ∷ 0xb8 ∷ 0xc0 ∷ 0x00 ∷ 0x02 ∷ 0x21 ∷ 0 ∷ 0 ∷ 0 ∷ 0 ∷ 0 ∷ 0 ∷ 0 ∷ 0 ∷ []
 unfolding test_net
 row_32 = refl
 
--- 2001:db8:100::/40 and 2001:db8:1c0:2:21::
+-- the prefix 2001:db8:100::/40, and the address 2001:db8:1c0:2:21::
 row_40 : embedded (Bits40 (0x20 ∷ 0x01 ∷ 0x0d ∷ 0xb8 ∷ 0x01 ∷ [])) test_net
     ≡ 0x20 ∷ 0x01 ∷ 0x0d ∷ 0xb8 ∷ 0x01 ∷ 0xc0 ∷ 0x00 ∷ 0x02 ∷ 0x00 ∷ 0x21 ∷ 0 ∷ 0 ∷ 0 ∷ 0 ∷ 0 ∷ 0 ∷ []
 unfolding test_net
 row_40 = refl
 
--- 2001:db8:122::/48 and 2001:db8:122:c000:2:2100::
+-- the prefix 2001:db8:122::/48, and the address 2001:db8:122:c000:2:2100::
 row_48 : embedded (Bits48 (0x20 ∷ 0x01 ∷ 0x0d ∷ 0xb8 ∷ 0x01 ∷ 0x22 ∷ [])) test_net
     ≡ 0x20 ∷ 0x01 ∷ 0x0d ∷ 0xb8 ∷ 0x01 ∷ 0x22 ∷ 0xc0 ∷ 0x00 ∷ 0x00 ∷ 0x02 ∷ 0x21 ∷ 0 ∷ 0 ∷ 0 ∷ 0 ∷ 0 ∷ []
 unfolding test_net
 row_48 = refl
 
--- 2001:db8:122:300::/56 and 2001:db8:122:3c0:0:221::
+-- the prefix 2001:db8:122:300::/56, and the address 2001:db8:122:3c0:0:221::
 row_56 : embedded (Bits56 (0x20 ∷ 0x01 ∷ 0x0d ∷ 0xb8 ∷ 0x01 ∷ 0x22 ∷ 0x03 ∷ [])) test_net
     ≡ 0x20 ∷ 0x01 ∷ 0x0d ∷ 0xb8 ∷ 0x01 ∷ 0x22 ∷ 0x03 ∷ 0xc0 ∷ 0x00 ∷ 0x00 ∷ 0x02 ∷ 0x21 ∷ 0 ∷ 0 ∷ 0 ∷ 0 ∷ []
 unfolding test_net
 row_56 = refl
 
--- 2001:db8:122:344::/64 and 2001:db8:122:344:c0:2:2100::
+-- the prefix 2001:db8:122:344::/64, and the address 2001:db8:122:344:c0:2:2100::
 row_64 : embedded (Bits64 (0x20 ∷ 0x01 ∷ 0x0d ∷ 0xb8 ∷ 0x01 ∷ 0x22 ∷ 0x03 ∷ 0x44 ∷ [])) test_net
     ≡ 0x20 ∷ 0x01 ∷ 0x0d ∷ 0xb8 ∷ 0x01 ∷ 0x22 ∷ 0x03 ∷ 0x44 ∷ 0x00 ∷ 0xc0 ∷ 0x00 ∷ 0x02 ∷ 0x21 ∷ 0 ∷ 0 ∷ 0 ∷ []
 unfolding test_net
 row_64 = refl
 
--- 2001:db8:122:344::/96 and 2001:db8:122:344::192.0.2.33
+-- the prefix 2001:db8:122:344::/96, and the address 2001:db8:122:344::192.0.2.33
 row_96 : embedded (Bits96 (0x20 ∷ 0x01 ∷ 0x0d ∷ 0xb8 ∷ 0x01 ∷ 0x22 ∷ 0x03 ∷ 0x44 ∷ 0 ∷ 0 ∷ 0 ∷ [])) test_net
     ≡ 0x20 ∷ 0x01 ∷ 0x0d ∷ 0xb8 ∷ 0x01 ∷ 0x22 ∷ 0x03 ∷ 0x44 ∷ 0 ∷ 0 ∷ 0 ∷ 0 ∷ 192 ∷ 0 ∷ 2 ∷ 33 ∷ []
 unfolding test_net
 row_96 = refl
 
--- 64:ff9b::/96 and 64:ff9b::192.0.2.33
+-- the prefix 64:ff9b::/96, and the address 64:ff9b::192.0.2.33
 row_of_well_known : embedded (Bits96 well_known_octets) test_net
     ≡ 0x00 ∷ 0x64 ∷ 0xff ∷ 0x9b ∷ 0 ∷ 0 ∷ 0 ∷ 0 ∷ 0 ∷ 0 ∷ 0 ∷ 0 ∷ 192 ∷ 0 ∷ 2 ∷ 33 ∷ []
 unfolding test_net
@@ -60,7 +60,7 @@ row_of_well_known = refl
 
 -- ---- an address with a suffix
 
--- 2001:db8:122:c000:2:21ff:0:1
+-- the address 2001:db8:122:c000:2:21ff:0:1, whose suffix is not zero
 with_suffix : List ℕ
 with_suffix = 0x20 ∷ 0x01 ∷ 0x0d ∷ 0xb8 ∷ 0x01 ∷ 0x22 ∷ 0xc0 ∷ 0x00 ∷ 0x00 ∷ 0x02 ∷ 0x21 ∷ 0xff ∷ 0 ∷ 0 ∷ 0 ∷ 1 ∷ []
 
@@ -115,7 +115,7 @@ other_prefix_allowed : to_ipv6_refusal prefix_48 test_net ≡ None
 unfolding prefix_48 test_net
 other_prefix_allowed = refl
 
--- the ends of 172.16.0.0/12
+-- the first and the last address of 172.16.0.0/12
 first_private : is_not_global (172 ∷ 16 ∷ 0 ∷ 0 ∷ []) ≡ true
 first_private = refl
 
@@ -124,15 +124,15 @@ after_private = refl
 
 -- ---- a header
 
--- from 192.0.2.33 to 198.51.100.7, with type of service b9, total length 31, time to live 64 and protocol UDP
+-- a header from 192.0.2.33 to 198.51.100.7, with type of service b9, total length 31, time to live 64, and protocol UDP
 header : List ℕ
 header = 0x45 ∷ 0xb9 ∷ 0 ∷ 31 ∷ 0x12 ∷ 0x34 ∷ 0x40 ∷ 0 ∷ 64 ∷ 17 ∷ 0x3b ∷ 0x85 ∷ 192 ∷ 0 ∷ 2 ∷ 33 ∷ 198 ∷ 51 ∷ 100 ∷ 7 ∷ []
 
--- 2001:db8:122::/48 for the source, and the well-known prefix for the destination
+-- the prefix 2001:db8:122::/48 for the source, and the well-known prefix for the destination
 prefixes : Prefixes
 prefixes = record { source = prefix_48; destination = Bits96 well_known_octets }
 
--- 2001:db8:122::/48 for both
+-- the prefixes 2001:db8:122::/48 for both addresses
 other_prefixes : Prefixes
 other_prefixes = record { source = prefix_48; destination = prefix_48 }
 
@@ -152,13 +152,13 @@ header_translated : translated_header other_prefixes header
 unfolding header other_prefixes prefix_48
 header_translated = refl
 
--- a wrong checksum, one below the right one
+-- a checksum that is 1 less than the right checksum
 wrong_checksum : header_refusal other_prefixes (0x45 ∷ 0xb9 ∷ 0 ∷ 31 ∷ 0x12 ∷ 0x34 ∷ 0x40 ∷ 0 ∷ 64 ∷ 17 ∷ 0x3b ∷ 0x84 ∷ 192 ∷ 0 ∷ 2 ∷ 33 ∷ 198 ∷ 51 ∷ 100 ∷ 7 ∷ [])
     ≡ Some HeaderChecksum
 unfolding folded other_prefixes prefix_48
 wrong_checksum = refl
 
--- the destination 224.51.100.7 is a multicast address
+-- a packet to the multicast address 224.51.100.7
 multicast : addresses_refusal (0x45 ∷ 0xb9 ∷ 0 ∷ 31 ∷ 0x12 ∷ 0x34 ∷ 0x40 ∷ 0 ∷ 64 ∷ 17 ∷ 0x21 ∷ 0x85 ∷ 192 ∷ 0 ∷ 2 ∷ 33 ∷ 224 ∷ 51 ∷ 100 ∷ 7 ∷ [])
     ≡ Some IllegalDestination
 multicast = refl

@@ -1,4 +1,4 @@
--- The IPv6 header for an IPv4 header (RFC 7915, section 4.1), and the headers that have none.
+-- The IPv6 header for an IPv4 header (RFC 7915, section 4.1), and the IPv4 headers that are not translated.
 use Rattle.std.specs.Prelude.{ℕ, ◌+◌, ◌-◌, ◌*◌, ◌/◌, ◌%◌, ◌==◌, Bool, not, ◌||◌, nat_lt, if◌then◌else◌, List, [], ◌∷◌, ◌++◌, drop, is_some, slice_index, slice_range, Option}
 use Rattle.std.specs.Int.{to_be_bytes, w16}
 use Rattle.std.specs.List.{find}
@@ -17,41 +17,48 @@ use Rattle.ip_translation.specs.declared.translation_error.TranslationError.TheV
 
 -- ---- the fields of an IPv4 header (RFC 791, section 3.1)
 
+-- the type of service
 abbrev pub type_of_service : List ℕ → ℕ
 type_of_service header = slice_index header 1
 
+-- the total length of the packet
 abbrev pub total_len : List ℕ → ℕ
 total_len header = be_number header 2 2
 
+-- the time to live
 abbrev pub time_to_live : List ℕ → ℕ
 time_to_live header = slice_index header 8
 
+-- the protocol
 abbrev pub protocol : List ℕ → ℕ
 protocol header = slice_index header 9
 
+-- the source address
 abbrev pub source : List ℕ → List ℕ
 source header = slice_range header 12 16
 
+-- the destination address
 abbrev pub destination : List ℕ → List ℕ
 destination header = slice_range header 16 20
 
 -- ---- errors
 
--- no address of a host: of network 0 or 127, multicast, or reserved (RFC 1812, sections 4.2.2.11 and 5.3.7)
+-- not the address of a host: of network 0 or 127, multicast, or reserved (RFC 1812, sections 4.2.2.11 and 5.3.7)
 abbrev pub is_illegal : List ℕ → Bool
 is_illegal address = slice_index address 0 == 0 || (slice_index address 0 == 127 || nat_lt 223 (slice_index address 0))
 
+-- the errors about the addresses, in this order: the source, then the destination, is not the address of a host
 abbrev pub addresses_refusal : List ℕ → Option TranslationError
 addresses_refusal header = first_of (
     refused_if (is_illegal (source header)) IllegalSource
     ∷ refused_if (is_illegal (destination header)) IllegalDestination
     ∷ [])
 
--- a loose or strict source route among the options (RFC 791, section 3.1)
+-- the options contain a loose or strict source route (RFC 791, section 3.1)
 abbrev pub has_source_route : List ℕ → Bool
 has_source_route header = is_some (find is_source_route (options_of ipv4_option (drop 20 header)))
 
--- the errors of the fields, in this order
+-- the errors about the fields of a header, in this order
 abbrev pub field_refusal : List ℕ → Option TranslationError
 field_refusal header = first_of (
     refused_if (nat_lt (total_len header) (ipv4_header_len header)) (TotalLength (total_len header) (ipv4_header_len header))
@@ -62,7 +69,7 @@ field_refusal header = first_of (
     ∷ addresses_refusal header
     ∷ [])
 
--- and then an address that has no translation
+-- the errors about a header, in this order: those about its fields, and those about addresses without a translation
 abbrev pub header_refusal : Prefixes → List ℕ → Option TranslationError
 header_refusal prefixes header = first_of (
     field_refusal header
@@ -72,17 +79,17 @@ header_refusal prefixes header = first_of (
 
 -- ---- the translated header
 
--- ICMPv6 for ICMP, and otherwise the same protocol
+-- the next header for this protocol: ICMPv6 for ICMP, otherwise the protocol itself
 abbrev pub next_header : ℕ → ℕ
 next_header protocol = if protocol == icmpv4_number then icmpv6_number else protocol
 
--- An IPv6 header (RFC 8200, section 3). Version 6 has four bits, the traffic class has eight bits, and the flow label is 0. Next header and hop
--- limit are two bytes.
+-- An IPv6 header (RFC 8200, section 3). Version 6 has four bits, the traffic class has eight bits, and the flow label is 0. `next` is two
+-- bytes: the next header and the hop limit.
 abbrev pub ipv6_header : ℕ → ℕ → List ℕ → List ℕ → List ℕ → List ℕ
 ipv6_header traffic_class payload_len next source destination =
     (0x60 + traffic_class / 16) ∷ (traffic_class % 16 * 16) ∷ 0 ∷ 0 ∷ to_be_bytes w16 payload_len ++ (next ++ (source ++ destination))
 
--- each field by its rule
+-- the IPv6 header for this IPv4 header
 abbrev pub translated_header : Prefixes → List ℕ → List ℕ
 translated_header prefixes header = ipv6_header
     (type_of_service header)
@@ -93,11 +100,11 @@ translated_header prefixes header = ipv6_header
 
 -- ---- the pseudo headers of UDP and TCP
 
--- of this protocol and this length between the old addresses
+-- the pseudo header before the translation, with this protocol and length
 abbrev pub old_pseudo_header : List ℕ → ℕ → ℕ → List ℕ
 old_pseudo_header header protocol len = ipv4_pseudo_header (source header) (destination header) protocol len
 
--- the same between the new addresses
+-- the pseudo header after the translation, with this protocol and length
 abbrev pub new_pseudo_header : Prefixes → List ℕ → ℕ → ℕ → List ℕ
 new_pseudo_header prefixes header protocol len =
     ipv6_pseudo_header (embedded prefixes.source (source header)) (embedded prefixes.destination (destination header)) protocol len

@@ -1,6 +1,6 @@
 -- IPv6 addresses that contain an IPv4 address (RFC 6052, section 2).
 --
--- Octet 8 of such an address, bits 64 to 71, is reserved and 0. The other 15 octets are the prefix, the IPv4 address and the suffix:
+-- Octet 8 of these addresses (bits 64 to 71) is reserved and is 0. The other 15 octets are the prefix, the IPv4 address and the suffix:
 --
 --   prefix   octets of the prefix   octets of the IPv4 address   octets of the suffix
 --   /32      0 to 3                 4 to 7                       9 to 15
@@ -31,7 +31,7 @@ octets (Bits56 start) = start
 octets (Bits64 start) = start
 octets (Bits96 start) = start
 
--- the number of these octets
+-- the number of octets of a prefix, without the reserved octet
 abbrev pub octet_count : Prefix64 → ℕ
 octet_count (Bits32 start) = 4
 octet_count (Bits40 start) = 5
@@ -40,7 +40,7 @@ octet_count (Bits56 start) = 7
 octet_count (Bits64 start) = 8
 octet_count (Bits96 start) = 11
 
--- the length of a prefix in bits, the reserved octet included
+-- the length of a prefix in bits; it counts the reserved octet
 abbrev pub prefix_len : Prefix64 → ℕ
 prefix_len (Bits32 start) = 32
 prefix_len (Bits40 start) = 40
@@ -49,7 +49,7 @@ prefix_len (Bits56 start) = 56
 prefix_len (Bits64 start) = 64
 prefix_len (Bits96 start) = 96
 
--- these octets with the reserved octet, which is 0
+-- an address with these 15 octets and the reserved octet, which is 0
 abbrev pub with_reserved : List ℕ → List ℕ
 with_reserved fifteen = take 8 fifteen ++ (0 ∷ drop 8 fifteen)
 
@@ -57,7 +57,7 @@ with_reserved fifteen = take 8 fifteen ++ (0 ∷ drop 8 fifteen)
 abbrev pub without_reserved : List ℕ → List ℕ
 without_reserved address = take 8 address ++ drop 9 address
 
--- RFC 6052, section 2.2
+-- whether a prefix may have this length (RFC 6052, section 2.2)
 abbrev pub is_prefix_len : ℕ → Bool
 is_prefix_len len = len == 32 || (len == 40 || (len == 48 || (len == 56 || (len == 64 || len == 96))))
 
@@ -65,7 +65,8 @@ is_prefix_len len = len == 32 || (len == 40 || (len == 48 || (len == 56 || (len 
 abbrev pub network : List ℕ → ℕ → List ℕ
 network address len = take (len / 8) address ++ replicate (16 - len / 8) 0
 
--- no prefix: another length, bits 64 to 71 that are not all 0 (RFC 6052, section 2.2), or a bit after the prefix that is not 0
+-- why an address and a length do not define a prefix: the length is not allowed, bits 64 to 71 are not all 0 (RFC 6052, section 2.2), or a
+-- bit after the prefix is not 0
 abbrev pub prefix_refusal : List ℕ → ℕ → Option Prefix64Error
 prefix_refusal address len = first_of (
     refused_if (not (is_prefix_len len)) (Len len)
@@ -73,10 +74,11 @@ prefix_refusal address len = first_of (
     ∷ refused_if (not (pointwise nat_eq (network address len) address)) SuffixBits
     ∷ [])
 
--- 64:ff9b::/96 (RFC 6052, section 2.1)
+-- the octets of 64:ff9b::/96, without the reserved octet (RFC 6052, section 2.1)
 abbrev pub well_known_octets : List ℕ
 well_known_octets = 0 ∷ 0x64 ∷ 0xff ∷ 0x9b ∷ 0 ∷ 0 ∷ 0 ∷ 0 ∷ 0 ∷ 0 ∷ 0 ∷ []
 
+-- whether this is the well-known prefix
 abbrev pub is_well_known : Prefix64 → Bool
 is_well_known (Bits32 start) = false
 is_well_known (Bits40 start) = false
@@ -87,37 +89,38 @@ is_well_known (Bits96 start) = pointwise nat_eq start well_known_octets
 
 -- ---- embedding
 
--- prefix, IPv4 address, and a suffix of zeros, with the reserved octet (RFC 6052, sections 2.2 and 2.3)
+-- the address that consists of the prefix, this IPv4 address and a suffix of zeros, with the reserved octet (RFC 6052, sections 2.2 and
+-- 2.3)
 abbrev pub embedded : Prefix64 → List ℕ → List ℕ
 embedded prefix ipv4 = with_reserved (octets prefix ++ (ipv4 ++ replicate (11 - octet_count prefix) 0))
 
--- the address of a prefix, with zeros after the prefix
+-- the address that begins with the prefix, and whose other bits are 0
 abbrev pub prefix_address : Prefix64 → List ℕ
 prefix_address prefix = embedded prefix (replicate 4 0)
 
--- the IPv4 address directly after the prefix, without the reserved octet (RFC 6052, section 2.3)
+-- the IPv4 address that follows the prefix in an address; the reserved octet is skipped (RFC 6052, section 2.3)
 abbrev pub extracted : Prefix64 → List ℕ → List ℕ
 extracted prefix address = slice_range (without_reserved address) (octet_count prefix) (octet_count prefix + 4)
 
--- An address contains an IPv4 address if it begins with the prefix, and if its reserved octet is 0. Any suffix is allowed, since a translator
--- ignores its bits (RFC 6052, section 2.2).
+-- An address contains an IPv4 address if it begins with the prefix, and if its reserved octet is 0. Any suffix is allowed, since a
+-- translator ignores its bits (RFC 6052, section 2.2).
 abbrev pub is_embedded : Prefix64 → List ℕ → Bool
 is_embedded prefix address =
     slice_index address 8 == 0 && pointwise nat_eq (take (octet_count prefix) (without_reserved address)) (octets prefix)
 
--- the same address with a suffix of zeros
+-- this address, but with a suffix of zeros
 abbrev pub with_zero_suffix : Prefix64 → List ℕ → List ℕ
 with_zero_suffix prefix address =
     with_reserved (take (octet_count prefix + 4) (without_reserved address) ++ replicate (11 - octet_count prefix) 0)
 
 -- ---- global addresses
 
--- the IPv4 address is in the block: their first `bits` bits are the same
+-- the IPv4 address is in the block: its first `bits` bits are those of the block
 abbrev pub is_in : List ℕ → ℕ → List ℕ → Bool
 is_in block bits ipv4 = from_be_bytes w32 ipv4 / 2 ^ (32 - bits) == from_be_bytes w32 block / 2 ^ (32 - bits)
 
--- The special addresses of RFC 5735, section 4, and the shared addresses of RFC 6598, which updates it. RFC 6052, section 3.1, calls them not
--- global.
+-- The address is special (RFC 5735, section 4) or shared (RFC 6598, which updates RFC 5735). So it is not global in the sense of RFC 6052,
+-- section 3.1.
 abbrev pub is_not_global : List ℕ → Bool
 is_not_global ipv4 =
     is_in (0 ∷ 0 ∷ 0 ∷ 0 ∷ []) 8 ipv4
@@ -136,17 +139,17 @@ is_not_global ipv4 =
     || (is_in (224 ∷ 0 ∷ 0 ∷ 0 ∷ []) 4 ipv4
     || is_in (240 ∷ 0 ∷ 0 ∷ 0 ∷ []) 4 ipv4)))))))))))))
 
--- the well-known prefix must not represent such an address (RFC 6052, section 3.1)
+-- the prefix is the well-known prefix, which must not embed this address (RFC 6052, section 3.1)
 abbrev pub is_excluded : Prefix64 → List ℕ → Bool
 is_excluded prefix ipv4 = is_well_known prefix && is_not_global ipv4
 
 -- ---- addresses in packets
 
--- an address that no translated packet contains
+-- why an IPv4 address is not translated to IPv6
 abbrev pub to_ipv6_refusal : Prefix64 → List ℕ → Option AddressError
 to_ipv6_refusal prefix ipv4 = refused_if (is_excluded prefix ipv4) NotGlobal
 
--- an address without an IPv4 address, and then the same rule
+-- why an IPv6 address is not translated to IPv4: it contains no IPv4 address, or the prefix must not embed the IPv4 address
 abbrev pub to_ipv4_refusal : Prefix64 → List ℕ → Option AddressError
 to_ipv4_refusal prefix address = first_of (
     refused_if (not (is_embedded prefix address)) NotEmbedded

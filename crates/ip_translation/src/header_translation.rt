@@ -13,7 +13,7 @@ use ip_part::has_source_route;
 use net_base::{IpNumber, Ipv4HeaderSlice, ip_number};
 use word_sum::checksum_change::ChecksumChange;
 
-/// The IPv6 header for the header of an IPv4 packet that is no fragment (RFC 7915, section 4.1).
+/// Translates the header of an IPv4 packet that is not a fragment to an IPv6 header (RFC 7915, section 4.1).
 ///
 /// | Field | Value |
 /// |---|---|
@@ -24,7 +24,7 @@ use word_sum::checksum_change::ChecksumChange;
 /// | hop limit | time to live, lowered by 1, since a translator is a router |
 /// | source, destination | the addresses that the prefixes embed, by `Prefix64::to_ipv6` |
 ///
-/// Options are skipped. A checksum of the transport that covers a pseudo header is updated by the caller.
+/// Options are left out. The caller updates the checksum of the transport, if it covers a pseudo header.
 ///
 /// # Errors
 ///
@@ -65,11 +65,11 @@ pub fn header_to_ipv6(
     ))
 }
 
-/// The change of the pseudo header of UDP and TCP (RFC 7915, section 4.5): the IPv6 addresses replace the IPv4 addresses. Protocol and
-/// length stay, and so does the rest of the packet.
+/// The change of the pseudo header of UDP and TCP (RFC 7915, section 4.5): the IPv6 addresses replace the IPv4 addresses. The rest of the
+/// pseudo header and of the packet is unchanged.
 ///
-/// `ChecksumChange::apply_udp` and `apply` update the checksum of a UDP packet and of a TCP segment. A UDP packet with checksum 0 has no
-/// checksum to update, and IPv6 requires one. ICMPv4 has no pseudo header.
+/// `ChecksumChange::apply_udp` updates the checksum of a UDP packet, and `apply` that of a TCP segment. IPv6 requires a checksum, so a UDP
+/// packet with checksum 0 can't be updated. ICMPv4 has no pseudo header.
 pub fn pseudo_header_change(header: &Ipv4HeaderSlice<'_>, prefixes: &Prefixes) -> ChecksumChange
     ensures removed { removed_value result ≡ removed_addresses header.now }
     ensures added { added_value result ≡ added_addresses prefixes.now header.now }
@@ -103,7 +103,7 @@ fn byte_at(bytes: &[u8], place: usize) -> u8
     bytes[place]
 }
 
-/// Refuses a header with any error but those of its prefixes, and returns the length of the payload.
+/// Refuses a header with a wrong field, and returns the length of the payload. The prefixes are not checked.
 fn check_header(header: &Ipv4HeaderSlice<'_>) -> Result<u16, TranslationError>
     ensures refused { RefusesExactly result (specs.field_refusal header.now) }
     ensures payload_len { IfOk result (λ len. len ≡ specs.total_len header.now - ipv4_header_len header.now) }
@@ -133,7 +133,7 @@ fn check_header(header: &Ipv4HeaderSlice<'_>) -> Result<u16, TranslationError>
     Ok(total_len - header_len)
 }
 
-/// Refuses a header whose addresses are not both addresses of hosts.
+/// Refuses a header if one of its addresses is not the address of a host.
 fn check_addresses(header: &Ipv4HeaderSlice<'_>) -> Result<(), TranslationError>
     ensures refused { RefusesExactly result (specs.addresses_refusal header.now) }
 {
@@ -153,7 +153,7 @@ pub(crate) fn is_illegal(address: [u8; 4]) -> bool
     address[0] == 0 || address[0] == 127 || address[0] > 223
 }
 
-/// The protocol of the translated packet.
+/// The next header of a translated packet with this protocol.
 fn next_header(protocol: IpNumber) -> IpNumber
     ensures { result.0 ≡ specs.next_header protocol.0 }
 {
@@ -164,7 +164,7 @@ fn next_header(protocol: IpNumber) -> IpNumber
     }
 }
 
-/// An IPv6 header with this traffic class, payload length, next header and hop limit, and between these addresses. The flow label is 0.
+/// An IPv6 header with these fields. The flow label is 0.
 fn ipv6_header(
     traffic_class: u8,
     payload_len: u16,

@@ -7,7 +7,7 @@ use crate::{AddressError, Prefix64Error};
 
 /// A prefix of IPv6 addresses that contain an IPv4 address (RFC 6052, section 2.2).
 ///
-/// Octet 8 of such an address, bits 64 to 71, is reserved and 0. No variant contains it.
+/// Octet 8 of these addresses (bits 64 to 71) is reserved and is 0. The variants do not contain it.
 #[derive(Clone, Copy, Debug, PartialEq, Eq, Hash)]
 pub enum Prefix64 {
     /// 32 bits: octets 0 to 3.
@@ -28,7 +28,7 @@ impl Prefix64 {
     /// The well-known prefix, 64:ff9b::/96 (RFC 6052, section 2.1).
     pub const WELL_KNOWN: Prefix64 = Prefix64::Bits96(WELL_KNOWN_OCTETS);
 
-    /// The prefix of this length, in bits, at the front of an address.
+    /// Returns the prefix with this length in bits. `address` begins with the prefix, and all its other bits are 0.
     ///
     /// # Errors
     ///
@@ -67,7 +67,7 @@ impl Prefix64 {
         }
     }
 
-    /// The address of the prefix, with zeros after the prefix.
+    /// The address that begins with the prefix, and whose other bits are 0.
     pub fn address(&self) -> [u8; 16]
         ensures { result ≡ specs.prefix_address self.now }
     {
@@ -84,7 +84,7 @@ impl Prefix64 {
         self.join(ipv4)
     }
 
-    /// Prefix, IPv4 address and suffix, with the reserved octet.
+    /// The IPv6 address that consists of the prefix, this IPv4 address and a suffix of zeros, with the reserved octet.
     fn join(&self, ipv4: [u8; 4]) -> [u8; 16]
         ensures joined { result ≡ specs.embedded self.now ipv4 }
         ensures len { length (specs.octets self.now) ≡ specs.octet_count self.now }
@@ -118,12 +118,12 @@ impl Prefix64 {
         }
     }
 
-    /// The IPv4 address in an IPv6 address (RFC 6052, section 2.3). `None` if the address does not begin with the prefix, or if bits 64 to 71
-    /// are not 0, as section 2.2 requires. The suffix may have any value, which section 2.2 tells a translator to ignore.
+    /// The IPv4 address in an IPv6 address (RFC 6052, section 2.3). `None` if the IPv6 address does not begin with the prefix, or if bits
+    /// 64 to 71 are not 0, as section 2.2 requires. Any suffix is allowed, since a translator ignores it (section 2.2).
     pub fn extract(&self, address: &[u8; 16]) -> Option<[u8; 4]>
         ensures extracted { MatchOption result (specs.is_embedded self.now address.now ≡ false)
             (λ ipv4. (specs.is_embedded self.now address.now ≡ true) × (ipv4 ≡ specs.extracted self.now address.now)) }
-        // `embed` returns the same address, with a suffix of zeros.
+        // `embed` returns the same address, but with a suffix of zeros.
         ensures embedded { IfSome result (λ ipv4. specs.embedded self.now ipv4 ≡ specs.with_zero_suffix self.now address.now) }
     {
         let (is_prefix, ipv4) = self.front(address);
@@ -134,7 +134,7 @@ impl Prefix64 {
         }
     }
 
-    /// The address in an IPv6 packet for an address in an IPv4 packet, as `embed` returns it.
+    /// Translates an address of an IPv4 packet to IPv6, as `embed` does.
     ///
     /// # Errors
     ///
@@ -149,7 +149,7 @@ impl Prefix64 {
         Ok(self.embed(ipv4))
     }
 
-    /// The address in an IPv4 packet for an address in an IPv6 packet, as `extract` returns it.
+    /// Translates an address of an IPv6 packet to IPv4, as `extract` does.
     ///
     /// # Errors
     ///
@@ -169,7 +169,7 @@ impl Prefix64 {
         Ok(ipv4)
     }
 
-    /// Whether the prefix must not represent this address.
+    /// Whether the prefix must not embed this address, since the prefix is the well-known prefix and the address is not global.
     fn is_excluded(&self, ipv4: [u8; 4]) -> bool
         ensures { result ≡ specs.is_excluded self.now ipv4 }
     {
@@ -199,7 +199,7 @@ impl Prefix64 {
 /// The place of the reserved octet, which contains bits 64 to 71 (RFC 6052, section 2.2).
 const RESERVED_AT: usize = 8;
 
-/// The prefix of this length at the front of an address, whatever bits come after it.
+/// The prefix with this length at the front of an address, whatever bits follow the prefix. `None` if no prefix has this length.
 fn prefix_of(address: &[u8; 16], len: u8) -> Option<Prefix64>
     ensures { MatchOption result (specs.is_prefix_len len ≡ false) (λ prefix. (specs.is_prefix_len len ≡ true) × (specs.prefix_len prefix ≡ len)
         × (slice_index address.now 8 ≡ 0 → specs.prefix_address prefix ≡ specs.network address.now len)) }
@@ -240,7 +240,7 @@ fn is_not_global(ipv4: [u8; 4]) -> bool
         || is_in([240, 0, 0, 0], 4, ipv4)
 }
 
-/// Whether an address is in a block: the first `bits` bits of both are the same.
+/// Whether an address is in a block: its first `bits` bits are those of the block.
 fn is_in(block: [u8; 4], bits: u32, ipv4: [u8; 4]) -> bool
     requires { (1 ≤ bits) × (bits ≤ 32) }
     ensures { result ≡ specs.is_in block bits ipv4 }

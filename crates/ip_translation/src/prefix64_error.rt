@@ -6,13 +6,13 @@ use net_base::err::ErrorText;
 use net_base::err::TextPart::{Number, Words};
 use thiserror::Error;
 
-/// Why an address and a length are no prefix of RFC 6052, section 2.2.
+/// Why an address and a length do not define a prefix (RFC 6052, section 2.2).
 #[derive(Clone, Debug, PartialEq, Eq, Hash, Drop, Error)]
 #[error("{}", self.text())]
 pub enum Prefix64Error {
     /// The length in bits is not 32, 40, 48, 56, 64 or 96.
     Len(u8),
-    /// Bits 64 to 71 of the address are reserved, and not all 0.
+    /// Bits 64 to 71 of the address, which are reserved, are not all 0.
     ReservedOctet,
     /// A bit after the prefix is not 0.
     SuffixBits,

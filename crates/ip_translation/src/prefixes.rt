@@ -1,9 +1,9 @@
 use crate::Prefix64;
 
-/// The prefixes of the addresses of a packet. A packet in the other direction has them exchanged.
+/// The prefixes for the addresses of a packet. For a packet in the other direction, they are exchanged.
 ///
-/// A stateless translator uses one prefix for both. A translator of 464XLAT has a prefix for its own hosts, and the prefix of the network for
-/// all others (RFC 6877, section 6.3).
+/// A stateless translator uses the same prefix for both addresses. A translator of 464XLAT uses one prefix for its own hosts, and the
+/// prefix of the network for all other hosts (RFC 6877, section 6.3).
 #[derive(Clone, Copy, Debug, PartialEq, Eq)]
 pub struct Prefixes {
     /// The prefix that embeds the source.

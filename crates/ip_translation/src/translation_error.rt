@@ -30,9 +30,9 @@ pub enum TranslationError {
     PayloadLength(u16),
     /// The packet may not pass the translator, since the time to live or the hop limit is 0 or 1. Its sender is told (RFC 7915, section 4.1).
     TimeExceeded,
-    /// The source is no address of a host, and the packet is dropped silently (RFC 7915, section 4.1; RFC 1812, section 5.3.7).
+    /// The source is not the address of a host. The packet is dropped silently (RFC 7915, section 4.1; RFC 1812, section 5.3.7).
     IllegalSource,
-    /// The destination is no address of a host. Multicast is not translated.
+    /// The destination is not the address of a host. Multicast is not translated.
     IllegalDestination,
     /// The source has no translation.
     Source(AddressError),

@@ -4,7 +4,7 @@ use Rattle.std.proofs.Math.Seq.{drop-cons}
 use Rattle.std.specs.Int.{to_be_bytes, w16, w32}
 use Rattle.net_base.specs.Bytes.{IsBytes, be_number}
 
--- a number is determined by the bytes at its places
+-- if the bytes at the places of a number are the same, the number is the same
 pub be_number-same : (bytes other : List ℕ) (from count : ℕ)
     → ((place : ℕ) → place < count → slice_index bytes (from + place) ≡ slice_index other (from + place))
     → be_number bytes from count ≡ be_number other from count
@@ -14,7 +14,7 @@ be_number-same bytes other from (suc count) same =
     let last = same count (omega arith) in
     rw (front, last) refl
 
--- one byte, and the bytes after it
+-- bytes begin with one byte, and the bytes after it follow
 pub one_byte : (bytes : List ℕ) (from next byte : ℕ) (rest : List ℕ) → next ≡ from + 1 → next ≤ length bytes
     → byte ≡ slice_index bytes from → rest ≡ drop next bytes → byte ∷ rest ≡ drop from bytes
 one_byte bytes from next byte rest after enough is following =

@@ -15,8 +15,8 @@ all_ones n some ones = let f = folded-some n some in omega (arith, ones, f)
 all_ones_of : (n : ℕ) → 0 < n → n % 65535 ≡ 0 → folded n ≡ 65535
 all_ones_of n some divides = let f = folded-some n some in omega (arith, divides, f)
 
--- if pseudo header and bytes sum up to all ones, other bytes of the same length do exactly if their total has the
--- same remainder; a pseudo header with a protocol never sums up to 0
+-- if the sum of pseudo header and bytes is all ones, the sum with other bytes of the same length is so exactly if their
+-- total has the same remainder; the sum of a pseudo header with a protocol is never 0
 pub passes_by_remainder : (pseudo_header bytes : List ℕ) (Passes : List ℕ → Type 0) → 0 < total pseudo_header → Verifies pseudo_header bytes
     → ((other : List ℕ) → length other ≡ length bytes → (Passes other ↔ Verifies pseudo_header other)) → PassesByRemainder Passes bytes
 passes_by_remainder pseudo_header bytes Passes some verifies passes other same_len =
@@ -30,7 +30,7 @@ passes_by_remainder pseudo_header bytes Passes some verifies passes other same_l
           (passes other same_len).1 (all_ones_of (pseudo + total other) (omega (arith, some)) (omega (arith, divides, same_remainder))),
     )
 
--- two numbers of 16 bits that differ by a multiple of 65535 are the two zeros
+-- if two numbers of 16 bits differ by a multiple of 65535, one is 0 and the other is 65535
 two_zeros : (here there total_here total_there : ℕ) → here < 65536 → there < 65536 → there ≢ here
     → total_there + here ≡ total_here + there → total_there % 65535 ≡ total_here % 65535
     → AreTheTwoZeros here there
@@ -79,7 +79,7 @@ misses_exchanged_words bytes Passes law other first second same_len words =
     (total_exchanged bytes other first second same_len words.first_aligned words.second_aligned words.first_within words.second_within
     words.first_is_second words.second_is_first words.elsewhere))
 
--- all that follows from the remainder
+-- the changes that are detected, given that the remainder decides
 pub detects : (bytes : List ℕ) (Passes : List ℕ → Type 0) → IsBytes bytes → PassesByRemainder Passes bytes → Detects Passes bytes
 detects bytes Passes fits law = record {
   passes_by_remainder = law;

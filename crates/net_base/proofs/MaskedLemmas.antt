@@ -58,7 +58,7 @@ slice_index-masked_kept masks bytes place fits all =
     ∙ ap (λ mask. bit_and (slice_index bytes place) mask) all
     ∙ bit_and-all (slice_index bytes place) (fits place)
 
--- so the byte is the same in all bytes that agree under the masks
+-- a byte whose mask keeps all bits is the same in all bytes that are equal under the masks
 pub masked_alike_at : (masks bytes other : List ℕ) (place : ℕ) → IsBytes bytes → IsBytes other → get_or masks place 255 ≡ 255
     → masked masks bytes ≡ masked masks other → slice_index bytes place ≡ slice_index other place
 masked_alike_at masks bytes other place fits other_fits kept same =
@@ -119,7 +119,7 @@ pub record ReadsKeptBits {Header : Type 0} (header_of : List ℕ → Header) (la
   pub same_len : (layout_of (masked ((layout_of bytes).masks) bytes)).header_len ≡ (layout_of bytes).header_len
   pub masks_within : length ((layout_of bytes).masks) ≤ (layout_of bytes).header_len
 
--- the bytes after the header also follow it in the canonical bytes
+-- the bytes after the header are the same in the canonical bytes
 pub rest_kept : {Header : Type 0} {header_of : List ℕ → Header} (layout_of : List ℕ → HeaderLayout) (bytes : List ℕ)
     → ReadsKeptBits header_of layout_of bytes
     → drop ((layout_of (masked ((layout_of bytes).masks) bytes)).header_len) (masked ((layout_of bytes).masks) bytes)

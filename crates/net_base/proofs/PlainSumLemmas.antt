@@ -1,4 +1,4 @@
--- Laws of bytes that sum up to all ones without a pseudo header: the changes that a receiver's test detects.
+-- Laws of bytes whose sum is all ones without a pseudo header: the changes that a receiver's test detects.
 use Rattle.std.proofs.Common.{◌≡◌, ℕ, zero, suc, ◌+◌, ◌%◌, List, [], ◌∷◌, inl, inr, refl, ap, ◌∙◌, arith}
 use Rattle.net_base.specs.Bytes.{IsBytes}
 use Rattle.net_base.specs.Detection.{DetectsOtherByte, DetectsWithoutPseudoHeader, IsAllZeros, MissesExchangedWords, PassesByRemainder, SumsUpToZero}
@@ -21,7 +21,7 @@ total_zeros (high ∷ (low ∷ rest)) none zero = omega (arith, none)
 total_zeros (high ∷ (low ∷ rest)) none (suc zero) = omega (arith, none)
 total_zeros (high ∷ (low ∷ rest)) none (suc (suc place)) = total_zeros rest (omega (arith, none)) place
 
--- bytes sum up to one of the two zeros exactly if 65535 divides their total
+-- the sum of bytes is one of the two zeros exactly if 65535 divides their total
 zero_divides : (bytes : List ℕ) → SumsUpToZero bytes → total bytes % 65535 ≡ 0
 zero_divides bytes (inl valid) = grind (arith, folded-none, folded-some)
 zero_divides bytes (inr zeros) = omega (arith, zeros_total bytes zeros)
@@ -30,7 +30,7 @@ divides_zero : (bytes : List ℕ) (n : ℕ) → total bytes ≡ n → n % 65535 
 divides_zero bytes zero none divides = inr (total_zeros bytes none)
 divides_zero bytes (suc n) some divides = inl (omega (arith, some, divides, folded-some (0 + total bytes) (omega (arith, some))))
 
--- if bytes pass the test, other bytes of their length sum up to zero exactly if their total leaves the same remainder
+-- if bytes pass the test, the sum of other bytes with this length is zero exactly if their total leaves the same remainder
 passes_by_remainder : (bytes : List ℕ) → Verifies [] bytes → PassesByRemainder SumsUpToZero bytes
 passes_by_remainder bytes valid other same_len =
     let divides = zero_divides bytes (inl valid) in (

@@ -23,7 +23,7 @@ ipv6_pseudo_header_some source destination protocol len sixteen sixteen_too some
       total-append_twice source destination (to_be_bytes w32 len ++ (0 ∷ 0 ∷ 0 ∷ protocol ∷ [])) (omega (arith, sixteen)) (omega (arith, sixteen_too)),
     )
 
--- so if a packet passes the test, other packets of its length pass exactly if their total leaves the same remainder
+-- if a packet passes the test, another packet with its length passes exactly if its total leaves the same remainder
 pub detects_over_ipv4 : (source destination : List ℕ) (protocol : ℕ) (bytes : List ℕ) → length source ≡ 4 → length destination ≡ 4 → 0 < protocol
     → IsBytes bytes → VerifiesOverIpv4 source destination protocol bytes → Detects (VerifiesOverIpv4 source destination protocol) bytes
 detects_over_ipv4 source destination protocol bytes four four_too some fits verifies =

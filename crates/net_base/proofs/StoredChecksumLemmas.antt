@@ -8,12 +8,12 @@ use Rattle.net_base.specs.Bytes.{IsBytes, be_number}
 use Rattle.net_base.specs.StoredChecksum.{with_checksum}
 use Rattle.net_base.proofs.BytesLemmas.{to_be_bytes-be_number_2}
 
--- the length of the packet does not change
+-- storing a checksum does not change the length
 pub length-with_checksum : (place : ℕ) (bytes : List ℕ) (checksum : ℕ) → place + 2 ≤ length bytes
     → length (with_checksum place bytes checksum) ≡ length bytes
 length-with_checksum place bytes checksum there = grind (arith, length-append, length-take, length-drop)
 
--- the checksum adds itself to the sum of the parts around it
+-- a stored checksum adds its value to the sum of the other bytes
 pub total-with_checksum : (place : ℕ) (bytes : List ℕ) (checksum : ℕ) → place + 2 ≤ length bytes → place % 2 ≡ 0 → checksum < 65536
     → total (with_checksum place bytes checksum) ≡ total (take place bytes) + total (drop (place + 2) bytes) + checksum
 total-with_checksum place bytes checksum there even small =
@@ -28,7 +28,7 @@ with_checksum-stored place bytes fits there =
     (to_be_bytes-be_number_2 bytes place (place + 2) (be_number bytes place 2) (drop (place + 2) bytes) fits refl there refl refl)
     ∙ take-append-drop place bytes
 
--- and the stored checksum is read back
+-- a stored checksum is read back
 pub stored_checksum : (place : ℕ) (bytes : List ℕ) (checksum : ℕ) → place + 2 ≤ length bytes → checksum < 65536
     → be_number (with_checksum place bytes checksum) place 2 ≡ checksum
 stored_checksum place bytes checksum there small =
@@ -42,7 +42,7 @@ stored_checksum place bytes checksum there small =
     get_or-append_right (take place bytes) back place (place + 1) 0 front (omega arith) ∙ ap (λ k. slice_index back k) second in
     omega (arith, high, low, small)
 
--- it is stored in the front part
+-- a checksum in the front of bytes changes only the front
 pub with_checksum-append : (place : ℕ) (front back : List ℕ) (checksum : ℕ) → place + 2 ≤ length front
     → with_checksum place (front ++ back) checksum ≡ with_checksum place front checksum ++ back
 with_checksum-append place front back checksum within =
@@ -50,7 +50,7 @@ with_checksum-append place front back checksum within =
     let after = drop-append-le (place + 2) front back within in
     rw (before, after) (sym (append_assoc (take place front) (to_be_bytes w16 checksum ++ drop (place + 2) front) back))
 
--- a cut after the checksum does not change it
+-- a cut after the checksum does not change the checksum
 pub take-with_checksum : (place : ℕ) (bytes : List ℕ) (checksum len : ℕ) → place + 2 ≤ len → len ≤ length bytes
     → take len (with_checksum place bytes checksum) ≡ with_checksum place (take len bytes) checksum
 take-with_checksum place bytes checksum len within enough =

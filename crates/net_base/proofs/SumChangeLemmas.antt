@@ -5,7 +5,7 @@ use Rattle.std.specs.Prelude.{◌==◌, slice_index}
 use Rattle.net_base.specs.Bytes.{be_number}
 use Rattle.word_sum.specs.Checksum.{total}
 
--- bytes that are the same at each place
+-- bytes that are equal at each place have the same total
 pub total_same : (bytes other : List ℕ) → length other ≡ length bytes → ((at : ℕ) → slice_index other at ≡ slice_index bytes at) → total other ≡ total bytes
 total_same [] [] same_len same = refl
 total_same (a ∷ []) (b ∷ []) same_len same = omega (arith, same 0)
@@ -16,14 +16,14 @@ total_same (a ∷ bytes) [] same_len same = absurd (omega arith)
 total_same (a ∷ []) (c ∷ (d ∷ other)) same_len same = absurd (omega arith)
 total_same (a ∷ (b ∷ bytes)) (c ∷ []) same_len same = absurd (omega arith)
 
--- the number of two bytes that are two places later
+-- a number two places later, in bytes with two more bytes at the front
 number_later : (a b : ℕ) (bytes : List ℕ) (place : ℕ) → be_number (a ∷ (b ∷ bytes)) (suc (suc place)) 2 ≡ be_number bytes place 2
 number_later a b bytes place =
     let first : suc (suc place) + 0 ≡ suc (suc (place + 0)) = omega arith in
     let second : suc (suc place) + 1 ≡ suc (suc (place + 1)) = omega arith in
     rw (first, second) refl
 
--- bytes that differ only in one aligned word
+-- the totals of bytes that differ only in one aligned word
 pub total_word_changed : (bytes other : List ℕ) (place : ℕ) → length other ≡ length bytes → place % 2 ≡ 0 → place + 2 ≤ length bytes
     → ((at : ℕ) → at ≢ place → at ≢ place + 1 → slice_index other at ≡ slice_index bytes at)
     → total other + be_number bytes place 2 ≡ total bytes + be_number other place 2
@@ -53,7 +53,7 @@ weight-either zero = inl refl
 weight-either (suc zero) = inr refl
 weight-either (suc (suc place)) = weight-either place
 
--- bytes that differ only in one byte
+-- the totals of bytes that differ only in one byte
 pub total_byte_changed : (bytes other : List ℕ) (place : ℕ) → length other ≡ length bytes → place < length bytes
     → ((at : ℕ) → at ≢ place → slice_index other at ≡ slice_index bytes at)
     → total other + slice_index bytes place * weight place ≡ total bytes + slice_index other place * weight place
@@ -78,7 +78,7 @@ total_byte_changed (a ∷ []) (c ∷ (d ∷ other)) place same_len within same =
 total_byte_changed (a ∷ (b ∷ bytes)) [] place same_len within same = absurd (omega arith)
 total_byte_changed (a ∷ (b ∷ bytes)) (c ∷ []) place same_len within same = absurd (omega arith)
 
--- bytes that differ only in two aligned words
+-- the totals of bytes that differ only in two aligned words
 pub total_words_changed : (bytes other : List ℕ) (first second : ℕ) → first ≢ second → length other ≡ length bytes
     → first % 2 ≡ 0 → second % 2 ≡ 0 → first + 2 ≤ length bytes → second + 2 ≤ length bytes
     → ((at : ℕ) → at ≢ first → at ≢ first + 1 → at ≢ second → at ≢ second + 1 → slice_index other at ≡ slice_index bytes at)

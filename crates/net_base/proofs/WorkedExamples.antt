@@ -31,7 +31,7 @@ highest_bit = refl
 other_bits : flag (0 ∷ 0x7f ∷ []) 1 0x80 ≡ false
 other_bits = refl
 
--- the rules in their order: if an earlier rule refuses, a later rule does not matter
+-- the first rule that refuses decides, and a later rule does not matter
 second_and_third_refuse : first_of {E = ℕ} (refused_if false 1 ∷ refused_if true 2 ∷ refused_if true 3 ∷ []) ≡ Some 2
 second_and_third_refuse = refl
 

@@ -18,12 +18,12 @@ use Rattle.net_base.specs.declared.tcp_option_read_error.TcpOptionReadError.TheV
 use Rattle.net_base.specs.declared.tcp_option_write_error.TcpOptionWriteError.{TcpOptionWriteError}
 use Rattle.net_base.specs.declared.tcp_option_write_error.TcpOptionWriteError.TheVariants.{NotEnoughSpace}
 
--- the word of a length's source is its name
+-- the name of what states a length
 abbrev pub len_source_word : LenSource → List ℕ
 len_source_word Slice = codes "Slice"
 len_source_word UdpHeaderLen = codes "UdpHeaderLen"
 
--- the word of a kind of value is its name
+-- the name of a kind of value
 abbrev pub value_type_word : ValueType → List ℕ
 value_type_word UdpPayloadLengthIpv4 = codes "UdpPayloadLengthIpv4"
 value_type_word UdpPayloadLengthIpv6 = codes "UdpPayloadLengthIpv6"
@@ -31,7 +31,7 @@ value_type_word TcpPayloadLengthIpv4 = codes "TcpPayloadLengthIpv4"
 value_type_word TcpPayloadLengthIpv6 = codes "TcpPayloadLengthIpv6"
 value_type_word Icmpv6PayloadLength = codes "Icmpv6PayloadLength"
 
--- a length that is too short or too long
+-- the text for a length that is too short or too long
 abbrev pub len_text : LenError → List ℕ
 len_text error = concat (
     codes "Length Error: layer " ∷ word_of error.layer
@@ -40,31 +40,31 @@ len_text error = concat (
     ∷ codes ", the length is " ∷ decimal error.len
     ∷ codes " (from " ∷ len_source_word error.len_source ∷ codes ")." ∷ [])
 
--- a value above its limit
+-- the text for a value above its limit
 abbrev pub value_text : ValueTooBigError ℕ → List ℕ
 value_text error = concat (
     codes "Value Error: " ∷ value_type_word error.value_type ∷ codes " " ∷ decimal error.actual
     ∷ codes " is above " ∷ decimal error.max_allowed ∷ codes "." ∷ [])
 
--- a TCP header that can't be read
+-- the text for a TCP header whose fields are wrong
 abbrev pub header_text : HeaderError → List ℕ
 header_text (DataOffsetTooSmall data_offset) = concat (
     codes "TCP Header Error: 'data offset' too small (" ∷ decimal data_offset
     ∷ codes "). The 'data offset' must be at least 5 so the data is not overlapping with the TCP header itself." ∷ [])
 
--- the text of the reason
+-- the text for a TCP header that can't be read
 abbrev pub header_slice_text : HeaderSliceError → List ℕ
 header_slice_text (Len error) = len_text error
 header_slice_text (Content error) = header_text error
 
--- options that are too long
+-- the text for options that are too long
 abbrev pub options_text : TcpOptionWriteError → List ℕ
 options_text (NotEnoughSpace len) = concat (
     codes "TcpOptionWriteError: Not enough memory to store all options in the options section of a tcp header "
     ∷ codes "(maximum 40 bytes can be stored, the options would have needed "
     ∷ decimal len ∷ codes " bytes)." ∷ [])
 
--- an option that can't be read
+-- the text for an option that can't be read
 abbrev pub option_text : TcpOptionReadError → List ℕ
 option_text (UnexpectedEndOfSlice kind expected left) = concat (
     codes "TcpOptionReadError: Not enough memory left in slice to read option of kind " ∷ decimal kind

@@ -1,5 +1,5 @@
--- The input that a value feeds to a hasher: for an enum with several variants the place of the variant, from 0 on, as
--- a number of 64 bits; then every field in its order.
+-- The input of a hash. For an enum with several variants, it begins with the place of the variant, from 0, as a number
+-- of 64 bits. Then it contains every field, in the order of the fields.
 use Rattle.std.specs.Prelude.{ℕ, pos, List, ◌++◌}
 use Rattle.std.specs.Hash as fed
 use Rattle.net_base.specs.declared.err.layer.Layer.{Layer}
@@ -15,7 +15,7 @@ use Rattle.net_base.specs.declared.err.value_too_big_error.ValueTooBigError.{Val
 use Rattle.net_base.specs.declared.err.value_type.ValueType.{ValueType}
 use Rattle.net_base.specs.declared.err.value_type.ValueType.TheVariants.{UdpPayloadLengthIpv4, UdpPayloadLengthIpv6, TcpPayloadLengthIpv4, TcpPayloadLengthIpv6, Icmpv6PayloadLength}
 
--- the place of a variant
+-- the input for the place of a variant; and the input for each type
 abbrev pub place : ℕ → List (List ℕ)
 place number = fed.isize (pos number)
 

@@ -12,14 +12,14 @@ version bytes = slice_index bytes 0 / 16
 abbrev pub ipv4_header_len : List ℕ → ℕ
 ipv4_header_len bytes = slice_index bytes 0 % 16 * 4
 
--- an IPv4 header consists of at least five words (RFC 791, section 3.1)
+-- these bytes begin with a whole IPv4 header, which consists of at least five words (RFC 791, section 3.1)
 pub record BeginsWithIpv4Header (bytes : List ℕ) : Type 0 where
   pub shortest : 20 ≤ length bytes
   pub is_version_4 : version bytes ≡ 4
   pub five_words : 20 ≤ ipv4_header_len bytes
   pub whole : ipv4_header_len bytes ≤ length bytes
 
--- an IPv6 header consists of 40 bytes (RFC 8200, section 3)
+-- these bytes begin with a whole IPv6 header, which consists of 40 bytes (RFC 8200, section 3)
 pub record BeginsWithIpv6Header (bytes : List ℕ) : Type 0 where
   pub whole : 40 ≤ length bytes
   pub is_version_6 : version bytes ≡ 6
@@ -32,11 +32,10 @@ ipv4_header_of bytes = record { source = slice_range bytes 12 16; destination = 
 abbrev pub ipv6_header_of : List ℕ → Ipv6Header
 ipv6_header_of bytes = record { source = slice_range bytes 8 24; destination = slice_range bytes 24 40 }
 
--- the place of a fragment in its packet, in units of 8 bytes: the low 13 bits of bytes 6 and 7 (RFC 791, section 3.1)
+-- the offset of a fragment in its packet, in units of 8 bytes: the low 13 bits of bytes 6 and 7 (RFC 791, section 3.1)
 abbrev pub ipv4_fragment_offset : List ℕ → ℕ
 ipv4_fragment_offset bytes = be_number bytes 6 2 % 2 ^ 13
 
--- a fragment that is not a whole packet: more fragments follow (the bit 0x20 of byte 6), or its offset is above 0
--- (RFC 791, section 3.2)
+-- The packet is one of several fragments: more fragments follow (the bit 0x20 of byte 6), or its offset is above 0 (RFC 791, section 3.2).
 abbrev pub ipv4_is_fragment : List ℕ → Bool
 ipv4_is_fragment bytes = flag bytes 6 0x20 || not (ipv4_fragment_offset bytes == 0)

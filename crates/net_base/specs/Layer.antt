@@ -3,7 +3,7 @@ use Rattle.std.specs.Prelude.{ℕ, List, codes}
 use Rattle.net_base.specs.declared.err.layer.Layer.{Layer}
 use Rattle.net_base.specs.declared.err.layer.Layer.TheVariants.{UdpHeader, UdpPayload, TcpHeader, Icmpv4, Icmpv4Timestamp, Icmpv4TimestampReply, Icmpv6}
 
--- the word of a layer is its name
+-- the name of a layer
 abbrev pub word_of : Layer → List ℕ
 word_of UdpHeader = codes "UdpHeader"
 word_of UdpPayload = codes "UdpPayload"

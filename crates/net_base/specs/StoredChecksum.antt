@@ -2,7 +2,7 @@
 use Rattle.std.specs.Prelude.{ℕ, ◌+◌, List, ◌++◌, drop, take}
 use Rattle.std.specs.Int.{to_be_bytes, w16}
 
--- the places of the checksum in UDP, TCP and ICMP (RFC 768; RFC 9293, section 3.1; RFC 792; RFC 4443, section 2.1)
+-- the place of the checksum in UDP, in TCP and in ICMP (RFC 768; RFC 9293, section 3.1; RFC 792; RFC 4443, section 2.1)
 abbrev pub udp_checksum_place : ℕ
 udp_checksum_place = 6
 
@@ -12,6 +12,6 @@ tcp_checksum_place = 16
 abbrev pub icmp_checksum_place : ℕ
 icmp_checksum_place = 2
 
--- the bytes with this checksum stored in the two bytes at this place
+-- the bytes with this checksum in the two bytes at this place
 abbrev pub with_checksum : ℕ → List ℕ → ℕ → List ℕ
 with_checksum place bytes checksum = take place bytes ++ (to_be_bytes w16 checksum ++ drop (place + 2) bytes)

@@ -1,14 +1,14 @@
--- Adds the start of the part that was read, as an offset, to the error of a TCP header.
+-- Adding an offset to the error of a TCP header: the place at which the part that was read begins.
 use Rattle.std.specs.Prelude.{ℕ, ◌+◌, ◌<◌, ◌^◌}
 use Rattle.net_base.specs.declared.err.tcp.header_slice_error.HeaderSliceError.{HeaderSliceError}
 use Rattle.net_base.specs.declared.err.tcp.header_slice_error.HeaderSliceError.TheVariants.{Len, Content}
 
--- the sum of the offsets fits usize; an error in a field's value contains no offset, so any offset is allowed
+-- the sum of both offsets fits `usize`; an error about the value of a field contains no offset, so any offset is allowed
 abbrev pub OffsetFits : HeaderSliceError → ℕ → Type 0
 OffsetFits (Len error) offset = error.layer_start_offset + offset < 2 ^ 64
 OffsetFits (Content error) offset = Unit {0}
 
--- the offset is added if the error contains an offset
+-- the error with this offset added, if the error contains an offset
 abbrev pub with_slice_offset : HeaderSliceError → ℕ → HeaderSliceError
 with_slice_offset (Len error) offset = Len (record error { layer_start_offset = error.layer_start_offset + offset })
 with_slice_offset (Content error) offset = Content error

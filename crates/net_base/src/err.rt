@@ -1,4 +1,4 @@
-//! The errors of all calls, and the layers, length sources and kinds of values that they name.
+//! The errors of all calls, and the layers, length sources and kinds of values that the errors contain.
 
 mod error_text;
 mod layer;

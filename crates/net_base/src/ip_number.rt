@@ -25,7 +25,7 @@ pub const UDP: IpNumber = IpNumber(17);
 /// ICMPv6 (RFC 4443, section 1).
 pub const IPV6_ICMP: IpNumber = IpNumber(58);
 
-/// The extension header of IPv6 for each hop: options (RFC 8200, section 4.3).
+/// The extension header of IPv6 that contains options for each hop (RFC 8200, section 4.3).
 pub const IPV6_HEADER_HOP_BY_HOP: IpNumber = IpNumber(0);
 
 /// The extension header of IPv6 for routing (RFC 8200, section 4.4).
@@ -40,10 +40,10 @@ pub const ENCAPSULATING_SECURITY_PAYLOAD: IpNumber = IpNumber(50);
 /// The authentication header (RFC 4302).
 pub const AUTHENTICATION_HEADER: IpNumber = IpNumber(51);
 
-/// Nothing comes after an IPv6 header (RFC 8200, section 4.7).
+/// Nothing follows the header that contains this number (RFC 8200, section 4.7).
 pub const IPV6_NO_NEXT_HEADER: IpNumber = IpNumber(59);
 
-/// The extension header of IPv6 for the destination: options (RFC 8200, section 4.6).
+/// The extension header of IPv6 that contains options for the destination (RFC 8200, section 4.6).
 pub const IPV6_DESTINATION_OPTIONS: IpNumber = IpNumber(60);
 
 /// The mobility header (RFC 6275, section 6.1).

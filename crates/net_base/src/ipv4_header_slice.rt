@@ -43,8 +43,8 @@ impl<'a> Ipv4HeaderSlice<'a> {
     ghost use Rattle.net_base.specs.IpHeaders.{BeginsWithIpv4Header, ipv4_fragment_offset, ipv4_header_len, ipv4_header_of, ipv4_is_fragment, version};
     ghost use Rattle.word_sum.specs.Checksum.{Verifies};
 
-    /// The header at the front of the slice (RFC 791, section 3.1). `None` if there are fewer than 20 bytes, the
-    /// version is not 4, the header length is below five words, or the slice is shorter than that length.
+    /// Reads the header at the front of the slice (RFC 791, section 3.1). `None` if the slice is shorter than 20 bytes, if the version is
+    /// not 4, if the header length is below five words, or if the slice is shorter than the header length.
     pub fn from_slice(slice: &'a [u8]) -> Option<Ipv4HeaderSlice<'a>>
         ensures found { IsSome result ↔ BeginsWithIpv4Header slice.now }
         ensures kept { IfSome result (λ header. header ≡ take (ipv4_header_len slice.now) slice.now) }
@@ -61,7 +61,7 @@ impl<'a> Ipv4HeaderSlice<'a> {
         })
     }
 
-    /// The bytes of the header, options included.
+    /// The bytes of the header with its options.
     pub fn slice(&self) -> &'a [u8]
         ensures { result.now ≡ self.now }
     {
@@ -96,8 +96,7 @@ impl<'a> Ipv4HeaderSlice<'a> {
         self.slice[1] & 3
     }
 
-    /// The length of header and payload that the header states, in bytes (bytes 2 and 3). It may be below the length of
-    /// the header.
+    /// The length of header and payload, in bytes, as the header states it (bytes 2 and 3). It may be below the length of the header.
     pub fn total_len(&self) -> u16
         ensures { result ≡ be_number self.now 2 2 }
     {
@@ -111,30 +110,29 @@ impl<'a> Ipv4HeaderSlice<'a> {
         u16::from_be_bytes([self.slice[4], self.slice[5]])
     }
 
-    /// The packet must not be fragmented (byte 6, bit 0x40).
+    /// Whether the packet must not be fragmented (byte 6, bit 0x40).
     pub fn dont_fragment(&self) -> bool
         ensures { result ≡ flag self.now 6 0x40 }
     {
         self.slice[6] & 0x40 != 0
     }
 
-    /// More fragments of the packet follow (byte 6, bit 0x20).
+    /// Whether more fragments of the packet follow (byte 6, bit 0x20).
     pub fn more_fragments(&self) -> bool
         ensures { result ≡ flag self.now 6 0x20 }
     {
         self.slice[6] & 0x20 != 0
     }
 
-    /// The offset of the payload in the whole packet's payload, 0 to 8,191, in units of 8 bytes (the low 13 bits of
-    /// bytes 6 and 7).
+    /// The offset of the payload in the payload of the whole packet, in units of 8 bytes, 0 to 8,191 (the low 13 bits of bytes 6 and 7).
     pub fn fragments_offset(&self) -> u16
         ensures { result ≡ ipv4_fragment_offset self.now }
     {
         u16::from_be_bytes([self.slice[6], self.slice[7]]) & 0x1fff
     }
 
-    /// Whether the payload is only a part of the packet's payload: more fragments follow, or the offset is above 0
-    /// (RFC 791, section 3.2).
+    /// Whether the payload is only a part of the payload of the whole packet: more fragments follow, or the offset is above 0 (RFC 791,
+    /// section 3.2).
     pub fn is_fragmenting_payload(&self) -> bool
         ensures { result ≡ ipv4_is_fragment self.now }
     {
@@ -162,14 +160,14 @@ impl<'a> Ipv4HeaderSlice<'a> {
         u16::from_be_bytes([self.slice[10], self.slice[11]])
     }
 
-    /// Whether the bytes of the header sum up to all ones, as a receiver checks it (RFC 791, section 3.1; RFC 1071,
+    /// Whether the checksum of the header is right: the one's complement sum of the header is all ones (RFC 791, section 3.1; RFC 1071,
     /// section 1). The payload is not summed.
     ///
-    /// In a valid header this check detects each change of one byte, and of one aligned two-byte word except between
-    /// 0000 and FFFF. It misses an exchange of two aligned words.
+    /// This check detects each change of one byte of a valid header. It detects each change of one aligned two-byte word, except between
+    /// 0000 and FFFF. It does not detect that two aligned words were exchanged.
     pub fn is_checksum_valid(&self) -> bool
         ensures valid { IsTrue result ↔ Verifies [] self.now }
-        // A header that sums up to zero is valid or consists of zeros.
+        // These are the changes that the check detects, and a change that it does not detect.
         ensures detects { IsTrue result → DetectsWithoutPseudoHeader self.now }
     {
         is_valid(self.slice)
@@ -184,8 +182,8 @@ impl<'a> Ipv4HeaderSlice<'a> {
         source
     }
 
-    /// The address of the receiver (bytes 16 to 19). Under a source route with an address left it is not the final
-    /// address, which a checksum covers (RFC 1122, section 3.2.1.8).
+    /// The address of the receiver (bytes 16 to 19). If a source route has an address left, it differs from the final address, which a
+    /// checksum covers (RFC 1122, section 3.2.1.8).
     pub fn destination(&self) -> [u8; 4]
         ensures { result ≡ slice_range self.now 16 20 }
     {
@@ -194,14 +192,14 @@ impl<'a> Ipv4HeaderSlice<'a> {
         destination
     }
 
-    /// The bytes of the options, 0 to 40, a multiple of 4 (byte 20 to the end).
+    /// The bytes of the options, from byte 20 to the end. Their number is 0 to 40, and a multiple of 4.
     pub fn options(&self) -> &'a [u8]
         ensures { result.now ≡ drop 20 self.now }
     {
         &self.slice[Ipv4Header::MIN_LEN..]
     }
 
-    /// The two addresses.
+    /// The addresses of the header.
     pub fn to_header(&self) -> Ipv4Header
         ensures { result ≡ ipv4_header_of self.now }
     {
@@ -209,7 +207,7 @@ impl<'a> Ipv4HeaderSlice<'a> {
     }
 }
 
-/// Whether the bytes of a header sum up to all ones.
+/// Whether the one's complement sum of a header is all ones.
 fn is_valid(header: &[u8]) -> bool
     ensures valid { IsTrue result ↔ Verifies [] header.now }
     ensures bytes { IsBytes header.now }

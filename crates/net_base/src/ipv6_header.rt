@@ -15,7 +15,8 @@ use crate::Ipv6HeaderSlice;
 pub struct Ipv6Header {
     /// The address of the sender.
     pub source: [u8; 16],
-    /// The address of the receiver. A checksum covers the final address (RFC 8200, section 8.1).
+    /// The address of the receiver. If there is a routing header, it may differ from the final address, which a checksum covers (RFC 8200,
+    /// section 8.1).
     pub destination: [u8; 16],
 }
 

@@ -34,8 +34,8 @@ impl<'a> Ipv6HeaderSlice<'a> {
     ghost use Rattle.net_base.specs.Bytes.{be_number};
     ghost use Rattle.net_base.specs.IpHeaders.{BeginsWithIpv6Header, ipv6_header_of, version};
 
-    /// The header at the front of the slice (RFC 8200, section 3). `None` if there are fewer than 40 bytes or the
-    /// version is not 6.
+    /// Reads the header at the front of the slice (RFC 8200, section 3). `None` if the slice is shorter than 40 bytes, or if the version is
+    /// not 6.
     pub fn from_slice(slice: &'a [u8]) -> Option<Ipv6HeaderSlice<'a>>
         ensures found { IsSome result ↔ BeginsWithIpv6Header slice.now }
         ensures kept { IfSome result (λ header. header ≡ take 40 slice.now) }
@@ -77,15 +77,15 @@ impl<'a> Ipv6HeaderSlice<'a> {
         u32::from_be_bytes([self.slice[0], self.slice[1], self.slice[2], self.slice[3]]) & 0xf_ffff
     }
 
-    /// The length of everything after these 40 bytes, extension headers included, in bytes (bytes 4 and 5). In a
-    /// jumbogram it is 0 (RFC 2675, section 2).
+    /// The length of everything after these 40 bytes, in bytes, as the header states it (bytes 4 and 5). It counts extension headers too.
+    /// In a jumbogram it is 0 (RFC 2675, section 2).
     pub fn payload_length(&self) -> u16
         ensures { result ≡ be_number self.now 4 2 }
     {
         u16::from_be_bytes([self.slice[4], self.slice[5]])
     }
 
-    /// The kind of header after these 40 bytes: an extension header, or the header of a protocol (byte 6).
+    /// The kind of header that follows these 40 bytes: an extension header, or the header of a protocol (byte 6).
     pub fn next_header(&self) -> IpNumber
         ensures { result.0 ≡ slice_index self.now 6 }
     {
@@ -108,8 +108,8 @@ impl<'a> Ipv6HeaderSlice<'a> {
         source
     }
 
-    /// The address of the receiver (bytes 24 to 39). With a routing header it may not be the final address, which a
-    /// checksum covers (RFC 8200, section 8.1).
+    /// The address of the receiver (bytes 24 to 39). If there is a routing header, it may differ from the final address, which a checksum
+    /// covers (RFC 8200, section 8.1).
     pub fn destination(&self) -> [u8; 16]
         ensures { result ≡ slice_range self.now 24 40 }
     {
@@ -118,7 +118,7 @@ impl<'a> Ipv6HeaderSlice<'a> {
         destination
     }
 
-    /// The two addresses.
+    /// The addresses of the header.
     pub fn to_header(&self) -> Ipv6Header
         ensures { result ≡ ipv6_header_of self.now }
     {

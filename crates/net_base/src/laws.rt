@@ -1,9 +1,9 @@
-//! Laws of the types: a clone is the same value, `==` holds exactly if two values are the same, and a hasher is fed every
-//! field. The protocol numbers are here too. Each law is the contract of a function, so that it is checked with the calls.
+//! Laws of the types: a clone is the same value, `==` holds exactly if two values are the same, and a hash covers every field. The laws
+//! also state the protocol numbers. Each law is the contract of a function, so that it is checked with the calls.
 //!
 //! # Errors
 //!
-//! None: each clone succeeds.
+//! No call returns an error: each clone succeeds.
 ghost use Rattle.std.specs.Prelude.{◌≡◌, ◌↔◌, IsTrue, IsOkAnd, fold, map};
 ghost use Rattle.std.specs.Hash as fed;
 ghost use Rattle.net_base.specs.Hashes.{header_error_input, header_slice_error_input, layer_input, len_error_input, len_source_input, value_too_big_error_input, value_type_input};
@@ -257,7 +257,7 @@ pub fn equal_ipv6_header_slice<'a>(a: &Ipv6HeaderSlice<'a>, b: &Ipv6HeaderSlice<
     a == b
 }
 
-/// The numbers of the protocols.
+/// The protocol numbers have these values.
 pub fn constants()
     ensures icmp { ICMP.0 ≡ 1 }
     ensures tcp { TCP.0 ≡ 6 }
@@ -275,56 +275,56 @@ pub fn constants()
     ensures shim6 { SHIM6.0 ≡ 140 }
 {}
 
-/// The input that a `Layer` feeds to a hasher.
+/// The hash of a `Layer` covers this input.
 pub fn hashed_layer<H: Hasher>(value: &Layer, state: &mut H)
     ensures { state.new ≡ fold H.write state.old (layer_input value.now) }
 {
     value.hash(state);
 }
 
-/// The input that a `LenSource` feeds to a hasher.
+/// The hash of a `LenSource` covers this input.
 pub fn hashed_len_source<H: Hasher>(value: &LenSource, state: &mut H)
     ensures { state.new ≡ fold H.write state.old (len_source_input value.now) }
 {
     value.hash(state);
 }
 
-/// The input that a `ValueType` feeds to a hasher.
+/// The hash of a `ValueType` covers this input.
 pub fn hashed_value_type<H: Hasher>(value: &ValueType, state: &mut H)
     ensures { state.new ≡ fold H.write state.old (value_type_input value.now) }
 {
     value.hash(state);
 }
 
-/// The input that a `LenError` feeds to a hasher.
+/// The hash of a `LenError` covers this input.
 pub fn hashed_len_error<H: Hasher>(value: &LenError, state: &mut H)
     ensures { state.new ≡ fold H.write state.old (len_error_input value.now) }
 {
     value.hash(state);
 }
 
-/// The input that a `ValueTooBigError` feeds to a hasher.
+/// The hash of a `ValueTooBigError` covers this input.
 pub fn hashed_value_too_big_error<H: Hasher>(value: &ValueTooBigError<usize>, state: &mut H)
     ensures { state.new ≡ fold H.write state.old (value_too_big_error_input value.now) }
 {
     value.hash(state);
 }
 
-/// The input that a `HeaderError` feeds to a hasher.
+/// The hash of a `HeaderError` covers this input.
 pub fn hashed_header_error<H: Hasher>(value: &HeaderError, state: &mut H)
     ensures { state.new ≡ fold H.write state.old (header_error_input value.now) }
 {
     value.hash(state);
 }
 
-/// The input that a `HeaderSliceError` feeds to a hasher.
+/// The hash of a `HeaderSliceError` covers this input.
 pub fn hashed_header_slice_error<H: Hasher>(value: &HeaderSliceError, state: &mut H)
     ensures { state.new ≡ fold H.write state.old (header_slice_error_input value.now) }
 {
     value.hash(state);
 }
 
-/// The input that an `IpNumber` feeds to a hasher.
+/// The hash of an `IpNumber` covers this input.
 pub fn hashed_ip_number<H: Hasher>(value: &IpNumber, state: &mut H)
     ensures { state.new ≡ fold H.write state.old (fed.u8 value.now.0) }
 {

@@ -1,9 +1,9 @@
-//! The parts that the transport protocols share: errors as plain values, and the two addresses of the IP layer.
+//! What the transport protocols share: errors, and the headers of IP.
 //!
-//! Every error is a plain value with public fields. The IP headers contain only the source and the destination (RFC
-//! 791, section 3.1; RFC 8200, section 3). A pseudo header also contains the protocol and a length, which each
-//! transport protocol adds. `specs/` contains definitions that several protocols cite: big-endian numbers, flags,
-//! masked bytes, pseudo headers, and when a call returns an error.
+//! Every error is a plain value with public fields. `Ipv4Header` and `Ipv6Header` contain only the source and the
+//! destination (RFC 791, section 3.1; RFC 8200, section 3). A pseudo header also contains the protocol and a length,
+//! which each transport protocol adds. `specs/` contains definitions that several protocols use: big-endian numbers,
+//! flags, masked bytes, pseudo headers, and when a call returns an error.
 //!
 //! ```
 //! let addresses = Ipv4HeaderSlice::from_slice(packet).map(|header| (header.source(), header.destination()));

@@ -1,4 +1,4 @@
-//! The sum of a pseudo header. A checksum of UDP, TCP or ICMPv6 covers it in front of the packet.
+//! The sum of a pseudo header. A checksum of UDP, TCP or ICMPv6 covers the pseudo header and the packet.
 
 ghost use Rattle.std.specs.Prelude.{◌≡◌, ◌<◌};
 ghost use Rattle.net_base.specs.PseudoHeader as specs;
@@ -39,7 +39,7 @@ pub fn pseudo_header_ipv6(
     ensures sum { sum_value result ≡ folded (total (specs.ipv6_pseudo_header source destination protocol.0 len)) }
     ensures some { 0 < protocol.0 → 0 < sum_value result }
 {
-    // perf: the addresses come last, since smaller numbers before them have no carry (27 Nov 2026).
+    // perf: the addresses are added last, since smaller numbers before them have no carry (27 Nov 2026).
     Sum16BitWords::new()
         .add_4bytes(len.to_be_bytes())
         .add_4bytes([0, 0, 0, protocol.0])

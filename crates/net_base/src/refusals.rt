@@ -3,7 +3,7 @@ ghost use Rattle.net_base.specs.Refusals as specs;
 
 use crate::err::{Layer, LenError, LenSource, ValueTooBigError, ValueType};
 
-/// The error if a slice has this length and the layer requires another length, both in bytes.
+/// The error for a slice of length `len` whose layer requires another length. Both lengths are in bytes.
 pub fn wrong_length(layer: Layer, required_len: usize, len: usize) -> LenError
     ensures { result ≡ specs.wrong_length layer required_len len }
 {
@@ -16,7 +16,7 @@ pub fn wrong_length(layer: Layer, required_len: usize, len: usize) -> LenError
     }
 }
 
-/// Refuses a payload whose length, in bytes, is above the largest allowed length.
+/// Refuses a payload whose length is above the greatest allowed length. Both lengths are in bytes.
 ///
 /// # Errors
 ///

@@ -1,4 +1,4 @@
--- The law of the longest input: what comes after its first 8,194 bytes changes no answer.
+-- The law of the longest input: the bytes after the first 8,194 bytes do not change the answer.
 use Rattle.std.proofs.Common.{◌≡◌, ℕ, ◌+◌, ◌-◌, ◌<◌, ◌≤◌, Bool, true, false, List, length, take, if◌then◌else◌, sym, ap, ◌∙◌, arith, codes, nat_eq, length-take-le, ⊎_elim}
 use Rattle.std.proofs.lemmas.List.{take_all}
 use Rattle.std.specs.List.{ends_with}
@@ -10,7 +10,7 @@ use Rattle.pktprobe.specs.Report.{bad_input, line_of, line_report, max_input_len
 too_long : (line : List ℕ) → max_line_len < length line → line_report line ≡ bad_input
 too_long line long = grind (arith, nat_tests)
 
--- with or without its last byte an input is at most one byte longer than what is left
+-- an input is at most one byte longer than its line, which may lack the last byte
 length-without_last : (drops : Bool) (input : List ℕ)
     → length input ≤ length (if drops then take (length input - 1) input else input) + 1
 length-without_last true input = omega (arith, length-take-le (length input - 1) input (omega arith))
@@ -21,11 +21,11 @@ too_long_input : (input : List ℕ) → max_input_len ≤ length input → repor
 too_long_input input long =
     too_long (line_of input) (omega (arith, length-without_last (ends_with nat_eq input (codes "\n")) input))
 
--- of a short input the first bytes are all
+-- if an input is short, its first bytes are all its bytes
 short_input : (count : ℕ) (input : List ℕ) → length input ≤ count → report (take count input) ≡ report input
 short_input count input short = ap report (take_all count input short)
 
--- a long one is bad, and so are its first bytes
+-- a long input is a bad input, and so are its first bytes
 long_input : (count : ℕ) (input : List ℕ) → max_input_len ≤ count → count ≤ length input → report (take count input) ≡ report input
 long_input count input enough long =
     too_long_input (take count input) (omega (arith, length-take-le count input long))

@@ -13,7 +13,7 @@ use Rattle.etherparse_transport.specs.Layer.{word_of}
 use Rattle.etherparse_transport.specs.Proto.{Proto}
 use Rattle.etherparse_transport.specs.Proto.TheVariants.{Udp, Tcp, Icmpv4, Icmpv6}
 
--- the answer if the input is not a line of the stated form
+-- the answer if the input is not a line of the form that the program reads
 abbrev pub bad_input : List ℕ × ℕ
 bad_input = (codes "bad input\n", 2)
 
@@ -28,7 +28,7 @@ refused_text (Len error) =
     codes "refused len " ++ word_of error.layer ++ codes " " ++ decimal error.required_len ++ codes " " ++ decimal error.len ++ codes "\n"
 refused_text (Content (DataOffsetTooSmall data_offset)) = codes "refused offset " ++ decimal data_offset ++ codes "\n"
 
--- the answer to a packet: its format refuses it with this error, or it is accepted with its canonical header
+-- the answer to a packet: it is refused with this error, or accepted with its canonical header
 abbrev pub decided : Proto → List ℕ → Option HeaderSliceError → List ℕ × ℕ
 decided protocol bytes (Some error) = (refused_text error, 1)
 decided protocol bytes None =
@@ -44,7 +44,7 @@ abbrev pub bytes_report : Proto → Result (List ℕ) FromHexError → List ℕ 
 bytes_report protocol (Ok bytes) = packet_report protocol bytes
 bytes_report protocol (Err error) = bad_input
 
--- what a line asks about: a protocol, and the digits of a packet
+-- the answer to a line with this protocol and these digits, or to a line without them
 abbrev pub request_report : Option (Proto × List ℕ) → List ℕ × ℕ
 request_report (Some request) = bytes_report request.0 (decode_of request.1)
 request_report None = bad_input
@@ -53,7 +53,7 @@ request_report None = bad_input
 abbrev pub line_of : List ℕ → List ℕ
 line_of input = if ends_with nat_eq input (codes "\n") then take (length input - 1) input else input
 
--- the digits of a line that begins with this word; the word ends with a space
+-- the protocol and the digits of a line that begins with this word, which ends with a space; `None` for any other line
 abbrev pub digits_after : List ℕ → Proto → List ℕ → Option (Proto × List ℕ)
 digits_after word protocol line = if starts_with nat_eq line word then Some (protocol, drop (length word) line) else None
 
@@ -66,7 +66,7 @@ request_of line =
     (option_or (digits_after (codes "icmpv4 ") Icmpv4 line)
     (digits_after (codes "icmpv6 ") Icmpv6 line)))
 
--- the longest line, in bytes
+-- the maximum length of a line, in bytes
 abbrev pub max_line_len : ℕ
 max_line_len = 8192
 

@@ -1,4 +1,4 @@
--- What one run of the program reads and writes. If the bytes of its reader or writer are unknown, nothing is stated about them.
+-- What one run of the program reads and writes. If the bytes of the reader or writer are unknown, nothing is stated about them.
 use Rattle.std.specs.Prelude.{◌≡◌, ℕ, List, take, Option, IfSome}
 use Rattle.std.specs.Io.KnownBytes.{Appends, Consumes}
 use Rattle.streams.specs.Streams.{AppendsBeginning}

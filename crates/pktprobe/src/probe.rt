@@ -16,19 +16,19 @@ use std::io;
 use std::io::{Read, Write};
 use streams::{fill, write_whole};
 
-/// The longest line, in bytes.
+/// The maximum length of a line, in bytes.
 const MAX_LINE_LEN: usize = 8192;
 
-/// The greatest number of bytes that `run` reads: the longest line, its line feed, and one more byte, which shows that a line is too long.
+/// The maximum number of bytes that `run` reads: the longest line, its line feed, and one more byte, which shows that a line is too long.
 const MAX_INPUT_LEN: usize = MAX_LINE_LEN + 2;
 
-/// The length of the longest packet in a line, in bytes. The packet is written with two digits a byte, after the shortest word and a space.
+/// The maximum length of the packet in a line, in bytes. The line contains two digits for each byte, after the shortest word and a space.
 const MAX_PACKET_LEN: usize = (MAX_LINE_LEN - 4) / 2;
 
-/// The longest header, that of TCP, in bytes.
+/// The length of the longest header, which is a TCP header, in bytes.
 const MAX_HEADER_LEN: usize = 60;
 
-/// The room for an answer, in bytes.
+/// The capacity for an answer, in bytes.
 const MAX_TEXT_LEN: usize = 160;
 
 /// The status of an accepted packet.
@@ -37,7 +37,7 @@ const ACCEPTED: u8 = 0;
 /// The status of a refused packet.
 const REFUSED: u8 = 1;
 
-/// The status if the input is not a line of the stated form.
+/// The status if the input is not a line of the form that the program reads.
 const BAD_INPUT: u8 = 2;
 
 /// The status of a run in which reading or writing failed.
@@ -73,7 +73,7 @@ fn respond<R: Read, W: Write>(input: &mut R, output: &mut W) -> io::Result<u8>
     Ok(status)
 }
 
-/// The answer to a whole input: its text and its status 0, 1 or 2. The first 8,194 bytes of the input decide it.
+/// The answer to a whole input: its text, and its status, which is 0, 1 or 2. It depends only on the first 8,194 bytes of the input.
 #[tactic(auto, using(crate::proofs::ReportLemmas::first_bytes_decide))]
 pub fn answer(input: &[u8]) -> (ArrayVec<u8, 160>, u8)
     ensures text { result.0.items ≡ (report input.now).0 }
@@ -94,14 +94,14 @@ pub fn answer(input: &[u8]) -> (ArrayVec<u8, 160>, u8)
     packet_answer(protocol, &bytes[..len])
 }
 
-/// The input. If it ends with a line feed, this line feed is left out.
+/// The input, without the line feed if it ends with a line feed.
 fn line_of(input: &[u8]) -> &[u8]
     ensures { result.now ≡ line_of input.now }
 {
     input.strip_suffix(b"\n").unwrap_or(input)
 }
 
-/// The protocol that a line names, and the digits after the name and one space. None if the line does not begin with a name and a space.
+/// The protocol that a line names, and the digits after the name and one space. `None` if the line does not begin with a name and a space.
 fn request_of(line: &[u8]) -> Option<(Proto, &[u8])>
     ensures { option_map (λ request. (request.0, request.1.now)) result ≡ request_of line.now }
 {
@@ -120,7 +120,7 @@ fn request_of(line: &[u8]) -> Option<(Proto, &[u8])>
     None
 }
 
-/// The answer if the input is not a line of the stated form.
+/// The answer if the input is not a line of the form that the program reads.
 fn bad_input() -> (ArrayVec<u8, 160>, u8)
     ensures text { result.0.items ≡ bad_input.0 }
     ensures status { result.1 ≡ bad_input.1 }
@@ -130,8 +130,8 @@ fn bad_input() -> (ArrayVec<u8, 160>, u8)
     (text, BAD_INPUT)
 }
 
-/// Decodes hex digits into the front of `bytes`, and returns the number of bytes. None if one of them is not a hex digit, or if their
-/// number is odd.
+/// Decodes hex digits into the front of `bytes`, and returns the number of bytes. `None` if one of the digits is not a hex digit, or if the
+/// number of digits is odd.
 fn decode_digits(digits: &[u8], bytes: &mut [u8]) -> Option<usize>
     requires { length digits.now ≤ 2 * length bytes.old }
     ensures { MatchResult (decode_of digits.now)
@@ -213,7 +213,7 @@ fn refused_offset_text(data_offset: u8) -> ArrayVec<u8, 160>
     text
 }
 
-/// Appends a number.
+/// Appends a number in decimal.
 fn push_decimal(text: &mut ArrayVec<u8, 160>, number: usize)
     requires { array_vec_len text.old + 20 ≤ MAX_TEXT_LEN }
     ensures digits { text.new.items ≡ text.old.items ++ decimal number }

@@ -1,4 +1,4 @@
--- Laws of pieces that do not overlap: they contain all bytes of a payload exactly if their lengths sum up to its length.
+-- Laws of pieces that do not overlap: they contain all bytes of a payload exactly if the sum of their lengths is the length of the payload.
 use Rattle.std.proofs.Common.{◌≡◌, ℕ, zero, suc, ◌+◌, ◌-◌, ◌<◌, ◌≤◌, min, nat_lt, Bool, true, false, ◌||◌, if◌then◌else◌, List, [], ◌∷◌, length, length-take, take, drop, slice_index, Some, is_some, refl, sym, ◌∙◌, ap, arith}
 use Rattle.std.proofs.lemmas.Bool.Decides.{nat_tests}
 use Rattle.std.proofs.lemmas.List.{get_or-drop, get_or-take}
@@ -17,7 +17,7 @@ abbrev one_if : Bool → ℕ
 one_if true = 1
 one_if false = 0
 
--- the number of places below this one whose bytes are known
+-- the number of places below this place whose bytes are known
 abbrev pub count : List Piece → ℕ → ℕ
 count pieces zero = 0
 count pieces (suc n) = count pieces n + one_if (is_known pieces n)
@@ -45,7 +45,7 @@ not_later place piece (other ∷ pieces) apart there =
     let none = or_false (overlaps piece other) (list_any (overlaps piece) pieces) apart in
     covered_later other pieces place (not_both place piece other none.0 there) ∙ not_later place piece pieces none.1 there
 
--- the number of places of a piece below this one
+-- the number of places of a piece below the next place
 within_piece : (n : ℕ) (piece : Piece) (is : Bool) → covers n piece ≡ is
     → min (suc n) (end_of piece) - min (suc n) piece.offset ≡ (min n (end_of piece) - min n piece.offset) + one_if is
 within_piece n piece true is = grind (arith, nat_tests, is)
@@ -97,7 +97,7 @@ pub count_most : (pieces : List Piece) (n : ℕ) → count pieces n ≤ n
 count_most pieces zero = omega arith
 count_most pieces (suc n) = omega (arith, count_most pieces n, one_at_most (is_known pieces n))
 
--- the pieces below a place have no more bytes than it
+-- pieces that end at or before a place have at most as many bytes as there are before the place
 pub total_most : (buffer : List ℕ) (parts : List Part) (n : ℕ) → All (Fits buffer) parts → AreApart (pieces_in buffer parts)
     → All (EndsWithin n) parts → total_len (pieces_in buffer parts) ≤ n
 total_most buffer parts n fit apart within = omega (arith, count_total buffer parts n fit apart within, count_most (pieces_in buffer parts) n)
@@ -106,7 +106,7 @@ known_if : (is : Bool) → 1 ≤ one_if is → is ≡ true
 known_if true most = refl
 known_if false most = absurd (omega (arith, most))
 
--- if all are counted, each is known
+-- if all places below a place are counted, the byte at each is known
 pub known_by_count : (pieces : List Piece) (n place : ℕ) → count pieces n ≡ n → place < n → is_known pieces place ≡ true
 known_by_count pieces zero place all below = absurd (omega (arith, below))
 known_by_count pieces (suc n) place all below = step (nat_lt place n) refl (known_by_count pieces n place)
@@ -123,7 +123,7 @@ known_by_count pieces (suc n) place all below = step (nat_lt place n) refl (know
         let same : place ≡ n = grind (arith, nat_tests, is, below) in
         ap (is_known pieces) same ∙ known_if (is_known pieces n) last
 
--- and the other way round
+-- if every byte below a place is known, the number of known bytes is the place
 pub count_by_known : (pieces : List Piece) (n : ℕ) → ((place : ℕ) → place < n → is_known pieces place ≡ true) → count pieces n ≡ n
 count_by_known pieces zero known = refl
 count_by_known pieces (suc n) known =

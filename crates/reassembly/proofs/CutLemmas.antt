@@ -39,7 +39,7 @@ same_key (Ipv6 source destination identification) =
 
 -- ---- one fragment of a cut
 
--- where it is, and whether it is the last
+-- the place of a fragment in the payload, and whether it is the last fragment
 pub record IsPlaced (key : FragmentKey) (offset : ℕ) (payload : List ℕ) (fragment : FragmentValue) : Type 0 where
   pub key_is : fragment.key ≡ key
   pub start : offset ≤ fragment.offset
@@ -51,7 +51,7 @@ pub record IsPlaced (key : FragmentKey) (offset : ℕ) (payload : List ℕ) (fra
 true_is_false : {b : Bool} → b ≡ true → b ≡ false → ⊥
 true_is_false is other = absurd (cc (is, other))
 
--- a cut of some bytes is not empty
+-- a cut consists of at least one fragment
 cut_some : (key : FragmentKey) (offset : ℕ) (payload : List ℕ) (fragments : List FragmentValue) → IsCutFrom key offset payload fragments → 0 < length payload
 cut_some key offset payload [] cut = absurd cut
 cut_some key offset payload (last ∷ []) cut = omega (arith, ap length cut.1, cut.0.some)
@@ -163,7 +163,7 @@ byte_of key offset payload (first ∷ (next ∷ others)) fragment place cut (inr
     ∙ sym (get_or-append_right first.bytes cut.2.0 (length first.bytes) (place - offset) 0 refl (omega (arith, start, later.start)))
     ∙ ap (λ bytes. slice_index bytes (place - offset)) (sym cut.2.1)
 
--- a fragment contains the byte of this place
+-- one of the fragments contains the byte at this place
 record IsCovered (fragments : List FragmentValue) (place : ℕ) : Type 0 where
   pub fragment : FragmentValue
   pub is : IsOneOf fragments fragment
@@ -216,7 +216,7 @@ abbrev missing : List FragmentValue → List Piece → ℕ
 missing [] pieces = 0
 missing (fragment ∷ fragments) pieces = one_unless (is_among pieces (piece_of fragment)) + missing fragments pieces
 
--- the end is the end of the payload, or unknown, and then no piece reaches it
+-- the end is the end of the payload; if it is unknown, no piece reaches the end of the payload
 abbrev EndsAt : ℕ → Option ℕ → List Piece → Type 0
 EndsAt len None pieces = reaches len pieces ≡ false
 EndsAt len (Some end) pieces = end ≡ len
@@ -387,7 +387,7 @@ missing_fewer (first ∷ others) fragment pieces (inr is) new =
       missing_fewer others fragment pieces is new,
     )
 
--- the pieces after a fragment
+-- the pieces after a fragment are pieces of the fragments
 pieces_agree : (fragments : List FragmentValue) (fragment : FragmentValue) (pieces : List Piece) (among : Bool) → IsOneOf fragments fragment
     → is_among pieces (piece_of fragment) ≡ among → ArePieces fragments pieces → length pieces + missing fragments pieces ≤ length fragments
     → ArePieces fragments (if among then pieces else pieces ++ piece_of fragment ∷ [])
@@ -399,7 +399,7 @@ pieces_agree fragments fragment pieces false is among are few = (
   omega (arith, length-append pieces (piece_of fragment ∷ []), missing_fewer fragments fragment pieces is among, few),
 )
 
--- the end after it
+-- the end still holds after another piece
 reach_push : (len : ℕ) (pieces : List Piece) (piece : Piece) → reaches len pieces ≡ false → end_of piece < len → reaches len (pieces ++ piece ∷ []) ≡ false
 reach_push len pieces piece none before =
     any_append (λ piece. nat_le len (end_of piece)) pieces (piece ∷ [])
@@ -507,7 +507,7 @@ piece_is a b is =
     ap (λ offset. record { offset = offset; bytes = a.bytes }) (is_number a.offset b.offset parts.0)
     ∙ ap (λ bytes. record { offset = b.offset; bytes = bytes }) (bytes_are a.bytes b.bytes parts.1)
 
--- what is true of a piece is true of one of the pieces that it is among
+-- a test that holds for a piece holds for one of the pieces that are equal to it
 pub any_among : (test : Piece → Bool) (piece : Piece) (pieces : List Piece) → is_among pieces piece ≡ true → test piece ≡ true → list_any test pieces ≡ true
 any_among test piece [] among true_of = absurd (cc among)
 any_among test piece (first ∷ pieces) among true_of =

@@ -4,7 +4,7 @@ use Rattle.std.proofs.lemmas.Bool.Decides.{nat_tests}
 use Rattle.ip_part.specs.ExtensionHeaders.{extension_len, fragment, is_extension, next_number}
 use Rattle.reassembly.specs.Fragments.{fragment_header_from, fragment_header_place}
 
--- the search from the IPv6 header finds the same as the search from this place, and each byte left is enough for one more header
+-- the search from the IPv6 header and the search from this place have the same result; each byte left is enough for another header
 pub record IsReached (packet : List ℕ) (number place : ℕ) : Type 0 where
   pub more : ℕ
   pub within : place ≤ length packet
@@ -18,7 +18,7 @@ reached_first packet long = record { more = suc (length packet); within = long; 
 abbrev begins_at : List ℕ → ℕ → ℕ → Bool
 begins_at packet number place = is_extension number && not (nat_lt (length packet) (place + 8))
 
--- the search after the extension header at this place, and this search if the header is whole
+-- the search after the extension header at this place, which must be whole
 abbrev after : ℕ → List ℕ → ℕ → ℕ → Option ℕ
 after more packet number place =
     fragment_header_from more (next_number (drop place packet)) (place + extension_len number (drop place packet)) packet
@@ -142,7 +142,7 @@ cut_off_by packet rest number place len rest_is reached begins other len_is shor
     cut_off_at packet number place reached begins other
     (is_below _ _ (omega (arith, reached.within, len_is, len_there, short, ap length rest_is, length-drop place packet)))
 
--- and the search goes on after it if it is not
+-- if a header is not a fragment header, the search continues after it
 pub next_by : (packet rest : List ℕ) (number place len : ℕ) → rest ≡ drop place packet → IsReached packet number place
     → begins_at packet number place ≡ true → (number == fragment) ≡ false → len ≡ extension_len number rest → 8 ≤ len → len ≤ length rest
     → IsReached packet (slice_index rest 0) (place + len)

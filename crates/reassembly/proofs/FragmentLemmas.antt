@@ -28,7 +28,7 @@ pub none_if : {E : Type 0} (is : Bool) (error : E) → refused_if is error ≡ N
 none_if true error none = absurd (some_is_none error none)
 none_if false error none = refl
 
--- the rules of a header by its version
+-- a header is refused by the rules of its version
 by_version : (empty four six : Bool) (a b : IpError) (four_refusal six_refusal : Option IpError)
     → (if empty then Some a else if four then four_refusal else if six then six_refusal else Some b) ≡ None
     → (empty ≡ false) × (four ≡ true → four_refusal ≡ None) × (four ≡ false → (six ≡ true) × (six_refusal ≡ None))
@@ -61,7 +61,7 @@ total_long : (total header_len : ℕ) → (missing : Bool) → (total == 0) ≡ 
 total_long total header_len true is missing none = absurd (some_is_none (TotalLength 0 header_len) missing)
 total_long total header_len false is missing none = ltb-false total header_len (none_if (nat_lt total header_len) (TotalLength total header_len) none)
 
--- the version of the counted bytes
+-- the version of the counted bytes is the version of the packet
 same_version : (packet : List ℕ) (len : ℕ) → 0 < len → version (take len packet) ≡ version packet
 same_version packet len some = ap (λ byte. byte / 16) (get_or-take len packet 0 0 some)
 

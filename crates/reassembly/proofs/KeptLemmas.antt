@@ -38,7 +38,7 @@ two_none true b x y none = absurd (some_is_none x none)
 two_none false true x y none = absurd (some_is_none y none)
 two_none false false x y none = (refl, refl)
 
--- all errors of a fragment that is accepted
+-- an accepted fragment is refused by none of three rules
 three_none : (a b c : Option ReassemblyError) → first_of (a ∷ b ∷ c ∷ []) ≡ None → (a ≡ None) × (b ≡ None) × (c ≡ None)
 three_none (Some e) b c none = absurd (some_is_none e none)
 three_none None (Some e) c none = absurd (some_is_none e none)
@@ -53,7 +53,7 @@ accepted_by state fragment none =
     three_none (own_refusal state.key state.room fragment) (end_refusal state.end (reaches (end_of_fragment fragment) state.pieces) fragment)
     (piece_refusal state.pieces (piece_of fragment)) none
 
--- it ends within the longest payload and within the buffer
+-- an accepted fragment ends within the longest payload and within the buffer
 pub own_fits : (key : FragmentKey) (room : ℕ) (fragment : FragmentValue) → own_refusal key room fragment ≡ None
     → (end_of_fragment fragment ≤ 65535) × (end_of_fragment fragment ≤ room)
 own_fits key room fragment none =
@@ -63,7 +63,7 @@ own_fits key room fragment none =
     OtherKey Empty (LengthNotMultipleOf8 (length fragment.bytes)) (TooLong e) (BufferTooSmall e room) none in
     (ltb-false 65535 e rules.0, ltb-false room e rules.1)
 
--- no part reaches a place behind all parts
+-- no part reaches a place after all parts
 ends_below : (parts : List Part) (place : ℕ) → part_reaches place parts ≡ false → All (EndsWithin place) parts
 ends_below [] place none = All-nil (EndsWithin place)
 ends_below (part ∷ parts) place none = step (nat_le place (part.offset + part.len)) refl none (λ none. ends_below parts place none)
@@ -103,7 +103,7 @@ unknown_end parts false e len none is =
     let P : ℕ → Type 0 = λ n. All (EndsWithin n) parts × (e ≤ n) in
     subst P (same_some e len is) (ends_below parts e (none_if (part_reaches e parts) BehindEnd none), omega arith)
 
--- the end agrees with all parts and with the fragment
+-- the end of the payload agrees with all parts and with the fragment
 pub ends_agree : (parts : List Part) (end : Option ℕ) (fragment : FragmentValue) → ((len : ℕ) → end ≡ Some len → All (EndsWithin len) parts)
     → end_refusal end (part_reaches (end_of_fragment fragment) parts) fragment ≡ None
     → (len : ℕ) → end_with end fragment ≡ Some len → All (EndsWithin len) parts × (end_of_fragment fragment ≤ len)
@@ -127,7 +127,7 @@ kept_empty buffer = record {
   ended = λ len is. absurd (no_some len is);
 }
 
--- a repetition
+-- what a reassembly keeps after a repeated fragment
 pub kept_repeated : (buffer : List ℕ) (parts : List Part) (received : ℕ) (end : Option ℕ) (fragment : FragmentValue)
     → AreKept buffer parts received end → end_refusal end (part_reaches (end_of_fragment fragment) parts) fragment ≡ None
     → AreKept buffer parts received (end_with end fragment)
@@ -139,7 +139,7 @@ kept_repeated buffer parts received end fragment kept none = record {
   ended = λ len is. (ends_agree parts end fragment kept.ended none len is).0;
 }
 
--- a new piece
+-- what a reassembly keeps after a new piece
 pub kept_added : (buffer after : List ℕ) (parts new : List Part) (received : ℕ) (end : Option ℕ) (fragment : FragmentValue)
     → AreKept buffer parts received end
     → new ≡ parts ++ record { offset = fragment.offset; len = length fragment.bytes } ∷ []
@@ -197,7 +197,7 @@ refusal_is key room buffer parts end fragment own ends pieces fit own_is ends_ar
     ∙ ap (λ ends. first_of (own ∷ ends ∷ piece_refusal (pieces_in buffer parts) (piece_of fragment) ∷ [])) ends_are
     ∙ ap (λ pieces. first_of (own ∷ ends ∷ pieces ∷ [])) pieces_are
 
--- a piece that was accepted and is new overlaps no other, and there is room for it
+-- a piece that was accepted and is new overlaps no other piece, and there is room for it
 pub new_piece : (buffer : List ℕ) (parts : List Part) (piece : Piece) → piece_refusal (pieces_in buffer parts) piece ≡ None
     → is_among (pieces_in buffer parts) piece ≡ false
     → (list_any (overlaps piece) (pieces_in buffer parts) ≡ false) × (length parts < 128)
@@ -267,7 +267,7 @@ only_third (Some error) = refl
 
 -- ---- a new fragment is written into the buffer
 
--- what is true afterwards
+-- what holds after a piece was written
 pub record IsWritten (buffer after : List ℕ) (parts new : List Part) (received : ℕ) (end : Option ℕ) (fragment : FragmentValue) : Type 0 where
   pub kept : AreKept after new (received + length fragment.bytes) end
   pub pieces : pieces_in after new ≡ pieces_in buffer parts ++ piece_of fragment ∷ []

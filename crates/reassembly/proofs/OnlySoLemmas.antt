@@ -64,7 +64,7 @@ not_false false is = absurd (cc is)
 
 -- ---- what stays true of a fragment that was accepted
 
--- its piece is there, and it agrees with the end
+-- the piece of the fragment is in the state, and its end agrees with the end of the payload
 record IsKnown (fragment : FragmentValue) (state : State) : Type 0 where
   pub among : is_among state.pieces (piece_of fragment) ≡ true
   pub last : fragment.more_fragments ≡ false → state.end ≡ Some (end_of_fragment fragment)
@@ -76,7 +76,7 @@ same_some a b is = cc is
 none_some : (a : ℕ) → None ≡ Some a → ⊥
 none_some a is = cc is
 
--- the end after another accepted fragment, if it was known before
+-- the end stays the end after another accepted fragment
 end_stays : (more : Bool) (e end : ℕ) → (if more then refused_if (nat_le end e) BehindEnd else refused_if (not (e == end)) OtherEnd) ≡ None
     → (if more then Some end else Some e) ≡ Some end
 end_stays true e end none = refl
@@ -122,7 +122,7 @@ known_after fragment other state accepted known =
       more = λ more len is. more_stays state.end (piece_of fragment) state.pieces other len known.among (known.more more) rules.1 is;
     }
 
--- the fragment itself
+-- the last fragment ends at the end
 own_last : (more : Bool) (end : Option ℕ) (e : ℕ) → more ≡ false → (if more then end else Some e) ≡ Some e
 own_last true end e last = absurd (cc last)
 own_last false end e last = refl

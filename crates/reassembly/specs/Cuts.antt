@@ -1,4 +1,5 @@
--- Ways to cut the payload of a packet into fragments (RFC 791, section 3.2; RFC 8200, section 4.5), and adds one after another.
+-- Ways to cut the payload of a packet into fragments (RFC 791, section 3.2; RFC 8200, section 4.5), and fragments that are added one after
+-- another.
 use Rattle.std.specs.Prelude.{◌≡◌, ◌⊎◌, ◌<◌, ℕ, ◌+◌, ◌%◌, Bool, true, false, List, [], ◌∷◌, ◌++◌, length, None, ⊤, slice_range}
 use Rattle.reassembly.specs.Fragments.{FragmentValue}
 use Rattle.reassembly.specs.Reassembly.{State, refusal, with_fragment}
@@ -6,14 +7,15 @@ use Rattle.reassembly.specs.declared.fragment_key.FragmentKey.{FragmentKey}
 
 -- ---- cuts
 
--- a fragment of the packet with this key, at this place, that is not empty; whether more fragments come after it
+-- A fragment of the packet with this key that is not empty. It is at this place, and states whether more fragments come after it.
 pub record IsFragmentAt (key : FragmentKey) (offset : ℕ) (more_fragments : Bool) (fragment : FragmentValue) : Type 0 where
   pub key_is : fragment.key ≡ key
   pub offset_is : fragment.offset ≡ offset
   pub more_is : fragment.more_fragments ≡ more_fragments
   pub some : 0 < length fragment.bytes
 
--- These fragments, one after another, contain the payload from this place on. The length of each but the last is a multiple of 8.
+-- These fragments, one after another, contain the payload from this place on. The length of each fragment except the last is a multiple of
+-- 8.
 abbrev pub IsCutFrom : FragmentKey → ℕ → List ℕ → List FragmentValue → Type 0
 IsCutFrom key offset payload [] = ⊥
 IsCutFrom key offset payload (last ∷ []) = IsFragmentAt key offset false last × (payload ≡ last.bytes)
@@ -21,7 +23,7 @@ IsCutFrom key offset payload (first ∷ (next ∷ others)) =
     IsFragmentAt key offset true first × (length first.bytes % 8 ≡ 0)
     × ((rest : List ℕ) × (payload ≡ first.bytes ++ rest) × IsCutFrom key (offset + length first.bytes) rest (next ∷ others))
 
--- the fragments are a way to cut the payload of the packet with this key
+-- the fragments are a way to cut the whole payload of the packet with this key
 abbrev pub IsCut : FragmentKey → List ℕ → List FragmentValue → Type 0
 IsCut key payload fragments = IsCutFrom key 0 payload fragments
 
@@ -31,7 +33,7 @@ abbrev pub IsOneOf : List FragmentValue → FragmentValue → Type 0
 IsOneOf [] fragment = ⊥
 IsOneOf (first ∷ others) fragment = (fragment ≡ first) ⊎ IsOneOf others fragment
 
--- each of the arrivals is one of the fragments; so their order is any order, and a fragment may come repeatedly
+-- each of the arrivals is one of the fragments, so they arrive in any order, and a fragment may arrive repeatedly
 abbrev pub AreFrom : List FragmentValue → List FragmentValue → Type 0
 AreFrom fragments [] = ⊤
 AreFrom fragments (first ∷ others) = IsOneOf fragments first × AreFrom fragments others
@@ -48,8 +50,8 @@ after state (first ∷ others) = after (with_fragment state first) others
 
 -- ---- fragments of a payload
 
--- This is a fragment of the packet with this key and this payload: its bytes are the bytes of the payload at its place, and it ends with the
--- payload exactly if it states that no more fragments come. Otherwise its length is a multiple of 8.
+-- This is a fragment of the packet with this key and this payload. Its bytes are the bytes of the payload at its place. It ends where the
+-- payload ends exactly if it states that no more fragments come. Otherwise its length is a multiple of 8.
 pub record IsFragmentOf (key : FragmentKey) (payload : List ℕ) (fragment : FragmentValue) : Type 0 where
   pub key_is : fragment.key ≡ key
   pub some : 0 < length fragment.bytes

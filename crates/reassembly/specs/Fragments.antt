@@ -18,14 +18,14 @@ use Rattle.reassembly.specs.declared.fragment_key.FragmentKey.TheVariants as key
 
 -- ---- a fragment
 
--- a fragment, wherever its bytes are stored: what all fragments of its packet have in common, the place of its first byte in the payload of
--- the packet, whether more fragments come after it, and its bytes
+-- the key of a fragment, the place of its first byte in the payload of its packet, whether more fragments come after it, and its bytes
 pub record FragmentValue : Type 0 where
   pub key : FragmentKey
   pub offset : ℕ
   pub more_fragments : Bool
   pub bytes : List ℕ
 
+-- the fragment, wherever its bytes are stored
 abbrev pub by_value : Fragment → FragmentValue
 by_value fragment = record {
   key = fragment.key;
@@ -36,12 +36,13 @@ by_value fragment = record {
 
 -- ---- IPv4
 
--- what all fragments of one packet have in common: source, destination, protocol and identification (RFC 791, section 3.2)
+-- the key of the fragments of an IPv4 packet: source, destination, protocol and identification (RFC 791, section 3.2)
 abbrev pub ipv4_key : List ℕ → FragmentKey
 ipv4_key header =
     keys.Ipv4 (slice_range header 12 16) (slice_range header 16 20) (record { 0 = slice_index header 9 }) (be_number header 4 2)
 
--- the fragment in an IPv4 packet without padding, by its header; the offset in the header counts units of 8 bytes (RFC 791, section 3.1)
+-- The fragment in an IPv4 packet without padding. `header` is the IPv4 header, whose offset field counts units of 8 bytes (RFC 791, section
+-- 3.1).
 abbrev pub ipv4_fragment_by : List ℕ → List ℕ → FragmentValue
 ipv4_fragment_by header packet = record {
   key = ipv4_key header;
@@ -57,8 +58,8 @@ ipv4_fragment_in packet =
 
 -- ---- IPv6
 
--- The place of the first fragment header in a packet without padding, from the header at `place` on, whose number is `number`. Each header
--- contains the number of the next header (RFC 8200, section 4). The first argument limits the number of headers.
+-- The place of the first fragment header in a packet without padding. The search begins with the header at `place`, whose number is
+-- `number`. Each header contains the number of the next header (RFC 8200, section 4). The first argument limits the number of headers.
 unfoldable pub fragment_header_from : ℕ → ℕ → ℕ → List ℕ → Option ℕ
 fragment_header_from zero number place packet = None
 fragment_header_from (suc more) number place packet =
@@ -83,8 +84,8 @@ abbrev pub ipv6_key : List ℕ → List ℕ → FragmentKey
 ipv6_key header fragment_header =
     keys.Ipv6 (slice_range header 8 24) (slice_range header 24 40) (be_number fragment_header 4 4)
 
--- The fragment in an IPv6 packet without padding. `header` is the IPv6 header, and `rest` begins with the fragment header. `None` for an
--- atomic fragment (RFC 6946). The offset in the fragment header counts units of 8 bytes (RFC 8200, section 4.5).
+-- The fragment in an IPv6 packet without padding. `header` is the IPv6 header, and `rest` begins with the fragment header. `None` if the
+-- fragment is atomic (RFC 6946). The offset in the fragment header counts units of 8 bytes (RFC 8200, section 4.5).
 abbrev pub ipv6_fragment_by : List ℕ → List ℕ → Option FragmentValue
 ipv6_fragment_by header rest =
     if is_one_of_fragments fragment rest then Some (record {
@@ -94,11 +95,12 @@ ipv6_fragment_by header rest =
       bytes = drop 8 rest;
     }) else None
 
--- the fragment with its fragment header at this place, if there is one
+-- the fragment in a packet whose first fragment header is at this place; `None` if the packet has no fragment header
 abbrev pub ipv6_fragment_at : List ℕ → Option ℕ → Option FragmentValue
 ipv6_fragment_at packet None = None
 ipv6_fragment_at packet (Some place) = ipv6_fragment_by (take 40 packet) (drop place packet)
 
+-- the fragment in an IPv6 packet without padding; `None` if the packet is whole
 abbrev pub ipv6_fragment_in : List ℕ → Option FragmentValue
 ipv6_fragment_in packet = ipv6_fragment_at packet (fragment_header_place packet)
 
@@ -109,8 +111,8 @@ abbrev pub fragment_of : List ℕ → Option FragmentValue
 fragment_of packet =
     if version packet == 4 then ipv4_fragment_in (counted false packet) else ipv6_fragment_in (counted false packet)
 
--- the length of the transport header at the front of these bytes, as far as it is known: UDP (RFC 768), ICMPv6 (RFC 4443, section 2.1),
--- and TCP, whose length is in the high four bits of byte 12, in words of four bytes (RFC 9293, section 3.1)
+-- the length of the header of UDP (RFC 768), ICMPv6 (RFC 4443, section 2.1) or TCP, whose length is in the high four bits of byte 12, in
+-- words of four bytes (RFC 9293, section 3.1); the minimum length of TCP if this byte is missing, and 0 for another protocol
 abbrev pub transport_header_len : ℕ → List ℕ → ℕ
 transport_header_len protocol bytes =
     if protocol == udp_number then 8
@@ -119,23 +121,23 @@ transport_header_len protocol bytes =
     else if nat_lt (length bytes) 20 then 20
     else slice_index bytes 12 / 16 * 4
 
--- the bytes end within the transport header
+-- the error if the bytes end within the transport header
 abbrev pub header_chain_refusal : ℕ → List ℕ → Option FragmentError
 header_chain_refusal protocol bytes =
     refused_if (nat_lt (length bytes) (transport_header_len protocol bytes))
     (HeaderChainCutOff (transport_header_len protocol bytes) (length bytes))
 
--- a first fragment, whose offset is 0, ends within its transport header; a later fragment contains no transport header
+-- the error if a first fragment, whose offset is 0, ends within its transport header; a later fragment contains no transport header
 abbrev pub first_refusal : Option FragmentValue → ℕ → List ℕ → Option FragmentError
 first_refusal None protocol bytes = None
 first_refusal (Some fragment) protocol bytes = if fragment.offset == 0 then header_chain_refusal protocol bytes else None
 
--- the packet is a first fragment that ends within its transport header; `None` if its headers are refused
+-- the error if the packet is a first fragment that ends within its transport header; `None` if the headers of the packet are refused
 abbrev pub transport_refusal : List ℕ → Result Headers IpError → Option FragmentError
 transport_refusal packet (Err error) = None
 transport_refusal packet (Ok headers) = first_refusal (fragment_of packet) headers.protocol.0 (drop headers.len (counted false packet))
 
--- the errors, in this order: of a packet whose headers can't be read; of a first fragment over IPv6 without its whole header chain (RFC
+-- the errors, in this order: for a packet whose headers can't be read; for a first fragment over IPv6 without its whole header chain (RFC
 -- 7112, section 5)
 abbrev pub fragment_refusal : List ℕ → Option FragmentError
 fragment_refusal packet = first_of (

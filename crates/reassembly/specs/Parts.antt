@@ -1,4 +1,4 @@
--- Where the pieces of a payload are in the lent buffer.
+-- The places of the pieces of a payload in the lent buffer.
 use Rattle.std.specs.Prelude.{◌≡◌, ◌≤◌, ℕ, ◌+◌, Bool, nat_le, List, [], ◌∷◌, length, map, take, drop, Option, Some, false, ⊤}
 use Rattle.std.specs.List.{All, list_any}
 use Rattle.reassembly.specs.Pieces.{Piece, overlaps, total_len}
@@ -9,6 +9,7 @@ use Rattle.reassembly.specs.declared.part.Part.{Part}
 abbrev pub piece_in : List ℕ → Part → Piece
 piece_in buffer part = record { offset = part.offset; bytes = take part.len (drop part.offset buffer) }
 
+-- the pieces that the parts of a buffer contain
 abbrev pub pieces_in : List ℕ → List Part → List Piece
 pieces_in buffer parts = map (piece_in buffer) parts
 
@@ -29,7 +30,7 @@ part_reaches place parts = list_any (λ part. nat_le place (part.offset + part.l
 abbrev pub EndsWithin : ℕ → Part → Type 0
 EndsWithin limit part = part.offset + part.len ≤ limit
 
--- what is true of the parts of a reassembly, of their number of bytes, and of the known length of the payload
+-- what holds between the buffer, the parts of a reassembly, the number of their bytes, and the known length of the payload
 pub record AreKept (buffer : List ℕ) (parts : List Part) (received : ℕ) (end : Option ℕ) : Type 0 where
   pub fit : All (Fits buffer) parts
   pub apart : AreApart (pieces_in buffer parts)

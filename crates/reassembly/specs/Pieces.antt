@@ -1,4 +1,4 @@
--- Pieces of a payload, and what is known of the payload by them.
+-- Pieces of a payload, and what they tell about the payload.
 use Rattle.std.specs.Prelude.{ℕ, ◌+◌, ◌-◌, ◌==◌, Bool, ◌&&◌, nat_eq, nat_lt, nat_le, if◌then◌else◌, List, [], ◌∷◌, length, slice_index, Option, Some, None}
 use Rattle.std.specs.Cmp.Lexicographic.{pointwise}
 use Rattle.std.specs.List.{list_any}
@@ -8,7 +8,7 @@ pub record Piece : Type 0 where
   pub offset : ℕ
   pub bytes : List ℕ
 
--- the place after its last byte
+-- the place after the last byte of a piece
 abbrev pub end_of : Piece → ℕ
 end_of piece = piece.offset + length piece.bytes
 
@@ -20,15 +20,15 @@ covers place piece = nat_le piece.offset place && nat_lt place (end_of piece)
 abbrev pub overlaps : Piece → Piece → Bool
 overlaps a b = nat_lt a.offset (end_of b) && nat_lt b.offset (end_of a)
 
--- two pieces are at the same place, and have the same bytes
+-- two pieces are equal: they have the same bytes at the same place
 abbrev pub is_same : Piece → Piece → Bool
 is_same a b = a.offset == b.offset && pointwise nat_eq a.bytes b.bytes
 
--- a piece is one of these pieces
+-- a piece is equal to one of these pieces
 abbrev pub is_among : List Piece → Piece → Bool
 is_among pieces piece = list_any (is_same piece) pieces
 
--- the byte at this place, if one of the pieces contains it
+-- the byte at this place, or `None` if no piece contains it
 abbrev pub byte_at : List Piece → ℕ → Option ℕ
 byte_at [] place = None
 byte_at (piece ∷ pieces) place =

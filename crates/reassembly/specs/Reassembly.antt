@@ -11,25 +11,25 @@ use Rattle.reassembly.specs.declared.fragment_key.FragmentKey.TheVariants.{Ipv4,
 use Rattle.reassembly.specs.declared.reassembly_error.ReassemblyError.{ReassemblyError}
 use Rattle.reassembly.specs.declared.reassembly_error.ReassemblyError.TheVariants.{BehindEnd, BufferTooSmall, Empty, LengthNotMultipleOf8, OtherEnd, OtherKey, Overlap, TooLong, TooManyFragments}
 
--- what is known of the packet: its key, the length of the lent buffer, the pieces of the payload that arrived, and the length of the payload,
--- if its last fragment arrived
+-- what is known about the packet: its key, the length of the lent buffer, the pieces of the payload that arrived, and the length of the
+-- payload, or `None` if its last fragment did not arrive yet
 pub record State : Type 0 where
   pub key : FragmentKey
   pub room : ℕ
   pub pieces : List Piece
   pub end : Option ℕ
 
--- nothing arrived
+-- the state before the first fragment
 abbrev pub empty : FragmentKey → ℕ → State
 empty key room = record { key = key; room = room; pieces = []; end = None }
 
 -- ---- what is refused
 
--- the longest payload of a packet: the greatest number of the length fields of both versions (RFC 791, section 3.1; RFC 8200, section 3)
+-- the longest payload of a packet: the maximum of the length fields of IPv4 and IPv6 (RFC 791, section 3.1; RFC 8200, section 3)
 abbrev pub max_payload_len : ℕ
 max_payload_len = 65535
 
--- the greatest number of fragments of a packet
+-- the maximum number of fragments of a packet
 abbrev pub max_fragments : ℕ
 max_fragments = 128
 
@@ -41,7 +41,7 @@ piece_of fragment = record { offset = fragment.offset; bytes = fragment.bytes }
 abbrev pub end_of_fragment : FragmentValue → ℕ
 end_of_fragment fragment = end_of (piece_of fragment)
 
--- both are the same key
+-- the two keys are equal
 abbrev pub is_same_key : FragmentKey → FragmentKey → Bool
 is_same_key (Ipv4 source destination protocol identification) (Ipv4 source₂ destination₂ protocol₂ identification₂) =
     pointwise nat_eq source source₂
@@ -51,8 +51,8 @@ is_same_key (Ipv6 source destination identification) (Ipv6 source₂ destination
 is_same_key (Ipv4 source destination protocol identification) (Ipv6 source₂ destination₂ identification₂) = false
 is_same_key (Ipv6 source destination identification) (Ipv4 source₂ destination₂ protocol₂ identification₂) = false
 
--- the errors of a fragment by itself, in this order: of another packet; without bytes; not the last, and its length is no multiple of 8 (RFC
--- 791, section 3.2; RFC 8200, section 4.5); beyond the longest payload; beyond the buffer
+-- the errors of a fragment by itself, in this order: it belongs to another packet; it is empty; it is not the last, and its length is no
+-- multiple of 8 (RFC 791, section 3.2; RFC 8200, section 4.5); it ends beyond the longest payload; it ends beyond the buffer
 abbrev pub own_refusal : FragmentKey → ℕ → FragmentValue → Option ReassemblyError
 own_refusal key room fragment = first_of (
     refused_if (not (is_same_key fragment.key key)) OtherKey
@@ -66,26 +66,26 @@ own_refusal key room fragment = first_of (
 abbrev pub reaches : ℕ → List Piece → Bool
 reaches place pieces = list_any (λ piece. nat_le place (end_of piece)) pieces
 
--- The errors that concern the end of the payload. The last fragment ends there, and any other fragment ends before it. So the last fragment
--- is refused if the known end differs from its end, or if another fragment reaches its end.
+-- The errors about the end of the payload. The last fragment ends at this end, and any other fragment ends before it. So the last fragment
+-- is refused if another last fragment had another end, or if another fragment reaches its end.
 abbrev pub end_refusal : Option ℕ → Bool → FragmentValue → Option ReassemblyError
 end_refusal (Some end) is_reached fragment =
     if fragment.more_fragments then refused_if (nat_le end (end_of_fragment fragment)) BehindEnd
     else refused_if (not (end_of_fragment fragment == end)) OtherEnd
 end_refusal None is_reached fragment = if fragment.more_fragments then None else refused_if is_reached BehindEnd
 
--- another piece overlaps this piece, and is not the same piece (RFC 5722, section 3; RFC 8200, section 4.5)
+-- another piece overlaps this piece, but is not equal to it (RFC 5722, section 3; RFC 8200, section 4.5)
 abbrev pub conflicts : Piece → Piece → Bool
 conflicts piece other = overlaps piece other && not (is_same piece other)
 
--- the errors that concern the pieces that arrived
+-- the errors about the pieces that arrived, in this order: one of them conflicts with this piece; this piece is one too many
 abbrev pub piece_refusal : List Piece → Piece → Option ReassemblyError
 piece_refusal pieces piece = first_of (
     refused_if (list_any (conflicts piece) pieces) Overlap
     ∷ refused_if (not (is_among pieces piece) && nat_le max_fragments (length pieces)) TooManyFragments
     ∷ [])
 
--- all errors, in this order
+-- all errors of a fragment, in this order
 abbrev pub refusal : State → FragmentValue → Option ReassemblyError
 refusal state fragment = first_of (
     own_refusal state.key state.room fragment
@@ -95,14 +95,15 @@ refusal state fragment = first_of (
 
 -- ---- what an accepted fragment changes
 
--- one more piece; a repetition changes nothing
+-- the pieces after this piece is added; a repeated piece changes nothing
 abbrev pub pieces_with : List Piece → Piece → List Piece
 pieces_with pieces piece = if is_among pieces piece then pieces else pieces ++ piece ∷ []
 
--- the length of the payload, which the last fragment states by its end
+-- the length of the payload after this fragment, if it is known; the payload ends with the last fragment
 abbrev pub end_with : Option ℕ → FragmentValue → Option ℕ
 end_with end fragment = if fragment.more_fragments then end else Some (end_of_fragment fragment)
 
+-- the state after this fragment is added
 abbrev pub with_fragment : State → FragmentValue → State
 with_fragment state fragment = record {
   key = state.key;
@@ -113,7 +114,7 @@ with_fragment state fragment = record {
 
 -- ---- the payload
 
--- the length of the payload is known, and each of its bytes
+-- the length of the payload is known, and each of its bytes arrived
 abbrev pub IsComplete : State → Type 0
 IsComplete state =
     (len : ℕ) × (state.end ≡ Some len) × ((place : ℕ) → place < len → is_some (byte_at state.pieces place) ≡ true)

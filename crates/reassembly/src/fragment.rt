@@ -27,15 +27,15 @@ pub struct Fragment<'a> {
     pub key: FragmentKey,
     /// The place of the first byte in the payload of the whole packet, in bytes.
     pub offset: u16,
-    /// More fragments of the packet come after this one.
+    /// Whether more fragments of the packet come after this fragment.
     pub more_fragments: bool,
     /// The bytes after the IPv4 header, or after the fragment header of IPv6, without padding.
     pub payload: &'a [u8],
 }
 
 impl<'a> Fragment<'a> {
-    /// The fragment in an IP packet. `None` if the packet is whole: it has no fragment header, or is an atomic fragment (RFC 6946). Over
-    /// IPv6 the first fragment header is read.
+    /// Reads the fragment in an IP packet. `None` if the packet is whole: it has no fragment header, or is an atomic fragment (RFC 6946).
+    /// If an IPv6 packet has several fragment headers, the first is read.
     ///
     /// # Errors
     ///
@@ -60,7 +60,7 @@ impl<'a> Fragment<'a> {
     }
 }
 
-/// The fragment in the counted bytes of an IPv4 packet.
+/// The fragment in an IPv4 packet without padding, or `None` if the packet is not a fragment.
 fn fragment_over_ipv4(counted: &[u8]) -> Option<Fragment<'_>>
     requires { BeginsWithIpv4Header counted.now }
     ensures { option_map by_value result ≡ ipv4_fragment_in counted.now }
@@ -82,7 +82,7 @@ fn fragment_over_ipv4(counted: &[u8]) -> Option<Fragment<'_>>
     })
 }
 
-/// The fragment in the counted bytes of an IPv6 packet.
+/// The fragment in an IPv6 packet without padding, or `None` if the packet is whole.
 fn fragment_over_ipv6(counted: &[u8]) -> Option<Fragment<'_>>
     requires { BeginsWithIpv6Header counted.now }
     ensures { option_map by_value result ≡ ipv6_fragment_in counted.now }
@@ -92,7 +92,7 @@ fn fragment_over_ipv6(counted: &[u8]) -> Option<Fragment<'_>>
     fragment_at(&header, &counted[place..])
 }
 
-/// The fragment of an IPv6 packet with this header, by the bytes from its fragment header on.
+/// The fragment of an IPv6 packet with this header. `rest` is the packet from its fragment header on.
 fn fragment_at<'a>(header: &Ipv6HeaderSlice<'_>, rest: &'a [u8]) -> Option<Fragment<'a>>
     requires { 8 ≤ length rest.now }
     ensures { option_map by_value result ≡ ipv6_fragment_by header.now rest.now }
@@ -114,7 +114,7 @@ fn fragment_at<'a>(header: &Ipv6HeaderSlice<'_>, rest: &'a [u8]) -> Option<Fragm
     })
 }
 
-/// The place of a fragment over IPv6 in the payload of its packet, in bytes. In the header it is in units of 8 bytes.
+/// The offset in this fragment header, in bytes. The header counts units of 8 bytes.
 fn fragment_offset(fragment_header: &[u8]) -> u16
     requires { 8 ≤ length fragment_header.now }
     ensures { result ≡ specs.fragment_offset fragment_header.now * 8 }
@@ -122,7 +122,7 @@ fn fragment_offset(fragment_header: &[u8]) -> u16
     u16::from_be_bytes([fragment_header[2], fragment_header[3]]) / 8 * 8
 }
 
-/// Whether more fragments come after a fragment over IPv6.
+/// Whether this fragment header states that more fragments come.
 fn has_more_fragments(fragment_header: &[u8]) -> bool
     requires { 8 ≤ length fragment_header.now }
     ensures { result ≡ flag fragment_header.now 3 1 }
@@ -151,7 +151,7 @@ fn check_header_chain(
     Ok(())
 }
 
-/// The length of the transport header at the front of these bytes, as far as it is known.
+/// The length of the transport header at the front of these bytes, or its minimum if the byte with its length is missing.
 fn transport_header_len(protocol: IpNumber, bytes: &[u8]) -> usize
     ensures { result ≡ transport_header_len protocol.0 bytes.now }
 {

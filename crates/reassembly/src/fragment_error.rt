@@ -17,7 +17,7 @@ pub enum FragmentError {
     HeaderChainCutOff {
         /// The length of the transport header in bytes, or its minimum if the byte with its length is missing.
         required_len: usize,
-        /// The number of bytes of the fragment from the start of the transport header.
+        /// The number of bytes in the fragment from the start of the transport header on.
         len: usize,
     },
 }

@@ -1,25 +1,25 @@
 use crate::{Fragment, FragmentError};
 use net_base::IpNumber;
 
-/// What all fragments of one packet have in common, and no other packet of that time.
+/// What all fragments of one packet have in common, and fragments of other packets at that time do not.
 #[derive(Clone, Copy, Debug, PartialEq, Eq)]
 pub enum FragmentKey {
-    /// Over IPv4 (RFC 791, section 3.2).
+    /// The key of a fragment over IPv4 (RFC 791, section 3.2).
     Ipv4 {
-        /// The address of the sender.
+        /// The source address.
         source: [u8; 4],
-        /// The address of the receiver in the header.
+        /// The destination address in the header.
         destination: [u8; 4],
         /// The protocol of the payload.
         protocol: IpNumber,
         /// The identification.
         identification: u16,
     },
-    /// Over IPv6 (RFC 8200, section 4.5).
+    /// The key of a fragment over IPv6 (RFC 8200, section 4.5).
     Ipv6 {
-        /// The address of the sender.
+        /// The source address.
         source: [u8; 16],
-        /// The address of the receiver in the header.
+        /// The destination address in the header.
         destination: [u8; 16],
         /// The identification.
         identification: u32,
@@ -32,7 +32,7 @@ impl FragmentKey {
     ghost use Rattle.net_base.specs.Refusals.{RefusesExactly};
     ghost use Rattle.reassembly.specs.Fragments.{fragment_of, fragment_refusal};
 
-    /// The key of the fragment in an IP packet. `None` if the packet is whole.
+    /// Reads the key of the fragment in an IP packet. `None` if the packet is whole.
     ///
     /// # Errors
     ///

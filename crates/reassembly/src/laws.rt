@@ -6,7 +6,8 @@ ghost use Rattle.reassembly.specs.Fragments.{FragmentValue};
 ghost use Rattle.reassembly.specs.Reassembly.{IsPayload, empty};
 ghost use Rattle.reassembly.specs.declared.fragment_key.FragmentKey.{FragmentKey};
 
-/// Fragments that are cut from one payload are accepted in any order and repeatedly, and give the payload back if all of them arrive.
+/// If fragments that are cut from one payload arrive in any order, and each at least once, all are accepted, and they give the payload
+/// back.
 pub fn fragments_give_the_payload_back()
     ensures accepted { (key : FragmentKey) (room : ℕ) (payload : List ℕ) (fragments arrivals : List FragmentValue)
         → IsCut key payload fragments → length payload ≤ 65535 → length payload ≤ room → length fragments ≤ 128
@@ -16,7 +17,7 @@ pub fn fragments_give_the_payload_back()
         → IsPayload (after (empty key room) arrivals) payload }
 {}
 
-/// If the payload is complete, each fragment that was accepted is a fragment of it.
+/// If the payload is complete, each accepted fragment is a fragment of this payload.
 pub fn fragments_agree_with_the_payload()
     ensures { (key : FragmentKey) (room : ℕ) (payload : List ℕ) (arrivals : List FragmentValue) (fragment : FragmentValue)
         → AreAccepted (empty key room) arrivals → IsPayload (after (empty key room) arrivals) payload → IsOneOf arrivals fragment

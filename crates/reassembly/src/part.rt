@@ -13,7 +13,7 @@ pub(crate) struct Part {
     pub len: usize,
 }
 
-/// Whether one of the parts ends at this place or after it.
+/// Whether one of the parts ends at this place, or after it.
 pub(crate) fn is_reached(parts: &[Part], place: usize) -> bool
     requires { All (EndsWithin specs.max_payload_len) parts.now }
     ensures { result ≡ part_reaches place parts.now }
@@ -25,7 +25,7 @@ pub(crate) fn is_reached(parts: &[Part], place: usize) -> bool
     is_reached
 }
 
-/// Whether one of the parts overlaps this piece, and is not the same piece.
+/// Whether one of the parts overlaps this piece, but is not equal to it.
 pub(crate) fn has_conflict(buffer: &[u8], parts: &[Part], offset: usize, bytes: &[u8]) -> bool
     requires fit { All (Fits buffer.now) parts.now }
     requires room { offset + length bytes.now ≤ length buffer.now }
@@ -38,7 +38,7 @@ pub(crate) fn has_conflict(buffer: &[u8], parts: &[Part], offset: usize, bytes: 
     has_conflict
 }
 
-/// Whether one of the parts is the same piece as this one.
+/// Whether one of the parts is equal to this piece: the same bytes at the same place.
 pub(crate) fn is_repeated(buffer: &[u8], parts: &[Part], offset: usize, bytes: &[u8]) -> bool
     requires { All (Fits buffer.now) parts.now }
     ensures { result ≡ list_any (λ part. pieces.is_same (record { offset = offset; bytes = bytes.now }) (piece_in buffer.now part)) parts.now }
@@ -50,7 +50,7 @@ pub(crate) fn is_repeated(buffer: &[u8], parts: &[Part], offset: usize, bytes: &
     is_repeated
 }
 
-/// Whether a part overlaps this piece, and is not the same piece.
+/// Whether a part overlaps this piece, but is not equal to it.
 #[tactic(auto, using(crate::proofs::PartLemmas::piece_len))]
 fn conflicts(buffer: &[u8], part: Part, offset: usize, bytes: &[u8]) -> bool
     requires fits { Fits buffer.now part }
@@ -62,7 +62,7 @@ fn conflicts(buffer: &[u8], part: Part, offset: usize, bytes: &[u8]) -> bool
         && !is_same(buffer, part, offset, bytes)
 }
 
-/// Whether a part is the same piece as this one.
+/// Whether a part is equal to this piece: the same bytes at the same place.
 fn is_same(buffer: &[u8], part: Part, offset: usize, bytes: &[u8]) -> bool
     requires { Fits buffer.now part }
     ensures { result ≡ pieces.is_same (record { offset = offset; bytes = bytes.now }) (piece_in buffer.now part) }

@@ -12,14 +12,15 @@ use crate::{Fragment, FragmentKey, ReassemblyError};
 use arrayvec::ArrayVec;
 use std::marker::Model;
 
-/// The longest payload of a packet, in bytes: the length fields of both versions count no more (RFC 791, section 3.1; RFC 8200, section 3).
+/// The longest payload of a packet, in bytes: the length fields of IPv4 and IPv6 count at most this number (RFC 791, section 3.1; RFC 8200,
+/// section 3).
 const MAX_PAYLOAD_LEN: usize = 65_535;
 
-/// The greatest number of fragments of a packet. Fragments for a link with an MTU of 576 have 552 bytes over IPv4, and the longest packet has
-/// 119 of them.
+/// The maximum number of fragments of a packet. On a link with an MTU of 576, a fragment over IPv4 has 552 bytes, and the longest packet
+/// has 119 fragments.
 pub const MAX_FRAGMENTS: usize = 128;
 
-/// The multiple of bytes in each fragment but the last (RFC 791, section 3.2; RFC 8200, section 4.5).
+/// The length of each fragment except the last is a multiple of this number of bytes (RFC 791, section 3.2; RFC 8200, section 4.5).
 const UNIT: usize = 8;
 
 /// Whether the payload is complete.
@@ -37,9 +38,9 @@ pub struct Reassembly<'a> {
     key: FragmentKey,
     buffer: &'a mut [u8],
     parts: ArrayVec<Part, MAX_FRAGMENTS>,
-    /// The number of bytes of the parts.
+    /// The number of bytes in all parts.
     received: usize,
-    /// The length of the payload, if the last fragment arrived.
+    /// The length of the payload, or `None` if the last fragment did not arrive yet.
     end: Option<usize>,
 }
 
@@ -61,7 +62,8 @@ impl<'a> Model for Reassembly<'a> {
 }
 
 impl<'a> Reassembly<'a> {
-    /// A reassembly of the packet with this key, to which no fragment was added. The buffer holds the payload. 65,535 bytes hold every payload.
+    /// Returns a reassembly of the packet with this key, before its first fragment. The payload is put together in `buffer`. 65,535 bytes
+    /// have room for every payload.
     pub fn new(key: FragmentKey, buffer: &'a mut [u8]) -> Reassembly<'a>
         ensures { result ≡ specs.empty key (length buffer.old) }
     {
@@ -81,19 +83,20 @@ impl<'a> Reassembly<'a> {
         self.key
     }
 
-    /// Adds a fragment of the packet. Fragments may come in any order. A fragment that repeats another is accepted, and changes nothing.
+    /// Adds a fragment of the packet. Fragments may come in any order. A fragment that repeats another fragment is accepted, and changes
+    /// nothing.
     ///
     /// # Errors
     ///
-    /// Nothing changes after an error. The call checks these cases, in this order:
-    /// - `OtherKey` if the fragment is of another packet.
+    /// After an error the reassembly is unchanged. The call checks these cases, in this order:
+    /// - `OtherKey` if the fragment belongs to another packet.
     /// - `Empty` if the fragment has no payload.
     /// - `LengthNotMultipleOf8` if the fragment is not the last, and its length is no multiple of 8.
     /// - `TooLong` if the fragment ends beyond 65,535 bytes.
     /// - `BufferTooSmall` if the fragment ends beyond the buffer.
-    /// - `OtherEnd` if the fragment and another are the last, and end at different places.
-    /// - `BehindEnd` if a fragment that is not the last does not end before the last.
-    /// - `Overlap` if the fragment overlaps another, and does not repeat it (RFC 5722, section 3).
+    /// - `OtherEnd` if two fragments are the last, and they end at different places.
+    /// - `BehindEnd` if a fragment that is not the last does not end before the end of the last.
+    /// - `Overlap` if the fragment overlaps another fragment, and does not repeat it (RFC 5722, section 3).
     /// - `TooManyFragments` if 128 other fragments were added.
     pub fn add(&mut self, fragment: &Fragment<'_>) -> Result<Progress, ReassemblyError>
         ensures refused { RefusesExactly result (specs.refusal self.old (by_value fragment.now)) }
@@ -113,7 +116,7 @@ impl<'a> Reassembly<'a> {
         Ok(progress_of(self.end, self.received))
     }
 
-    /// Whether a fragment repeats another. Refuses it for the reasons of `add`.
+    /// Whether a fragment repeats another fragment. The errors are those of `add`.
     fn is_repetition(&self, fragment: &Fragment<'_>) -> Result<bool, ReassemblyError>
         ensures refused { RefusesExactly result (specs.refusal self.now (by_value fragment.now)) }
         ensures repeated { IfOk result (λ is. is ≡ pieces.is_among self.now.pieces (specs.piece_of (by_value fragment.now))) }
@@ -124,7 +127,7 @@ impl<'a> Reassembly<'a> {
         check_piece(self.buffer, self.parts.as_slice(), offset, fragment.payload)
     }
 
-    /// The payload of the packet, if it is complete.
+    /// The payload of the packet, or `None` if it is not complete.
     pub fn payload(&self) -> Option<&[u8]>
         ensures found { IsSome result ↔ specs.IsComplete self.now }
         ensures bytes { IfSome result (λ bytes. specs.IsPayload self.now bytes.now) }
@@ -137,7 +140,7 @@ impl<'a> Reassembly<'a> {
     }
 }
 
-/// Refuses a fragment that can't be part of a packet with this key, or does not fit into a buffer of this length.
+/// Refuses a fragment that can't be part of the packet with this key, or that does not fit in a buffer of this length.
 fn check_fragment(
     key: &FragmentKey,
     room: usize,
@@ -168,14 +171,15 @@ fn check_fragment(
     Ok(())
 }
 
-/// Whether both are the key of one packet.
+/// Whether the two keys are equal.
 fn is_same_key(a: &FragmentKey, b: &FragmentKey) -> bool
     ensures { result ≡ specs.is_same_key a.now b.now }
 {
     a == b
 }
 
-/// Refuses a fragment that does not agree with the known end, or an end that does not agree with the fragments that arrived.
+/// Refuses a fragment that does not agree with the known end of the payload, or a last fragment that does not agree with the fragments that
+/// arrived.
 fn check_end(
     end: Option<usize>,
     parts: &[Part],
@@ -199,7 +203,7 @@ fn check_end(
     }
 }
 
-/// Whether this piece is one that arrived before. Refuses a piece that overlaps another one, or for which there is no room.
+/// Whether this piece arrived before. Refuses a piece that overlaps another piece without being equal to it, or that is one too many.
 fn check_piece(
     buffer: &[u8],
     parts: &[Part],
@@ -231,7 +235,7 @@ fn write(buffer: &mut [u8], offset: usize, bytes: &[u8])
     buffer[offset..offset + bytes.len()].copy_from_slice(bytes);
 }
 
-/// The known length of the payload after this fragment.
+/// The length of the payload after this fragment, or `None` if the last fragment did not arrive yet.
 fn end_with(end: Option<usize>, fragment: &Fragment<'_>) -> Option<usize>
     ensures { result ≡ specs.end_with end (by_value fragment.now) }
 {
@@ -242,7 +246,7 @@ fn end_with(end: Option<usize>, fragment: &Fragment<'_>) -> Option<usize>
     }
 }
 
-/// Whether the received bytes are the whole payload.
+/// The progress: the payload is complete if its length is known, and all its bytes were received.
 fn progress_of(end: Option<usize>, received: usize) -> Progress
     ensures { (result ≡ Progress.Complete) ↔ (end ≡ Some received) }
 {

@@ -10,35 +10,34 @@ use thiserror::Error;
 #[derive(Clone, Copy, Debug, PartialEq, Eq, Error)]
 #[error("{}", self.text())]
 pub enum ReassemblyError {
-    /// The fragment is of another packet.
+    /// The fragment belongs to another packet.
     OtherKey,
     /// The fragment has no payload.
     Empty,
     /// The length of a fragment that is not the last is no multiple of 8 (RFC 791, section 3.2; RFC 8200, section 4.5).
     LengthNotMultipleOf8 {
-        /// The length of its payload, in bytes.
+        /// The length of the payload of this fragment, in bytes.
         len: usize,
     },
     /// The fragment ends beyond 65,535 bytes, the longest payload.
     TooLong {
-        /// The place after its last byte.
+        /// The place after the last byte of the fragment.
         end: usize,
     },
     /// The fragment ends beyond the buffer.
     BufferTooSmall {
-        /// The place after its last byte.
+        /// The place after the last byte of the fragment.
         required_len: usize,
         /// The length of the buffer, in bytes.
         len: usize,
     },
-    /// The last fragment ends at another place than the last fragment that was added before.
+    /// The last fragment ends at another place than the last fragment that was added.
     OtherEnd,
-    /// The last fragment ends before another fragment, or another fragment does not end before the last.
+    /// A fragment that is not the last does not end before the end of the last fragment.
     BehindEnd,
-    /// A byte of the fragment is at the same place as a byte of another fragment, and the fragment does not repeat the other (RFC 5722,
-    /// section 3).
+    /// The fragment overlaps another fragment: both contain a byte at the same place. It does not repeat the other (RFC 5722, section 3).
     Overlap,
-    /// As many fragments as fit were added before.
+    /// The maximum number of fragments was added before.
     TooManyFragments,
 }
 

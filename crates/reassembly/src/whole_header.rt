@@ -11,13 +11,12 @@ use word_sum::checksum::Sum16BitWords;
 /// The longest IPv4 header, in bytes (RFC 791, section 3.1).
 pub const MAX_IPV4_HEADER_LEN: usize = 60;
 
-/// The flags that a packet keeps: "don't fragment", and the reserved bit (RFC 791, section 3.1).
+/// The flags that are not cleared: "don't fragment", and the reserved bit (RFC 791, section 3.1).
 const KEPT_FLAGS: u8 = 0xC0;
 
-/// The IPv4 header of a packet that was never fragmented, by its first fragment and the length of its payload (RFC 791, section 3.2). It has
-/// the total length of the whole packet and the checksum over the header. More fragments and the fragment offset are 0. All other fields and
-/// the options are those of the fragment. `None` if the fragment begins with no IPv4 header, or if header and payload have more than 65,535
-/// bytes.
+/// The IPv4 header of a packet that was put together, as if it was never fragmented (RFC 791, section 3.2). The total length is that of the
+/// whole packet, and the checksum is right. More fragments and the fragment offset are 0. All other fields and the options are those of the
+/// first fragment. `None` if the fragment does not begin with an IPv4 header, or if header and payload have more than 65,535 bytes.
 pub fn whole_ipv4_header(
     first_fragment: &[u8],
     payload_len: u16,
@@ -33,7 +32,7 @@ pub fn whole_ipv4_header(
     Some(with_checksum(header, total_len, checksum))
 }
 
-/// The IPv4 header at the front of a packet.
+/// The IPv4 header at the front of a packet, or `None` if the packet does not begin with an IPv4 header.
 fn ipv4_header_of(packet: &[u8]) -> Option<&[u8]>
     ensures found { IsSome result ↔ BeginsWithIpv4Header packet.now }
     ensures kept { IfSome result (λ header. header.now ≡ ipv4_header packet.now) }
@@ -45,7 +44,7 @@ fn ipv4_header_of(packet: &[u8]) -> Option<&[u8]>
     Some(header.slice())
 }
 
-/// The header of a whole packet with this checksum, by the header of its first fragment.
+/// The header of a whole packet with this total length and checksum. `header` is the header of its first fragment.
 fn with_checksum(header: &[u8], total_len: u16, checksum: u16) -> ArrayVec<u8, MAX_IPV4_HEADER_LEN>
     requires shortest { 20 ≤ length header.now }
     requires most { length header.now ≤ 60 }
@@ -69,7 +68,7 @@ fn with_checksum(header: &[u8], total_len: u16, checksum: u16) -> ArrayVec<u8, M
     bytes
 }
 
-/// The checksum over these bytes.
+/// The checksum field for these bytes.
 fn checksum_of(bytes: &[u8]) -> u16
     ensures { result ≡ checksum_of (total bytes.now) }
 {

@@ -4,7 +4,7 @@ use Rattle.std.proofs.Math.Seq.{take-append-add}
 use Rattle.std.proofs.lemmas.List.{take-append-le}
 use borrow.Rule.Slice.PartMut.{put_mid, post_of}
 
--- after a write from place `from` on, the front up to `count` bytes past it is the old front, then the written bytes
+-- after a write from place `from` on, the first `from + count` bytes are the old front and the written bytes
 pub take-written : (from room count : ℕ) (old part : List ℕ) → from ≤ length old → count ≤ length part
     → take (from + count) (put_mid from room old part) ≡ take from old ++ take count part
 take-written from room count old part within fits =
@@ -13,7 +13,7 @@ take-written from room count old part within fits =
     ∙ take-append-add (take from old) (part ++ after) count
     ∙ ap (λ l. take from old ++ l) (take-append-le count part after fits)
 
--- the front has at least this length
+-- after a write, the front has at least this length
 pub length-written : (from room count : ℕ) (old part : List ℕ) → from ≤ length old → count ≤ length part
     → from + count ≤ length (put_mid from room old part)
 length-written from room count old part within fits =

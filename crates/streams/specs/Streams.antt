@@ -1,8 +1,8 @@
--- The bytes of a stream, by the bytes that its reader has left or its writer holds, before and afterwards.
+-- The bytes of a stream: those that its reader has left or its writer holds, before and after a call.
 use Rattle.std.specs.Prelude.{◌≡◌, ℕ, ◌+◌, ◌<◌, ◌≤◌, List, ◌++◌, length, take, Option}
 use Rattle.std.specs.Io.KnownBytes.{Appends, Consumes, IsAtEnd}
 
--- the reader returned `len` bytes: as many as requested, or fewer at its end
+-- the reader returned `len` bytes: `count` bytes, or fewer at the end of input
 pub record Skips (left still_left : Option (List ℕ)) (count len : ℕ) : Type 0 where
   pub bytes : List ℕ
   pub has_len : length bytes ≡ len

@@ -62,7 +62,7 @@ pub fn fill_after<R: Read>(input: &mut R, first: &[u8], buffer: &mut [u8]) -> io
     }
 }
 
-/// Copies `first`, which fits the buffer, to the front of `buffer`, and reads the bytes after it.
+/// Copies `first`, which fits in the buffer, to the front of `buffer`, and reads the bytes after it.
 fn fill_behind<R: Read>(input: &mut R, first: &[u8], buffer: &mut [u8]) -> io::Result<usize>
     requires { length first.now ≤ length buffer.old }
     ensures fills { IfOk result (FillsAfter first.now (R.remaining input.old) (R.remaining input.new) buffer.new) }
@@ -77,7 +77,8 @@ fn fill_behind<R: Read>(input: &mut R, first: &[u8], buffer: &mut [u8]) -> io::R
 /// The maximum number of bytes that `skip` reads at once.
 const PART_LEN: usize = 4096;
 
-/// Reads `count` bytes, or all bytes up to the end of input if there are fewer, and returns the number of bytes read. They are not kept.
+/// Reads `count` bytes, or all bytes up to the end of input if there are fewer, and returns the number of bytes read. The bytes are not
+/// kept.
 ///
 /// # Errors
 ///

@@ -1,4 +1,4 @@
--- When the checksum of a header's own bytes is the checksum of the header read from them.
+-- The checksum of the bytes of a header, compared with the checksum of the header that is read from them.
 use Rattle.std.proofs.Common.{◌≡◌, ℕ, zero, suc, ◌+◌, ◌-◌, ◌*◌, ◌%◌, ◌^◌, ◌<◌, ◌≤◌, List, [], ◌∷◌, length, drop, take, get_or, slice_index, replicate, bit_and, refl, sym, ap, ◌∙◌, append-nil, drop_of_length-le, length-take, lit≤, arith}
 use Rattle.std.proofs.lemmas.List.{take-append-drop}
 use Rattle.std.proofs.lemmas.Nat.{and-not, and_comm, and_le_r}
@@ -30,7 +30,7 @@ total-cut bytes count even within =
     let front : length (take count bytes) % 2 ≡ 0 = grind (arith, length-take) in
     ap total (sym (take-append-drop count bytes)) ∙ total-append (take count bytes) (drop count bytes) front
 
--- two bytes, and the bytes after them
+-- bytes from a place on begin with two bytes, and the bytes after them follow
 two_on : (bytes : List ℕ) (from : ℕ) → from + 2 ≤ length bytes
     → drop from bytes ≡ slice_index bytes from ∷ (slice_index bytes (from + 1) ∷ drop (from + 2) bytes)
 two_on bytes from enough = sym (
@@ -72,7 +72,7 @@ total-canonical bytes fits enough =
     let total_18 = ap total rest_18 in
     omega arith
 
--- adding some of these bits to a sum leaves the checksum unchanged exactly if the bits are all zero
+-- adding some of the unused bits of byte 12 to a sum leaves the checksum unchanged exactly if the bits are all zero
 pub same_checksum : (sum bits : ℕ) → bits ≤ 14 → (checksum_of (sum + bits * 256) ≡ checksum_of sum) ↔ (bits ≡ 0)
 same_checksum sum bits small = (
   λ same. grind (arith, folded-none, folded-some),
@@ -91,7 +91,7 @@ wire-canonical bytes fits five whole =
     } in
     sym (append-nil (wire (header_of bytes))) ∙ written_back bytes (header_of bytes) [] fits read
 
--- the same over any bytes that are equal to the canonical bytes
+-- the checksums of bytes and of canonical bytes agree exactly if the unused bits are zero, for bytes equal to the canonical bytes
 agrees_canonical : (bytes written payload : List ℕ) (pseudo_header_of : ℕ → List ℕ) → IsBytes bytes → 20 ≤ length bytes → written ≡ canonical bytes
     → (checksum_of (checksummed (pseudo_header_of (length bytes + length payload)) bytes payload)
     ≡ checksum_of (checksummed (pseudo_header_of (length written + length payload)) written payload))
@@ -105,7 +105,8 @@ agrees_canonical bytes written payload pseudo_header_of fits enough is =
     omega arith in
     rw (long, differ) (same_checksum sum (bit_and (slice_index bytes 12) 14) (and_le_r (slice_index bytes 12) 14))
 
--- the checksum of a header's own bytes is the checksum of the header read from them exactly if the unused bits of byte 12 are zero
+-- the checksum of the bytes of a header and the checksum of the header that is read from them are equal exactly if the unused bits of byte
+-- 12 are zero
 pub agrees : (bytes payload : List ℕ) (pseudo_header_of : ℕ → List ℕ) → IsBytes bytes → 5 ≤ data_offset bytes → length bytes ≡ data_offset bytes * 4
     → (checksum_of (checksummed (pseudo_header_of (length bytes + length payload)) bytes payload)
     ≡ checksum_of (checksummed (pseudo_header_of (length (wire (header_of bytes)) + length payload)) (wire (header_of bytes)) payload))

@@ -17,7 +17,7 @@ both false y is = cc
 together : (x y : Bool) → IsTrue x → IsTrue y → IsTrue (x && y)
 together x y is is_too = rw (is, is_too) refl
 
--- the fields of one type
+-- two numbers that are equal as a test are the same number
 same_number : (x y : ℕ) → IsTrue (nat_eq x y) → x ≡ y
 same_number x y is = search (comparing, rules)
 
@@ -36,7 +36,7 @@ same_bytes x y is = search (comparing, rules)
 equal_bytes : (x y : List ℕ) → x ≡ y → IsTrue (pointwise nat_eq x y)
 equal_bytes x y same = search (comparing, rules)
 
--- headers
+-- two headers that are equal as a test are the same header
 pub same_header : (a b : TcpHeader) → IsTrue ((equal.ghosts).eq a b) → a ≡ b
 same_header a b is =
     let after_source_port = both _ _ is in

@@ -22,7 +22,7 @@ tested_flag kept bit true some e =
     let some_kept : (kept == 0) ≡ false = grind (arith, nat_tests) in
     rw some_kept refl
 
--- a flag that is one bit of a number is read from it
+-- a flag that is written as one bit of a number is read from the number
 flag_read : (number k : ℕ) (b : Bool) → 0 < 2 ^ k → number / 2 ^ k % 2 ≡ from_bool b → b ≡ not (bit_and number (2 ^ k) == 0)
 flag_read number k b some e = tested_flag (bit_and number (2 ^ k)) (2 ^ k) b some (and_pow number k ∙ ap (λ n. n * 2 ^ k) e)
 

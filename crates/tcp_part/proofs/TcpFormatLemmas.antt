@@ -14,7 +14,7 @@ use Rattle.tcp_part.specs.declared.tcp_header.TcpHeader.{TcpHeader}
 
 -- ---- byte 12
 
--- under its mask byte 12 keeps its high four bits and its lowest
+-- byte 12 under its mask keeps its high four bits and its lowest bit
 masked_offset_byte : (byte : ℕ) → byte < 256 → bit_and byte 0xf1 ≡ byte / 16 * 16 + byte % 2
 masked_offset_byte byte small =
     let parts : byte ≡ byte / 16 * 16 + byte % 16 = omega arith in
@@ -26,7 +26,7 @@ masked_offset_byte byte small =
 
 -- ---- flags
 
--- a multiple of a bit by 0 or 1 is tested for 0
+-- testing a bit times 0 or 1 gives 0 or 1
 tested_bit : (kept bit times : ℕ) → 0 < bit → times < 2 → kept ≡ times * bit → from_bool (not (kept == 0)) * bit ≡ times * bit
 tested_bit kept bit zero some below e = let none : kept ≡ 0 = omega arith in rw none refl
 tested_bit kept zero (suc times) some below e = absurd (omega arith)
@@ -51,7 +51,7 @@ flags_of_byte byte small =
 
 -- ---- the bits that canonical bytes keep
 
--- at every place except 12 the mask has all bits
+-- the mask at every place except 12 keeps all bits
 mask_at : (m n mask place : ℕ) → place ≢ m → get_or (replicate m 255 ++ (mask ∷ replicate n 255)) place 255 ≡ 255
 mask_at zero n mask zero other = absurd (other refl)
 mask_at zero zero mask (suc place) other = refl
@@ -83,7 +83,7 @@ drop-canonical bytes from fits after =
     let same : drop 13 (canonical bytes) ≡ drop 13 bytes = drop-masked ((layout_of bytes).masks) bytes 13 (data_offset bytes * 4 - 13) fits refl in
     rw e (sym (drop-drop (from - 13) 13 (canonical bytes)) ∙ ap (λ b. drop (from - 13) b) same ∙ drop-drop (from - 13) 13 bytes)
 
--- numbers are kept
+-- numbers that do not include byte 12 are kept
 number-canonical : (bytes : List ℕ) (from count : ℕ) → IsBytes bytes → (from + count ≤ 12) ⊎ (13 ≤ from)
     → be_number (canonical bytes) from count ≡ be_number bytes from count
 number-canonical bytes from count fits beside =
@@ -93,7 +93,7 @@ number-canonical bytes from count fits beside =
 flag-canonical : (bytes : List ℕ) (bit : ℕ) → IsBytes bytes → flag (canonical bytes) 13 bit ≡ flag bytes 13 bit
 flag-canonical bytes bit fits = rw (slice_index-canonical bytes 13 fits (λ e. omega arith)) refl
 
--- reading depends only on the meaningful bits
+-- reading depends only on the bits that have a meaning
 pub header_of-canonical : (bytes : List ℕ) → IsBytes bytes → header_of (canonical bytes) ≡ header_of bytes
 header_of-canonical bytes fits =
     let a = number-canonical bytes 0 2 fits (inl (omega arith)) in
@@ -117,7 +117,7 @@ header_of-canonical bytes fits =
     let options : options_of (canonical bytes) ≡ options_of bytes = rw (offset, after) refl in
     cc
 
--- the length of accepted bytes
+-- accepted bytes contain their whole header, which has at least five words
 pub length-accepted : (bytes : List ℕ) → refusal bytes ≡ None → (5 ≤ data_offset bytes) × (data_offset bytes * 4 ≤ length bytes)
 length-accepted bytes accepted = grind (arith, nat_tests)
 
@@ -160,7 +160,7 @@ header_of-take bytes five =
     ∙ take_again (data_offset bytes * 4 - 20) (drop 20 bytes) in
     cc
 
--- if the front of some bytes is kept, they are read as the header in it, and the bytes after it
+-- bytes are read as the header in their front, and the bytes after it, if this front is kept
 pub decoded : (bytes kept : List ℕ) (header : TcpHeader) (rest : List ℕ) → refusal bytes ≡ None → kept ≡ take (data_offset bytes * 4) bytes
     → header ≡ header_of kept → rest ≡ drop (length kept) bytes → DecodesAs bytes header rest
 decoded bytes kept header rest accepted front fields after =
@@ -174,7 +174,7 @@ decoded bytes kept header rest accepted front fields after =
 
 -- ---- written back
 
--- the length of a part, and the bytes after it
+-- the length of a range of bytes
 length-slice_range : (bytes : List ℕ) (from to : ℕ) → to ≤ length bytes → length (slice_range bytes from to) ≡ to - from
 length-slice_range bytes from to within = grind (arith, length-take, length-drop)
 
@@ -184,7 +184,7 @@ slice_range-drop bytes from to ordered =
     ap (λ b. slice_range bytes from to ++ b) (ap (λ n. drop n bytes) e ∙ sym (drop-drop (to - from) from bytes))
     ∙ take-append-drop (to - from) (drop from bytes)
 
--- if byte 12 has no other bits, writing the header of some bytes and the bytes after it gives the same bytes
+-- if byte 12 has no unused bits, writing the header and the bytes after it gives the same bytes
 pub wire-header_of : (bytes rest : List ℕ) → IsBytes bytes → 5 ≤ data_offset bytes → data_offset bytes * 4 ≤ length bytes
     → slice_index bytes 12 ≡ slice_index bytes 12 / 16 * 16 + slice_index bytes 12 % 2
     → rest ≡ drop (data_offset bytes * 4) bytes → wire (header_of bytes) ++ rest ≡ bytes

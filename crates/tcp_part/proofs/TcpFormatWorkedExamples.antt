@@ -61,7 +61,7 @@ segment_canonical : canonical (segment ++ (0xff ∷ [])) ≡ segment ++ (0xff �
 unfolding segment
 segment_canonical = refl
 
--- every field at its place
+-- every field is written at its place
 every_number : wire (record (new_header 0x0102 0x0304 0x05060708 0x0d0e) {
   acknowledgment_number = 0x090a0b0c;
   checksum = 0x0f10;

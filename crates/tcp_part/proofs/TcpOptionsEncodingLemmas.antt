@@ -48,7 +48,7 @@ zeros_end : (count : ℕ) → Ends (replicate count 0)
 zeros_end zero = inl refl
 zeros_end (suc count) = inr refl
 
--- and so are padded spellings
+-- padded spellings are read as their elements
 pub pad_read : (elements : List TcpOptionElement) → AllByRecursion IsInRange elements → Reads (pad (join elements)) (read_back elements)
 pad_read elements fits = join_read elements _ fits (zeros_end _)
 
@@ -75,7 +75,7 @@ stand_for_room elements options stand =
 pub pad_stands : (elements : List TcpOptionElement) → AllByRecursion IsInRange elements → length (join elements) ≤ max_options_len → StandFor (pad (join elements)) elements
 pad_stands elements fits room = record { reads = pad_read elements fits; room = pad-room (join elements) room; whole_words = pad-words (join elements) }
 
--- and come before all other options
+-- padded spellings come before all other options for their elements
 pub pad_first : (elements : List TcpOptionElement) (options : List ℕ) → StandFor options elements → (options ≡ pad (join elements)) ⊎ IsBefore (pad (join elements)) options
 pad_first elements options stand =
     let first = join_first elements options stand.reads in

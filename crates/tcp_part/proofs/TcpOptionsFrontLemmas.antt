@@ -57,11 +57,11 @@ begins_no_fault (Timestamp value echo) rest back fits = grind (arith, nat_tests)
 
 -- ---- the element at the front, as a function
 
--- two numbers of 32 bits
+-- two numbers of 32 bits at the front of bytes
 abbrev front_pair : List ℕ → ℕ × ℕ
 front_pair bytes = (from_be_bytes w32 (take 4 bytes), from_be_bytes w32 (take 4 (drop 4 bytes)))
 
--- the blocks after the first, by the length byte
+-- the blocks after the first block, given the length byte
 abbrev more_blocks : ℕ → List ℕ → List (Option (ℕ × ℕ))
 more_blocks size bytes =
     if size == 10 then None ∷ None ∷ None ∷ []
@@ -69,7 +69,7 @@ more_blocks size bytes =
     else if size == 26 then Some (front_pair bytes) ∷ Some (front_pair (drop 8 bytes)) ∷ None ∷ []
     else Some (front_pair bytes) ∷ Some (front_pair (drop 8 bytes)) ∷ Some (front_pair (drop 16 bytes)) ∷ []
 
--- by the kind, the byte after it, and the bytes after these two
+-- the element with this kind, this length byte, and these bytes after them
 abbrev element_of : ℕ → ℕ → List ℕ → TcpOptionElement
 element_of kind size value =
     if kind == 1 then Noop
@@ -114,7 +114,7 @@ element_at_front-spelling (SelectiveAcknowledgement first (Some a ∷ Some b ∷
 element_at_front-spelling (SelectiveAcknowledgement first more) rest back fits = absurd (first_of (omega arith, cc))
 element_at_front-spelling (Timestamp value echo) rest back fits = ap (λ (p : ℕ × ℕ). Timestamp p.0 p.1) (pair_back (value, echo) fits)
 
--- two elements at one front are the same, and so are the bytes after them
+-- two elements at one front are the same element, and the same bytes follow them
 pub one_front : (bytes : List ℕ) (element other : TcpOptionElement) (rest after : List ℕ) → BeginsWith bytes element rest → BeginsWith bytes other after
     → (element ≡ other) × (rest ≡ after)
 one_front bytes element other rest after begins again =
@@ -125,7 +125,7 @@ one_front bytes element other rest after begins again =
     sym begins.spelled ∙ again.spelled ∙ ap (λ e. spelling e ++ after) (sym same) in
     (same, append_cancel_left (spelling element) rest after spelled)
 
--- so bytes that begin with an element neither end nor have a fault, and bytes that end have no fault
+-- bytes that begin with an element do not end, and have no fault; bytes that end have no fault
 pub begins_ends : (bytes : List ℕ) (element : TcpOptionElement) (rest : List ℕ) → BeginsWith bytes element rest → Ends bytes → ⊥
 begins_ends bytes element rest begins end = begins_no_end element rest (subst Ends begins.spelled end)
 
@@ -141,7 +141,7 @@ ends_fault bytes error end wrong =
 
 -- ---- at least one
 
--- an option without a fault, by its kind and length
+-- the kinds and lengths of options without a fault
 kinds_without_fault : (kind size left : ℕ) → kind ≢ 0 → fault_of_kind kind size left ≡ None
     → (kind ≡ 1)
     ⊎ (((kind ≡ 2) × (size ≡ 4) × (4 ≤ left))
@@ -151,7 +151,7 @@ kinds_without_fault : (kind size left : ℕ) → kind ≢ 0 → fault_of_kind ki
     ⊎ ((kind ≡ 5) × ((size ≡ 10) ⊎ ((size ≡ 18) ⊎ ((size ≡ 26) ⊎ (size ≡ 34)))) × (size ≤ left))))))
 kinds_without_fault kind size left no_end no_fault = grind (arith, nat_tests)
 
--- a consequence of two numbers of 32 bits at the front and the bytes after them
+-- a statement that holds for two numbers of 32 bits at the front and the bytes after them
 with_front_pair : {P : Type 0} (bytes : List ℕ) → IsBytes bytes → 8 ≤ length bytes
     → ((numbers : ℕ × ℕ) (rest : List ℕ) → bytes ≡ pair numbers ++ rest → IsPair numbers → length rest + 8 ≡ length bytes → IsBytes rest → P) → P
 with_front_pair bytes fits there result =
@@ -162,7 +162,7 @@ with_front_pair bytes fits there result =
     result numbers (drop 8 bytes) spelled (omega (arith, fits 0, fits 1, fits 2, fits 3), omega (arith, fits 4, fits 5, fits 6, fits 7)) (omega arith)
     (IsBytes-rest (pair numbers) (drop 8 bytes) (subst IsBytes spelled fits))
 
--- some element is at the front; the lemmas below find it by kind, length byte and how many bytes are left
+-- the bytes begin with an element; the lemmas below find it, given its kind, its length byte and the number of bytes left
 abbrev BeginsWithSome : List ℕ → Type 0
 BeginsWithSome bytes = (element : TcpOptionElement) × (rest : List ℕ) × BeginsWith bytes element rest
 
@@ -202,7 +202,7 @@ begins_timestamp (first ∷ second ∷ value) fits there kind size =
     ))
 begins_timestamp bytes fits there kind size = absurd (omega arith)
 
--- one to four blocks after their kind and length are an acknowledgement
+-- kind and length and then one to four blocks are a selective acknowledgement
 one_block : (first : ℕ × ℕ) (value rest : List ℕ) → value ≡ pair first ++ rest → IsPair first
     → BeginsWith (5 ∷ 10 ∷ value) (SelectiveAcknowledgement first (None ∷ None ∷ None ∷ [])) rest
 unfolding pair
@@ -240,7 +240,7 @@ four_blocks first a b c value after after_a after_b rest e f g h fits a_fits b_f
   in_range = (fits, refl, (a_fits, (b_fits, (c_fits, tt))));
 }
 
--- the same for a value with no more bytes
+-- kind and length and then exactly four blocks are a selective acknowledgement
 pub four_blocks_alone : (value : List ℕ) (first a b c : ℕ × ℕ) → length value ≡ 32
     → pair first ++ drop 8 value ≡ value → pair a ++ drop 16 value ≡ drop 8 value → pair b ++ drop 24 value ≡ drop 16 value → pair c ++ drop 32 value ≡ drop 24 value
     → IsPair first → IsPair a → IsPair b → IsPair c
@@ -279,7 +279,7 @@ blocks_34 value fits there =
       four_blocks first a b c value after after_a after_b rest e f g h first_fits a_fits b_fits c_fits,
     )))))
 
--- kind and length byte given by equations
+-- an element with this kind and length byte, if they are equal to the first two bytes
 headed : (kind size first second : ℕ) (value : List ℕ) → first ≡ kind → second ≡ size → BeginsWithSome (kind ∷ size ∷ value) → BeginsWithSome (first ∷ second ∷ value)
 headed kind size first second value is_kind is_size begins =
     let same : kind ∷ size ∷ value ≡ first ∷ second ∷ value = cc in

@@ -7,14 +7,14 @@ use Rattle.std.specs.declared.cmp.Ordering.TheVariants.{Equal, Greater, Less}
 use Rattle.std.specs.Ordering.{nat_cmp, ordering_then}
 use Rattle.tcp_part.specs.TcpOptions.{IsBefore, pad}
 
--- the same byte in front of both doesn't change the order
+-- two lists keep their order if the same byte is put in front of both
 IsBefore-cons : (byte : ℕ) (a b : List ℕ) → IsBefore a b → IsBefore (byte ∷ a) (byte ∷ b)
 IsBefore-cons byte a b (place, same, inl (in_a, in_b, less)) =
     (suc place, ap (λ front. byte ∷ front) same, inl (omega arith, omega arith, less))
 IsBefore-cons byte a b (place, same, inr (whole, more)) =
     (suc place, ap (λ front. byte ∷ front) same, inr (ap suc whole, omega arith))
 
--- and neither do the same bytes
+-- two lists keep their order if the same bytes are put in front of both
 pub IsBefore-append : (front a b : List ℕ) → IsBefore a b → IsBefore (front ++ a) (front ++ b)
 IsBefore-append [] a b before = before
 IsBefore-append (byte ∷ front) a b before = IsBefore-cons byte (front ++ a) (front ++ b) (IsBefore-append front a b before)
@@ -59,7 +59,7 @@ less_from_before (x ∷ a) (y ∷ b) (suc place, same, inr (whole, more)) =
     ap (λ o. ordering_then o (slice_cmp nat_cmp a b)) (cmp_equal x y first)
     ∙ less_from_before a b (place, front, inr (omega arith, omega arith))
 
--- only fewer zeros come before some zeros
+-- bytes come after zeros, or are these zeros
 pub zeros_least : (count : ℕ) (bytes : List ℕ) → count ≤ length bytes → (bytes ≡ replicate count 0) ⊎ IsBefore (replicate count 0) bytes
 zeros_least zero [] there = inl refl
 zeros_least zero (byte ∷ bytes) there = inr (0, refl, inr (refl, omega arith))
@@ -71,7 +71,7 @@ zeros_least (suc count) (zero ∷ bytes) there =
     ]
 zeros_least (suc count) (suc byte ∷ bytes) there = inr (0, refl, inl (omega arith, omega arith, omega arith))
 
--- whole words that begin with some bytes are these bytes padded, or come after them
+-- whole words that begin with some bytes are equal to these bytes after padding, or come after them
 pub pad_least : (bytes rest : List ℕ) → length (bytes ++ rest) % 4 ≡ 0 → (bytes ++ rest ≡ pad bytes) ⊎ IsBefore (pad bytes) (bytes ++ rest)
 pad_least bytes rest words =
     let count = (4 - length bytes % 4) % 4 in

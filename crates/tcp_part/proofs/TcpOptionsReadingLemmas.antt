@@ -50,7 +50,7 @@ fault_or_not : (found : Option TcpOptionReadError) → (found ≡ None) ⊎ ((er
 fault_or_not None = inl refl
 fault_or_not (Some error) = inr (error, refl)
 
--- bytes of a length below a limit are read as some items, by recursion on the limit
+-- bytes that are shorter than a limit are read as some items, by induction on the limit
 reading_within : (limit : ℕ) (bytes : List ℕ) → IsBytes bytes → length bytes < limit → (items : List Item) × Reads bytes items
 reading_within zero bytes fits short = absurd (omega arith)
 reading_within (suc limit) bytes fits short =
@@ -86,7 +86,7 @@ calls_read (Err error ∷ items) bytes last gave end =
     let rest : Reads [] items = subst (λ b. Reads b items) gave.1.1 (calls_read items gave.0 last gave.2 end) in
     (gave.1.0, one_reading [] items [] rest (inl refl))
 
--- and so do the items of a run that reached the end
+-- the items of a run that reached the end form the reading
 pub run_reads : (run : Run ReadsNext) → run.whole ≡ true → Reads run.from run.items
 unfolding YieldsRun
 run_reads run all =

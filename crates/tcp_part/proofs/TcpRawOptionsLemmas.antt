@@ -24,7 +24,7 @@ use Rattle.tcp_part.specs.declared.tcp_raw_option_error.TcpRawOptionError.{TcpRa
 
 -- ---- the option at the front
 
--- an option of these parts
+-- an option with this kind and value
 abbrev option_of : ℕ → List ℕ → RawOption
 option_of kind value = record { kind = kind; value = value }
 
@@ -33,11 +33,11 @@ spelled_with_length kind value other =
     let test : (kind == 1) ≡ false = grind (arith, nat_tests) in
     rw test refl
 
--- no operation is one byte
+-- the option "no operation" is one byte
 begins_alone : (rest : List ℕ) → BeginsWithRaw (1 ∷ rest) (option_of 1 []) rest
 begins_alone rest = record { spelled = refl; is_no_end = λ e. omega arith; noop_has_no_value = λ e. refl }
 
--- any other option has a length
+-- any other option is written with its length
 pub begins_with_length : (kind : ℕ) (value rest : List ℕ) → 2 ≤ kind → BeginsWithRaw (with_length kind value ++ rest) (option_of kind value) rest
 begins_with_length kind value rest other = record {
   spelled = ap (λ b. b ++ rest) (sym (spelled_with_length kind value (λ e. omega arith)));
@@ -45,7 +45,7 @@ begins_with_length kind value rest other = record {
   noop_has_no_value = λ e. absurd (omega arith);
 }
 
--- an option at the front is one of these two
+-- an option at the front is "no operation", or it has a length
 one_or_the_other : (kind : ℕ) (bytes value rest : List ℕ) → BeginsWithRaw bytes (option_of kind value) rest
     → ((kind ≡ 1) × (value ≡ []) × (bytes ≡ 1 ∷ rest)) ⊎ ((2 ≤ kind) × (bytes ≡ with_length kind value ++ rest))
 one_or_the_other zero bytes value rest begins = absurd (begins.is_no_end refl)
@@ -53,7 +53,7 @@ one_or_the_other (suc zero) bytes value rest begins = inl (refl, begins.noop_has
 one_or_the_other (suc (suc kind)) bytes value rest begins =
     inr (omega arith, begins.spelled ∙ ap (λ b. b ++ rest) (spelled_with_length (suc (suc kind)) value (λ e. omega arith)))
 
--- so some bytes that begin with an option have no fault
+-- an option with a valid length has no fault
 no_fault_with_length : (kind len available : ℕ) → 2 ≤ len → len ≤ available → raw_fault_of kind len available ≡ None
 no_fault_with_length kind len available counts there = grind (arith, nat_tests)
 
@@ -64,7 +64,7 @@ begins_no_fault bytes option rest begins = elim (one_or_the_other option.kind by
       (omega arith) (omega (arith, length-append option.value rest))
 ]
 
--- and don't end there
+-- bytes that begin with an option do not end
 begins_no_end : (bytes : List ℕ) (option : RawOption) (rest : List ℕ) → BeginsWithRaw bytes option rest → Ends bytes → ⊥
 begins_no_end bytes option rest begins end = elim (one_or_the_other option.kind bytes option.value rest begins) [
   | inl (kind, none, alone) ↦ starts_at_no_end 1 rest (omega arith) (subst Ends alone end)
@@ -93,7 +93,7 @@ ends_fault bytes error end wrong =
 
 -- ---- only one reading
 
--- the option at the front, as a function
+-- the option at the front of bytes
 abbrev option_at_front : List ℕ → RawOption
 option_at_front bytes = option_of (slice_index bytes 0) (if slice_index bytes 0 == 1 then [] else take (slice_index bytes 1 - 2) (drop 2 bytes))
 
@@ -109,7 +109,7 @@ begins_option_at_front bytes option rest begins = elim (one_or_the_other option.
         let len : length value + 2 - 2 ≡ length value = omega arith in
         rw (test, len) (ap (λ v. option_of kind v) (take-append_seam value rest))
 
--- two options at one front are the same, and so are the bytes after them
+-- two options at one front are the same option, and the same bytes follow them
 one_front : (bytes : List ℕ) (option other : RawOption) (rest after : List ℕ) → BeginsWithRaw bytes option rest → BeginsWithRaw bytes other after
     → (option ≡ other) × (rest ≡ after)
 one_front bytes option other rest after begins again =
@@ -136,7 +136,7 @@ one_raw_reading bytes (Err error ∷ items) (Err other ∷ others) reads again =
 
 -- ---- a reading of all bytes
 
--- an option whose length byte counts at most the bytes that are left
+-- bytes begin with an option if its length byte counts at most the bytes left
 pub begins_whole : (bytes : List ℕ) (len : ℕ) → 2 ≤ slice_index bytes 0 → slice_index bytes 1 ≡ len → 2 ≤ len → len ≤ length bytes
     → BeginsWithRaw bytes (option_of (slice_index bytes 0) (take (len - 2) (drop 2 bytes))) (drop len bytes)
 begins_whole [] len kind is_len counts there = absurd (omega arith)
@@ -180,7 +180,7 @@ fault_or_not : (found : Option TcpRawOptionError) → (found ≡ None) ⊎ ((err
 fault_or_not None = inl refl
 fault_or_not (Some error) = inr (error, refl)
 
--- bytes of a length below a limit are read as some items, by recursion on the limit
+-- bytes that are shorter than a limit are read as some items, by induction on the limit
 reading_within : (limit : ℕ) (bytes : List ℕ) → length bytes < limit → (items : List RawItem) × ReadsRaw bytes items
 reading_within zero bytes short = absurd (omega arith)
 reading_within (suc limit) bytes short =
@@ -211,7 +211,7 @@ calls_read (Err error ∷ items) bytes last gave end =
     let rest : ReadsRaw [] items = subst (λ b. ReadsRaw b items) gave.1.1 (calls_read items gave.0 last gave.2 end) in
     (gave.1.0, one_raw_reading [] items [] rest (inl refl))
 
--- and so do the items of a run that reached the end
+-- the items of a run that reached the end form the reading
 pub run_reads_raw : (run : Run ReadsRawNext) → run.whole ≡ true → ReadsRaw run.from run.items
 unfolding YieldsRun
 run_reads_raw run all =
@@ -239,7 +239,7 @@ written_back (Err error ∷ items) bytes reads =
 
 -- ---- compared with the elements
 
--- an element as an option
+-- the element as a raw option
 abbrev raw_of : TcpOptionElement → RawOption
 raw_of Noop = option_of 1 []
 raw_of (MaximumSegmentSize size) = option_of 2 (to_be_bytes w16 size)
@@ -265,7 +265,7 @@ raw_of-begins SelectiveAcknowledgementPermitted rest = begins_with_length 4 _ re
 raw_of-begins (SelectiveAcknowledgement first more) rest = begins_with_length 5 _ rest (omega arith)
 raw_of-begins (Timestamp value echo) rest = begins_with_length 8 _ rest (omega arith)
 
--- so the elements before a fault are the options there, and no more items are read if there is no fault
+-- the elements before a fault are the options before it; without a fault, all items are these elements
 pub reads_as_elements : (elements : List TcpOptionElement) (others : List Item) (bytes : List ℕ) → Reads bytes (as_items elements ++ others) → BeginsAsElements bytes elements others
 reads_as_elements [] others bytes reads =
     let found = has_one_raw_reading bytes in
@@ -291,7 +291,7 @@ reads_as_elements (element ∷ elements) others bytes reads =
 begins_as_option : (bytes : List ℕ) (element : TcpOptionElement) (rest : List ℕ) → BeginsWith bytes element rest → BeginsWithRaw bytes (raw_of element) rest
 begins_as_option bytes element rest begins = subst (λ b. BeginsWithRaw b (raw_of element) rest) (sym begins.spelled) (raw_of-begins element rest)
 
--- so the option by itself is the element
+-- an option that is read alone is the element, if it is the option of an element
 alone_as_element : (option : RawOption) (element : TcpOptionElement) → option ≡ raw_of element → front element ≡ element → IsInRange element
     → BeginsWith (raw_spelling option) element []
 alone_as_element option element same back fits = record {
@@ -300,7 +300,7 @@ alone_as_element option element same back fits = record {
   in_range = fits;
 }
 
--- a wrong length is a fault by itself, or because of the bytes that are left
+-- a wrong length is a fault of the option alone, or because of the bytes that are left
 fault_of_wrong_length : (expected kind size left : ℕ) (error : TcpOptionReadError) → expected ≤ max_options_len → size ≤ left → fault_of_length expected kind size left ≡ Some error
     → (fault_of_length expected kind size max_options_len ≡ Some error)
     ⊎ ((left < expected) × (error ≡ UnexpectedEndOfSlice kind expected left) × (fault_of_length expected kind size max_options_len ≡ Some (UnexpectedSize kind size)))
@@ -310,7 +310,7 @@ fault_of_wrong_blocks : (size left : ℕ) (error : TcpOptionReadError) → 2 ≤
     → fault_of_blocks size max_options_len ≡ Some error
 fault_of_wrong_blocks size left error counts there wrong = grind (arith, nat_tests)
 
--- the result for either of two faults of a length
+-- a wrong length is reported as one of two faults
 either_fault : (option : RawOption) (left : ℕ) (error : TcpOptionReadError) (len : ℕ) → length_of_kind option.kind ≡ Some len
     → len ≤ max_options_len → length_byte option ≤ left
     → element_refusal option ≡ fault_of_length len option.kind (length_byte option) max_options_len
@@ -321,7 +321,7 @@ either_fault option left error len one known there same wrong =
       | inr (short, missing, alone) ↦ inr (subst (IsMissingBytes left option error) (sym one) (short, missing, same ∙ alone))
     ]
 
--- an unknown kind is a fault for any length
+-- the fault of an unknown kind does not depend on the length
 fault_of_other_kind : (kind size left other_size other_left : ℕ) → 2 ≤ kind → kind ≢ 2 → kind ≢ 3 → kind ≢ 4 → kind ≢ 5 → kind ≢ 8
     → fault_of_kind kind size left ≡ fault_of_kind kind other_size other_left
 fault_of_other_kind kind size left other_size other_left counts two three four five eight = grind (arith, nat_tests)
@@ -359,7 +359,7 @@ fault_of_counted option left error counts some there wrong = elim (by_kind optio
     by_kind : (kind : ℕ) → (kind ≡ 2) ⊎ ((kind ≡ 3) ⊎ ((kind ≡ 4) ⊎ ((kind ≡ 5) ⊎ ((kind ≡ 8) ⊎ ((kind ≢ 2) × (kind ≢ 3) × (kind ≢ 4) × (kind ≢ 5) × (kind ≢ 8))))))
     by_kind kind = grind arith
 
--- the fault of the bytes that begin with an option
+-- the fault of bytes that begin with an option is the fault of this option
 fault_of_option : (bytes : List ℕ) (option : RawOption) (rest : List ℕ) (error : TcpOptionReadError) → IsBytes bytes → BeginsWithRaw bytes option rest → fault bytes ≡ Some error
     → IsFaultOf (length bytes) option error
 fault_of_option bytes option rest error fits begins wrong = elim (one_or_the_other option.kind bytes option.value rest begins) [
@@ -377,7 +377,7 @@ fault_of_option bytes option rest error fits begins wrong = elim (one_or_the_oth
     none_of_noop : (rest : List ℕ) (error : TcpOptionReadError) → fault (1 ∷ rest) ≡ Some error → ⊥
     none_of_noop rest error wrong = cc
 
--- so both readings have the same items
+-- both readings have the same items
 pub reads_the_same_items : (options : List RawItem) (items : List Item) (bytes : List ℕ) → IsBytes bytes → ReadsRaw bytes options → Reads bytes items → AreItemsOf bytes options items
 reads_the_same_items [] [] bytes fits raw reads = tt
 reads_the_same_items [] (Ok element ∷ items) bytes fits raw reads = absurd (begins_no_end bytes (raw_of element) reads.0 (begins_as_option bytes element reads.0 reads.1) raw)

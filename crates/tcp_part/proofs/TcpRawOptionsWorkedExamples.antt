@@ -1,10 +1,10 @@
--- Worked examples of the definitions of options of every kind, so that a wrong definition fails before any code does.
+-- Worked examples of the definitions of options of all kinds, so that a wrong definition fails before any code does.
 use Rattle.std.proofs.Common.{◌≡◌, ℕ, List, [], ◌∷◌, Some, None, Ok, Err, refl, inl, inr, arith}
 use Rattle.net_base.specs.declared.tcp_option_read_error.TcpOptionReadError.TheVariants.{UnexpectedEndOfSlice, UnexpectedSize, UnknownId}
 use Rattle.tcp_part.specs.TcpRawOptions.{IsFaultOf, RawOption, ReadsRaw, element_refusal, raw_fault, raw_join, raw_spelling}
 use Rattle.tcp_part.specs.declared.tcp_raw_option_error.TcpRawOptionError.TheVariants.{NoLengthByte, LengthBelowTwo, LengthBeyondEnd}
 
--- an option of these parts
+-- an option with this kind and value
 abbrev option_of : ℕ → List ℕ → RawOption
 option_of kind value = record { kind = kind; value = value }
 
@@ -83,6 +83,6 @@ end_refused = refl
 noop_accepted : element_refusal (option_of 1 []) ≡ None
 noop_accepted = refl
 
--- if an option of a wrong length is the last two bytes, the element's reading reports a missing byte
+-- if an option with a wrong length is the last two bytes, reading it as an element reports a missing byte
 missing_byte : IsFaultOf 2 (option_of 3 []) (UnexpectedEndOfSlice 3 3 2)
 missing_byte = inr (omega arith, refl, refl)

@@ -26,17 +26,17 @@ whole_segment segment = take-append-drop (data_offset segment * 4) segment
 pub options_read : (segment : List ℕ) → refusal segment ≡ None → options_of (header_bytes segment) ≡ options_of segment
 options_read segment accepted = ap (λ header. header.options) (header_reads segment accepted)
 
--- and the data offset is the same in both
+-- the data offset of the header is the data offset of the segment
 pub offset_read : (segment : List ℕ) → refusal segment ≡ None → data_offset (header_bytes segment) ≡ data_offset segment
 offset_read segment accepted =
     let five = (length-accepted segment accepted).0 in
     ap (λ byte. byte / 16) (get_or-take (data_offset segment * 4) segment 12 0 (omega (arith, five)))
 
--- header and payload, given by equations, form the segment
+-- a header and a payload that are equal to those of a segment form the segment
 pub whole_of : (segment header payload : List ℕ) → header ≡ header_bytes segment → payload ≡ payload_bytes segment → header ++ payload ≡ segment
 whole_of segment header payload is_header is_payload = rw (is_header, is_payload) (whole_segment segment)
 
--- the checksum in the header is the checksum in the segment
+-- a checksum that is stored in the header is stored in the segment
 checksum_in_segment : (segment header payload : List ℕ) (checksum : ℕ) → refusal segment ≡ None → header ≡ header_bytes segment
     → payload ≡ payload_bytes segment → with_checksum tcp_checksum_place header checksum ++ payload ≡ with_checksum tcp_checksum_place segment checksum
 checksum_in_segment segment header payload checksum accepted is_header is_payload =
@@ -52,7 +52,7 @@ valid_in_segment IsValid segment header payload (Ok checksum) accepted is_header
     subst IsValid (checksum_in_segment segment header payload checksum accepted is_header is_payload) valid
 valid_in_segment IsValid segment header payload (Err error) accepted is_header is_payload valid = valid
 
--- when the checksum is the checksum of the header that is read
+-- the checksum of a segment is the checksum of the header that is read from it
 pub agrees_in_segment : {E : Type 0} (sum_of : List ℕ → List ℕ → ℕ) (segment header payload : List ℕ) (result : Result ℕ E) → refusal segment ≡ None
     → header ≡ header_bytes segment → payload ≡ payload_bytes segment
     → IfOk result (λ checksum. (checksum ≡ checksum_of (sum_of (wire (header_of header)) payload)) ↔ UnusedBitsAreZero header)
@@ -70,7 +70,7 @@ agrees_in_segment sum_of segment header payload (Ok checksum) accepted is_header
     )
 agrees_in_segment sum_of segment header payload (Err error) accepted is_header is_payload agrees = agrees
 
--- the first bytes of bytes are bytes
+-- if bytes are bytes, so are their first bytes
 IsBytes-take : (count : ℕ) (bytes : List ℕ) → IsBytes bytes → IsBytes (take count bytes)
 IsBytes-take zero bytes fits place = omega arith
 IsBytes-take (suc count) [] fits place = omega arith

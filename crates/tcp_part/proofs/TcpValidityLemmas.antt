@@ -9,13 +9,13 @@ use Rattle.word_sum.specs.Checksum.{AcceptsChecksum, IsAllOnes, Verifies, folded
 use Rattle.word_sum.proofs.ChecksumLemmas.{accepted_checksum, folded-add, total-append}
 use Rattle.tcp_part.specs.TcpFormat.{checksummed, without_checksum}
 
--- a valid segment over IPv4 and over IPv6: it is at most as long as its pseudo header can count, and both sum up to all ones
+-- a valid segment: it is at most as long as its pseudo header can count, and the sum of both is all ones
 abbrev pub VerifiesUpTo : ℕ → (ℕ → List ℕ) → List ℕ → Type 0
 VerifiesUpTo max_len pseudo_header_of segment = (length segment ≤ max_len) × Verifies (pseudo_header_of (length segment)) segment
 
 -- ---- built segments
 
--- the checksum adds itself to the sum of a header
+-- a header with a checksum has the sum of the header without it, plus the checksum
 total-checksum_in_header : (header : List ℕ) (checksum : ℕ) → 18 ≤ length header → checksum < 65536
     → total (with_checksum tcp_checksum_place header checksum) ≡ total (without_checksum header) + checksum
 total-checksum_in_header header checksum enough small =
@@ -49,7 +49,7 @@ built_valid max_len pseudo_header_of header payload checksum enough even small w
 
 -- ---- received segments
 
--- the sum that is tested: the folded sum of a pseudo header, and the segment after it
+-- the sum that is tested is the sum of the pseudo header and the segment
 pub tested : (max_len : ℕ) (pseudo_header_of : ℕ → List ℕ) (header payload : List ℕ) (len sum : ℕ)
     → len ≡ length header + length payload → len ≤ max_len → sum ≡ folded (total (pseudo_header_of len))
     → IsAllOnes (sum + total (header ++ payload)) ↔ VerifiesUpTo max_len pseudo_header_of (header ++ payload)
@@ -62,7 +62,7 @@ tested max_len pseudo_header_of header payload len sum counted within is_sum =
       λ valid. same ∙ valid.1,
     )
 
--- the sum of a segment as received
+-- the sum of a segment with its stored checksum
 sum-stored : (pseudo_header_of : ℕ → List ℕ) (header payload : List ℕ) → IsBytes header → 18 ≤ length header → length header % 2 ≡ 0
     → total (pseudo_header_of (length (header ++ payload))) + total (header ++ payload)
     ≡ checksummed (pseudo_header_of (length header + length payload)) header payload + be_number header 16 2
@@ -72,7 +72,7 @@ sum-stored pseudo_header_of header payload fits enough even =
     subst P (with_checksum-stored 16 header fits enough)
     (sum-built pseudo_header_of header payload (be_number header 16 2) enough even (omega (arith, fits 16, fits 17)))
 
--- so testing a segment means comparing its stored checksum with the computed checksum
+-- testing a segment means comparing its stored checksum with the computed checksum
 pub accepts : (max_len : ℕ) (pseudo_header_of : ℕ → List ℕ) (header payload : List ℕ)
     → IsBytes header → 18 ≤ length header → length header % 2 ≡ 0
     → length header + length payload ≤ max_len

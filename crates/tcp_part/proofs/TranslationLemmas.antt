@@ -28,7 +28,7 @@ pub destination_replaced_ipv6 : (source old new header payload : List ℕ) → l
 destination_replaced_ipv6 source old new header payload even alike =
     omega (arith, total_replaced source old new (to_be_bytes w32 (length header + length payload) ++ (0 ∷ 0 ∷ 0 ∷ 6 ∷ [])) even alike)
 
--- the protocol in the pseudo header is not 0
+-- the sum of a pseudo header is not 0, since its protocol is not 0
 pub some_ipv4 : (source destination header payload : List ℕ) → length source % 2 ≡ 0 → length destination % 2 ≡ 0
     → checksummed_ipv4 source destination header payload ≢ 0
 some_ipv4 source destination header payload even even_too none =
@@ -39,7 +39,7 @@ pub some_ipv6 : (source destination header payload : List ℕ) → length source
 some_ipv6 source destination header payload even even_too none =
     omega (arith, total-append_twice source destination (to_be_bytes w32 (length header + length payload) ++ (0 ∷ 0 ∷ 0 ∷ 6 ∷ [])) even even_too)
 
--- the ports are in the header, for any pseudo header
+-- replacing a port changes the sum by the port, for any pseudo header
 pub source_port_replaced : (pseudo_header : ℕ → List ℕ) (header : TcpHeader) (payload : List ℕ) (port checksum : ℕ)
     → checksummed_by pseudo_header (record header { source_port = port; checksum = checksum }) payload + total (to_be_bytes w16 header.source_port)
     ≡ checksummed_by pseudo_header header payload + total (to_be_bytes w16 port)

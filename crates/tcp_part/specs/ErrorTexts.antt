@@ -1,11 +1,11 @@
--- The text of an option of any kind that can't be read.
+-- The text of an error about an option of any kind.
 use Rattle.std.specs.Prelude.{ℕ, List, [], ◌∷◌, codes}
 use Rattle.std.specs.Fmt.{decimal}
 use Rattle.std.specs.List.{concat}
 use Rattle.tcp_part.specs.declared.tcp_raw_option_error.TcpRawOptionError.{TcpRawOptionError}
 use Rattle.tcp_part.specs.declared.tcp_raw_option_error.TcpRawOptionError.TheVariants.{NoLengthByte, LengthBelowTwo, LengthBeyondEnd}
 
--- why the option can't be read
+-- the text of the error
 abbrev pub raw_option_text : TcpRawOptionError → List ℕ
 raw_option_text (NoLengthByte kind) = concat (
     codes "TcpRawOptionError: The option of kind " ∷ decimal kind ∷ codes " has no length byte." ∷ [])

@@ -21,15 +21,15 @@ use Rattle.tcp_part.specs.declared.tcp_header.TcpHeader.{TcpHeader}
 
 -- ---- the length of a header
 
--- the words of four bytes in every header: all fields except the options
+-- the least data offset: the words of four bytes that every header has, without options
 abbrev pub min_data_offset : ℕ
 min_data_offset = 5
 
--- the largest number of four bits
+-- the greatest data offset, a number of four bits
 abbrev pub max_data_offset : ℕ
 max_data_offset = 15
 
--- both lengths in bytes
+-- the least and the greatest length of a header, in bytes
 abbrev pub min_header_len : ℕ
 min_header_len = 20
 
@@ -40,7 +40,8 @@ max_header_len = 60
 abbrev pub data_offset : List ℕ → ℕ
 data_offset bytes = slice_index bytes 12 / 16
 
--- the data offset gives the end of the header; in byte 12 the data offset and NS are meaningful, and in any other byte all bits are
+-- The data offset states where the header ends. In byte 12 the data offset and NS are meaningful. In any other byte all bits are
+-- meaningful.
 abbrev pub layout_of : List ℕ → HeaderLayout
 layout_of bytes = record {
   header_len = data_offset bytes * 4;
@@ -49,7 +50,7 @@ layout_of bytes = record {
 
 -- ---- accepted bytes
 
--- the errors, in this order: fewer bytes than five words; a data offset below five; fewer bytes than the data offset states
+-- The first error that applies: fewer bytes than five words; a data offset below five; fewer bytes than the data offset states.
 abbrev pub refusal : List ℕ → Option HeaderSliceError
 refusal bytes = first_of (
     refused_if (nat_lt (length bytes) min_header_len) (Len (wrong_length layers.TcpHeader min_header_len (length bytes)))
@@ -64,11 +65,11 @@ pub record FlagBit : Type 0 where
   pub place : ℕ
   pub bit : ℕ
 
--- NS (RFC 3540, section 9)
+-- the flag NS (RFC 3540, section 9)
 abbrev pub ns_flag : FlagBit
 ns_flag = record { place = 12; bit = 0x01 }
 
--- FIN to URG (RFC 9293, section 3.1)
+-- the flags FIN, SYN, RST, PSH, ACK and URG (RFC 9293, section 3.1)
 abbrev pub fin_flag : FlagBit
 fin_flag = record { place = 13; bit = 0x01 }
 
@@ -87,22 +88,22 @@ ack_flag = record { place = 13; bit = 0x10 }
 abbrev pub urg_flag : FlagBit
 urg_flag = record { place = 13; bit = 0x20 }
 
--- ECE and CWR (RFC 3168, section 6.1)
+-- the flags ECE and CWR (RFC 3168, section 6.1)
 abbrev pub ece_flag : FlagBit
 ece_flag = record { place = 13; bit = 0x40 }
 
 abbrev pub cwr_flag : FlagBit
 cwr_flag = record { place = 13; bit = 0x80 }
 
--- a flag is read from its bit
+-- whether a flag is set in these bytes
 abbrev pub flag_of : List ℕ → FlagBit → Bool
 flag_of bytes at = flag bytes at.place at.bit
 
--- a flag that is set adds its bit to its byte
+-- what a flag adds to the byte at this place: its bit, if it is set and belongs to this byte
 abbrev pub added_at : ℕ → FlagBit → Bool → ℕ
 added_at place at set = if at.place == place then from_bool set * at.bit else 0
 
--- the value that the flags of a header add to the byte at a place
+-- what all flags of a header add to the byte at this place
 abbrev pub flags_at : ℕ → TcpHeader → ℕ
 flags_at place header =
     added_at place ns_flag header.ns
@@ -113,11 +114,11 @@ flags_at place header =
 
 -- ---- reading
 
--- the options: the bytes of the header after the five words
+-- the options: the bytes of the header after its first five words
 abbrev pub options_of : List ℕ → List ℕ
 options_of bytes = slice_range bytes min_header_len ((layout_of bytes).header_len)
 
--- each field at its place
+-- the header in these bytes, with each field read at its place
 abbrev pub header_of : List ℕ → TcpHeader
 header_of bytes = record {
   source_port = be_number bytes 0 2;
@@ -145,17 +146,17 @@ pub record DecodesAs (bytes : List ℕ) (header : TcpHeader) (rest : List ℕ) :
   pub fields : header ≡ header_of bytes
   pub after_header : rest ≡ drop ((layout_of bytes).header_len) bytes
 
--- accepted bytes with the meaningless bits cleared; the bytes after the header are kept
+-- accepted bytes with the meaningless bits of the header cleared; the bytes after the header are kept
 abbrev pub canonical : List ℕ → List ℕ
 canonical bytes = masked ((layout_of bytes).masks) bytes
 
--- the meaningless bits, the three bits of byte 12 between data offset and NS, are zero
+-- the meaningless bits are zero; they are the three bits of byte 12 between the data offset and NS
 abbrev pub UnusedBitsAreZero : List ℕ → Type 0
 UnusedBitsAreZero bytes = bit_and (slice_index bytes 12) 0x0e ≡ 0
 
 -- ---- writing
 
--- a header with these fields; any other number is 0, no flag is set, and there are no options
+-- a header with these fields; all other numbers are 0, no flag is set, and there are no options
 abbrev pub new_header : ℕ → ℕ → ℕ → ℕ → TcpHeader
 new_header source_port destination_port sequence_number window_size = record {
   source_port = source_port;
@@ -181,7 +182,7 @@ new_header source_port destination_port sequence_number window_size = record {
 abbrev pub data_offset_of : TcpHeader → ℕ
 data_offset_of header = min_data_offset + length header.options / 4
 
--- byte 12: the data offset in its high four bits, and the flags in this byte
+-- byte 12: the data offset in its high four bits, and the flag NS
 abbrev pub offset_byte : TcpHeader → ℕ
 offset_byte header = data_offset_of header * 16 + flags_at 12 header
 
@@ -204,11 +205,12 @@ wire header =
 abbrev pub without_checksum : List ℕ → List ℕ
 without_checksum header = with_checksum tcp_checksum_place header 0
 
--- the sum for a checksum: pseudo header, header with zeros instead of the checksum, and payload
+-- the sum from which the checksum is computed: the pseudo header, the header with zeros instead of the checksum, and the payload
 abbrev pub checksummed : List ℕ → List ℕ → List ℕ → ℕ
 checksummed pseudo_header header payload = total pseudo_header + total (without_checksum header) + total payload
 
--- this sum over IPv4 and over IPv6; the length counts header and payload (RFC 9293, section 3.1; RFC 8200, section 8.1)
+-- the sum from which the checksum is computed, over IPv4 and over IPv6; the pseudo header contains the length of header and payload (RFC
+-- 9293, section 3.1; RFC 8200, section 8.1)
 abbrev pub checksummed_ipv4 : List ℕ → List ℕ → List ℕ → List ℕ → ℕ
 checksummed_ipv4 source destination header payload =
     checksummed (ipv4_pseudo_header source destination tcp_number (length header + length payload)) header payload
@@ -217,8 +219,8 @@ abbrev pub checksummed_ipv6 : List ℕ → List ℕ → List ℕ → List ℕ �
 checksummed_ipv6 source destination header payload =
     checksummed (ipv6_pseudo_header source destination tcp_number (length header + length payload)) header payload
 
--- the longest payload after a header: the pseudo header counts both in 16 bits over IPv4 (RFC 9293, section 3.1), and
--- in 32 bits over IPv6 (RFC 8200, section 8.1)
+-- The length of the longest payload after this header. The pseudo header counts header and payload in 16 bits over IPv4 (RFC 9293, section
+-- 3.1), and in 32 bits over IPv6 (RFC 8200, section 8.1).
 abbrev pub max_payload_len_ipv4 : List ℕ → ℕ
 max_payload_len_ipv4 header = max_len_over_ipv4 - length header
 

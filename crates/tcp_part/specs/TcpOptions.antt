@@ -1,4 +1,4 @@
--- TCP options as bytes (RFC 9293, section 3.1): how an option and a list of options are written, and how bytes are ordered.
+-- TCP options as bytes (RFC 9293, section 3.1): how an option and a list of options are written, and the order of bytes.
 use Rattle.std.specs.Prelude.{ℕ, ◌+◌, ◌-◌, ◌%◌, ◌<◌, ◌^◌, ◌≡◌, ◌⊎◌, nat_lt, min, List, [], ◌∷◌, ◌++◌, length, slice_index, take, replicate, Option, Some, None, Result, IfOk}
 use Rattle.std.specs.Int.{to_be_bytes, w16, w32}
 use Rattle.std.specs.List.{flat_map}
@@ -20,7 +20,7 @@ abbrev pub block_bytes : Option (ℕ × ℕ) → List ℕ
 block_bytes None = []
 block_bytes (Some block) = pair block
 
--- an option with a length (RFC 9293, section 3.1, case 2): its kind, its length, which includes these two bytes, and its value
+-- an option with a length byte (RFC 9293, section 3.1, case 2): its kind, its length, which also counts these two bytes, and its value
 abbrev pub with_length : ℕ → List ℕ → List ℕ
 with_length kind value = kind ∷ (length value + 2) ∷ value
 
@@ -47,7 +47,7 @@ present_first [] = []
 present_first (None ∷ more) = present_first more ++ (None ∷ [])
 present_first (Some block ∷ more) = Some block ∷ present_first more
 
--- an element as it is read back: the bytes don't show the place of an absent block
+-- an element as it is read back: the present blocks come first, since the bytes do not show the place of an absent block
 abbrev pub front : TcpOptionElement → TcpOptionElement
 front Noop = Noop
 front (MaximumSegmentSize size) = MaximumSegmentSize size
@@ -62,36 +62,36 @@ front (Timestamp value echo) = Timestamp value echo
 abbrev pub join : List TcpOptionElement → List ℕ
 join elements = flat_map spelling elements
 
--- bytes, padded with the fewest zeros to whole words of 4 bytes, since a header is counted in words; a zero ends the
--- list of options (RFC 9293, section 3.1)
+-- The bytes, padded with the fewest zeros to a multiple of 4, since the length of a header is counted in words of 4 bytes. A zero ends the
+-- list of options (RFC 9293, section 3.1).
 abbrev pub pad : List ℕ → List ℕ
 pad bytes = bytes ++ replicate ((4 - length bytes % 4) % 4) 0
 
--- the room for options in a header, in bytes: a data offset counts at most 15 words of 4 bytes, and the header
--- without options is 5 words long (RFC 9293, section 3.1)
+-- The greatest length of the options of a header, in bytes. A data offset counts at most 15 words of 4 bytes, and a header without options
+-- has 5 words (RFC 9293, section 3.1).
 abbrev pub max_options_len : ℕ
 max_options_len = 40
 
--- a number as a `usize`, with `usize::MAX` for any larger number
+-- the number, or `usize::MAX` if it is greater
 abbrev pub saturated : ℕ → ℕ
 saturated number = min number (2 ^ 64 - 1)
 
--- the error for this many bytes of options
+-- the error if there are more bytes of options than a header has room for
 abbrev pub too_long : ℕ → Option TcpOptionWriteError
 too_long len = refused_if (nat_lt max_options_len len) (NotEnoughSpace len)
 
--- options of these bytes
+-- the result of making options of these bytes: the padded bytes, or an error
 abbrev pub PadsOrRefuses : List ℕ → Result (List ℕ) TcpOptionWriteError → Type 0
 PadsOrRefuses bytes result = RefusesExactly result (too_long (length bytes)) × IfOk result (λ options. options ≡ pad bytes)
 
--- options of these elements
+-- the result of making options of these elements: their padded bytes, or an error
 abbrev pub JoinsOrRefuses : List TcpOptionElement → Result (List ℕ) TcpOptionWriteError → Type 0
 JoinsOrRefuses elements result =
     RefusesExactly result (too_long (saturated (length (join elements)))) × IfOk result (λ options. options ≡ pad (join elements))
 
 -- ---- order
 
--- the order of bytes: the smaller byte at the first place where both differ, or, if there is no such place, fewer bytes
+-- The order of bytes. At the first place where both differ, the smaller byte is first. If one is the beginning of the other, it is first.
 abbrev pub IsBefore : List ℕ → List ℕ → Type 0
 IsBefore a b = (place : ℕ) × (take place a ≡ take place b)
     × (((place < length a) × (place < length b) × (slice_index a place < slice_index b place)) ⊎ ((length a ≡ place) × (place < length b)))

@@ -1,5 +1,5 @@
--- How bytes are read as TCP options (RFC 9293, section 3.1): a relation between bytes and items, from the spelling of
--- each element and a table of faults. It does not define how the bytes are cut.
+-- The reading of bytes as TCP options (RFC 9293, section 3.1): a relation between bytes and items, given by the spelling of each element
+-- and a table of faults. How the bytes are divided follows from it.
 use Rattle.std.specs.Prelude.{ℕ, Bool, ◌%◌, ◌≤◌, ◌<◌, ◌≡◌, ◌⊎◌, ◌↔◌, ◌^◌, ◌==◌, ◌||◌, not, map, nat_lt, if◌then◌else◌, List, [], ◌∷◌, ◌++◌, length, slice_index, Option, Some, None, Result, Ok, Err, IfSome}
 use Rattle.std.specs.List.{AllByRecursion}
 use Rattle.net_base.specs.declared.tcp_option_read_error.TcpOptionReadError.{TcpOptionReadError}
@@ -12,7 +12,7 @@ use Rattle.tcp_part.specs.declared.tcp_option_element.TcpOptionElement.TheVarian
 
 -- ---- elements at the front
 
--- two numbers of 32 bits
+-- both numbers fit in 32 bits
 abbrev pub IsPair : ℕ × ℕ → Type 0
 IsPair numbers = (numbers.0 < 2 ^ 32) × (numbers.1 < 2 ^ 32)
 
@@ -25,7 +25,7 @@ IsInRange SelectiveAcknowledgementPermitted = Unit {0}
 IsInRange (SelectiveAcknowledgement first more) = IsPair first × (length more ≡ 3) × AllByRecursion (λ block. IfSome block IsPair) more
 IsInRange (Timestamp value echo) = IsPair (value, echo)
 
--- an element is at the front, and the rest comes after it
+-- the bytes begin with this element, and the rest follows it
 pub record BeginsWith (bytes : List ℕ) (element : TcpOptionElement) (rest : List ℕ) : Type 0 where
   pub spelled : bytes ≡ spelling element ++ rest
   pub read_back : front element ≡ element
@@ -35,27 +35,27 @@ pub record BeginsWith (bytes : List ℕ) (element : TcpOptionElement) (rest : Li
 abbrev pub Ends : List ℕ → Type 0
 Ends bytes = (length bytes ≡ 0) ⊎ (slice_index bytes 0 ≡ end_kind)
 
--- ---- faults: why the option at the front can't be read, by its kind, its length byte, and the number of
--- bytes left, including these two. If no length byte is left, no rule checks it.
+-- ---- faults: why the option at the front can't be read, by its kind, its length byte, and the number of bytes left, kind and length byte
+-- included. If no length byte is left, its value does not matter.
 --
 --   kind          rules in their order
 --   0, 1          none: a kind alone
---   2, 3, 4, 8    fewer bytes are left than the one length of the kind; another length byte
---   5             no length byte is left; a length byte not of one to four blocks; fewer bytes are left than the length byte says
+--   2, 3, 4, 8    fewer bytes are left than the kind requires; the length byte is another length
+--   5             no length byte is left; the length byte is not the length of one to four blocks; fewer bytes are left than it counts
 --   every other   the kind is not known
 
--- a kind with one length
+-- the fault of an option whose kind has only one length
 abbrev pub fault_of_length : ℕ → ℕ → ℕ → ℕ → Option TcpOptionReadError
 fault_of_length expected kind size left = first_of (
     refused_if (nat_lt left expected) (UnexpectedEndOfSlice kind expected left)
     ∷ refused_if (not (size == expected)) (UnexpectedSize kind size)
     ∷ [])
 
--- the length of a selective acknowledgement: kind, length byte, and one to four blocks of 8 bytes
+-- this is the length of a selective acknowledgement: kind, length byte, and one to four blocks of 8 bytes
 abbrev pub is_size_of_blocks : ℕ → Bool
 is_size_of_blocks size = size == 10 || (size == 18 || (size == 26 || size == 34))
 
--- a selective acknowledgement
+-- the fault of a selective acknowledgement
 abbrev pub fault_of_blocks : ℕ → ℕ → Option TcpOptionReadError
 fault_of_blocks size left = first_of (
     refused_if (nat_lt left 2) (UnexpectedEndOfSlice sack_kind 2 left)
@@ -63,7 +63,7 @@ fault_of_blocks size left = first_of (
     ∷ refused_if (nat_lt left size) (UnexpectedEndOfSlice sack_kind size left)
     ∷ [])
 
--- a fault by the kind
+-- the fault of an option, by its kind
 abbrev pub fault_of_kind : ℕ → ℕ → ℕ → Option TcpOptionReadError
 fault_of_kind kind size left =
     if kind == end_kind || kind == noop_kind then None
@@ -80,17 +80,18 @@ fault bytes = fault_of_kind (slice_index bytes 0) (slice_index bytes 1) (length 
 
 -- ---- readings
 
--- an element, or a fault
+-- an item is an element or a fault
 abbrev pub Item : Type 0
 Item = Result TcpOptionElement TcpOptionReadError
 
--- The bytes are read as these items: no item at the end; an element at the front and then the items of the rest; or only one fault.
+-- The bytes are read as these items. At the end there is no item. Otherwise there is an element at the front, and then the items of the
+-- rest; or only one fault.
 abbrev pub Reads : List ℕ → List Item → Type 0
 Reads bytes [] = Ends bytes
 Reads bytes (Ok element ∷ items) = (rest : List ℕ) × BeginsWith bytes element rest × Reads rest items
 Reads bytes (Err error ∷ items) = (fault bytes ≡ Some error) × (items ≡ [])
 
--- one call of `next`: the bytes before it, the returned item, and the bytes after it
+-- one call of `next` changed the unread bytes from `before` to `after`, and returned this item
 abbrev pub ReadsNext : List ℕ → Option Item → List ℕ → Type 0
 ReadsNext before None after = Ends before × (after ≡ [])
 ReadsNext before (Some (Ok element)) after = BeginsWith before element after
@@ -104,32 +105,32 @@ pub record HasOneReading (bytes : List ℕ) : Type 0 where
 
 -- ---- readings without a fault
 
--- some elements as items
+-- these elements as items without a fault
 abbrev pub as_items : List TcpOptionElement → List Item
 as_items elements = map (λ element. Ok element) elements
 
--- the items as which the bytes of some elements are read
+-- the items that are read from the bytes of these elements
 abbrev pub read_back : List TcpOptionElement → List Item
 read_back elements = map (λ element. Ok (front element)) elements
 
--- options that consist of the bytes of some elements, followed by nothing or the end of the list
+-- options that consist of the bytes of these elements, and then nothing or the end of the list
 pub record AreJoined (options : List ℕ) (elements : List TcpOptionElement) : Type 0 where
   pub rest : List ℕ
   pub whole : options ≡ join elements ++ rest
   pub end : Ends rest
 
--- options that represent some elements: they are read only as these elements, and fit into a header
+-- the options represent these elements: they are read only as these elements, and a header has room for them
 pub record StandFor (options : List ℕ) (elements : List TcpOptionElement) : Type 0 where
   pub reads : Reads options (read_back elements)
   pub room : length options ≤ max_options_len
   pub whole_words : length options % 4 ≡ 0
 
--- the first options, in the order of bytes, that represent some elements
+-- these are the first options, in the order of bytes, that represent these elements
 pub record AreLeastFor (options : List ℕ) (elements : List TcpOptionElement) : Type 0 where
   pub stand : StandFor options elements
   pub first : (others : List ℕ) → StandFor others elements → (others ≡ options) ⊎ IsBefore options others
 
--- two options without a fault are read as the same elements exactly if the padded bytes of the elements are the same
+-- if both options are read without a fault, they are read as the same elements exactly if the padded bytes of the elements are the same
 abbrev pub ReadAlike : List ℕ → List ℕ → Type 0
 ReadAlike options others = (elements other_elements : List TcpOptionElement)
     → Reads options (as_items elements) → Reads others (as_items other_elements)

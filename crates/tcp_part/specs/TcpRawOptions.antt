@@ -1,5 +1,5 @@
--- TCP options of every kind, known or not (RFC 9293, section 3.1): a relation between bytes and options as kinds and
--- values. A length byte gives the end of an option, so a host skips an unknown kind (RFC 1122, section 4.2.2.5).
+-- TCP options of any kind, known or unknown (RFC 9293, section 3.1): a relation between bytes and options, which are kinds and values. The
+-- length byte states where an option ends, so a host can skip an unknown kind (RFC 1122, section 4.2.2.5).
 use Rattle.std.specs.Prelude.{ℕ, ◌+◌, ◌<◌, ◌≡◌, ◌≢◌, ◌⊎◌, ◌==◌, ◌||◌, min, map, nat_lt, if◌then◌else◌, List, [], ◌∷◌, ◌++◌, length, drop, slice_index, Option, Some, None, Result, Ok, Err}
 use Rattle.std.specs.List.{flat_map}
 use Rattle.net_base.specs.Refusals.{first_of, refused_if}
@@ -19,22 +19,22 @@ pub record RawOption : Type 0 where
   pub kind : ℕ
   pub value : List ℕ
 
--- the bytes of an option: no operation is one byte, and any other kind has a length byte that also counts the kind and itself
+-- the bytes of an option; no operation is a single byte, and any other kind has a length byte that also counts the kind and itself
 abbrev pub raw_spelling : RawOption → List ℕ
 raw_spelling option = if option.kind == noop_kind then noop_kind ∷ [] else with_length option.kind option.value
 
--- an option is at the front, and the rest comes after it; the end of the list is not an option
+-- the bytes begin with this option, and the rest follows it; the end of the list is not an option
 pub record BeginsWithRaw (bytes : List ℕ) (option : RawOption) (rest : List ℕ) : Type 0 where
   pub spelled : bytes ≡ raw_spelling option ++ rest
   pub is_no_end : option.kind ≢ end_kind
   pub noop_has_no_value : option.kind ≡ noop_kind → option.value ≡ []
 
--- ---- faults: why the option at the front can't be read, by its kind, its length byte, and the number of
--- bytes left, including these two. If no length byte is left, no rule checks it.
+-- ---- faults: why the option at the front can't be read, by its kind, its length byte, and the number of bytes left, kind and length byte
+-- included. If no length byte is left, its value does not matter.
 --
 --   kind          rules in their order
 --   0, 1          none: a kind alone
---   every other   no length byte is left; a length byte below 2; fewer bytes are left than the length byte says
+--   every other   no length byte is left; the length byte is below 2; fewer bytes are left than it counts
 abbrev pub raw_fault_of : ℕ → ℕ → ℕ → Option TcpRawOptionError
 raw_fault_of kind len available = if kind == end_kind || kind == noop_kind then None else first_of (
     refused_if (nat_lt available 2) (NoLengthByte kind)
@@ -48,17 +48,18 @@ raw_fault bytes = raw_fault_of (slice_index bytes 0) (slice_index bytes 1) (leng
 
 -- ---- readings
 
--- an option, or a fault
+-- an item is an option or a fault
 abbrev pub RawItem : Type 0
 RawItem = Result RawOption TcpRawOptionError
 
--- The bytes are read as these items: no item at the end; an option at the front and then the items of the rest; or only one fault.
+-- The bytes are read as these items. At the end there is no item. Otherwise there is an option at the front, and then the items of the
+-- rest; or only one fault.
 abbrev pub ReadsRaw : List ℕ → List RawItem → Type 0
 ReadsRaw bytes [] = Ends bytes
 ReadsRaw bytes (Ok option ∷ items) = (rest : List ℕ) × BeginsWithRaw bytes option rest × ReadsRaw rest items
 ReadsRaw bytes (Err error ∷ items) = (raw_fault bytes ≡ Some error) × (items ≡ [])
 
--- one call of `next`: the bytes before it, the returned item, and the bytes after it
+-- one call of `next` changed the unread bytes from `before` to `after`, and returned this item
 abbrev pub ReadsRawNext : List ℕ → Option RawItem → List ℕ → Type 0
 ReadsRawNext before None after = Ends before × (after ≡ [])
 ReadsRawNext before (Some (Ok option)) after = BeginsWithRaw before option after
@@ -72,7 +73,7 @@ pub record HasOneRawReading (bytes : List ℕ) : Type 0 where
 
 -- ---- written back
 
--- some options as items
+-- these options as items without a fault
 abbrev pub as_raw_items : List RawOption → List RawItem
 as_raw_items options = map (λ option. Ok option) options
 
@@ -80,8 +81,8 @@ as_raw_items options = map (λ option. Ok option) options
 abbrev pub raw_join : List RawOption → List ℕ
 raw_join options = flat_map raw_spelling options
 
--- The items are options, and the bytes consist of these options and a rest. Either no item comes after the options,
--- and the rest is the end of the list, or one fault does, which is the fault of the rest.
+-- The bytes consist of options and a rest. The items are these options, and the rest is empty or begins with the end of the list. Or the
+-- items are these options and one fault, which is the fault of the rest.
 pub record AreRawJoined (bytes : List ℕ) (items : List RawItem) : Type 0 where
   pub options : List RawOption
   pub rest : List ℕ
@@ -89,7 +90,7 @@ pub record AreRawJoined (bytes : List ℕ) (items : List RawItem) : Type 0 where
   pub end : ((items ≡ as_raw_items options) × Ends rest)
       ⊎ ((error : TcpRawOptionError) × (items ≡ as_raw_items options ++ (Err error ∷ [])) × (raw_fault rest ≡ Some error))
 
--- writing the read items back gives the bytes that were read
+-- if the items that were read are written, the result is the bytes that were read, as `AreRawJoined` states
 abbrev pub IsWrittenBack : List ℕ → Type 0
 IsWrittenBack bytes = (items : List RawItem) → ReadsRaw bytes items → AreRawJoined bytes items
 
@@ -99,25 +100,26 @@ IsWrittenBack bytes = (items : List RawItem) → ReadsRaw bytes items → AreRaw
 abbrev pub length_byte : RawOption → ℕ
 length_byte option = min (length option.value + 2) 255
 
--- why an option is not an element: the fault of its kind and length byte at the front of as many bytes as
--- a header can hold, so that no byte is missing; the end of the list is no element
+-- The error for an option that is not an element. It is the fault of its kind and length byte, if as many bytes follow as a header can
+-- contain, so that no byte is missing. The end of the list is not an element.
 abbrev pub element_refusal : RawOption → Option TcpOptionReadError
 element_refusal option =
     if option.kind == end_kind then Some (UnknownId end_kind) else fault_of_kind option.kind (length_byte option) max_options_len
 
--- fewer bytes are left than the one length of an option's kind, if the kind has one; the option's length byte is another length
+-- Fewer bytes are left than the kind of the option requires, and the length byte states another length. This applies only to a kind with
+-- one length.
 abbrev pub IsMissingBytes : ℕ → RawOption → TcpOptionReadError → Option ℕ → Type 0
 IsMissingBytes left option error None = ⊥
 IsMissingBytes left option error (Some len) = (left < len) × (error ≡ UnexpectedEndOfSlice option.kind len left)
     × (element_refusal option ≡ Some (UnexpectedSize option.kind (length_byte option)))
 
--- the fault of bytes that begin with an option: the option is not an element, or bytes of it are missing
+-- the fault of bytes that begin with this option: the option is not an element, or bytes are missing
 abbrev pub IsFaultOf : ℕ → RawOption → TcpOptionReadError → Type 0
 IsFaultOf left option error =
     (element_refusal option ≡ Some error) ⊎ IsMissingBytes left option error (length_of_kind option.kind)
 
--- Items of both readings of some bytes, one for one: an option and its element; an option and its fault, the last item; or the fault of
--- each reading.
+-- The items of both readings of some bytes correspond: each option to its element; an option that is not an element to its fault, which is
+-- the last item; or the fault of one reading to the fault of the other.
 abbrev pub AreItemsOf : List ℕ → List RawItem → List Item → Type 0
 AreItemsOf bytes [] [] = Unit {0}
 AreItemsOf bytes (Ok option ∷ options) (Ok element ∷ items) =
@@ -127,12 +129,12 @@ AreItemsOf bytes (Err raw_error ∷ options) (Err error ∷ items) =
     (raw_fault bytes ≡ Some raw_error) × (options ≡ []) × (fault bytes ≡ Some error) × (items ≡ [])
 AreItemsOf bytes options items = ⊥
 
--- both readings of some bytes have the same items up to the first fault
+-- both readings of some bytes have corresponding items up to the first fault
 abbrev pub ReadsTheSameItems : List ℕ → Type 0
 ReadsTheSameItems bytes = (options : List RawItem) (items : List Item) → ReadsRaw bytes options → Reads bytes items → AreItemsOf bytes options items
 
--- The bytes are read as options that correspond to some elements, one for one, with the same bytes, and then as other
--- items. If no item comes after the elements, there are no other items.
+-- The bytes are read as options with the same bytes as these elements, in the same order, and then as other items. If no item follows the
+-- elements, no other item follows the options.
 pub record BeginsAsElements (bytes : List ℕ) (elements : List TcpOptionElement) (others : List Item) : Type 0 where
   pub options : List RawOption
   pub more : List RawItem
@@ -140,7 +142,7 @@ pub record BeginsAsElements (bytes : List ℕ) (elements : List TcpOptionElement
   pub same : map raw_spelling options ≡ map spelling elements
   pub no_more : others ≡ [] → more ≡ []
 
--- up to the first fault, reading some bytes as elements and reading them as options gives the same options
+-- up to the first fault, reading some bytes as elements and as options gives the same options
 abbrev pub ReadsTheSameOptions : List ℕ → Type 0
 ReadsTheSameOptions bytes = (elements : List TcpOptionElement) (others : List Item)
     → Reads bytes (as_items elements ++ others) → BeginsAsElements bytes elements others

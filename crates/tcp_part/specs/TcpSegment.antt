@@ -2,7 +2,7 @@
 use Rattle.std.specs.Prelude.{ℕ, ◌*◌, List, take, drop}
 use Rattle.tcp_part.specs.TcpFormat.{data_offset}
 
--- the bytes of the header, options included
+-- the bytes of the header with its options
 abbrev pub header_bytes : List ℕ → List ℕ
 header_bytes segment = take (data_offset segment * 4) segment
 

@@ -4,10 +4,10 @@ use Rattle.std.specs.Prelude.{ℕ, List}
 use Rattle.net_base.specs.IpNumbers.{tcp_number}
 use Rattle.net_base.specs.PseudoHeader.{VerifiesOverIpv4, VerifiesOverIpv6}
 
--- pseudo header and segment fold to all ones: over IPv4
+-- the one's complement sum of the pseudo header over IPv4 and the segment is all ones
 abbrev pub IsValidTcpIpv4 : List ℕ → List ℕ → List ℕ → Type 0
 IsValidTcpIpv4 source destination segment = VerifiesOverIpv4 source destination tcp_number segment
 
--- and over IPv6 (RFC 8200, section 8.1)
+-- the one's complement sum of the pseudo header over IPv6 and the segment is all ones (RFC 8200, section 8.1)
 abbrev pub IsValidTcpIpv6 : List ℕ → List ℕ → List ℕ → Type 0
 IsValidTcpIpv6 source destination segment = VerifiesOverIpv6 source destination tcp_number segment

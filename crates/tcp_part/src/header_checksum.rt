@@ -13,8 +13,7 @@ use net_base::err::{ValueTooBigError, ValueType};
 use net_base::{check_payload_len, ip_number, pseudo_header_ipv4, pseudo_header_ipv6};
 use word_sum::checksum::Sum16BitWords;
 
-/// The checksum over IPv4 of a header's bytes and a payload. The checksum in the header is ignored (RFC 9293, section
-/// 3.1).
+/// The checksum of a header and a payload over IPv4. The checksum in the bytes of the header is ignored (RFC 9293, section 3.1).
 #[inline(always)]
 pub(crate) fn checksum_ipv4(
     source: [u8; 4],
@@ -37,8 +36,8 @@ pub(crate) fn checksum_ipv4(
     Ok(checksum_post_ip(pseudo_header, header, payload))
 }
 
-/// The checksum over IPv6 of a header's bytes and a payload. The checksum in the header is ignored (RFC 9293, section
-/// 3.1; RFC 8200, section 8.1).
+/// The checksum of a header and a payload over IPv6. The checksum in the bytes of the header is ignored (RFC 9293, section 3.1; RFC 8200,
+/// section 8.1).
 #[inline(always)]
 pub(crate) fn checksum_ipv6(
     source: [u8; 16],
@@ -61,7 +60,7 @@ pub(crate) fn checksum_ipv6(
     Ok(checksum_post_ip(pseudo_header, header, payload))
 }
 
-/// Whether pseudo header over IPv4, header and payload, as received, sum up to all ones (RFC 9293, section 3.1). A
+/// Whether the one's complement sum of the pseudo header over IPv4, the header and the payload is all ones (RFC 9293, section 3.1). A
 /// segment that is too long for the pseudo header is never valid.
 #[inline]
 pub(crate) fn is_valid_ipv4(
@@ -84,7 +83,7 @@ pub(crate) fn is_valid_ipv4(
     }
 }
 
-/// Whether pseudo header over IPv6, header and payload, as received, sum up to all ones (RFC 9293, section 3.1; RFC
+/// Whether the one's complement sum of the pseudo header over IPv6, the header and the payload is all ones (RFC 9293, section 3.1; RFC
 /// 8200, section 8.1). A segment that is too long for the pseudo header is never valid.
 #[inline]
 pub(crate) fn is_valid_ipv6(
@@ -107,8 +106,8 @@ pub(crate) fn is_valid_ipv6(
     }
 }
 
-/// Whether pseudo header over IPv4 and segment, as received, sum up to all ones (RFC 9293, section 3.1). A segment that
-/// is too long for the pseudo header is never valid.
+/// Whether the one's complement sum of the pseudo header over IPv4 and the segment is all ones (RFC 9293, section 3.1). A segment that is
+/// too long for the pseudo header is never valid.
 #[inline]
 pub(crate) fn is_segment_valid_ipv4(source: [u8; 4], destination: [u8; 4], segment: &[u8]) -> bool
     ensures valid { IsTrue result ↔ IsValidTcpIpv4 source destination segment.now }
@@ -123,8 +122,8 @@ pub(crate) fn is_segment_valid_ipv4(source: [u8; 4], destination: [u8; 4], segme
     }
 }
 
-/// Whether pseudo header over IPv6 and segment, as received, sum up to all ones (RFC 9293, section 3.1; RFC 8200,
-/// section 8.1). A segment that is too long for the pseudo header is never valid.
+/// Whether the one's complement sum of the pseudo header over IPv6 and the segment is all ones (RFC 9293, section 3.1; RFC 8200, section
+/// 8.1). A segment that is too long for the pseudo header is never valid.
 #[inline]
 pub(crate) fn is_segment_valid_ipv6(source: [u8; 16], destination: [u8; 16], segment: &[u8]) -> bool
     ensures valid { IsTrue result ↔ IsValidTcpIpv6 source destination segment.now }
@@ -139,7 +138,7 @@ pub(crate) fn is_segment_valid_ipv6(source: [u8; 16], destination: [u8; 16], seg
     }
 }
 
-/// The length of header and payload as the pseudo header over IPv4 counts it, in 16 bits (RFC 9293, section 3.1).
+/// The length of header and payload, which the pseudo header over IPv4 counts in 16 bits (RFC 9293, section 3.1).
 #[inline]
 pub(crate) fn len_over_ipv4(
     header_len: usize,
@@ -154,7 +153,7 @@ pub(crate) fn len_over_ipv4(
     Ok((header_len + payload_len) as u16)
 }
 
-/// The length of header and payload as the pseudo header over IPv6 counts it, in 32 bits (RFC 8200, section 8.1).
+/// The length of header and payload, which the pseudo header over IPv6 counts in 32 bits (RFC 8200, section 8.1).
 #[inline]
 pub(crate) fn len_over_ipv6(
     header_len: usize,
@@ -169,7 +168,7 @@ pub(crate) fn len_over_ipv6(
     Ok((header_len + payload_len) as u32)
 }
 
-/// Computes the checksum from the sum of the pseudo header. The two bytes of the checksum are left out, since a zero word adds nothing.
+/// Computes the checksum from the sum of the pseudo header. The two bytes of the checksum are not added, since a zero word adds nothing.
 #[inline]
 fn checksum_post_ip(pseudo_header: Sum16BitWords, header: &[u8], payload: &[u8]) -> u16
     requires { min_header_len ≤ length header.now }
@@ -184,7 +183,7 @@ fn checksum_post_ip(pseudo_header: Sum16BitWords, header: &[u8], payload: &[u8])
         .ones_complement()
 }
 
-/// Adds the words of the options. Most headers have none.
+/// Adds the words of the options. Most headers have no options.
 // perf: adding no bytes is a call of 21 instructions (27 Nov 2026).
 #[inline(always)]
 pub(crate) fn add_options(sum: Sum16BitWords, options: &[u8]) -> Sum16BitWords
@@ -197,7 +196,7 @@ pub(crate) fn add_options(sum: Sum16BitWords, options: &[u8]) -> Sum16BitWords
     }
 }
 
-/// Whether a pseudo header with this sum, and header and payload as received, sum up to all ones.
+/// Whether the sum of header and payload, added to the sum of the pseudo header, is all ones.
 #[inline]
 fn verifies(pseudo_header: Sum16BitWords, header: &[u8], payload: &[u8]) -> bool
     ensures { length header.now % 2 ≡ 0 → (IsTrue result ↔ IsAllOnes (sum_value pseudo_header + total (header.now ++ payload.now))) }
@@ -209,7 +208,7 @@ fn verifies(pseudo_header: Sum16BitWords, header: &[u8], payload: &[u8]) -> bool
         == 0
 }
 
-/// Whether a pseudo header with this sum, and a segment as received, sum up to all ones.
+/// Whether the sum of a segment, added to the sum of the pseudo header, is all ones.
 #[inline]
 fn sums_up(pseudo_header: Sum16BitWords, segment: &[u8]) -> bool
     ensures { IsTrue result ↔ IsAllOnes (sum_value pseudo_header + total segment.now) }

@@ -1,9 +1,9 @@
-//! Laws of the definitions in `specs/` and of the types. Each law is the contract of a function that does nothing, or
-//! calls the functions in question, so that it is checked with the calls.
+//! Laws of the definitions in `specs/` and of the types. Each law is the contract of a function that does nothing, or that calls the
+//! functions that the law is about. So it is checked with the calls.
 //!
 //! # Errors
 //!
-//! None: each clone succeeds.
+//! No call returns an error: each clone succeeds.
 ghost use Rattle.std.specs.Prelude.{◌≡◌, ◌↔◌, ◌++◌, List, [], ℕ, Option, None, IsOkAnd, IsTrue};
 ghost use Rattle.std.specs.List.{fold};
 ghost use Rattle.std.specs.Hash as fed;
@@ -36,7 +36,8 @@ pub fn nothing_is_read_after_the_end()
     ensures { (item : Option Item) (rest : List ℕ) → ReadsNext [] item rest → (item ≡ None) × (rest ≡ []) }
 {}
 
-/// Two options without a fault are read as the same elements exactly if the padded bytes of the elements are the same.
+/// If two lists of option bytes are read without a fault, they are read as the same elements exactly if the padded bytes of the elements
+/// are the same.
 pub fn options_read_alike()
     ensures { (options others : List ℕ) → ReadAlike options others }
 {}
@@ -47,28 +48,28 @@ pub fn no_raw_option_is_read_after_the_end()
     ensures { (item : Option RawItem) (rest : List ℕ) → ReadsRawNext [] item rest → (item ≡ None) × (rest ≡ []) }
 {}
 
-/// The elements that `TcpOptionsIterator` returns, up to a fault, are the options that `TcpRawOptionsIterator` returns in their
-/// places, with the same bytes. If the first iterator finds no fault, the second finds none either, and returns nothing more.
+/// `TcpOptionsIterator` returns elements up to a fault. `TcpRawOptionsIterator` returns the same options in their places, with the same
+/// bytes. If the first iterator finds no fault, the second iterator finds no fault either, and returns nothing more.
 pub fn raw_options_are_the_elements()
     ensures { (options : List ℕ) → ReadsTheSameOptions options }
 {}
 
-/// `element` of the options that `TcpRawOptionsIterator` returns gives the items of `TcpOptionsIterator`, one for
-/// one, up to the first fault. If the length byte ends within the bytes, the fault is the error of `element`, or
-/// fewer bytes are left than the length of the kind. In the second case the iterator's error contains both numbers,
-/// and `element` reports a wrong length. Otherwise each iterator returns its own error.
+/// Up to the first fault, `element` of each option that `TcpRawOptionsIterator` returns is the item that `TcpOptionsIterator` returns in
+/// its place. If the length byte counts only bytes that are present, there are two cases. Either the fault is the error of `element`. Or
+/// fewer bytes are left than the length of the kind. Then the iterator's error contains both numbers, and `element` reports a wrong length.
+/// If the length byte counts more bytes, each iterator returns its own error.
 pub fn elements_of_raw_options()
     ensures { (options : List ℕ) → IsBytes options → ReadsTheSameItems options }
 {}
 
-/// A header is cloned whole.
+/// A clone of a header is the same value.
 pub fn cloned_header(header: &TcpHeader) -> Result<TcpHeader, AllocError>
     ensures same { IsOkAnd result (λ copy. copy ≡ header.now) }
 {
     header.clone()
 }
 
-/// The slice of a header is cloned whole.
+/// A clone of the slice of a header is the same value.
 pub fn cloned_header_slice<'a>(
     header: &TcpHeaderSlice<'a>,
 ) -> Result<TcpHeaderSlice<'a>, AllocError>
@@ -77,28 +78,28 @@ pub fn cloned_header_slice<'a>(
     header.clone()
 }
 
-/// The slice of a segment is cloned whole.
+/// A clone of the slice of a segment is the same value.
 pub fn cloned_slice<'a>(segment: &TcpSlice<'a>) -> Result<TcpSlice<'a>, AllocError>
     ensures same { IsOkAnd result (λ copy. copy ≡ segment.now) }
 {
     segment.clone()
 }
 
-/// Options are cloned whole.
+/// A clone of options is the same value.
 pub fn cloned_options(options: &TcpOptions) -> Result<TcpOptions, AllocError>
     ensures same { IsOkAnd result (λ copy. copy ≡ options.now) }
 {
     options.clone()
 }
 
-/// An element is cloned whole.
+/// A clone of an element is the same value.
 pub fn cloned_element(element: &TcpOptionElement) -> Result<TcpOptionElement, AllocError>
     ensures same { IsOkAnd result (λ copy. copy ≡ element.now) }
 {
     element.clone()
 }
 
-/// An iterator is cloned with all unread bytes.
+/// A clone of an iterator over elements has the same unread bytes.
 pub fn cloned_iterator<'a>(
     iterator: &TcpOptionsIterator<'a>,
 ) -> Result<TcpOptionsIterator<'a>, AllocError>
@@ -107,14 +108,14 @@ pub fn cloned_iterator<'a>(
     iterator.clone()
 }
 
-/// An option is cloned whole.
+/// A clone of an option of any kind is the same value.
 pub fn cloned_raw_option<'a>(option: &TcpRawOption<'a>) -> Result<TcpRawOption<'a>, AllocError>
     ensures same { IsOkAnd result (λ copy. copy ≡ option.now) }
 {
     option.clone()
 }
 
-/// An iterator over options is cloned with all unread bytes.
+/// A clone of an iterator over options of any kind has the same unread bytes.
 pub fn cloned_raw_iterator<'a>(
     iterator: &TcpRawOptionsIterator<'a>,
 ) -> Result<TcpRawOptionsIterator<'a>, AllocError>
@@ -123,7 +124,7 @@ pub fn cloned_raw_iterator<'a>(
     iterator.clone()
 }
 
-/// An error of an option is cloned whole.
+/// A clone of an error about an option of any kind is the same value.
 pub fn cloned_raw_option_error(error: &TcpRawOptionError) -> Result<TcpRawOptionError, AllocError>
     ensures same { IsOkAnd result (λ copy. copy ≡ error.now) }
 {
@@ -165,35 +166,35 @@ pub fn equal_elements(a: &TcpOptionElement, b: &TcpOptionElement) -> bool
     a == b
 }
 
-/// Iterators are equal exactly if their unread bytes are equal.
+/// Iterators over elements are equal exactly if their unread bytes are equal.
 pub fn equal_iterators(a: &TcpOptionsIterator<'_>, b: &TcpOptionsIterator<'_>) -> bool
     ensures same { IsTrue result ↔ (a.now ≡ b.now) }
 {
     a == b
 }
 
-/// Options are equal exactly if their kinds and the bytes of their values are equal.
+/// Options of any kind are equal exactly if their kinds and the bytes of their values are equal.
 pub fn equal_raw_options(a: &TcpRawOption<'_>, b: &TcpRawOption<'_>) -> bool
     ensures same { IsTrue result ↔ (a.now ≡ b.now) }
 {
     a == b
 }
 
-/// Iterators over options are equal exactly if their unread bytes are equal.
+/// Iterators over options of any kind are equal exactly if their unread bytes are equal.
 pub fn equal_raw_iterators(a: &TcpRawOptionsIterator<'_>, b: &TcpRawOptionsIterator<'_>) -> bool
     ensures same { IsTrue result ↔ (a.now ≡ b.now) }
 {
     a == b
 }
 
-/// `==` holds for two errors of options exactly if they are the same.
+/// `==` holds for two errors about options of any kind exactly if they are the same.
 pub fn equal_raw_option_errors(a: &TcpRawOptionError, b: &TcpRawOptionError) -> bool
     ensures same { IsTrue result ↔ (a.now ≡ b.now) }
 {
     a == b
 }
 
-/// A header is hashed by all its fields, in their order.
+/// The hash of a header covers all fields, in their order.
 pub fn hashed_header<H: Hasher>(header: &TcpHeader, state: &mut H)
     ensures fields { state.new ≡ fold H.write state.old (
         fed.u16 header.now.source_port ++ fed.u16 header.now.destination_port
@@ -206,14 +207,14 @@ pub fn hashed_header<H: Hasher>(header: &TcpHeader, state: &mut H)
     header.hash(state);
 }
 
-/// Options are hashed by their bytes.
+/// The hash of options covers their bytes.
 pub fn hashed_options<H: Hasher>(options: &TcpOptions, state: &mut H)
     ensures bytes { state.new ≡ fold H.write state.old (fed.slice fed.u8 options.now) }
 {
     options.hash(state);
 }
 
-/// The public constants are the limits of the format (RFC 9293, section 3.1), and the older names are equal to them.
+/// The public constants are the limits of the format (RFC 9293, section 3.1), and the older names have the same values.
 pub fn limits()
     ensures header_len { (TcpHeader.MIN_LEN ≡ min_header_len) × (TcpHeader.MAX_LEN ≡ max_header_len) }
     ensures data_offset { (TcpHeader.MIN_DATA_OFFSET ≡ min_data_offset) × (TcpHeader.MAX_DATA_OFFSET ≡ max_data_offset) }
@@ -223,7 +224,7 @@ pub fn limits()
         × (TCP_MAXIMUM_DATA_OFFSET ≡ max_data_offset) }
 {}
 
-/// The kinds of options, under both their names, and the fixed lengths of kinds with only one length.
+/// The kinds of options, by both their names, and the lengths of the kinds that have only one length.
 pub fn kinds()
     ensures kinds { (KIND_END ≡ end_kind) × (KIND_NOOP ≡ noop_kind) × (KIND_MAXIMUM_SEGMENT_SIZE ≡ maximum_segment_size_kind)
         × (KIND_WINDOW_SCALE ≡ window_scale_kind) × (KIND_SELECTIVE_ACK_PERMITTED ≡ sack_permitted_kind)

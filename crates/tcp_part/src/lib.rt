@@ -1,12 +1,10 @@
-//! TCP (RFC 9293): the header with its options read and written, its checksum over IPv4 and IPv6, and the options read as elements
-//! and written from elements.
+//! TCP (RFC 9293): reading and writing the header with its options, its checksum over IPv4 and IPv6, and the options as elements.
 //!
-//! `TcpHeader` is the header as numbers, flags and options, `TcpHeaderSlice` its bytes, and `TcpSlice` the bytes of a
-//! whole segment. `TcpOptions` is the option bytes of a header, at most 40 bytes in words of 4. `TcpOptionsIterator`
-//! reads bytes as elements, up to the end of the list or the first fault. It reports an unknown kind as a fault.
-//! `TcpRawOptionsIterator` reads options of every kind, known or not, as kinds and values.
-//! `TcpOptions::try_from_elements` writes the smallest options that are read as the elements. Nothing allocates. This
-//! crate re-exports the other errors of `net_base`, and the sum of `word_sum`.
+//! `TcpHeader` contains the numbers, flags and options of a header, `TcpHeaderSlice` its bytes, and `TcpSlice` the bytes of a whole
+//! segment. `TcpOptions` contains the option bytes of a header, at most 40 and a multiple of 4. `TcpOptionsIterator` reads bytes as
+//! elements, up to the end of the list or the first fault. An unknown kind is a fault. `TcpRawOptionsIterator` reads options of any kind,
+//! known or unknown, as kinds and values. `TcpOptions::try_from_elements` writes the smallest options that are read as the elements.
+//! Nothing allocates. This crate re-exports the other errors of `net_base`, and the sum of `word_sum`.
 //!
 //! ```
 //! let (header, payload) = TcpHeader::from_slice(&packet)?;

@@ -45,13 +45,13 @@ pub struct TcpHeader {
     pub source_port: u16,
     /// The port of the receiver (bytes 2 and 3).
     pub destination_port: u16,
-    /// The sequence number of the first byte of the payload, or with `syn` the initial sequence number (bytes 4 to 7).
+    /// The sequence number of the first byte of the payload. If `syn` is set, it is the initial sequence number (bytes 4 to 7).
     pub sequence_number: u32,
-    /// With `ack` the next sequence number that the sender expects, otherwise without a meaning (bytes 8 to 11).
+    /// If `ack` is set, the next sequence number that the sender expects. Otherwise the field has no meaning (bytes 8 to 11).
     pub acknowledgment_number: u32,
     /// ECN nonce sum (RFC 3540, section 9; byte 12, bit 0x01).
     pub ns: bool,
-    /// No more data from the sender (byte 13, bit 0x01).
+    /// The sender sends no more data (byte 13, bit 0x01).
     pub fin: bool,
     /// Synchronize sequence numbers (byte 13, bit 0x02).
     pub syn: bool,
@@ -67,15 +67,14 @@ pub struct TcpHeader {
     pub ece: bool,
     /// Congestion window reduced (RFC 3168, section 6.1; byte 13, bit 0x80).
     pub cwr: bool,
-    /// The number of bytes that the sender is willing to accept, before any window scale (RFC 7323, section 2.2; bytes
-    /// 14 and 15).
+    /// The number of bytes that the sender is willing to receive, before window scaling (RFC 7323, section 2.2; bytes 14 and 15).
     pub window_size: u16,
     /// The checksum over pseudo header, header and payload (bytes 16 and 17).
     pub checksum: u16,
-    /// With `urg` the end of the urgent data, in bytes from the sequence number, otherwise without a meaning (bytes 18
-    /// and 19).
+    /// If `urg` is set, the end of the urgent data, in bytes from the sequence number. Otherwise the field has no meaning (bytes 18 and
+    /// 19).
     pub urgent_pointer: u16,
-    /// The options (byte 20 up to data offset * 4).
+    /// The options (from byte 20 to the end of the header, which the data offset states).
     pub options: TcpOptions,
 }
 
@@ -85,7 +84,7 @@ impl Default for TcpHeader {
 
     ghost is_default = { λ header. header ≡ new_header 0 0 0 0 };
 
-    /// Every number is 0, no flag is set, and there are no options.
+    /// A header in which every number is 0 and no flag is set, without options.
     fn default() -> TcpHeader {
         TcpHeader::new(0, 0, 0, 0)
     }
@@ -105,7 +104,7 @@ impl TcpHeader {
     /// The length of a header without options, in bytes (RFC 9293, section 3.1).
     pub const MIN_LEN: usize = 20;
 
-    /// The length of the longest header, in bytes: the data offset is four bits and counts words of four bytes.
+    /// The length of the longest header, in bytes. The data offset has four bits, and counts words of four bytes.
     pub const MAX_LEN: usize = 60;
 
     /// The data offset of a header without options, in words of four bytes.
@@ -123,7 +122,7 @@ impl TcpHeader {
     /// The place of the checksum, in bytes from the start of the header.
     pub const CHECKSUM_AT: usize = 16;
 
-    /// A header with these fields. Any other number is 0, no flag is set, and there are no options.
+    /// A header with these fields. All other numbers are 0, no flag is set, and there are no options.
     pub fn new(
         source_port: u16,
         destination_port: u16,
@@ -153,7 +152,7 @@ impl TcpHeader {
         }
     }
 
-    /// The data offset: the length of the header, 5 to 15, in units of 4 bytes (RFC 9293, section 3.1).
+    /// The data offset, 5 to 15: the length of the header in words of four bytes (RFC 9293, section 3.1).
     pub fn data_offset(&self) -> u8
         ensures value { result ≡ data_offset_of self.now }
         ensures bound { result ≤ max_data_offset }
@@ -161,7 +160,7 @@ impl TcpHeader {
         self.options.data_offset()
     }
 
-    /// The length of the header, in bytes: 20 plus the options, at most 60.
+    /// The length of the header, in bytes: 20 plus the length of the options, at most 60.
     pub fn header_len(&self) -> usize
         ensures value { result ≡ length (wire self.now) }
         ensures bound { result ≤ max_header_len }
@@ -169,7 +168,7 @@ impl TcpHeader {
         TcpHeader::MIN_LEN + self.options_len()
     }
 
-    /// The length of the header, in bytes: 20 plus the options, at most 60.
+    /// The length of the header, in bytes: 20 plus the length of the options, at most 60.
     pub fn header_len_u16(&self) -> u16
         ensures { result ≡ length (wire self.now) }
     {
@@ -193,27 +192,27 @@ impl TcpHeader {
         self.options.as_slice()
     }
 
-    /// The elements of the options, from the first.
+    /// An iterator over the elements of the options.
     pub fn options_iterator(&self) -> TcpOptionsIterator<'_>
         ensures { result ≡ self.now.options }
     {
         self.options.elements_iter()
     }
 
-    /// The options as kinds and values, known or not, from the first.
+    /// An iterator over the options of any kind, known or unknown, as kinds and values.
     pub fn raw_options_iterator(&self) -> TcpRawOptionsIterator<'_>
         ensures { result ≡ self.now.options }
     {
         TcpRawOptionsIterator::from_slice(self.options.as_slice())
     }
 
-    /// Replaces the options with these elements (RFC 9293, section 3.2; RFC 7323; RFC 2018), padded with zeros to whole
-    /// words of four bytes.
+    /// Replaces the options with these elements (RFC 9293, section 3.2; RFC 7323; RFC 2018), padded with zeros to whole words of four
+    /// bytes.
     ///
     /// # Errors
     ///
-    /// `NotEnoughSpace` if the elements are longer than 40 bytes. It contains their length, or `usize::MAX` if the
-    /// length doesn't fit. The header is then unchanged.
+    /// `NotEnoughSpace` if the elements are longer than 40 bytes. It contains their length, or `usize::MAX` if the length is greater. After
+    /// this error the header is unchanged.
     pub fn set_options(&mut self, elements: &[TcpOptionElement]) -> Result<(), TcpOptionWriteError>
         ensures refused { RefusesExactly result (too_long (saturated (length (join elements.now)))) }
         ensures replaced { IfOk result (λ _. self.new ≡ record self.old { options = pad (join elements.now) }) }
@@ -227,7 +226,7 @@ impl TcpHeader {
     ///
     /// # Errors
     ///
-    /// `NotEnoughSpace`, which contains the number of bytes, if it is above 40. The header is then unchanged.
+    /// `NotEnoughSpace` if there are more than 40 bytes. It contains the number of bytes. After this error the header is unchanged.
     pub fn set_options_raw(&mut self, bytes: &[u8]) -> Result<(), TcpOptionWriteError>
         ensures refused { RefusesExactly result (too_long (length bytes.now)) }
         ensures replaced { IfOk result (λ _. self.new ≡ record self.old { options = pad bytes.now }) }
@@ -237,8 +236,8 @@ impl TcpHeader {
         Ok(())
     }
 
-    /// Reads a header (RFC 9293, section 3.1), and returns it with the bytes after it, borrowed from the slice. The
-    /// meaningless bits 0x0E of byte 12 are not kept. The checksum is not checked.
+    /// Reads a header (RFC 9293, section 3.1). Returns the header, and the bytes after it, borrowed from the slice. The meaningless bits
+    /// 0x0E of byte 12 are not kept. The checksum is not checked.
     ///
     /// # Errors
     ///
@@ -273,8 +272,8 @@ impl TcpHeader {
         TcpHeader::from_slice(slice)
     }
 
-    /// The bytes of the header, with each field at its place (RFC 9293, section 3.1). With any payload after them, they
-    /// are read back as this header.
+    /// The bytes of the header, with each field at its place (RFC 9293, section 3.1). With any payload after them, these bytes are read
+    /// back as this header.
     #[inline(always)]
     pub fn to_bytes(&self) -> ArrayVec<u8, 60>
         ensures written { result.items ≡ wire self.now }
@@ -286,12 +285,12 @@ impl TcpHeader {
         bytes
     }
 
-    /// Writes the bytes of the header (RFC 9293, section 3.1) to the front of the slice, and returns their number: 20
-    /// plus the options, at most 60. The rest of the slice is not changed.
+    /// Writes the bytes of the header (RFC 9293, section 3.1) to the front of the slice, and returns their number: 20 plus the length of
+    /// the options, at most 60. The rest of the slice is not changed.
     ///
     /// # Errors
     ///
-    /// `LenError` of the layer `TcpHeader` if the slice is shorter than the header. Nothing is written then.
+    /// `LenError` of the layer `TcpHeader` if the slice is shorter than the header. After this error the slice is unchanged.
     #[inline(always)]
     pub fn write_to_slice(&self, slice: &mut [u8]) -> Result<usize, LenError>
         ensures refused { RefusesExactly result (no_room Layer.TcpHeader (wire self.now) (length slice.old)) }
@@ -310,7 +309,7 @@ impl TcpHeader {
         Ok(len)
     }
 
-    /// The bytes of the header without the options, in a list that may have room for the options.
+    /// The bytes of the header without the options, in a list of capacity `CAP`.
     // perf: each field is appended as its own array, so that it stays one number (25 Nov 2026).
     #[inline(always)]
     fn fields_to_bytes<const CAP: usize>(&self) -> ArrayVec<u8, CAP>
@@ -347,15 +346,15 @@ impl TcpHeader {
         bytes
     }
 
-    /// Byte 12: the data offset in the high four bits, and NS.
+    /// Byte 12 of the header: the data offset in the high four bits, and the flag NS.
     fn offset_byte(&self) -> u8
         ensures { result ≡ offset_byte self.now }
     {
         self.data_offset() * 16 + u8::from(self.ns) * flag_bits::NS
     }
 
-    /// Byte 13: the other flags. They are the eight bytes of one number, with the first flag in the lowest byte. The
-    /// factor moves the flag in byte `i` to bit `i` of the highest byte: one multiplication instead of eight shifts.
+    /// Byte 13 of the header, which contains the other flags. The flags are the eight bytes of one number, with the first flag in the
+    /// lowest byte. The factor moves the flag in byte `i` to bit `i` of the highest byte, by one multiplication instead of eight shifts.
     fn flags_byte(&self) -> u8
         ensures { result ≡ flags_byte self.now }
     {
@@ -372,7 +371,7 @@ impl TcpHeader {
         (flags.wrapping_mul(0x0102_0408_1020_4080) >> 56) as u8
     }
 
-    /// The checksum over IPv4: `calc_checksum_ipv4_raw` with the addresses of an IP header.
+    /// The checksum over IPv4, as `calc_checksum_ipv4_raw` computes it from the addresses of this IP header.
     ///
     /// # Errors
     ///
@@ -393,9 +392,8 @@ impl TcpHeader {
         self.calc_checksum_ipv4_raw(ip_header.source, ip_header.destination, payload)
     }
 
-    /// The checksum over IPv4 (RFC 9293, section 3.1) of the pseudo header, the bytes of this header with zeros
-    /// instead of any checksum, and the payload. To check a received segment, use
-    /// `TcpHeaderSlice::is_checksum_valid_ipv4`, which sums its bytes as received.
+    /// The checksum over IPv4 (RFC 9293, section 3.1) of the pseudo header, this header and the payload. The checksum field counts as
+    /// zeros. To check a received segment, use `TcpHeaderSlice::is_checksum_valid_ipv4`, which sums its bytes as received.
     ///
     /// # Errors
     ///
@@ -420,8 +418,8 @@ impl TcpHeader {
         Ok(self.checksum_post_ip(pseudo_header, payload))
     }
 
-    /// The checksum over IPv6: `calc_checksum_ipv6_raw` with the addresses of an IP header. With a routing header,
-    /// pass the final destination (RFC 8200, section 8.1).
+    /// The checksum over IPv6, as `calc_checksum_ipv6_raw` computes it from the addresses of this IP header. If the packet has a routing
+    /// header, pass the final destination (RFC 8200, section 8.1).
     ///
     /// # Errors
     ///
@@ -442,9 +440,9 @@ impl TcpHeader {
         self.calc_checksum_ipv6_raw(ip_header.source, ip_header.destination, payload)
     }
 
-    /// The checksum over IPv6 (RFC 9293, section 3.1; RFC 8200, section 8.1) of the pseudo header, the bytes of this
-    /// header with zeros instead of any checksum, and the payload. With a routing header, pass the final destination.
-    /// To check a received segment, use `TcpHeaderSlice::is_checksum_valid_ipv6`, which sums its bytes as received.
+    /// The checksum over IPv6 (RFC 9293, section 3.1; RFC 8200, section 8.1) of the pseudo header, this header and the payload. The
+    /// checksum field counts as zeros. If the packet has a routing header, pass the final destination. To check a received segment, use
+    /// `TcpHeaderSlice::is_checksum_valid_ipv6`, which sums its bytes as received.
     ///
     /// # Errors
     ///
@@ -471,13 +469,14 @@ impl TcpHeader {
 
     /// Computes the checksum from the sum of the pseudo header and the fields, without writing the bytes of the header.
     #[inline]
-    // perf: the sum of the fields. Through `to_bytes`, a header without a payload took two to three times as long (23 Nov 2026).
+    // perf: the sum is computed from the fields. Through `to_bytes`, a header without a payload took two to three times as long (23 Nov
+    // 2026).
     fn checksum_post_ip(&self, pseudo_header: Sum16BitWords, payload: &[u8]) -> u16
         ensures sum { result ≡ checksum_of (sum_value pseudo_header + (total (without_checksum (wire self.now)) + total payload.now)) }
         ensures whole_words { length (wire self.now) % 4 ≡ 0 }
     {
-        // The sum of the fields of 16 bits has less than 24 bits. A sum keeps its words with their bytes swapped, which is the
-        // same as shifting the number by eight bits.
+        // The sum of the fields of 16 bits has less than 24 bits. A sum keeps its words with their bytes swapped, so the number is shifted
+        // by eight bits.
         let offset_and_flags = u16::from_be_bytes([self.offset_byte(), self.flags_byte()]);
         let (window_size, urgent_pointer) = (self.window_size, self.urgent_pointer);
         let words = u32::from(self.source_port)
@@ -495,7 +494,7 @@ impl TcpHeader {
     }
 }
 
-/// Writes the options to the front of the slice. As in `append_words`, each arm has a constant length.
+/// Writes the options to the front of the slice. Each arm copies a constant length, as in `append_words`.
 #[inline(always)]
 fn write_options(slice: &mut [u8], options: &[u8])
     requires room { length options.now ≤ length slice.old }

@@ -5,7 +5,7 @@ use net_base::err::{Layer, ValueTooBigError};
 use net_base::{Ipv4HeaderSlice, Ipv6HeaderSlice, wrong_length};
 use std::marker::Model;
 
-/// The bytes of a TCP header, options included (RFC 9293, section 3.1).
+/// The bytes of a TCP header with its options (RFC 9293, section 3.1).
 ///
 /// ```
 /// use etherparse_transport::TcpHeaderSlice;
@@ -46,7 +46,7 @@ impl<'a> TcpHeaderSlice<'a> {
     ghost use Rattle.tcp_part.specs.TcpOptions.{max_options_len};
     ghost use Rattle.tcp_part.specs.TcpValidity.{IsValidTcpIpv4, IsValidTcpIpv6};
 
-    /// The header at the front of the slice, whose length is its data offset (RFC 9293, section 3.1).
+    /// Reads the header at the front of the slice. Its data offset states its length (RFC 9293, section 3.1).
     ///
     /// # Errors
     ///
@@ -103,21 +103,21 @@ impl<'a> TcpHeaderSlice<'a> {
         u16::from_be_bytes([self.slice[2], self.slice[3]])
     }
 
-    /// The sequence number of the first byte of the payload, or with `syn` the initial sequence number (bytes 4 to 7).
+    /// The sequence number of the first byte of the payload. If `syn` is set, it is the initial sequence number (bytes 4 to 7).
     pub fn sequence_number(&self) -> u32
         ensures { result ≡ be_number self.now 4 4 }
     {
         u32::from_be_bytes([self.slice[4], self.slice[5], self.slice[6], self.slice[7]])
     }
 
-    /// With `ack` the next sequence number that the sender expects, otherwise without a meaning (bytes 8 to 11).
+    /// If `ack` is set, the next sequence number that the sender expects. Otherwise the field has no meaning (bytes 8 to 11).
     pub fn acknowledgment_number(&self) -> u32
         ensures { result ≡ be_number self.now 8 4 }
     {
         u32::from_be_bytes([self.slice[8], self.slice[9], self.slice[10], self.slice[11]])
     }
 
-    /// The length of the header, 5 to 15, in units of 4 bytes (the high four bits of byte 12).
+    /// The length of the header, 5 to 15, in words of four bytes (the high four bits of byte 12).
     pub fn data_offset(&self) -> u8
         ensures { result ≡ data_offset self.now }
     {
@@ -131,7 +131,7 @@ impl<'a> TcpHeaderSlice<'a> {
         self.slice[12] & flag_bits::NS != 0
     }
 
-    /// No more data from the sender (byte 13, bit 0x01).
+    /// The sender sends no more data (byte 13, bit 0x01).
     pub fn fin(&self) -> bool
         ensures { result ≡ flag_of self.now fin_flag }
     {
@@ -187,8 +187,7 @@ impl<'a> TcpHeaderSlice<'a> {
         self.slice[13] & flag_bits::CWR != 0
     }
 
-    /// The number of bytes that the sender is willing to accept, before any window scale (RFC 7323, section 2.2; bytes
-    /// 14 and 15).
+    /// The number of bytes that the sender is willing to receive, before window scaling (RFC 7323, section 2.2; bytes 14 and 15).
     pub fn window_size(&self) -> u16
         ensures { result ≡ be_number self.now 14 2 }
     {
@@ -202,15 +201,15 @@ impl<'a> TcpHeaderSlice<'a> {
         u16::from_be_bytes([self.slice[16], self.slice[17]])
     }
 
-    /// With `urg` the end of the urgent data, in bytes from the sequence number, otherwise without a meaning (bytes 18
-    /// and 19).
+    /// If `urg` is set, the end of the urgent data, in bytes from the sequence number. Otherwise the field has no meaning (bytes 18 and
+    /// 19).
     pub fn urgent_pointer(&self) -> u16
         ensures { result ≡ be_number self.now 18 2 }
     {
         u16::from_be_bytes([self.slice[18], self.slice[19]])
     }
 
-    /// The bytes of the options, 0 to 40, a multiple of 4 (byte 20 to the end).
+    /// The bytes of the options, from byte 20 to the end. Their number is 0 to 40, and a multiple of 4.
     pub fn options(&self) -> &[u8]
         ensures value { result.now ≡ options_of self.now }
         ensures len { min_header_len + length result.now ≡ length self.now }
@@ -220,28 +219,28 @@ impl<'a> TcpHeaderSlice<'a> {
         &self.slice[TcpHeader::MIN_LEN..]
     }
 
-    /// The elements of the options, from the first.
+    /// An iterator over the elements of the options.
     pub fn options_iterator(&self) -> TcpOptionsIterator<'_>
         ensures { result ≡ options_of self.now }
     {
         TcpOptionsIterator::from_slice(self.options())
     }
 
-    /// The options as kinds and values, known or not, from the first.
+    /// An iterator over the options of any kind, known or unknown, as kinds and values.
     pub fn raw_options_iterator(&self) -> TcpRawOptionsIterator<'_>
         ensures { result ≡ options_of self.now }
     {
         TcpRawOptionsIterator::from_slice(self.options())
     }
 
-    /// The header as numbers, flags and options. Its written form is as long as these bytes, and the meaningless bits
-    /// 0x0E of byte 12 are zero in it.
+    /// The numbers, flags and options of the header. If they are written, the bytes have the same length, and the meaningless bits 0x0E of
+    /// byte 12 are zero.
     #[inline(always)]
     pub fn to_header(&self) -> TcpHeader
         ensures value { result ≡ header_of self.now }
         ensures len { length (wire result) ≡ length self.now }
     {
-        // The options come first, so that the fields, which are read after these branches, stay in registers.
+        // The options are read first, so that the fields, which are read after these branches, stay in registers.
         let options = TcpOptions::from_words(self.options());
         TcpHeader {
             source_port: self.source_port(),
@@ -264,7 +263,7 @@ impl<'a> TcpHeaderSlice<'a> {
         }
     }
 
-    /// The checksum over IPv4 of these bytes without their checksum: `calc_checksum_ipv4_raw` with the addresses of an IP header.
+    /// The checksum over IPv4, as `calc_checksum_ipv4_raw` computes it from the addresses of this IP header.
     ///
     /// # Errors
     ///
@@ -288,8 +287,8 @@ impl<'a> TcpHeaderSlice<'a> {
         self.calc_checksum_ipv4_raw(ip_header.source(), ip_header.destination(), payload)
     }
 
-    /// The checksum over IPv4 of these bytes without their checksum (RFC 9293, section 3.1). The meaningless bits of
-    /// byte 12 are summed as they are, so this is the checksum of `to_header()` exactly if they are zero.
+    /// The checksum over IPv4 of these bytes and the payload (RFC 9293, section 3.1). The checksum field counts as zeros. The meaningless
+    /// bits of byte 12 are summed too. So the result equals the checksum of `to_header()` exactly if these bits are zero.
     ///
     /// # Errors
     ///
@@ -315,8 +314,8 @@ impl<'a> TcpHeaderSlice<'a> {
         checksum_ipv4(source, destination, self.slice, payload)
     }
 
-    /// The checksum over IPv6 of these bytes without their checksum: `calc_checksum_ipv6_raw` with the addresses of
-    /// an IP header. With a routing header, pass the final destination (RFC 8200, section 8.1).
+    /// The checksum over IPv6, as `calc_checksum_ipv6_raw` computes it from the addresses of this IP header. If the packet has a routing
+    /// header, pass the final destination (RFC 8200, section 8.1).
     ///
     /// # Errors
     ///
@@ -340,9 +339,9 @@ impl<'a> TcpHeaderSlice<'a> {
         self.calc_checksum_ipv6_raw(ip_header.source(), ip_header.destination(), payload)
     }
 
-    /// The checksum over IPv6 of these bytes without their checksum (RFC 9293, section 3.1; RFC 8200, section 8.1).
-    /// The meaningless bits of byte 12 are summed as they are, so this is the checksum of `to_header()` exactly if
-    /// they are zero. With a routing header, pass the final destination.
+    /// The checksum over IPv6 of these bytes and the payload (RFC 9293, section 3.1; RFC 8200, section 8.1). The checksum field counts as
+    /// zeros. The meaningless bits of byte 12 are summed too. So the result equals the checksum of `to_header()` exactly if these bits are
+    /// zero. If the packet has a routing header, pass the final destination.
     ///
     /// # Errors
     ///
@@ -368,15 +367,15 @@ impl<'a> TcpHeaderSlice<'a> {
         checksum_ipv6(source, destination, self.slice, payload)
     }
 
-    /// Whether the checksum over IPv4 is right, as a receiver checks it: pseudo header, these bytes as received, and the
-    /// payload sum up to all ones (RFC 9293, section 3.1). The meaningless bits of byte 12 are summed too. The payload must
-    /// be all bytes after the header, up to the end of the IP packet's payload, without padding of the frame.
+    /// Whether the checksum over IPv4 is right: the one's complement sum of the pseudo header, these bytes and the payload is all ones (RFC
+    /// 9293, section 3.1). The meaningless bits of byte 12 are summed too. The payload must be all bytes after the header up to the end of
+    /// the IP packet, without padding of the frame.
     ///
-    /// True exactly if the stored checksum is the value of `calc_checksum_ipv4_raw`, or FFFF if that value is 0, since both
-    /// are zeros of the one's complement. A payload of more than 65,535 bytes minus the header is never valid.
+    /// The result is true exactly if the stored checksum is the value of `calc_checksum_ipv4_raw`, or FFFF if this value is 0. 0 and FFFF
+    /// are both zero in one's complement. If header and payload are longer than 65,535 bytes, the result is false.
     ///
-    /// In a valid segment this check detects each change of one byte, and of one aligned two-byte word except between
-    /// 0000 and FFFF. It misses an exchange of two aligned words.
+    /// This check detects each change of one byte of a valid segment. It detects each change of one aligned two-byte word, except between
+    /// 0000 and FFFF. It does not detect that two aligned words were exchanged.
     pub fn is_checksum_valid_ipv4(
         &self,
         source: [u8; 4],
@@ -391,16 +390,15 @@ impl<'a> TcpHeaderSlice<'a> {
         is_valid_ipv4(source, destination, self.slice, payload)
     }
 
-    /// Whether the checksum over IPv6 is right, as a receiver checks it: pseudo header, these bytes as received, and
-    /// the payload sum up to all ones (RFC 9293, section 3.1; RFC 8200, section 8.1). The meaningless bits of byte 12
-    /// are summed too. The payload must be all bytes after the header, up to the end of the IP packet's payload,
-    /// without padding of the frame. With a routing header, pass the final destination.
+    /// Whether the checksum over IPv6 is right: the one's complement sum of the pseudo header, these bytes and the payload is all ones (RFC
+    /// 9293, section 3.1; RFC 8200, section 8.1). The meaningless bits of byte 12 are summed too. The payload must be all bytes after the
+    /// header up to the end of the IP packet, without padding of the frame. If the packet has a routing header, pass the final destination.
     ///
-    /// True exactly if the stored checksum is the value of `calc_checksum_ipv6_raw`, or FFFF if that value is 0, since both
-    /// are zeros of the one's complement. A payload of more than 4,294,967,295 bytes minus the header is never valid.
+    /// The result is true exactly if the stored checksum is the value of `calc_checksum_ipv6_raw`, or FFFF if this value is 0. 0 and FFFF
+    /// are both zero in one's complement. If header and payload are longer than 4,294,967,295 bytes, the result is false.
     ///
-    /// In a valid segment this check detects each change of one byte, and of one aligned two-byte word except between
-    /// 0000 and FFFF. It misses an exchange of two aligned words.
+    /// This check detects each change of one byte of a valid segment. It detects each change of one aligned two-byte word, except between
+    /// 0000 and FFFF. It does not detect that two aligned words were exchanged.
     pub fn is_checksum_valid_ipv6(
         &self,
         source: [u8; 16],

@@ -13,8 +13,8 @@ use std::marker::Model;
 
 /// The options of a TCP header (RFC 9293, section 3.1): their bytes, at most 40 and a multiple of 4.
 ///
-/// They may be any bytes, and `elements_iter` reads them. Comparisons and hashes use `as_slice`. So equal options
-/// have the same bytes, and options with the same elements need not be equal.
+/// The bytes may be any bytes, and `elements_iter` reads them as elements. Comparisons and hashes use the bytes. So options with the same
+/// elements need not be equal.
 ///
 /// ```
 /// use etherparse_transport::TcpOptionElement::{MaximumSegmentSize, Noop, WindowScale};
@@ -49,11 +49,11 @@ impl TcpOptions {
     ghost use Rattle.tcp_part.specs.TcpOptionsLending.{LendsBytes};
     ghost use Rattle.tcp_part.specs.TcpOptionsReading.{AreJoined, AreLeastFor, Reads, StandFor, as_items};
 
-    /// The maximum length of the options of a header, in bytes: a data offset of 15 words of 4 bytes, minus the 20
-    /// bytes of a header without options (RFC 9293, section 3.1).
+    /// The maximum length of the options of a header, in bytes. A header has at most 15 words of 4 bytes, and 20 of these bytes are not
+    /// options (RFC 9293, section 3.1).
     pub const MAX_LEN: usize = 40;
 
-    /// No options.
+    /// Options without a byte.
     pub fn new() -> TcpOptions
         ensures { result ≡ [] }
     {
@@ -62,11 +62,11 @@ impl TcpOptions {
         }
     }
 
-    /// These bytes as options (RFC 9293, section 3.1), padded with zeros to a multiple of 4 bytes.
+    /// The options with these bytes (RFC 9293, section 3.1), padded with zeros to a multiple of 4 bytes.
     ///
     /// # Errors
     ///
-    /// `NotEnoughSpace`, which contains the length of the slice, if it is above 40 bytes.
+    /// `NotEnoughSpace` if the slice is longer than 40 bytes. It contains the length of the slice.
     pub fn try_from_slice(slice: &[u8]) -> Result<TcpOptions, TcpOptionWriteError>
         ensures refused { RefusesExactly result (too_long (length slice.now)) }
         ensures padded { IfOk result (λ options. options ≡ pad slice.now) }
@@ -77,14 +77,14 @@ impl TcpOptions {
         Ok(TcpOptions::padded(slice))
     }
 
-    /// These elements as options (RFC 9293, section 3.2; RFC 7323; RFC 2018), padded with zeros to a multiple of 4
-    /// bytes. Of all options that are read as these elements, they are the first in the order of bytes. The present
-    /// blocks of a selective acknowledgement are read back before the absent blocks.
+    /// The options with these elements (RFC 9293, section 3.2; RFC 7323; RFC 2018), padded with zeros to a multiple of 4 bytes. Other
+    /// options may be read as these elements too. The result is the first of them in the order of bytes. The present blocks of a selective
+    /// acknowledgement are read back before the absent blocks.
     ///
     /// # Errors
     ///
-    /// `NotEnoughSpace` if the elements are longer than 40 bytes. It contains their length, or `usize::MAX` if the
-    /// length doesn't fit. No options are read as these elements.
+    /// `NotEnoughSpace` if the elements are longer than 40 bytes. It contains their length, or `usize::MAX` if the length is greater. Then
+    /// no options are read as these elements.
     pub fn try_from_elements(
         elements: &[TcpOptionElement],
     ) -> Result<TcpOptions, TcpOptionWriteError>
@@ -93,12 +93,13 @@ impl TcpOptions {
         ensures least { IfOk result (λ options. AreLeastFor options elements.now) }
         ensures none { IfErr result (λ _. (options : List ℕ) → StandFor options elements.now → ⊥) }
 
-        // All options without a fault that are read as these elements are the elements' bytes up to the end of the list.
+        // If options are read as these elements without a fault, they are the bytes of the elements, and then nothing or the end of the
+        // list.
         ensures converse { (options : List ℕ) → length options ≤ max_options_len → Reads options (as_items elements.now)
             → AreJoined options elements.now × (result ≡ Ok (pad (join elements.now))) }
     {
-        // perf: one pass writes the elements and adds up their lengths. Above 40 bytes it only counts, since the
-        // error contains the length (23 Nov 2026).
+        // perf: one pass writes the elements and adds their lengths. After 40 bytes it only adds lengths, since the error contains the
+        // whole length (23 Nov 2026).
         let mut bytes: ArrayVec<u8, 40> = ArrayVec::new();
         let mut needed: usize = 0;
         for element in elements {
@@ -111,7 +112,7 @@ impl TcpOptions {
         Ok(TcpOptions { bytes })
     }
 
-    /// At most 40 bytes as options, padded with zeros to a multiple of 4.
+    /// The options with at most 40 bytes, padded with zeros to a multiple of 4 bytes.
     // perf: whole words have constant lengths in each arm. A copy of another length is a call (27 Nov 2026).
     fn padded(slice: &[u8]) -> TcpOptions
         requires { length slice.now ≤ max_options_len }
@@ -126,7 +127,7 @@ impl TcpOptions {
         TcpOptions { bytes }
     }
 
-    /// At most 40 bytes in whole words of 4 as options.
+    /// The options with at most 40 bytes, whose number is a multiple of 4.
     #[inline(always)]
     pub(crate) fn from_words(slice: &[u8]) -> TcpOptions
         requires room { length slice.now ≤ max_options_len }
@@ -199,7 +200,7 @@ impl TcpOptions {
         Ok(bytes.len())
     }
 
-    /// The bytes of the options, lent for writing: the options then contain the written bytes. Their length stays the same.
+    /// The bytes of the options, lent for writing. What is written becomes part of the options. Their length stays the same.
     pub fn as_mut_slice(&mut self) -> &mut [u8]
         ensures* writes_back { sem 𝓛 (LendsBytes self.entry result) }
         ensures value { result.now ≡ self.old }
@@ -207,11 +208,11 @@ impl TcpOptions {
         self.bytes.as_mut_slice()
     }
 
-    /// The elements of the options, from the first byte.
+    /// An iterator over the elements of the options.
     pub fn elements_iter(&self) -> TcpOptionsIterator<'_>
         ensures begins { result ≡ self.now }
 
-        // Without a fault, the bytes are the bytes of the elements up to the end of the list.
+        // If the options are read without a fault, they are the bytes of the elements, and then nothing or the end of the list.
         ensures joined { (elements : List TcpOptionElement) → Reads self.now (as_items elements)
             → AreJoined self.now elements × (length (join elements) ≤ max_options_len) }
     {
@@ -235,7 +236,7 @@ impl From<[u8; 4]> for TcpOptions {
 
     ghost from_gives = { λ bytes options. options ≡ bytes };
 
-    /// These 4 bytes.
+    /// The options with these 4 bytes.
     fn from(bytes: [u8; 4]) -> TcpOptions {
         TcpOptions::from_words(&bytes)
     }
@@ -246,7 +247,7 @@ impl From<[u8; 8]> for TcpOptions {
 
     ghost from_gives = { λ bytes options. options ≡ bytes };
 
-    /// These 8 bytes.
+    /// The options with these 8 bytes.
     fn from(bytes: [u8; 8]) -> TcpOptions {
         TcpOptions::from_words(&bytes)
     }
@@ -257,7 +258,7 @@ impl From<[u8; 12]> for TcpOptions {
 
     ghost from_gives = { λ bytes options. options ≡ bytes };
 
-    /// These 12 bytes.
+    /// The options with these 12 bytes.
     fn from(bytes: [u8; 12]) -> TcpOptions {
         TcpOptions::from_words(&bytes)
     }
@@ -268,7 +269,7 @@ impl From<[u8; 16]> for TcpOptions {
 
     ghost from_gives = { λ bytes options. options ≡ bytes };
 
-    /// These 16 bytes.
+    /// The options with these 16 bytes.
     fn from(bytes: [u8; 16]) -> TcpOptions {
         TcpOptions::from_words(&bytes)
     }
@@ -279,7 +280,7 @@ impl From<[u8; 20]> for TcpOptions {
 
     ghost from_gives = { λ bytes options. options ≡ bytes };
 
-    /// These 20 bytes.
+    /// The options with these 20 bytes.
     fn from(bytes: [u8; 20]) -> TcpOptions {
         TcpOptions::from_words(&bytes)
     }
@@ -290,7 +291,7 @@ impl From<[u8; 24]> for TcpOptions {
 
     ghost from_gives = { λ bytes options. options ≡ bytes };
 
-    /// These 24 bytes.
+    /// The options with these 24 bytes.
     fn from(bytes: [u8; 24]) -> TcpOptions {
         TcpOptions::from_words(&bytes)
     }
@@ -301,7 +302,7 @@ impl From<[u8; 28]> for TcpOptions {
 
     ghost from_gives = { λ bytes options. options ≡ bytes };
 
-    /// These 28 bytes.
+    /// The options with these 28 bytes.
     fn from(bytes: [u8; 28]) -> TcpOptions {
         TcpOptions::from_words(&bytes)
     }
@@ -312,7 +313,7 @@ impl From<[u8; 32]> for TcpOptions {
 
     ghost from_gives = { λ bytes options. options ≡ bytes };
 
-    /// These 32 bytes.
+    /// The options with these 32 bytes.
     fn from(bytes: [u8; 32]) -> TcpOptions {
         TcpOptions::from_words(&bytes)
     }
@@ -323,7 +324,7 @@ impl From<[u8; 36]> for TcpOptions {
 
     ghost from_gives = { λ bytes options. options ≡ bytes };
 
-    /// These 36 bytes.
+    /// The options with these 36 bytes.
     fn from(bytes: [u8; 36]) -> TcpOptions {
         TcpOptions::from_words(&bytes)
     }
@@ -334,7 +335,7 @@ impl From<[u8; 40]> for TcpOptions {
 
     ghost from_gives = { λ bytes options. options ≡ bytes };
 
-    /// These 40 bytes.
+    /// The options with these 40 bytes.
     fn from(bytes: [u8; 40]) -> TcpOptions {
         TcpOptions::from_words(&bytes)
     }
@@ -437,7 +438,7 @@ impl TryFrom<&[u8]> for TcpOptions {
 
     ghost try_from_gives = { λ slice result. PadsOrRefuses slice.now result };
 
-    /// As `try_from_slice`.
+    /// Does what `try_from_slice` does.
     ///
     /// # Errors
     ///
@@ -454,7 +455,7 @@ impl TryFrom<&[TcpOptionElement]> for TcpOptions {
 
     ghost try_from_gives = { λ elements result. JoinsOrRefuses elements.now result };
 
-    /// As `try_from_elements`.
+    /// Does what `try_from_elements` does.
     ///
     /// # Errors
     ///

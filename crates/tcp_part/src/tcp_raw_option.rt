@@ -7,7 +7,7 @@ use crate::tcp_options_iterator::pair_at;
 use crate::{TcpOptionElement, TcpOptionReadError, tcp_option};
 use std::marker::Model;
 
-/// An option of a TCP header as received, known or not (RFC 9293, section 3.1).
+/// An option of a TCP header as received, of a known or an unknown kind (RFC 9293, section 3.1).
 ///
 /// ```
 /// use etherparse_transport::{TcpOptionElement, TcpOptionReadError, TcpRawOption};
@@ -20,9 +20,9 @@ use std::marker::Model;
 /// ```
 #[derive(Clone, Debug, Drop)]
 pub struct TcpRawOption<'a> {
-    /// The kind of the option (the first byte). Kind 0 ends the list of options, so no option that was read is of kind 0.
+    /// The kind of the option, its first byte. Kind 0 ends the list of options, so an option that was read never has kind 0.
     pub kind: u8,
-    /// The bytes of its value: the bytes after the length byte, or none for kind 1, which has no length byte.
+    /// The bytes of the value, which follow the length byte. Kind 1 has no length byte and no value.
     pub value: &'a [u8],
 }
 
@@ -37,23 +37,22 @@ impl<'a> Model for TcpRawOption<'a> {
 impl<'a> TcpRawOption<'a> {
     ghost use Rattle.tcp_part.specs.TcpRawOptions.{element_refusal, length_byte, raw_spelling};
 
-    /// The option as the element that `TcpOptionsIterator` returns in its place (RFC 9293, section 3.2; RFC 7323; RFC
-    /// 2018). Kind 1 is no operation, for any value.
+    /// The element that `TcpOptionsIterator` returns in the place of this option (RFC 9293, section 3.2; RFC 7323; RFC 2018). Kind 1 is no
+    /// operation, whatever its value is.
     ///
     /// # Errors
     ///
     /// - `UnknownId` if the kind is unknown, or is 0, the end of the list.
     /// - `UnexpectedSize` if the length is wrong for the kind.
     ///
-    /// `TcpOptionsIterator` returns the same errors, except if fewer bytes are left than the kind's length, which an
-    /// option doesn't know. Then it returns `UnexpectedEndOfSlice`.
+    /// `TcpOptionsIterator` returns the same errors, with one exception. If fewer bytes are left than the length of the kind, it returns
+    /// `UnexpectedEndOfSlice`. The option does not contain the number of bytes left.
     #[inline(always)]
     pub fn element(&self) -> Result<TcpOptionElement, TcpOptionReadError>
         ensures refused { RefusesExactly result (element_refusal self.now) }
         ensures read { IfOk result (λ element. BeginsWith (raw_spelling self.now) element []) }
     {
-        // perf: every arm returns. If the arms meet, the element is copied, and waits for the stores of the arm
-        // (23 Nov 2026).
+        // perf: every arm returns. If the arms have a common end, the element is copied, and waits for the stores of the arm (23 Nov 2026).
         let value = self.value;
         match self.kind {
             tcp_option::KIND_NOOP => return Ok(TcpOptionElement::Noop),
@@ -94,7 +93,7 @@ impl<'a> TcpRawOption<'a> {
         }
     }
 
-    /// The error for a wrong length of the kind.
+    /// The error if the length is wrong for the kind.
     // perf: only the number is a call. If the error is returned by a call, it goes through memory, which is filled with
     // zeros at every option (27 Nov 2026).
     #[inline(always)]
@@ -117,7 +116,7 @@ impl<'a> TcpRawOption<'a> {
     }
 }
 
-/// A selective acknowledgement, from the length of its value.
+/// The selective acknowledgement with this value. The length of the value states the number of blocks.
 #[inline(always)]
 fn selective_acknowledgement(value: &[u8]) -> TcpOptionElement
     requires blocks { (length value.now ≡ 8) ⊎ ((length value.now ≡ 16) ⊎ ((length value.now ≡ 24) ⊎ (length value.now ≡ 32))) }

@@ -6,8 +6,8 @@ use crate::err::ErrorText;
 use crate::err::TextPart::{Number, Words};
 use thiserror::Error;
 
-/// Why the option at the front of some bytes can't be read, for any kind: its length byte is missing, is
-/// below 2, or counts more bytes than are left (RFC 9293, section 3.1).
+/// Why an option of any kind can't be read: its length byte is missing, is below 2, or counts more bytes than are left
+/// (RFC 9293, section 3.1).
 ///
 /// ```
 /// use etherparse_transport::{TcpRawOptionError, TcpRawOptionsIterator};
@@ -25,7 +25,7 @@ pub enum TcpRawOptionError {
         /// The kind of the option.
         kind: u8,
     },
-    /// The length byte, which counts the kind and itself, is 0 or 1 (RFC 9293, section 3.1).
+    /// The length byte, which also counts the kind and itself, is 0 or 1 (RFC 9293, section 3.1).
     LengthBelowTwo {
         /// The kind of the option.
         kind: u8,
@@ -38,7 +38,7 @@ pub enum TcpRawOptionError {
         kind: u8,
         /// The length byte.
         len: u8,
-        /// The number of bytes that are left, from the kind on.
+        /// The number of bytes that are left, including the kind.
         available: usize,
     },
 }

@@ -4,7 +4,7 @@ use net_base::err::ValueTooBigError;
 use net_base::err::tcp::HeaderSliceError;
 use std::marker::Model;
 
-/// The bytes of a TCP segment: the header, options included, and the payload after it (RFC 9293, section 3.1).
+/// The bytes of a TCP segment: the header with its options, and the payload after it (RFC 9293, section 3.1).
 ///
 /// ```
 /// use etherparse_transport::TcpSlice;
@@ -48,8 +48,8 @@ impl<'a> TcpSlice<'a> {
     ghost use Rattle.tcp_part.specs.TcpOptions.{max_options_len};
     ghost use Rattle.tcp_part.specs.TcpSegment.{header_bytes, payload_bytes};
 
-    /// The segment in this slice (RFC 9293, section 3.1). The slice must end at the end of the IP packet. The checksum
-    /// is not checked.
+    /// Reads the segment in this slice (RFC 9293, section 3.1). The slice must end at the end of the IP packet. The checksum is not
+    /// checked.
     ///
     /// # Errors
     ///
@@ -70,7 +70,7 @@ impl<'a> TcpSlice<'a> {
         self.slice
     }
 
-    /// The bytes of the header, options included.
+    /// The bytes of the header with its options.
     pub fn header_slice(&self) -> &'a [u8]
         ensures { result.now ≡ header_bytes self.now }
     {
@@ -109,7 +109,7 @@ impl<'a> TcpSlice<'a> {
         self.header.destination_port()
     }
 
-    /// The sequence number of the first byte of the payload, or with `syn` the initial sequence number (bytes 4 to 7).
+    /// The sequence number of the first byte of the payload. If `syn` is set, it is the initial sequence number (bytes 4 to 7).
     #[tactic(auto, using(crate::proofs::TcpSliceLemmas::header_reads))]
     pub fn sequence_number(&self) -> u32
         ensures { result ≡ be_number self.now 4 4 }
@@ -117,7 +117,7 @@ impl<'a> TcpSlice<'a> {
         self.header.sequence_number()
     }
 
-    /// With `ack` the next sequence number that the sender expects, otherwise without a meaning (bytes 8 to 11).
+    /// If `ack` is set, the next sequence number that the sender expects. Otherwise the field has no meaning (bytes 8 to 11).
     #[tactic(auto, using(crate::proofs::TcpSliceLemmas::header_reads))]
     pub fn acknowledgment_number(&self) -> u32
         ensures { result ≡ be_number self.now 8 4 }
@@ -125,7 +125,7 @@ impl<'a> TcpSlice<'a> {
         self.header.acknowledgment_number()
     }
 
-    /// The length of the header, 5 to 15, in units of 4 bytes (the high four bits of byte 12).
+    /// The length of the header, 5 to 15, in words of four bytes (the high four bits of byte 12).
     #[tactic(auto, using(crate::proofs::TcpSliceLemmas::offset_read))]
     pub fn data_offset(&self) -> u8
         ensures { result ≡ data_offset self.now }
@@ -141,7 +141,7 @@ impl<'a> TcpSlice<'a> {
         self.header.ns()
     }
 
-    /// No more data from the sender (byte 13, bit 0x01).
+    /// The sender sends no more data (byte 13, bit 0x01).
     #[tactic(auto, using(crate::proofs::TcpSliceLemmas::header_reads))]
     pub fn fin(&self) -> bool
         ensures { result ≡ flag_of self.now fin_flag }
@@ -205,8 +205,7 @@ impl<'a> TcpSlice<'a> {
         self.header.cwr()
     }
 
-    /// The number of bytes that the sender is willing to accept, before any window scale (RFC 7323, section 2.2; bytes
-    /// 14 and 15).
+    /// The number of bytes that the sender is willing to receive, before window scaling (RFC 7323, section 2.2; bytes 14 and 15).
     #[tactic(auto, using(crate::proofs::TcpSliceLemmas::header_reads))]
     pub fn window_size(&self) -> u16
         ensures { result ≡ be_number self.now 14 2 }
@@ -222,8 +221,8 @@ impl<'a> TcpSlice<'a> {
         self.header.checksum()
     }
 
-    /// With `urg` the end of the urgent data, in bytes from the sequence number, otherwise without a meaning (bytes 18
-    /// and 19).
+    /// If `urg` is set, the end of the urgent data, in bytes from the sequence number. Otherwise the field has no meaning (bytes 18 and
+    /// 19).
     #[tactic(auto, using(crate::proofs::TcpSliceLemmas::header_reads))]
     pub fn urgent_pointer(&self) -> u16
         ensures { result ≡ be_number self.now 18 2 }
@@ -231,7 +230,7 @@ impl<'a> TcpSlice<'a> {
         self.header.urgent_pointer()
     }
 
-    /// The bytes of the options, 0 to 40, a multiple of 4 (byte 20 to the end of the header).
+    /// The bytes of the options, from byte 20 to the end of the header. Their number is 0 to 40, and a multiple of 4.
     #[tactic(auto, using(crate::proofs::TcpSliceLemmas::options_read, crate::proofs::TcpSliceLemmas::length_header))]
     pub fn options(&self) -> &[u8]
         ensures value { result.now ≡ options_of self.now }
@@ -242,7 +241,7 @@ impl<'a> TcpSlice<'a> {
         self.header.options()
     }
 
-    /// The elements of the options, from the first.
+    /// An iterator over the elements of the options.
     #[tactic(auto, using(crate::proofs::TcpSliceLemmas::options_read))]
     pub fn options_iterator(&self) -> TcpOptionsIterator<'_>
         ensures { result ≡ options_of self.now }
@@ -250,7 +249,7 @@ impl<'a> TcpSlice<'a> {
         self.header.options_iterator()
     }
 
-    /// The options as kinds and values, known or not, from the first.
+    /// An iterator over the options of any kind, known or unknown, as kinds and values.
     #[tactic(auto, using(crate::proofs::TcpSliceLemmas::options_read))]
     pub fn raw_options_iterator(&self) -> TcpRawOptionsIterator<'_>
         ensures { result ≡ options_of self.now }
@@ -258,8 +257,8 @@ impl<'a> TcpSlice<'a> {
         self.header.raw_options_iterator()
     }
 
-    /// The header as numbers, flags and options. Its written form is as long as these bytes, and the meaningless bits
-    /// 0x0E of byte 12 are zero in it.
+    /// The numbers, flags and options of the header. If they are written, the bytes have the same length, and the meaningless bits 0x0E of
+    /// byte 12 are zero.
     #[tactic(auto, using(crate::proofs::TcpSliceLemmas::header_reads, crate::proofs::TcpSliceLemmas::length_header))]
     pub fn to_header(&self) -> TcpHeader
         ensures value { result ≡ header_of self.now }
@@ -268,8 +267,8 @@ impl<'a> TcpSlice<'a> {
         self.header.to_header()
     }
 
-    /// The checksum over IPv4 of these bytes without their checksum (RFC 9293, section 3.1). The meaningless bits of
-    /// byte 12 are summed as they are, so this is the checksum of `to_header()` exactly if they are zero.
+    /// The checksum of these bytes over IPv4 (RFC 9293, section 3.1). The checksum field counts as zeros. The meaningless bits of byte 12
+    /// are summed too. So the result equals the checksum of `to_header()` exactly if these bits are zero.
     ///
     /// # Errors
     ///
@@ -293,9 +292,9 @@ impl<'a> TcpSlice<'a> {
             .calc_checksum_ipv4_raw(source, destination, self.payload())
     }
 
-    /// The checksum over IPv6 of these bytes without their checksum (RFC 9293, section 3.1; RFC 8200, section 8.1).
-    /// The meaningless bits of byte 12 are summed as they are, so this is the checksum of `to_header()` exactly if
-    /// they are zero. With a routing header, pass the final destination.
+    /// The checksum of these bytes over IPv6 (RFC 9293, section 3.1; RFC 8200, section 8.1). The checksum field counts as zeros. The
+    /// meaningless bits of byte 12 are summed too. So the result equals the checksum of `to_header()` exactly if these bits are zero. If
+    /// the packet has a routing header, pass the final destination.
     ///
     /// # Errors
     ///
@@ -319,14 +318,14 @@ impl<'a> TcpSlice<'a> {
             .calc_checksum_ipv6_raw(source, destination, self.payload())
     }
 
-    /// Whether the checksum over IPv4 is right, as a receiver checks it: pseudo header and segment, as received, sum up to
-    /// all ones (RFC 9293, section 3.1). The slice must end at the end of the IP packet, without padding of the frame.
+    /// Whether the checksum over IPv4 is right: the one's complement sum of pseudo header and segment is all ones (RFC 9293, section 3.1).
+    /// The slice must end at the end of the IP packet, without padding of the frame.
     ///
-    /// True exactly if the stored checksum is the value of `calc_checksum_ipv4`, or FFFF if that value is 0, since
-    /// both are zeros of the one's complement. A segment of more than 65,535 bytes is never valid.
+    /// The result is true exactly if the stored checksum is the value of `calc_checksum_ipv4`, or FFFF if this value is 0. 0 and FFFF are
+    /// both zero in one's complement. If the segment is longer than 65,535 bytes, the result is false.
     ///
-    /// In a valid segment this check detects each change of one byte, and of one aligned two-byte word except between
-    /// 0000 and FFFF. It misses an exchange of two aligned words.
+    /// This check detects each change of one byte of a valid segment. It detects each change of one aligned two-byte word, except between
+    /// 0000 and FFFF. It does not detect that two aligned words were exchanged.
     pub fn is_checksum_valid_ipv4(&self, source: [u8; 4], destination: [u8; 4]) -> bool
         ensures valid { IsTrue result ↔ IsValidTcpIpv4 source destination self.now }
         ensures agrees { length (payload_bytes self.now) ≤ max_payload_len_ipv4 (header_bytes self.now) → (IsTrue result
@@ -336,15 +335,15 @@ impl<'a> TcpSlice<'a> {
         is_segment_valid_ipv4(source, destination, self.slice)
     }
 
-    /// Whether the checksum over IPv6 is right, as a receiver checks it: pseudo header and segment, as received, sum
-    /// up to all ones (RFC 9293, section 3.1; RFC 8200, section 8.1). The slice must end at the end of the IP packet,
-    /// without padding of the frame. With a routing header, pass the final destination.
+    /// Whether the checksum over IPv6 is right: the one's complement sum of pseudo header and segment is all ones (RFC 9293, section 3.1;
+    /// RFC 8200, section 8.1). The slice must end at the end of the IP packet, without padding of the frame. If the packet has a routing
+    /// header, pass the final destination.
     ///
-    /// True exactly if the stored checksum is the value of `calc_checksum_ipv6`, or FFFF if that value is 0, since
-    /// both are zeros of the one's complement. A segment of more than 4,294,967,295 bytes is never valid.
+    /// The result is true exactly if the stored checksum is the value of `calc_checksum_ipv6`, or FFFF if this value is 0. 0 and FFFF are
+    /// both zero in one's complement. If the segment is longer than 4,294,967,295 bytes, the result is false.
     ///
-    /// In a valid segment this check detects each change of one byte, and of one aligned two-byte word except between
-    /// 0000 and FFFF. It misses an exchange of two aligned words.
+    /// This check detects each change of one byte of a valid segment. It detects each change of one aligned two-byte word, except between
+    /// 0000 and FFFF. It does not detect that two aligned words were exchanged.
     pub fn is_checksum_valid_ipv6(&self, source: [u8; 16], destination: [u8; 16]) -> bool
         ensures valid { IsTrue result ↔ IsValidTcpIpv6 source destination self.now }
         ensures agrees { length (payload_bytes self.now) ≤ max_payload_len_ipv6 (header_bytes self.now) → (IsTrue result

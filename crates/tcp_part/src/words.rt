@@ -3,11 +3,11 @@ ghost use Rattle.tcp_part.specs.TcpOptions.{max_options_len};
 
 use arrayvec::ArrayVec;
 
-/// Appends options: at most 40 bytes, in words of 4.
+/// Appends options: at most 40 bytes, whose number is a multiple of 4.
 ///
-/// Each arm has constant lengths, so it is a few moves in line. One copy of a length that is unknown at compile time
-/// is a call. The parts of all arms begin at the same places, so that the arms leave numbers in registers. Loading
-/// bytes again that were stored in parts of other lengths takes long.
+/// Each arm copies constant lengths, so it is compiled to a few moves. A copy of a length that is unknown at compile
+/// time would be a call. The parts of all arms begin at the same places, so that the numbers stay in registers. Bytes
+/// that were stored in parts of one length take long to load in parts of another length.
 #[inline(always)]
 pub(crate) fn append_words<const CAP: usize>(bytes: &mut ArrayVec<u8, CAP>, words: &[u8])
     requires room { length bytes.old.items + length words.now ≤ CAP }

@@ -69,7 +69,7 @@ accepted_read : (section : ByteOrder) (first bytes read : List ℕ) → read ≡
 accepted_read section first bytes read splits within accepted =
     ap (block_header_refusal section) splits ∙ header_refusal_front section first bytes within ∙ accepted
 
--- a range of the first bytes
+-- a range of the first bytes is a range of all bytes
 range_front : (a b : ℕ) (first more : List ℕ) → a ≤ b → b ≤ length first → slice_range (first ++ more) a b ≡ slice_range first a b
 range_front a b first more order within =
     sym (range_within a b (length first) (first ++ more) order within) ∙ ap (λ bytes. slice_range bytes a b) (take_at first more (length first) refl)
@@ -80,7 +80,7 @@ body_front header read more least kept = range_front 8 _ read more (omega (arith
 
 -- ---- the packet in a block
 
--- a translation within first bytes, and the bytes after them
+-- a part of a translation after these bytes are read and written too
 abbrev grown : Part → List ℕ → Part
 grown part more = record { read = part.read ++ more; written = part.written ++ more; outcome = part.outcome }
 
@@ -138,7 +138,7 @@ is_long : (section : ByteOrder) (read more : List ℕ) (header : BlockHeader) �
 is_long section read more header within is long =
     omega (arith, long, ap (λ given. given.total_len) is, block_len_front section read more within)
 
--- a block for which the buffer has room
+-- a block with room in the buffer
 short_block : (section : ByteOrder) (header : BlockHeader) (read : List ℕ) → 12 ≤ length read → header ≡ block_header section read
     → length read ≡ min header.total_len max_packet_len → header.total_len ≤ max_packet_len → block_refusal section read ≡ None → IsBlock section read
 short_block section header read within is kept short accepted =
@@ -149,7 +149,7 @@ short_block section header read within is kept short accepted =
 
 -- ---- ends within a block
 
--- these first bytes of a block are cut off
+-- a block is cut off after these first bytes
 cut_next : (section : ByteOrder) (first rest : List ℕ) (header : BlockHeader) (len : ℕ) → 12 ≤ length first
     → block_header_refusal section first ≡ None → header ≡ block_header section first → len ≡ length (first ++ rest) → len < header.total_len
     → IsNextBlock section (first ++ rest) [] (Refused (CutOff header.total_len len))
@@ -157,7 +157,7 @@ cut_next section first rest header len within accepted is has_len short =
     next_of section first rest [] (Refused (CutOff header.total_len len))
     (cut_off_after section first rest (Some rest) (Some []) [] header len within accepted is (alone rest) has_len short refl)
 
--- the statement of a block that is cut off holds
+-- the statement about a block that is cut off holds
 cut_statement : (error : BlockError) (Statement : Type 0) → ((required len : ℕ) → error ≡ CutOff required len → Statement)
     → IfBlockCutOff (errors.Block error) Statement
 cut_statement (CutOff required len) Statement holds = holds required len refl
@@ -166,7 +166,7 @@ cut_statement (TotalLength total_len) Statement holds = tt
 cut_statement (SectionLength total_len) Statement holds = tt
 cut_statement (LastLength total_len last_len) Statement holds = tt
 
--- a refused block
+-- the part of a refused block
 abbrev rejected : ℕ → List ℕ → Part
 rejected offset bytes = record { read = bytes; written = written_at offset bytes; outcome = None }
 
@@ -201,7 +201,7 @@ ends_header table result state left still_left held now_held counts first error 
     (λ none. omega (arith, ap length none, some)) (grind (arith, nat_tests)) (λ filled. omega (arith, filled.1, are.0))
     (λ required len cut. are.1 (grind (arith, nat_tests)))
 
--- the file ends within the bytes of a block for which the buffer has room
+-- the file ends within the bytes of a block without room in the buffer
 pub ends_cut : (table : Table) (result : CaptureError) (state : Blocks) (left still_left held now_held : Option (List ℕ)) (counts : Counts)
     (first rest : List ℕ) (header : BlockHeader) (len : ℕ)
     → result ≡ cut_at state.offset header.total_len len → Consumes left still_left (first ++ rest)
@@ -214,7 +214,7 @@ ends_cut table result state left still_left held now_held counts first rest head
     ends_refused table result state left still_left held now_held counts (first ++ rest) (CutOff header.total_len len) is consumed appended
     next.0 next.1 (λ filled. omega (arith, filled.1, has_len, short)) (λ required cut_len cut. at_end)
 
--- a whole block is refused by its last total length
+-- a whole block is refused for its last total length
 pub ends_differs : (table : Table) (result : CaptureError) (state : Blocks) (left still_left held now_held : Option (List ℕ)) (counts : Counts)
     (first rest : List ℕ) (header : BlockHeader) (error : BlockError)
     → result ≡ capture_errors.Block (record { offset = state.offset; error = errors.Block error }) → Consumes left still_left (first ++ rest)
@@ -424,7 +424,7 @@ next_rest table result error state then_state after left middle still_left held 
 
 -- ---- whole parts
 
--- the place after a block
+-- the place of the block after this block
 block_offset : (section : ByteOrder) (offset then_offset : ℕ) (header : BlockHeader) (first bytes read more : List ℕ) → read ≡ first ++ bytes
     → 12 ≤ length first → header ≡ block_header section first → then_offset ≡ offset_after offset header
     → then_offset ≡ offset_after offset (block_header section (read ++ more))
@@ -465,7 +465,7 @@ block_part table state then_state left middle still_left held then_held now_held
     )
     (Consumes-trans left middle still_left read more consumed rest_consumed) (Appends-trans held then_held now_held written more appended rest_appended) counts_are
 
--- the block was passed, whose rest was copied if the buffer has no room for it
+-- the block was passed; its rest was copied if the buffer has no room for the block
 pub block_passed : (table : Table) (state then_state : Blocks) (left middle still_left held then_held now_held : Option (List ℕ)) (counts now_counts : Counts)
     (header : BlockHeader) (first bytes read written : List ℕ) (outcome : Option (Result Bool Reason))
     → read ≡ first ++ bytes → 12 ≤ length first → block_header_refusal state.section.byte_order first ≡ None
@@ -496,7 +496,7 @@ block_passed table state then_state left middle still_left held then_held now_he
 
 -- ---- reading failed before a block
 
--- no bytes of a block, at a read error
+-- without bytes, a block ends at a read error
 pub no_block : (table : Table) (state : Blocks) (error : CaptureError) → IsReadError state.offset error → IsBlockEnd table state (copied []) error
 no_block table state (capture_errors.Header error) is = absurd is
 no_block table state (capture_errors.RecordCutOff offset required len) is = absurd is

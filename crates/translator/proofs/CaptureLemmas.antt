@@ -16,7 +16,7 @@ never : (E : Type 0) → (E → ⊥) → ⊥ ⊎ E → ⊥
 never E refuted (inl none) = none
 never E refuted (inr some) = refuted some
 
--- records after the header of a capture, up to a result
+-- records after the header of a capture were passed, up to a result
 pub translates_records : (table : Table) (result : Result (Unit {0}) CaptureError) (left still_left held now_held : Option (List ℕ)) (counts now_counts : Counts)
     → TranslatesRecords table result left still_left held now_held counts now_counts
     → TranslatesCapture table result left still_left held now_held counts now_counts
@@ -30,7 +30,7 @@ translates_records table (Err (Read offset error)) left still_left held now_held
 translates_records table (Err TooManyParts) left still_left held now_held counts now_counts translates = inl translates
 translates_records table (Err (Write error)) left still_left held now_held counts now_counts translates = tt
 
--- blocks of a pcapng file, up to a result
+-- blocks of a pcapng file were passed, up to a result
 pub translates_blocks : (table : Table) (result : Result (Unit {0}) CaptureError) (left still_left held now_held : Option (List ℕ)) (counts now_counts : Counts)
     → TranslatesBlocks table result left still_left held now_held counts now_counts
     → TranslatesCapture table result left still_left held now_held counts now_counts
@@ -62,7 +62,7 @@ to_read_error table result error left still_left held counts is fails =
     subst (λ given. TranslatesCapture table given left still_left held held counts counts) (sym fails)
     (at_read_error table error left still_left held counts is)
 
--- records from a capture that is the same
+-- what was passed from a reader is what was passed from an equal reader
 pub passes_from : (table : Table) (result : Result (Unit {0}) CaptureError) (before start after : ClassicReader) (left still_left held now_held : Option (List ℕ))
     (counts now_counts : Counts)
     → before ≡ start → PassesTo (records_of table) result before after left still_left held now_held counts now_counts

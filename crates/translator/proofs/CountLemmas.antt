@@ -5,7 +5,7 @@ use Rattle.std.proofs.lemmas.List.{flat_map_more, take_more}
 use Rattle.std.specs.Io.KnownBytes.{Appends}
 use Rattle.std.specs.List.{flat_map}
 
--- a line after the lines of the items before
+-- the lines of items and of another item
 pub line_more : {X : Type 0} (xs : List X) (line : X → List ℕ) (i : ℕ) (d : X) (a b c : Option (List ℕ))
     → Appends a b (flat_map line (take i xs)) → Appends b c (line (get_or xs i d)) → i < length xs
     → Appends a c (flat_map line (take (i + 1) xs))

@@ -1,4 +1,4 @@
--- For the text on standard error.
+-- Laws of the text on standard error.
 use Rattle.std.proofs.Common.{◌≡◌, ◌∙◌, ℕ, List, [], ◌++◌, Err, IsErr, IsOk, Ok, OnOk, Option, Result, append_assoc, ap, arith, refl, subst, sym}
 use Rattle.std.proofs.KnownBytes.{Appends-nil, Appends-trans}
 use Rattle.std.specs.Io.KnownBytes.{Appends}
@@ -9,7 +9,7 @@ use Rattle.translator.specs.Outputs.{IsEndLine, IsEndText, IsFollowedBy, WritesT
 use Rattle.translator.specs.declared.capture_error.CaptureError.{CaptureError}
 use Rattle.translator.specs.declared.counts.Counts.{Counts}
 
--- a result is no error
+-- a result is not both an error and a success
 pub not_both : {T E : Type 0} (result : Result T E) → IsErr result → IsOk result → ⊥
 not_both (Ok done) fails ok = absurd (grind (arith, fails))
 not_both (Err error) fails ok = absurd (grind (arith, ok))
@@ -20,7 +20,7 @@ not_both (Err error) fails ok = absurd (grind (arith, ok))
 pub begins_none : (a : Option (List ℕ)) (text : List ℕ) → AppendsBeginning a a text
 begins_none a text = record { written = []; unwritten = text; parts = refl; appends = Appends-nil a }
 
--- a beginning of the first part of a text
+-- a beginning of the first part of a text is a beginning of the text
 begins_more : (a b : Option (List ℕ)) (text more : List ℕ) → AppendsBeginning a b text → AppendsBeginning a b (text ++ more)
 begins_more a b text more begun = record {
   written = begun.written;
@@ -29,7 +29,7 @@ begins_more a b text more begun = record {
   appends = begun.appends;
 }
 
--- the first part of a text, and a beginning of its second part
+-- the first part of a text and a beginning of its second part are a beginning of the text
 begins_after : (a b c : Option (List ℕ)) (text more : List ℕ) → Appends a b text → AppendsBeginning b c more → AppendsBeginning a c (text ++ more)
 begins_after a b c text more first begun = record {
   written = text ++ begun.written;
@@ -45,7 +45,7 @@ pub writes_nothing : (a : Option (List ℕ)) (IsWhole : Type 0) (IsText : List �
 writes_nothing a IsWhole IsText is =
     record { text = []; is_text = is; begun = begins_none a []; whole = λ holds. Appends-nil a }
 
--- a text was written, or a beginning of it
+-- a text, or a beginning of it, was written
 pub writes_text : {T E : Type 0} (a b : Option (List ℕ)) (result : Result T E) (IsText : List ℕ → Type 0) (text : List ℕ) → IsText text
     → OnOk result (Appends a b text) → AppendsBeginning a b text → WritesText a b (IsOk result) IsText
 writes_text a b (Ok done) IsText text is appends begins =
@@ -53,7 +53,7 @@ writes_text a b (Ok done) IsText text is appends begins =
 writes_text a b (Err error) IsText text is appends begins =
     record { text = text; is_text = is; begun = begins; whole = λ ok. absurd (grind (arith, ok)) }
 
--- nothing was written of a text
+-- no byte of a text was written
 pub loses_text : (a : Option (List ℕ)) (IsWhole : Type 0) (IsText : List ℕ → Type 0) (text : List ℕ) → (IsWhole → ⊥) → IsText text
     → WritesText a a IsWhole IsText
 loses_text a IsWhole IsText text lost is =
@@ -77,7 +77,7 @@ lacks_more a b First Both IsText more never first = record {
   whole = λ both. absurd (never both);
 }
 
--- the second text was written, or a beginning of it
+-- the second text, or a beginning of it, was written
 pub writes_more : (a b c : Option (List ℕ)) (First Second Both : Type 0) (IsText : List ℕ → Type 0) (more : List ℕ) → First
     → (Both → Second) → WritesText a b First IsText → WritesText b c Second (λ text. text ≡ more) → WritesText a c Both (IsFollowedBy more IsText)
 writes_more a b c First Second Both IsText more holds to_second first second = record {
@@ -87,7 +87,7 @@ writes_more a b c First Second Both IsText more holds to_second first second = r
   whole = λ both. Appends-trans a b c first.text more (first.whole holds) (rw second.is_text at second.whole (to_second both));
 }
 
--- the counts were written after the line of the end of a capture, or a beginning of them
+-- the counts, or a beginning of them, were written after the line of the end of a capture
 pub counts_follow : (a b c : Option (List ℕ)) (First Second Both : Type 0) (ended : Result (Unit {0}) CaptureError)
     (flushed : Result (Unit {0}) Error) (counts : Counts) (number : ℕ) → ended_status ended ≡ Ok number → IsOk flushed → First
     → (Both → Second) → WritesText a b First (IsEndLine ended) → WritesText b c Second (λ text. text ≡ counts_text counts)

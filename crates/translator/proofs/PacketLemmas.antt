@@ -35,7 +35,7 @@ use Rattle.translator.specs.declared.reason.Reason.{Reason}
 use Rattle.translator.specs.declared.reason.Reason.TheVariants as reasons
 use Rattle.translator.specs.declared.table.Table.{Table}
 
--- a range of a beginning
+-- a range of a beginning is a range of all elements
 pub range_within : (a b n : ℕ) (xs : List ℕ) → a ≤ b → b ≤ n → slice_range (take n xs) a b ≡ slice_range xs a b
 range_within a b n xs order within =
     let split : n ≡ a + (n - a) = omega arith in
@@ -43,7 +43,7 @@ range_within a b n xs order within =
     ∙ ap (λ ys. take (b - a) ys) (drop-take a (n - a) xs)
     ∙ take-take (b - a) (n - a) (drop a xs) (omega arith)
 
--- the addresses of a kept header of IPv4 are those of the packet
+-- the addresses in a kept IPv4 header are the addresses of the packet
 pub ipv4_source_kept : (packet kept : List ℕ) → kept ≡ take (ipv4_header_len packet) packet → 20 ≤ ipv4_header_len packet
     → slice_range kept 12 16 ≡ slice_range packet 12 16
 ipv4_source_kept packet kept is words =
@@ -60,7 +60,7 @@ ipv4_header_kept packet kept is words =
     ap (λ bytes. record { source = bytes; destination = slice_range kept 16 20 }) (ipv4_source_kept packet kept is words)
     ∙ ap (λ bytes. record { source = slice_range packet 12 16; destination = bytes }) (ipv4_destination_kept packet kept is words)
 
--- the addresses of a kept header of IPv6 are those of the packet
+-- the addresses in a kept IPv6 header are the addresses of the packet
 pub ipv6_source_kept : (packet kept : List ℕ) → kept ≡ take 40 packet → slice_range kept 8 24 ≡ slice_range packet 8 24
 ipv6_source_kept packet kept is = ap (λ bytes. slice_range bytes 8 24) is ∙ range_within 8 24 40 packet (omega arith) (omega arith)
 
@@ -104,7 +104,7 @@ pub quoted_is : (packet : List ℕ) (found : TransportInIp) → Carries packet f
 quoted_is packet found carries stated =
     read_is quoted_at packet found carries stated ∙ sym (ap (quoted_after packet) (headers_are packet found carries stated))
 
--- what the table gives for a quoted packet in the other direction
+-- what the table gives for a packet that is quoted, in the other direction
 pub ipv4_inner_given : (table : Table) (quoted source destination : List ℕ) (ports exchanged_ports : Option (ℕ × ℕ)) (inner : Ipv4Translation)
     → source ≡ slice_range quoted 16 20 → destination ≡ slice_range quoted 12 16 → ports ≡ ports_of quoted → exchanged_ports ≡ exchanged ports
     → inner ≡ ipv4_translation table (record { source = source; destination = destination }) exchanged_ports
@@ -138,16 +138,16 @@ ipv6_own_given table packet header ports new header_is ports_are given =
 
 -- ---- accepted packets
 
--- an accepted packet with a header of this version
+-- an accepted packet with this version is read
 pub is_read_by : (expected : ℕ) (packet : List ℕ) → lax_refusal packet ≡ None → version packet ≡ expected → is_read expected packet ≡ true
 is_read_by expected packet accepted is =
     ap (λ refusal. is_none refusal && version packet == expected) accepted ∙ ap (λ number. number == expected) is ∙ grind (arith, nat_tests)
 
--- a refused packet
+-- a refused packet is not read
 pub not_read : (expected : ℕ) (packet : List ℕ) (error : IpError) → lax_refusal packet ≡ Some error → is_read expected packet ≡ false
 not_read expected packet error rejected = ap (λ refusal. is_none refusal && version packet == expected) rejected
 
--- the first of two rules
+-- if neither of two rules refuses, the first does not refuse
 first_none : {E : Type 0} → (first second : Option E) → first_of (first ∷ second ∷ []) ≡ None → first ≡ None
 first_none None second none = refl
 first_none (Some error) second none = none
@@ -167,11 +167,11 @@ ipv4_begins packet accepted is = record {
 ipv6_begins : (packet : List ℕ) → header_refusal packet ≡ None → version packet ≡ 6 → BeginsWithIpv6Header packet
 ipv6_begins packet accepted is = record { whole = grind (arith, nat_tests); is_version_6 = is }
 
--- a test of a version that is not this version
+-- a test for another version fails
 other_version : (number expected : ℕ) (is : Bool) → (number == expected) ≡ is → (number ≡ expected → ⊥) → (number == expected) ≡ false
 other_version number expected is computes other = grind (arith, nat_tests)
 
--- an accepted packet without a header of the version
+-- an accepted packet that does not begin with a header of the version is not read
 pub no_ipv4 : (packet : List ℕ) → lax_refusal packet ≡ None → (BeginsWithIpv4Header packet → ⊥) → is_read 4 packet ≡ false
 no_ipv4 packet accepted none =
     ap (λ refusal. is_none refusal && version packet == 4) accepted
@@ -184,24 +184,24 @@ no_ipv6 packet accepted none =
 
 -- ---- rules in their order
 
--- the last rule
+-- a single rule decides alone
 last_rule : {E : Type 0} → (rule : Option E) → first_of (rule ∷ []) ≡ rule
 last_rule None = refl
 last_rule (Some error) = refl
 
--- a packet with refused headers
+-- a packet with refused headers is unknown for this reason
 pub unknown_rejected : (expected : ℕ) (packet : List ℕ) (quoting : Option Reason) → is_read expected packet ≡ false
     → unknown_reason expected packet quoting ≡ Some reasons.IpHeaders
 unknown_rejected expected packet quoting rejected =
     ap (λ read. first_of (refused_if (not read) reasons.IpHeaders ∷ quoting ∷ [])) rejected
 
--- a packet with accepted headers
+-- a packet with accepted headers is unknown only by the rules after them
 pub unknown_read : (expected : ℕ) (packet : List ℕ) (quoting : Option Reason) → is_read expected packet ≡ true
     → unknown_reason expected packet quoting ≡ quoting
 unknown_read expected packet quoting read =
     ap (λ read. first_of (refused_if (not read) reasons.IpHeaders ∷ quoting ∷ [])) read ∙ last_rule quoting
 
--- a quoted packet
+-- the rules for a quoted packet
 pub quoted_rules : (expected : ℕ) (quoted : List ℕ) (are_same read same : Bool) → is_read expected quoted ≡ read → are_same ≡ same
     → quoted_reason expected quoted are_same
     ≡ first_of (refused_if (not read) reasons.QuotedPacket ∷ refused_if (not same) reasons.QuotedAddresses ∷ [])
@@ -209,14 +209,14 @@ quoted_rules expected quoted are_same read same read_is same_is =
     ap (λ read. first_of (refused_if (not read) reasons.QuotedPacket ∷ refused_if (not are_same) reasons.QuotedAddresses ∷ [])) read_is
     ∙ ap (λ same. first_of (refused_if (not read) reasons.QuotedPacket ∷ refused_if (not same) reasons.QuotedAddresses ∷ [])) same_is
 
--- all rules of a packet
+-- the rules for a packet, in their order
 pub reason_rules : (unknown reason : Option Reason) (nothing is : Bool) (refusal error : Option TranslateError)
     → unknown ≡ reason → nothing ≡ is → refusal ≡ error → reason_by unknown nothing refusal ≡ reason_by reason is error
 reason_rules unknown reason nothing is refusal error unknown_is nothing_is refusal_is =
     ap (λ unknown. reason_by unknown nothing refusal) unknown_is ∙ ap (λ nothing. reason_by reason nothing refusal) nothing_is
     ∙ ap (reason_by reason is) refusal_is
 
--- it is not known what to replace in a packet, which stays
+-- a packet is unchanged if it is not known what to replace in it
 pub ipv4_stays : (table : Table) (packet after : List ℕ) (result : Result Bool Reason) (reason : Reason)
     → ipv4_unknown_reason table packet ≡ Some reason → after ≡ packet → result ≡ Err reason → TranslatesIpv4 table packet after result
 ipv4_stays table packet after result reason unknown same fails =
@@ -229,12 +229,12 @@ ipv6_stays table packet after result reason unknown same fails =
 
 -- ---- equal translations
 
--- no value
+-- an option is equal to `None` exactly if it has no value
 is_no_value : {A : Type 0} → (eq : A → A → Bool) (value : Option A) → option_eq eq value None ≡ is_none value
 is_no_value eq None = refl
 is_no_value eq (Some value) = refl
 
--- a translation is equal to a translation that replaces nothing if it replaces nothing
+-- a translation is equal to the empty translation exactly if it replaces nothing
 pub ipv4_nothing_by : (new none : Ipv4Translation) → none.source ≡ None → none.destination ≡ None → none.source_port ≡ None
     → none.destination_port ≡ None
     → (option_eq (pointwise ◌==◌) new.source none.source && (option_eq (pointwise ◌==◌) new.destination none.destination
@@ -246,7 +246,7 @@ ipv4_nothing_by new none source destination source_port destination_port =
     (ap₂ ◌&&◌ (ap (option_eq ◌==◌ new.source_port) source_port ∙ is_no_value ◌==◌ new.source_port)
     (ap (option_eq ◌==◌ new.destination_port) destination_port ∙ is_no_value ◌==◌ new.destination_port)))
 
--- a translation is equal to a translation that replaces nothing if it replaces nothing
+-- a translation is equal to the empty translation exactly if it replaces nothing
 pub ipv6_nothing_by : (new none : Ipv6Translation) → none.source ≡ None → none.destination ≡ None → none.source_port ≡ None
     → none.destination_port ≡ None
     → (option_eq (pointwise ◌==◌) new.source none.source && (option_eq (pointwise ◌==◌) new.destination none.destination
@@ -258,7 +258,7 @@ ipv6_nothing_by new none source destination source_port destination_port =
     (ap₂ ◌&&◌ (ap (option_eq ◌==◌ new.source_port) source_port ∙ is_no_value ◌==◌ new.source_port)
     (ap (option_eq ◌==◌ new.destination_port) destination_port ∙ is_no_value ◌==◌ new.destination_port)))
 
--- equal ports
+-- a port is equal to itself
 same_port : (port : Option ℕ) → option_eq ◌==◌ port port ≡ true
 same_port None = refl
 same_port (Some port) = grind (arith, nat_tests)
@@ -277,7 +277,7 @@ same_addresses source destination other_source other_destination source_port des
 pub false_is_true : false ≡ true → ⊥
 false_is_true clash = cc
 
--- equal addresses
+-- addresses that are equal as a test are equal
 same_value : (address other : Option (List ℕ)) → is_same address other ≡ true → address ≡ other
 same_value None None is = refl
 same_value None (Some other) is = absurd (false_is_true is)
@@ -289,7 +289,7 @@ both_true true true is = (refl, refl)
 both_true true false is = absurd (false_is_true is)
 both_true false second is = absurd (false_is_true is)
 
--- a translation with the addresses of an equal translation is what the table gives
+-- the translation with these addresses and ports
 abbrev ipv4_parts : Option (List ℕ) → Option (List ℕ) → Option ℕ → Option ℕ → Ipv4Translation
 ipv4_parts source destination source_port destination_port =
     record { source = source; destination = destination; source_port = source_port; destination_port = destination_port }
@@ -304,7 +304,7 @@ ipv4_same_is outer inner given same is =
     (same_value outer.destination inner.destination both.1)
     ∙ ap (λ new. ipv4_parts new.source new.destination new.source_port new.destination_port) is
 
--- a translation with the addresses of an equal translation is what the table gives
+-- the translation with these addresses and ports
 abbrev ipv6_parts : Option (List ℕ) → Option (List ℕ) → Option ℕ → Option ℕ → Ipv6Translation
 ipv6_parts source destination source_port destination_port =
     record { source = source; destination = destination; source_port = source_port; destination_port = destination_port }
@@ -324,7 +324,7 @@ ipv6_same_is outer inner given same is =
 six : (packet : List ℕ) → version packet ≡ 6 → (version packet == 6) ≡ true
 six packet is = ap (λ number. number == 6) is
 
--- a packet that begins with an IPv6 header
+-- the law for a packet that begins with an IPv6 header
 pub ipv6_translates : (table : Table) (packet after : List ℕ) (result : Result Bool Reason) → version packet ≡ 6
     → TranslatesIpv6 table packet after result → TranslatesPacket table packet after result
 ipv6_translates table packet after (Ok true) is translates = (
@@ -346,7 +346,7 @@ ipv6_translates table packet after (Err reason) is translates = (
   translates.1,
 )
 
--- a packet of another version
+-- the law for a packet of another version
 other_translates : (table : Table) (packet after : List ℕ) (result : Result Bool Reason) → (version packet == 6) ≡ false
     → TranslatesIpv4 table packet after result → TranslatesPacket table packet after result
 other_translates table packet after (Ok true) other translates = (
@@ -366,13 +366,13 @@ other_translates table packet after (Err reason) other translates = (
   translates.1,
 )
 
--- a packet of version 6 that does not begin with its header is refused
+-- a packet of version 6 that does not begin with an IPv6 header is refused
 unread : (packet : List ℕ) (refusal : Option IpError) (expected : ℕ) → lax_refusal packet ≡ refusal → version packet ≡ 6
     → (BeginsWithIpv6Header packet → ⊥) → is_read expected packet ≡ false
 unread packet None expected accepted is none = absurd (none (ipv6_begins packet (header_accepted packet accepted) is))
 unread packet (Some error) expected rejected is none = not_read expected packet error rejected
 
--- such a packet has no other reason
+-- a packet that is not read has no other reason
 rejected_of : (expected : ℕ) (packet : List ℕ) (quoting : Option Reason) (nothing : Bool) (refusal : Option TranslateError)
     → is_read expected packet ≡ false → reason_by (unknown_reason expected packet quoting) nothing refusal ≡ Some reasons.IpHeaders
 rejected_of expected packet quoting nothing refusal rejected =
@@ -400,14 +400,14 @@ by_version table packet after (Err reason) true is none translates = (
   translates.1,
 )
 
--- a packet that does not begin with an IPv6 header
+-- the law for a packet that does not begin with an IPv6 header
 pub ipv4_translates : (table : Table) (packet after : List ℕ) (result : Result Bool Reason) → (BeginsWithIpv6Header packet → ⊥)
     → TranslatesIpv4 table packet after result → TranslatesPacket table packet after result
 ipv4_translates table packet after result none translates = by_version table packet after result _ refl none translates
 
 -- ---- frames
 
--- the parts of a frame before, between and after two places
+-- a frame consists of the bytes before a place, between both places, and after the other place
 three_parts : (frame : List ℕ) (start end : ℕ) → start ≤ end → take start frame ++ (slice_range frame start end ++ drop end frame) ≡ frame
 three_parts frame start end ordered =
     let places : start + (end - start) ≡ end = omega (arith, ordered) in
@@ -416,7 +416,7 @@ three_parts frame start end ordered =
     ∙ ap (λ bytes. take start frame ++ bytes) (take-append-drop (end - start) (drop start frame))
     ∙ take-append-drop start frame
 
--- a frame after the translation of the packet in it
+-- the frame after its packet is translated
 pub frame_translated : (table : Table) (link_type : LinkType) (order : ByteOrder) (frame packet : List ℕ) (start end : ℕ) (result : Result Bool Reason)
     → IsPacketIn link_type order frame start end → TranslatesPacket table (slice_range frame start end) packet result
     → TranslatesFrame table link_type order frame (take start frame ++ (packet ++ drop end frame)) result
@@ -440,13 +440,13 @@ frame_translated table link_type order frame packet start end (Err reason) is_pa
   }),
 )
 
--- a frame without an IP packet stays
+-- a frame without an IP packet is unchanged
 pub frame_stays : (table : Table) (link_type : LinkType) (order : ByteOrder) (frame after : List ℕ) (result : Result Bool Reason) (reason : Reason)
     → HasNoPacket link_type order frame reason → after ≡ frame → result ≡ Err reason → TranslatesFrame table link_type order frame after result
 frame_stays table link_type order frame after result reason no_packet same fails =
     subst (TranslatesFrame table link_type order frame after) (sym fails) (same, inl no_packet)
 
--- a write between two places of a frame
+-- the frame after its bytes between two places are written
 pub put_between : (frame packet : List ℕ) (start end : ℕ) → start ≤ end
     → put_mid start (end - start) frame packet ≡ take start frame ++ (packet ++ drop end frame)
 put_between frame packet start end ordered = ap (λ bytes. take start frame ++ (packet ++ bytes)) (Post-is start end frame ordered)

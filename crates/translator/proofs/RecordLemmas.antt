@@ -32,7 +32,7 @@ copied bytes = record { read = bytes; written = bytes; outcome = None }
 
 -- ---- whole records
 
--- a record whose frame was translated
+-- a record part whose frame was translated
 pub record_translated : (table : Table) (capture : CaptureHeader) (first captured after : List ℕ) (result : Result Bool Reason)
     → length first ≡ 16 → length captured ≡ number_at capture.byte_order first 8 → number_at capture.byte_order first 8 ≤ max_packet_len
     → TranslatesCaptured table capture.link_type capture.byte_order captured after result
@@ -52,7 +52,7 @@ record_translated table capture first captured after result has_len counted with
   );
 }
 
--- a record that was copied
+-- a record part that was copied
 pub record_copied : (table : Table) (capture : CaptureHeader) (first captured : List ℕ) → length first ≡ 16
     → length captured ≡ number_at capture.byte_order first 8 → max_packet_len < number_at capture.byte_order first 8
     → IsRecordPart table capture (record { read = first ++ captured; written = first ++ captured; outcome = Some (Err TooLong) })
@@ -64,7 +64,7 @@ record_copied table capture first captured has_len counted beyond = record {
   );
 }
 
--- the capture after a record
+-- the reader after a record
 pub after_record : (records after : ClassicReader) (header : RecordHeader) (first captured : List ℕ) → length first ≡ 16
     → header ≡ record_header records.header.byte_order first → after ≡ passed records header → after ≡ records_after records (first ++ captured)
 after_record records after header first captured has_len is_header is =
@@ -105,7 +105,7 @@ read_end records part (Read offset error) is front = (is, front)
 read_end records part TooManyParts is front = absurd is
 read_end records part (Write error) is front = absurd is
 
--- what an input has left at a read error is not known
+-- nothing is stated about the input that is left after a read error
 pub leaves_at_read : (place : ℕ) (error : CaptureError) (then_left still_left : Option (List ℕ)) → IsReadError place error → LeavesAt error then_left still_left
 leaves_at_read place (Header error) then_left still_left is = absurd is
 leaves_at_read place (RecordCutOff offset required len) then_left still_left is = absurd is
@@ -114,7 +114,7 @@ leaves_at_read place (Read offset error) then_left still_left is = tt
 leaves_at_read place TooManyParts then_left still_left is = absurd is
 leaves_at_read place (Write error) then_left still_left is = absurd is
 
--- reading failed, after these bytes of a record were copied
+-- the result if reading failed after these bytes of a record were copied
 pub next_front : {A : Type 0} → (table : Table) (result : Result A CaptureError) (error : CaptureError) (records after : ClassicReader)
     (left then_left still_left held now_held : Option (List ℕ)) (counts : Counts) (bytes : List ℕ)
     → IsReadError records.offset error → Consumes left then_left bytes → Appends held now_held bytes
@@ -124,7 +124,7 @@ next_front table result error records after left then_left still_left held now_h
     next_to_error (records_of table) result error records after left then_left still_left held now_held counts counts (copied bytes)
     (read_end records (copied bytes) error is ((refl, refl), front)) consumed appended refl (leaves_at_read records.offset error then_left still_left is) fails
 
--- copying the captured bytes of a record failed
+-- the result if copying the captured bytes of a record failed
 pub next_copied : {A : Type 0} → (table : Table) (result : Result A CaptureError) (error : CaptureError) (records after : ClassicReader)
     (left middle still_left held then_held now_held : Option (List ℕ)) (counts : Counts) (first : List ℕ) (count : ℕ)
     → length first ≡ 16 → count ≡ number_at records.header.byte_order first 8 → Consumes left middle first → Appends held then_held first

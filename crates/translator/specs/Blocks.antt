@@ -1,5 +1,5 @@
--- The blocks of a pcapng file as parts (draft-ietf-opsawg-pcapng, section 3.1). The buffer has room for `max_packet_len` bytes. The rest of a
--- longer block is copied.
+-- The blocks of a pcapng file as parts (draft-ietf-opsawg-pcapng, section 3.1). The buffer has room for `max_packet_len` bytes. If a block
+-- is longer, its other bytes are copied.
 use Rattle.std.specs.Prelude.{◌≡◌, ◌≢◌, ◌+◌, ◌-◌, ◌<◌, ◌≤◌, ◌++◌, ◌⊎◌, ◌==◌, ℕ, Bool, if◌then◌else◌, List, [], drop, length, min, slice_range, take, Option, Some, None, Result, Ok, Err}
 use Rattle.std.specs.Io.KnownBytes.{Appends, Consumes}
 use Rattle.capture_file.specs.Packets.{IsWithin}
@@ -32,7 +32,7 @@ use Rattle.translator.specs.declared.table.Table.{Table}
 
 -- ---- the packet in a block
 
--- The captured bytes of the packet were translated, with the link type of its interface. The bytes before and after them were written as they
+-- The captured bytes of this packet were translated, with the link type of its interface. All other bytes of the part were written as they
 -- were read.
 pub record TranslatesWhere (table : Table) (packet : CapturedPacket) (part : Part) : Type 0 where
   pub within : IsWithin (length part.read) packet
@@ -43,27 +43,28 @@ pub record TranslatesWhere (table : Table) (packet : CapturedPacket) (part : Par
   pub is_written : part.written ≡ take packet.start part.read ++ (after ++ drop (packet.start + packet.captured_len) part.read)
   pub outcome : part.outcome ≡ Some result
 
--- the captured bytes in a block of this length end after the bytes for which the buffer has room
+-- the packet in a block of this length does not fit in the buffer
 abbrev pub IsBeyond : ℕ → PacketError → Type 0
 IsBeyond total_len (errors.Body (body_errors.CutOff required len)) = max_packet_len < total_len
 IsBeyond total_len error = ⊥
 
--- the outcome of a block of this length, by what the section takes from it: a block without a packet is copied
+-- The outcome of a block of this length, by what the section read from it. A block without a packet is copied. So is a packet that does not
+-- fit in the buffer.
 abbrev pub HasTaken : Table → ℕ → Result (Option CapturedPacket) PacketError → Part → Type 0
 HasTaken table total_len (Ok None) part = IsUnchanged part None
 HasTaken table total_len (Ok (Some packet)) part = TranslatesWhere table packet part
 HasTaken table total_len (Err error) part = IsBeyond total_len error × IsUnchanged part (Some (Err TooLong))
 
--- the body of a block as far as the buffer has room
+-- the body of a block, or its bytes that fit in the buffer
 abbrev pub kept_body : BlockHeader → List ℕ → List ℕ
 kept_body header bytes = slice_range bytes body_at (min max_packet_len (header.total_len - trailer_len))
 
--- the section takes the block that begins with these bytes
+-- what the section reads from the block that begins with these bytes
 abbrev pub TakesKept : Section → List ℕ → Section → Result (Option CapturedPacket) PacketError → Type 0
 TakesKept before bytes after taken =
     let header = block_header before.byte_order bytes in TakesBlock before header (kept_body header bytes) after taken
 
--- the packet in the block that begins with these bytes was translated, if the block contains a packet
+-- if the block that begins with these bytes contains a packet, the packet was translated
 pub record TranslatesBlock (table : Table) (before : Section) (part : Part) (after : Section) : Type 0 where
   pub taken : Result (Option CapturedPacket) PacketError
   pub takes : TakesKept before part.read after taken
@@ -71,36 +72,36 @@ pub record TranslatesBlock (table : Table) (before : Section) (part : Part) (aft
 
 -- ---- whole blocks
 
--- exactly one block, with the outcome of its packet
+-- exactly one block was read and written, with the outcome of its packet
 pub record IsBlockPart (table : Table) (before : Section) (part : Part) (after : Section) : Type 0 where
   pub is_block : IsBlock before.byte_order part.read
   pub translates : TranslatesBlock table before part after
 
 -- ---- ends within a block
 
--- the buffer has no room for the block that begins with these bytes, whose header is accepted
+-- these bytes begin with the accepted header of a block that does not fit in the buffer
 abbrev pub BeginsLongBlock : ByteOrder → List ℕ → Type 0
 BeginsLongBlock section bytes = (block_header_refusal section bytes ≡ None) × (max_packet_len < block_len section bytes)
 
--- at least the bytes of a long block for which the buffer has room
+-- these bytes are the beginning of a long block, and fill the buffer
 abbrev pub IsFilled : ByteOrder → List ℕ → Type 0
 IsFilled section bytes = BeginsLongBlock section bytes × (max_packet_len ≤ length bytes)
 
--- the first bytes of a long block, or all its bytes, whose packet was translated before the rest was copied
+-- The part is a long block or its beginning. Its packet was translated before its other bytes were copied.
 abbrev pub IsLongFront : Table → Section → Part → Type 0
 IsLongFront table before part =
     IsFilled before.byte_order part.read × (length part.read ≤ block_len before.byte_order part.read)
     × (after : Section) × TranslatesBlock table before part after
 
--- what is written for a refused block at this place: the bytes that were read, but nothing if it is the first block of the file
+-- what is written for a refused block at this offset: the bytes that were read, or nothing if it is the first block of the file
 abbrev pub written_at : ℕ → List ℕ → List ℕ
 written_at offset bytes = if offset == 0 then [] else bytes
 
--- a refused block at this place was written, and no packet was counted
+-- a refused block at this offset was copied, unless it is the first block, and no packet was counted
 abbrev pub IsCopiedAt : ℕ → Part → Type 0
 IsCopiedAt offset part = (part.written ≡ written_at offset part.read) × (part.outcome ≡ None)
 
--- the bytes are no block, for this reason, and are copied, except that the packet of a long block may have been translated
+-- The bytes are no block, for the reason in this error. They were copied, except that the packet of a long block may have been translated.
 pub record IsNoBlock (table : Table) (blocks : Blocks) (part : Part) (error : PacketError) : Type 0 where
   pub reason : BlockError
   pub is_error : error ≡ errors.Block reason
@@ -108,12 +109,12 @@ pub record IsNoBlock (table : Table) (blocks : Blocks) (part : Part) (error : Pa
   pub refused : block_refusal blocks.section.byte_order part.read ≡ Some reason
   pub front : ((IsFilled blocks.section.byte_order part.read → ⊥) × IsCopiedAt blocks.offset part) ⊎ IsLongFront table blocks.section part
 
--- a block, or the first bytes of a long block, as many as the buffer has room for
+-- a whole block that fits in the buffer, or the beginning of a long block, which fills the buffer
 abbrev pub IsKept : ByteOrder → List ℕ → Type 0
 IsKept section bytes =
     (IsBlock section bytes × (length bytes ≤ max_packet_len)) ⊎ (BeginsLongBlock section bytes × (length bytes ≡ max_packet_len))
 
--- the section refuses the block that begins with these bytes, which are copied
+-- the section refuses the block that begins with these bytes, and they were copied
 pub record IsRejected (blocks : Blocks) (part : Part) (error : PacketError) : Type 0 where
   pub is_kept : IsKept blocks.section.byte_order part.read
   pub after : Section
@@ -121,11 +122,11 @@ pub record IsRejected (blocks : Blocks) (part : Part) (error : PacketError) : Ty
   pub not_beyond : IsBeyond (block_len blocks.section.byte_order part.read) error → ⊥
   pub copied : IsCopiedAt blocks.offset part
 
--- the block that begins with these bytes is refused
+-- the block that begins with these bytes is refused with this error
 abbrev pub IsRefusedBlock : Table → Blocks → Part → PacketError → Type 0
 IsRefusedBlock table blocks part error = IsNoBlock table blocks part error ⊎ IsRejected blocks part error
 
--- nothing of a block, or the first bytes of a long block, were passed
+-- no byte of the block was read, or the beginning of a long block was
 abbrev pub IsBlockFront : Table → Section → Part → Type 0
 IsBlockFront table before part = ((part.read ≡ []) × IsUnchanged part None) ⊎ IsLongFront table before part
 
@@ -141,7 +142,7 @@ IsBlockEnd table blocks part (capture_errors.Write error) = ⊥
 
 -- ---- files
 
--- pcapng files, whose packets are translated by this table
+-- the format of pcapng files whose packets this table translates
 abbrev pub blocks_of : Table → Format
 blocks_of table = format_of
     Blocks
@@ -149,7 +150,7 @@ blocks_of table = format_of
     × (after.offset ≡ offset_after before.offset (block_header before.section.byte_order part.read)))
     (IsBlockEnd table)
 
--- the start of a file; the section header block states its byte order
+-- the start of a file; its byte order does not matter, since the section header block states its own
 pub record IsFileStart (blocks : Blocks) : Type 0 where
   pub byte_order : blocks.section.byte_order ≡ BigEndian
   pub interfaces : blocks.section.interfaces.items ≡ []
@@ -157,7 +158,7 @@ pub record IsFileStart (blocks : Blocks) : Type 0 where
 
 -- ---- results
 
--- the block at the front of a buffer, or the first bytes of a long block, were translated, or the section refuses them
+-- The block at the front of the buffer, or the beginning of a long block, was translated, or the section refuses it.
 abbrev pub TranslatesKept : Table → Section → BlockHeader → List ℕ → List ℕ → Section → Result (Option (Result Bool Reason)) PacketError → Type 0
 TranslatesKept table before header read written after (Ok outcome) =
     (taken : Result (Option CapturedPacket) PacketError) × TakesBlock before header (kept_body header read) after taken
@@ -165,11 +166,11 @@ TranslatesKept table before header read written after (Ok outcome) =
 TranslatesKept table before header read written after (Err error) =
     TakesBlock before header (kept_body header read) after (Err error) × (IsBeyond header.total_len error → ⊥) × (written ≡ read)
 
--- the error of a file that ends after these bytes of the block at this place
+-- the error for a file that ends after `len` bytes of the block at this offset
 abbrev pub cut_at : ℕ → ℕ → ℕ → CaptureError
 cut_at offset total_len len = capture_errors.Block (record { offset = offset; error = errors.Block (block_errors.CutOff total_len len) })
 
--- an error after this number of bytes of the rest of a block with this length, for which the buffer has no room
+-- This error occurred after `len` bytes of the rest of a long block. The rest are the bytes that do not fit in the buffer.
 abbrev pub IsRestEnd : ℕ → ℕ → ℕ → CaptureError → Type 0
 IsRestEnd total_len place len (capture_errors.Read offset error) = offset ≡ place
 IsRestEnd total_len place len (capture_errors.Block placed) =
@@ -179,7 +180,7 @@ IsRestEnd total_len place len (capture_errors.RecordCutOff offset required other
 IsRestEnd total_len place len capture_errors.TooManyParts = ⊥
 IsRestEnd total_len place len (capture_errors.Write error) = ⊥
 
--- the first bytes of the rest were copied, up to an error
+-- bytes of the rest were copied until this error occurred
 pub record StopsRest (total_len place : ℕ) (error : CaptureError) (left still_left held now_held : Option (List ℕ)) : Type 0 where
   pub len : ℕ
   pub within : len < total_len - max_packet_len
@@ -188,7 +189,7 @@ pub record StopsRest (total_len place : ℕ) (error : CaptureError) (left still_
   pub ends : IsRestEnd total_len place len error
   pub leaves : LeavesAt error then_left still_left
 
--- the rest of a block with this header was copied to its end, and this number is in its last four bytes
+-- the rest of a block with this header was copied to its end; its last four bytes contain this number
 pub record CopiesToEnd (header : BlockHeader) (last_len : ℕ) (left still_left held now_held : Option (List ℕ)) : Type 0 where
   pub middle : List ℕ
   pub last : List ℕ
@@ -198,15 +199,15 @@ pub record CopiesToEnd (header : BlockHeader) (last_len : ℕ) (left still_left 
   pub consumed : Consumes left still_left (middle ++ last)
   pub appended : Appends held now_held (middle ++ last)
 
--- the rest of a block at this place was copied to its end, and the block is refused by its last total length
+-- the rest of a block was copied to its end, and the block is refused since the total length at its end differs
 pub record DiffersAtEnd (header : BlockHeader) (place : ℕ) (error : CaptureError) (left still_left held now_held : Option (List ℕ)) : Type 0 where
   pub last_len : ℕ
   pub copies : CopiesToEnd header last_len left still_left held now_held
   pub differs : last_len ≢ header.total_len
   pub is_error : error ≡ capture_errors.Block (record { offset = place; error = errors.Block (block_errors.LastLength header.total_len last_len) })
 
--- The rest of a block with this header at this place was copied, up to an error if there is one. The last total length of the block is its
--- total length. There is no rest if the buffer has room for the block.
+-- The rest of a block was copied, or an error occurred before its end. The total length at the end of the block is the total length in its
+-- header. If the block fits in the buffer, there is no rest.
 abbrev pub CopiesRest : BlockHeader → ℕ → Result (Unit {0}) CaptureError → Option (List ℕ) → Option (List ℕ) → Option (List ℕ) → Option (List ℕ) → Type 0
 CopiesRest header place (Ok done) left still_left held now_held =
     ((header.total_len ≤ max_packet_len) × (still_left ≡ left) × (now_held ≡ held))

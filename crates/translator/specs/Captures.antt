@@ -18,7 +18,7 @@ abbrev pub TranslatesRecords : Table → Result (Unit {0}) CaptureError → Opti
 TranslatesRecords table result left still_left held now_held counts now_counts =
     PassesCapture (Unit {0}) (records_of table) begins_records result left still_left held now_held counts now_counts
 
--- the translation of a pcapng file, whose blocks were passed
+-- a pcapng file was translated, block by block
 pub record TranslatesBlocks (table : Table) (result : Result (Unit {0}) CaptureError) (left still_left held now_held : Option (List ℕ))
     (counts now_counts : Counts) : Type 0 where
   pub is_pcapng : IsPcapng left
@@ -27,7 +27,7 @@ pub record TranslatesBlocks (table : Table) (result : Result (Unit {0}) CaptureE
   pub after : Blocks
   pub passes : PassesTo (blocks_of table) result start after left still_left held now_held counts now_counts
 
--- a capture of either format
+-- a capture of one of the two formats was translated
 abbrev pub TranslatesEither : Table → Result (Unit {0}) CaptureError → Option (List ℕ) → Option (List ℕ) → Option (List ℕ) → Option (List ℕ) → Counts
     → Counts → Type 0
 TranslatesEither table result left still_left held now_held counts now_counts =
@@ -38,8 +38,8 @@ TranslatesEither table result left still_left held now_held counts now_counts =
 abbrev pub TranslatesNothing : Option (List ℕ) → Option (List ℕ) → Counts → Counts → Type 0
 TranslatesNothing held now_held counts now_counts = (now_held ≡ held) × (now_counts ≡ counts)
 
--- The translation of a capture. If the header of a classic capture is refused, or can't be read, nothing was written. After a write that
--- failed nothing is known.
+-- A capture was translated. If the header of a classic capture is refused or can't be read, nothing was written. After a failed write,
+-- nothing is stated.
 abbrev pub TranslatesCapture : Table → Result (Unit {0}) CaptureError → Option (List ℕ) → Option (List ℕ) → Option (List ℕ) → Option (List ℕ) → Counts
     → Counts → Type 0
 TranslatesCapture table (Ok given) left still_left held now_held counts now_counts =

@@ -1,4 +1,5 @@
--- What the table replaces in a packet, by the packet's own addresses and ports. In an ICMP error, those of the quoted packet count.
+-- What the table replaces in a packet. The addresses and ports of the packet decide. For an ICMP error, the addresses and ports of the
+-- quoted packet decide.
 use Rattle.std.specs.Prelude.{ℕ, Bool, if◌then◌else◌, is_some, List, drop, Option, Some, None, Result, Ok, Err}
 use Rattle.capture_packet.specs.Contents.{ports_at}
 use Rattle.etherparse_transport.specs.declared.ip.ipv4_translation.Ipv4Translation.{Ipv4Translation}
@@ -53,26 +54,26 @@ quoted_over (Some protos.Tcp) message = None
 quoted_over (Some protos.Icmpv4) message = if is_some (icmpv4.refusal message) then None else quoted_by_icmpv4 message
 quoted_over (Some protos.Icmpv6) message = if is_some (icmpv6.refusal message) then None else quoted_by_icmpv6 message
 
--- the same of the message in a fragment; a later fragment contains no whole message
+-- the packet that a fragment with this message quotes; a later fragment contains no whole message
 abbrev pub quoted_at : Bool → Option Proto → List ℕ → Option (List ℕ)
 quoted_at is_later_fragment proto message = if is_later_fragment then None else quoted_over proto message
 
--- the packet that the ICMP error in an IP packet is about, by the transport of the IP packet
+-- the packet that an IP packet quotes, if it is an ICMP error
 abbrev pub quoted_in : TransportInIp → Option (List ℕ)
 quoted_in found = quoted_at found.is_later_fragment (proto_over (by_value found.addresses) found.protocol.0) found.payload.now
 
--- the same by the headers of the IP packet, unless they are refused
+-- the packet that an IP packet with these headers quotes, if the headers are accepted
 abbrev pub quoted_after : List ℕ → Result Headers IpError → Option (List ℕ)
 quoted_after packet (Ok headers) = quoted_at headers.is_later_fragment (proto_after headers) (message_after headers packet)
 quoted_after packet (Err error) = None
 
--- the same by the bytes of the IP packet
+-- the packet that an IP packet with these bytes quotes
 abbrev pub quoted_of : List ℕ → Option (List ℕ)
 quoted_of packet = quoted_after packet (headers_in packet)
 
 -- ---- IPv4
 
--- the addresses in the other direction
+-- the header with its addresses exchanged
 abbrev pub ipv4_opposite : Ipv4Header → Ipv4Header
 ipv4_opposite header = record { source = header.destination; destination = header.source }
 
@@ -80,22 +81,22 @@ ipv4_opposite header = record { source = header.destination; destination = heade
 abbrev pub ipv4_by : Table → List ℕ → Ipv4Translation
 ipv4_by table packet = ipv4_translation table (ipv4_header_of packet) (ports_of packet)
 
--- what the table gives for a quoted packet, which went in the other direction
+-- what the table gives for an ICMP error that quotes this packet, which went in the other direction
 abbrev pub ipv4_by_quoted : Table → List ℕ → Ipv4Translation
 ipv4_by_quoted table quoted = ipv4_translation table (ipv4_opposite (ipv4_header_of quoted)) (exchanged (ports_of quoted))
 
--- what the table gives for a packet with this quoted packet, which decides; without a quoted packet the packet itself decides
+-- what the table gives for a packet: if it quotes a packet, the quoted packet decides, and otherwise its own addresses and ports
 abbrev pub ipv4_with : Table → List ℕ → Option (List ℕ) → Ipv4Translation
 ipv4_with table packet None = ipv4_by table packet
 ipv4_with table packet (Some quoted) = ipv4_by_quoted table quoted
 
--- what is replaced in an IPv4 packet: by the packet that it quotes, if it is an ICMP error, and otherwise by its own addresses and ports
+-- What is replaced in an IPv4 packet. If it is an ICMP error, the packet that it quotes decides, and otherwise its own addresses and ports.
 abbrev pub ipv4_given : Table → List ℕ → Ipv4Translation
 ipv4_given table packet = ipv4_with table packet (quoted_of packet)
 
 -- ---- IPv6
 
--- the addresses in the other direction
+-- the header with its addresses exchanged
 abbrev pub ipv6_opposite : Ipv6Header → Ipv6Header
 ipv6_opposite header = record { source = header.destination; destination = header.source }
 
@@ -103,15 +104,15 @@ ipv6_opposite header = record { source = header.destination; destination = heade
 abbrev pub ipv6_by : Table → List ℕ → Ipv6Translation
 ipv6_by table packet = ipv6_translation table (ipv6_header_of packet) (ports_of packet)
 
--- what the table gives for a quoted packet, which went in the other direction
+-- what the table gives for an ICMP error that quotes this packet, which went in the other direction
 abbrev pub ipv6_by_quoted : Table → List ℕ → Ipv6Translation
 ipv6_by_quoted table quoted = ipv6_translation table (ipv6_opposite (ipv6_header_of quoted)) (exchanged (ports_of quoted))
 
--- what the table gives for a packet with this quoted packet, which decides; without a quoted packet the packet itself decides
+-- what the table gives for a packet: if it quotes a packet, the quoted packet decides, and otherwise its own addresses and ports
 abbrev pub ipv6_with : Table → List ℕ → Option (List ℕ) → Ipv6Translation
 ipv6_with table packet None = ipv6_by table packet
 ipv6_with table packet (Some quoted) = ipv6_by_quoted table quoted
 
--- what is replaced in an IPv6 packet: by the packet that it quotes, if it is an ICMP error, and otherwise by its own addresses and ports
+-- What is replaced in an IPv6 packet. If it is an ICMP error, the packet that it quotes decides, and otherwise its own addresses and ports.
 abbrev pub ipv6_given : Table → List ℕ → Ipv6Translation
 ipv6_given table packet = ipv6_with table packet (quoted_of packet)

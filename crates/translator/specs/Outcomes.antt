@@ -14,7 +14,7 @@ use Rattle.translator.specs.declared.reason.Reason.TheVariants as reasons
 
 -- ---- reasons
 
--- the place of the count of a reason
+-- the place of the count of a reason in `by_reason`
 abbrev pub place : Reason → ℕ
 place reasons.TooLong = 0
 place reasons.LinkType = 1
@@ -37,7 +37,7 @@ counted counts (Ok false) = record counts { unaffected = one_more counts.unaffec
 counted counts (Err reason) =
     record counts { by_reason = slice_set counts.by_reason (place reason) (one_more (slice_index counts.by_reason (place reason))) }
 
--- the counts after an outcome, if there is one
+-- the counts after a packet with this outcome, or after no packet
 abbrev pub counted_if : Counts → Option (Result Bool Reason) → Counts
 counted_if counts outcome = fold counted counts (option_to_list outcome)
 
@@ -63,7 +63,7 @@ all_reasons =
     reasons.TooLong ∷ reasons.LinkType ∷ reasons.LinkHeader ∷ reasons.NotIp ∷ reasons.IpHeaders ∷ reasons.SourceRoute ∷ reasons.Protocol
     ∷ reasons.TransportHeader ∷ reasons.IcmpMessage ∷ reasons.QuotedPacket ∷ reasons.QuotedAddresses ∷ []
 
--- the line for a reason in these words, which counts this number of packets; it is left out if there are none
+-- the line for a reason in these words that applies to this number of packets; there is no line if the number is 0
 abbrev pub reason_line : List ℕ → ℕ → List ℕ
 reason_line reason count =
     if count == 0 then [] else codes "translator: " ++ (decimal count ++ (codes " not translated: " ++ (reason ++ codes "\n")))
@@ -72,19 +72,19 @@ reason_line reason count =
 abbrev pub counted_line : Counts → Reason → List ℕ
 counted_line counts reason = reason_line (reason_text reason) (slice_index counts.by_reason (place reason))
 
--- the line for the packets that were translated, and for those to which no replacement applies
+-- the line that counts the packets translated, and the packets to which no replacement applies
 abbrev pub packets_line : Counts → List ℕ
 packets_line counts =
     codes "translator: " ++ (decimal counts.translated ++ (codes " packets translated, "
     ++ (decimal counts.unaffected ++ codes " without a replacement\n")))
 
--- the table of counts, a line each
+-- all lines of the counts
 abbrev pub counts_text : Counts → List ℕ
 counts_text counts = packets_line counts ++ flat_map (counted_line counts) all_reasons
 
 -- ---- the exit status
 
--- the exit status for an error of the header: 2 if the input is no capture, and 1 if it is a capture of a format that is not read
+-- the exit status after an error of the header: 2 if the input is no capture, and 1 if it is a capture of a format that is not read
 abbrev pub header_status : CaptureHeaderError → ℕ
 header_status Pcapng = 1
 header_status (CutOff len) = 2
@@ -92,7 +92,7 @@ header_status (Magic magic) = 2
 header_status Modified = 1
 header_status (Version major minor) = 1
 
--- the exit status for an error of a block: 2 if the input does not begin with a block, and otherwise 1
+-- the exit status after an error in the block at this offset: 2 if the input does not begin with a block, and otherwise 1
 abbrev pub block_status : ℕ → PacketError → ℕ
 block_status zero (packet_errors.Block error) = 2
 block_status zero (packet_errors.Body error) = 1
@@ -100,7 +100,7 @@ block_status zero (packet_errors.TooLong block_type total_len) = 1
 block_status zero (packet_errors.Interfaces max) = 1
 block_status (suc before) error = 1
 
--- the exit status for an error
+-- the exit status after an error of the capture
 abbrev pub status : CaptureError → ℕ
 status (Header error) = header_status error
 status (RecordCutOff offset required_len len) = 1

@@ -16,20 +16,20 @@ use Rattle.translator.specs.declared.table.Table.{Table}
 
 -- ---- exit statuses
 
--- The exit status after an error that ends the program. If the reader of standard output or standard error ended first, it is the status
--- that a shell reports for a program that SIGPIPE, signal 13, ended. Otherwise it is 3.
+-- The exit status after an error that ends the program. If the reader of standard output or standard error ended first, it is 128 + 13,
+-- which a shell reports for a program that SIGPIPE (signal 13) ended. Otherwise it is 3.
 abbrev pub failure_number : ErrorKind → ℕ
 failure_number kinds.BrokenPipe = 128 + 13
 failure_number kind = 3
 
--- the exit status after the text for an error in the arguments: 0 for help and for the version, 3 if no memory is left, and otherwise 2
+-- the exit status after an error in the arguments: 0 for a request for help or for the version, 3 if no memory is left, and otherwise 2
 abbrev pub answer_number : AnswerKind → ℕ
 answer_number answers.DisplayHelp = 0
 answer_number answers.DisplayVersion = 0
 answer_number answers.OutOfMemory = 3
 answer_number kind = 2
 
--- the exit status after a capture, or the error of a write
+-- the exit status after a capture, or the error if writing the capture failed
 abbrev pub ended_status : Result (Unit {0}) CaptureError → Result ℕ Error
 ended_status (Ok done) = Ok 0
 ended_status (Err (Write error)) = Err error
@@ -49,15 +49,15 @@ FailsAfter ended flushed result = IfOk ended (λ done. IfErr flushed (λ error. 
 
 -- ---- what is written to standard error
 
--- the line of an error of a capture
+-- the line for an error of a capture
 abbrev pub IsErrorLine : List ℕ → Type 0
 IsErrorLine line = (text : List ℕ) × (line ≡ codes "translator: " ++ (text ++ codes "\n"))
 
--- the line of a capture with this name that can't be opened
+-- the line for a capture with this name that can't be opened
 abbrev pub IsOpenErrorLine : List ℕ → List ℕ → Type 0
 IsOpenErrorLine name line = (text : List ℕ) × (line ≡ codes "translator: " ++ (name ++ (codes ": " ++ (text ++ codes "\n"))))
 
--- the line of the end of a capture, which is empty unless the capture could not be read to its end
+-- the line at the end of a capture: the line of its error, or nothing if it was read to its end or writing failed
 abbrev pub IsEndLine : Result (Unit {0}) CaptureError → List ℕ → Type 0
 IsEndLine (Ok done) line = line ≡ []
 IsEndLine (Err (Write error)) line = line ≡ []
@@ -67,21 +67,21 @@ IsEndLine (Err (Block error)) line = IsErrorLine line
 IsEndLine (Err (Read offset error)) line = IsErrorLine line
 IsEndLine (Err TooManyParts) line = IsErrorLine line
 
--- the counts, which are left out if writing or flushing the output failed
+-- the text of the counts, which is empty if writing or flushing the output failed
 abbrev pub counts_after : Result ℕ Error → Result (Unit {0}) Error → Counts → List ℕ
 counts_after (Ok number) (Ok done) counts = counts_text counts
 counts_after (Ok number) (Err error) counts = []
 counts_after (Err error) flushed counts = []
 
--- a text for which a statement holds, and then this text
+-- the whole text is a text for which `IsText` holds, followed by `more`
 abbrev pub IsFollowedBy : List ℕ → (List ℕ → Type 0) → List ℕ → Type 0
 IsFollowedBy more IsText whole = (text : List ℕ) × IsText text × (whole ≡ text ++ more)
 
--- the line of the end of a capture, and then the counts
+-- the text at the end of a capture: the line of its error, if there is one, and then the counts
 abbrev pub IsEndText : Result (Unit {0}) CaptureError → Result (Unit {0}) Error → Counts → List ℕ → Type 0
 IsEndText ended flushed counts text = IsFollowedBy (counts_after (ended_status ended) flushed counts) (IsEndLine ended) text
 
--- A beginning of a text was written, for which a statement holds. If `IsWhole` holds, the whole text was written.
+-- The beginning of a text for which `IsText` holds was written. If `IsWhole` holds, the whole text was written.
 pub record WritesText (before after : Option (List ℕ)) (IsWhole : Type 0) (IsText : List ℕ → Type 0) : Type 0 where
   pub text : List ℕ
   pub is_text : IsText text
@@ -90,11 +90,11 @@ pub record WritesText (before after : Option (List ℕ)) (IsWhole : Type 0) (IsT
 
 -- ---- the run
 
--- no packet
+-- the counts before the first packet
 abbrev pub no_counts : Counts
 no_counts = record { translated = 0; unaffected = 0; by_reason = replicate 11 0 }
 
--- The packets of a capture were translated by a table, up to the end of the capture or an error. Then the output was flushed. A beginning
+-- The packets of a capture were translated by a table, up to the end of the capture or an error. Then the output was flushed. The beginning
 -- of the text for standard error was written, and the whole text if the result is no error. The result is the exit status, or an error. If
 -- writing the capture failed, the result is the error of that write, and nothing is stated about the output.
 pub record WritesTranslation (table : Table) (left still_left held now_held told now_told : Option (List ℕ)) (result : Result ℕ Error)

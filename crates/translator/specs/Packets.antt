@@ -16,7 +16,7 @@ use Rattle.translator.specs.declared.table.Table.{Table}
 
 -- ---- packets
 
--- an IPv4 packet was translated, no replacement applies to it, or it stays for this reason
+-- an IPv4 packet was translated, or no replacement applies to it, or it stays as it is for this reason
 abbrev pub TranslatesIpv4 : Table → List ℕ → List ℕ → Result Bool Reason → Type 0
 TranslatesIpv4 table packet after (Ok true) = (ipv4_reason table packet ≡ None)
     × (is_ipv4_nothing (ipv4_given table packet) ≡ false) × (after ≡ ipv4_translated (ipv4_given table packet) packet)
@@ -24,7 +24,7 @@ TranslatesIpv4 table packet after (Ok false) = (ipv4_reason table packet ≡ Non
     × (is_ipv4_nothing (ipv4_given table packet) ≡ true) × (after ≡ packet)
 TranslatesIpv4 table packet after (Err reason) = (ipv4_reason table packet ≡ Some reason) × (after ≡ packet)
 
--- an IPv6 packet was translated, no replacement applies to it, or it stays for this reason
+-- an IPv6 packet was translated, or no replacement applies to it, or it stays as it is for this reason
 abbrev pub TranslatesIpv6 : Table → List ℕ → List ℕ → Result Bool Reason → Type 0
 TranslatesIpv6 table packet after (Ok true) = (ipv6_reason table packet ≡ None)
     × (is_ipv6_nothing (ipv6_given table packet) ≡ false) × (after ≡ ipv6_translated (ipv6_given table packet) packet)
@@ -32,17 +32,17 @@ TranslatesIpv6 table packet after (Ok false) = (ipv6_reason table packet ≡ Non
     × (is_ipv6_nothing (ipv6_given table packet) ≡ true) × (after ≡ packet)
 TranslatesIpv6 table packet after (Err reason) = (ipv6_reason table packet ≡ Some reason) × (after ≡ packet)
 
--- nothing is replaced in an IP packet
+-- the table replaces nothing in an IP packet
 abbrev pub is_nothing : Table → List ℕ → Bool
 is_nothing table packet =
     if version packet == 6 then is_ipv6_nothing (ipv6_given table packet) else is_ipv4_nothing (ipv4_given table packet)
 
--- an IP packet with what the table gives
+-- an IP packet after the replacements of the table
 abbrev pub translated : Table → List ℕ → List ℕ
 translated table packet =
     if version packet == 6 then ipv6_translated (ipv6_given table packet) packet else ipv4_translated (ipv4_given table packet) packet
 
--- a packet of either version was translated, no replacement applies to it, or it stays for this reason
+-- a packet of either IP version was translated, or no replacement applies to it, or it stays as it is for this reason
 abbrev pub TranslatesPacket : Table → List ℕ → List ℕ → Result Bool Reason → Type 0
 TranslatesPacket table packet after (Ok true) =
     (reason_of table packet ≡ None) × (is_nothing table packet ≡ false) × (after ≡ translated table packet)
@@ -51,8 +51,8 @@ TranslatesPacket table packet after (Err reason) = (reason_of table packet ≡ S
 
 -- ---- frames
 
--- the IP packet in a frame is between these places: after the link header, up to the end that the link header states, or up to the end of
--- the frame
+-- The IP packet of a frame is between these places. It starts after the link header. It ends where the link header states, or else at the
+-- end of the frame.
 pub record IsPacketIn (link_type : LinkType) (order : ByteOrder) (frame : List ℕ) (start end : ℕ) : Type 0 where
   pub stated : Option ℕ
   pub header : HasLinkHeader link_type order frame start None stated
@@ -60,7 +60,7 @@ pub record IsPacketIn (link_type : LinkType) (order : ByteOrder) (frame : List �
   pub ordered : start ≤ end
   pub within : end ≤ length frame
 
--- the packet in a frame was translated, or stays; what is before it and after it stays
+-- the packet in a frame was translated, or stays as it is; the bytes before and after it stay as they are
 pub record TranslatesWithin (table : Table) (link_type : LinkType) (order : ByteOrder) (frame after : List ℕ) (result : Result Bool Reason) : Type 0 where
   pub start : ℕ
   pub end : ℕ
@@ -69,26 +69,26 @@ pub record TranslatesWithin (table : Table) (link_type : LinkType) (order : Byte
   pub translates : TranslatesPacket table (slice_range frame start end) packet result
   pub written : after ≡ take start frame ++ (packet ++ drop end frame)
 
--- the link header, and a protocol other than IP after it
+-- the frame has a link header that is followed by a protocol other than IP
 pub record IsNotIp (link_type : LinkType) (order : ByteOrder) (frame : List ℕ) : Type 0 where
   pub len : ℕ
   pub protocol : NetworkProtocol
   pub stated : Option ℕ
   pub header : HasLinkHeader link_type order frame len (Some protocol) stated
 
--- the reason for a frame without an IP packet: it ends within its link header, or contains another protocol
+-- The reason why a frame contains no IP packet. It ends within its link header, or contains another protocol.
 abbrev pub HasNoPacket : LinkType → ByteOrder → List ℕ → Reason → Type 0
 HasNoPacket link_type order frame reasons.LinkHeader = (required_len : ℕ) × NeedsLinkHeader link_type order frame required_len
 HasNoPacket link_type order frame reasons.NotIp = IsNotIp link_type order frame
 HasNoPacket link_type order frame reason = ⊥
 
--- the packet in a frame was translated, or the frame stays for this reason
+-- the packet in a frame was translated, or the frame stays as it is for this reason
 abbrev pub TranslatesFrame : Table → LinkType → ByteOrder → List ℕ → List ℕ → Result Bool Reason → Type 0
 TranslatesFrame table link_type order frame after (Ok applies) = TranslatesWithin table link_type order frame after (Ok applies)
 TranslatesFrame table link_type order frame after (Err reason) = (after ≡ frame)
     × (HasNoPacket link_type order frame reason ⊎ TranslatesWithin table link_type order frame after (Err reason))
 
--- the same for a frame of a link type that may not be read; then the frame stays for this reason
+-- the packet in a frame was translated, or the frame stays as it is; a frame whose link type is not read always stays
 abbrev pub TranslatesCaptured : Table → Result LinkType ℕ → ByteOrder → List ℕ → List ℕ → Result Bool Reason → Type 0
 TranslatesCaptured table (Ok link_type) order frame after result = TranslatesFrame table link_type order frame after result
 TranslatesCaptured table (Err number) order frame after result = (after ≡ frame) × (result ≡ Err reasons.LinkType)

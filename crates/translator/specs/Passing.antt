@@ -1,4 +1,4 @@
--- What the program reads and writes as a copier: a part is a record of a classic capture, or a block of a pcapng file.
+-- What the program copies: a part is a record of a classic capture, or a block of a pcapng file.
 use Rattle.std.specs.Prelude.{◌≡◌, ◌⊎◌, ℕ, Bool, ⊤, Option, List, Result, Ok, Err}
 use Rattle.std.specs.Io.KnownBytes.{IsAtEnd}
 use Rattle.capture_copy.specs.Copies.{Copies, CopiesFront}
@@ -15,7 +15,7 @@ use Rattle.translator.specs.declared.reason.Reason.{Reason}
 
 -- ---- errors
 
--- reading failed in the record or block at this place
+-- reading failed in the record or block at this offset
 abbrev pub IsReadError : ℕ → CaptureError → Type 0
 IsReadError place (Header error) = ⊥
 IsReadError place (RecordCutOff offset required_len len) = ⊥
@@ -33,13 +33,13 @@ IsWriteError (Read offset error) = ⊥
 IsWriteError TooManyParts = ⊥
 IsWriteError (Write error) = ⊤
 
--- if the error is a block that is cut off, the statement holds
+-- the statement holds if the error is a block that is cut off
 abbrev pub IfBlockCutOff : PacketError → Type 0 → Type 0
 IfBlockCutOff (errors.Block (block_errors.CutOff required_len len)) Statement = Statement
 IfBlockCutOff error Statement = ⊤
 
--- What an input has left at an error, next to what it has left after the bytes that were passed: the same, unless reading failed. A record or
--- block is cut off only at the end of the input.
+-- `then_left` is what the input had left after the bytes of the part, and `still_left` is what it has left after this error. They are
+-- equal, unless reading failed. A record or block is cut off only at the end of the input.
 abbrev pub LeavesAt : CaptureError → Option (List ℕ) → Option (List ℕ) → Type 0
 LeavesAt (Header error) then_left still_left = ⊤
 LeavesAt (RecordCutOff offset required_len len) then_left still_left = (then_left ≡ still_left) × IsAtEnd still_left
@@ -50,15 +50,15 @@ LeavesAt (Write error) then_left still_left = ⊤
 
 -- ---- parts
 
--- a part with the outcome of the packet in it
+-- a record or block, with the outcome of its packet
 abbrev pub Part : Type 0
 Part = copier.Part (Result Bool Reason)
 
--- the number of records or blocks after which no more are read: 2^64 - 1
+-- the greatest number of records or blocks that are read: 2^64 - 1
 abbrev pub max_parts : ℕ
 max_parts = 18446744073709551615
 
--- the format whose parts and ends these are
+-- the format of a capture that consists of these parts and ends like this
 abbrev pub format_of : (State : Type 0) → (State → Part → State → Type 0) → (State → Part → CaptureError → Type 0) → Format
 format_of State IsPart IsEnd = record {
   State = State;
@@ -76,7 +76,7 @@ format_of State IsPart IsEnd = record {
 
 -- ---- bytes that are copied by pieces
 
--- as many bytes were copied as were counted, or some of `count` up to an error in the part at this place
+-- this number of bytes was copied; or after an error in the part at this offset, the first bytes of `count` bytes
 abbrev pub CopiesUpTo : ℕ → ℕ → Result ℕ CaptureError → Option (List ℕ) → Option (List ℕ) → Option (List ℕ) → Option (List ℕ) → Type 0
 CopiesUpTo place count (Ok len) left still_left held now_held = Copies left still_left held now_held len
 CopiesUpTo place count (Err error) left still_left held now_held =

@@ -1,4 +1,4 @@
--- Why a packet stays as it is.
+-- The reasons why a packet stays as it is.
 use Rattle.std.specs.Prelude.{ℕ, ◌==◌, ◌&&◌, Bool, is_none, not, if◌then◌else◌, List, [], ◌∷◌, Option, Some, None}
 use Rattle.std.specs.Cmp.Lexicographic.{pointwise}
 use Rattle.std.specs.Option.{option_eq, option_map}
@@ -16,7 +16,7 @@ use Rattle.translator.specs.declared.reason.Reason.{Reason}
 use Rattle.translator.specs.declared.reason.Reason.TheVariants as reasons
 use Rattle.translator.specs.declared.table.Table.{Table}
 
--- the reason for an error of the library
+-- the reason that corresponds to an error of the library
 abbrev pub of_error : TranslateError → Reason
 of_error (errors.Ip error) = reasons.IpHeaders
 of_error errors.OtherVersion = reasons.IpHeaders
@@ -26,31 +26,33 @@ of_error (errors.HeaderCutOff required_len len) = reasons.TransportHeader
 of_error errors.IcmpMessage = reasons.IcmpMessage
 of_error errors.QuotedPacket = reasons.QuotedPacket
 
--- `transport_in_ip_lax` accepts the packet, which has this version
+-- `transport_in_ip_lax` accepts the packet, and the packet has this IP version
 abbrev pub is_read : ℕ → List ℕ → Bool
 is_read expected packet = is_none (lax_refusal packet) && version packet == expected
 
--- equal new addresses, or none of both
+-- both new addresses are equal, or neither is present
 abbrev pub is_same : Option (List ℕ) → Option (List ℕ) → Bool
 is_same address other = option_eq (pointwise ◌==◌) address other
 
 -- ---- rules in their order
 
--- an ICMP error quotes a packet of this version with refused headers, or needs other new addresses than this packet (RFC 5508, section 4)
+-- The reason why an ICMP error that quotes this packet is not translated. The headers of the quoted packet are refused, or the table gives
+-- different addresses for both packets (RFC 5508, section 4).
 abbrev pub quoted_reason : ℕ → List ℕ → Bool → Option Reason
 quoted_reason expected quoted are_same = first_of (
     refused_if (not (is_read expected quoted)) reasons.QuotedPacket
     ∷ refused_if (not are_same) reasons.QuotedAddresses
     ∷ [])
 
--- the headers of a packet of this version are refused, or there is a reason due to the packet that it quotes
+-- the reason why it is not known what to replace in a packet: its headers are refused, or a reason due to the packet that it quotes
 abbrev pub unknown_reason : ℕ → List ℕ → Option Reason → Option Reason
 unknown_reason expected packet quoting = first_of (
     refused_if (not (is_read expected packet)) reasons.IpHeaders
     ∷ quoting
     ∷ [])
 
--- there is a reason why it is not known what to replace, or the library returns an error; the error counts only if something is replaced
+-- The reason why a packet stays as it is. It is not known what to replace, or the library refuses the packet. If nothing is replaced, a
+-- refusal by the library does not count.
 abbrev pub reason_by : Option Reason → Bool → Option TranslateError → Option Reason
 reason_by unknown is_nothing refusal = first_of (
     unknown
@@ -59,7 +61,7 @@ reason_by unknown is_nothing refusal = first_of (
 
 -- ---- IPv4
 
--- the same new addresses
+-- the new addresses of both are the same
 abbrev pub is_same_ipv4 : Ipv4Translation → Ipv4Translation → Bool
 is_same_ipv4 new other = is_same new.source other.source && is_same new.destination other.destination
 
@@ -67,7 +69,7 @@ is_same_ipv4 new other = is_same new.source other.source && is_same new.destinat
 abbrev pub is_ipv4_nothing : Ipv4Translation → Bool
 is_ipv4_nothing new = is_none new.source && (is_none new.destination && (is_none new.source_port && is_none new.destination_port))
 
--- the reason due to the packet that an ICMP error quotes; for the addresses of the error the table gives `own`
+-- the reason due to the packet that an ICMP error quotes; `own` is what the table gives for the error itself
 abbrev pub ipv4_quoting_reason : Table → Ipv4Translation → Option (List ℕ) → Option Reason
 ipv4_quoting_reason table own None = None
 ipv4_quoting_reason table own (Some quoted) = quoted_reason 4 quoted (is_same_ipv4 own (ipv4_by_quoted table quoted))
@@ -83,7 +85,7 @@ ipv4_reason table packet =
 
 -- ---- IPv6
 
--- the same new addresses
+-- the new addresses of both are the same
 abbrev pub is_same_ipv6 : Ipv6Translation → Ipv6Translation → Bool
 is_same_ipv6 new other = is_same new.source other.source && is_same new.destination other.destination
 
@@ -91,7 +93,7 @@ is_same_ipv6 new other = is_same new.source other.source && is_same new.destinat
 abbrev pub is_ipv6_nothing : Ipv6Translation → Bool
 is_ipv6_nothing new = is_none new.source && (is_none new.destination && (is_none new.source_port && is_none new.destination_port))
 
--- the reason due to the packet that an ICMP error quotes; for the addresses of the error the table gives `own`
+-- the reason due to the packet that an ICMP error quotes; `own` is what the table gives for the error itself
 abbrev pub ipv6_quoting_reason : Table → Ipv6Translation → Option (List ℕ) → Option Reason
 ipv6_quoting_reason table own None = None
 ipv6_quoting_reason table own (Some quoted) = quoted_reason 6 quoted (is_same_ipv6 own (ipv6_by_quoted table quoted))

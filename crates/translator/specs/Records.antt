@@ -29,31 +29,31 @@ pub record TranslatesRecord (table : Table) (capture : CaptureHeader) (part : Pa
   pub is_written : part.written ≡ take record_header_len part.read ++ after
   pub outcome : part.outcome ≡ Some result
 
--- the outcome of a record: its frame was translated, or the record was copied since the buffer has no room for the frame
+-- the outcome of a record: its frame was translated, or the record was copied since the frame does not fit in the buffer
 abbrev pub HasRecordOutcome : Table → CaptureHeader → Part → Type 0
 HasRecordOutcome table capture part =
     ((captured_len capture part.read ≤ max_packet_len) × TranslatesRecord table capture part)
     ⊎ ((max_packet_len < captured_len capture part.read) × IsUnchanged part (Some (Err TooLong)))
 
--- exactly one record of this capture, with its outcome
+-- exactly one record of this capture was read and written, with its outcome
 pub record IsRecordPart (table : Table) (capture : CaptureHeader) (part : Part) : Type 0 where
   pub is_record : IsRecord capture.byte_order part.read
   pub has_outcome : HasRecordOutcome table capture part
 
--- the capture after a record with this header
+-- the state after a record with this header
 abbrev pub passed : ClassicReader → RecordHeader → ClassicReader
 passed records header = record { header = records.header; offset = offset_after_record records.offset header }
 
--- the capture after the record that begins with these bytes
+-- the state after the record that begins with these bytes
 abbrev pub records_after : ClassicReader → List ℕ → ClassicReader
 records_after records bytes = passed records (record_header records.header.byte_order bytes)
 
--- at most the bytes of one record, which are copied
+-- at most the bytes of one record, which were copied
 abbrev pub IsRecordFront : CaptureHeader → Part → Type 0
 IsRecordFront capture part =
     IsUnchanged part None × ((length part.read < record_header_len) ⊎ (length part.read ≤ record_len capture.byte_order part.read))
 
--- this error ends the capture within a record, which is not counted
+-- this error ends the capture within a record, and the record is not counted
 abbrev pub IsRecordEnd : ClassicReader → Part → CaptureError → Type 0
 IsRecordEnd records part (RecordCutOff offset required len) =
     (offset ≡ records.offset) × IsUnchanged part None × IsCutRecord records.header.byte_order part.read required len
@@ -63,7 +63,7 @@ IsRecordEnd records part (Block error) = ⊥
 IsRecordEnd records part TooManyParts = ⊥
 IsRecordEnd records part (Write error) = ⊥
 
--- classic captures, whose packets are translated by this table
+-- the format of classic captures whose packets this table translates
 abbrev pub records_of : Table → Format
 records_of table = format_of
     ClassicReader

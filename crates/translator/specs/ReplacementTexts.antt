@@ -1,4 +1,4 @@
--- Replacements as texts: two networks, or two ports, with `=` between them.
+-- Replacements as texts: two networks or two ports, separated by `=`.
 use Rattle.std.specs.Prelude.{◌≡◌, ◌≢◌, ◌⊎◌, ◌<◌, ◌≤◌, ◌-◌, ◌^◌, ◌==◌, ℕ, Bool, true, false, if◌then◌else◌, bit_and, nat_lt, not, List, length, Result, Ok, Err}
 use Rattle.std.specs.List.{after_first, before_first, position_or_len}
 use Rattle.std.specs.Net.Addr.{ipv4_bits, ipv6_bits}
@@ -28,32 +28,34 @@ IsPortText text port =
 abbrev pub IsNoPort : List ℕ → Type 0
 IsNoPort text = (port : ℕ) → ¬ (IsPortText text port)
 
--- what is read of the text of a port
+-- the result of reading a port from this text
 abbrev pub ReadsPort : List ℕ → Result ℕ ReplacementError → Type 0
 ReadsPort text (Ok port) = IsPortText text port
 ReadsPort text (Err error) = IsNoPort text × (error ≡ errors.Port)
 
--- what is read of the texts of an old and a new port
+-- the result of reading a replacement of a port from the texts of the old and the new port
 abbrev pub ReadsPorts : List ℕ → List ℕ → Result PortReplacement ReplacementError → Type 0
 ReadsPorts old new (Ok replacement) = IsPortText old replacement.old × IsPortText new replacement.new
 ReadsPorts old new (Err error) = (IsNoPort old ⊎ IsNoPort new) × (error ≡ errors.Port)
 
--- what is read of a text: two ports, with the first `=` of the text between them
+-- the result of reading a replacement of a port from a text; the first `=` separates the two ports
 pub record ReadsPortReplacement (text : List ℕ) (result : Result PortReplacement ReplacementError) : Type 0 where
   pub alone : position_or_len is_equals text ≡ length text → result ≡ Err errors.Form
   pub pair : position_or_len is_equals text < length text → ReadsPorts (before_first is_equals text) (after_first is_equals text) result
 
 -- ---- networks
 
--- the number of bits of an address, the address as a number, and whether it is of IPv6
+-- the number of bits of an address
 abbrev pub bits_of : IpAddr → ℕ
 bits_of (V4 ip) = 32
 bits_of (V6 ip) = 128
 
+-- the address as a number
 abbrev pub number_of : IpAddr → ℕ
 number_of (V4 ip) = ipv4_bits ip
 number_of (V6 ip) = ipv6_bits ip
 
+-- whether the address is an IPv6 address
 abbrev pub is_ipv6 : IpAddr → Bool
 is_ipv6 (V4 ip) = false
 is_ipv6 (V6 ip) = true
@@ -66,25 +68,25 @@ IsNoAddress text = (address : IpAddr) → ¬ (IsIpText text address)
 abbrev pub IsNumberText : List ℕ → Type 0
 IsNumberText text = IsNumeral 10 (without_leading_plus text) × (digits_value 10 (without_leading_plus text) < 2 ^ 32)
 
--- the network of an address with this number of bits after its prefix, unless one of these bits is 1
+-- the network that begins at this address and has this number of host bits; or the error if one of these bits is 1
 abbrev pub ReadsHostBits : IpAddr → ℕ → Result NetworkText ReplacementError → Type 0
 ReadsHostBits address host_bits (Ok found) =
     HasHostBits (number_of address) host_bits found.network × (found.is_ipv6 ≡ is_ipv6 address) × (found.host_bits ≡ host_bits)
 ReadsHostBits address host_bits (Err error) = (bit_and (number_of address) (host_mask host_bits) ≢ 0) × (error ≡ errors.HostBits)
 
--- the network of an address and the text of the length of its prefix
+-- the network that is read from this address and the text of a prefix length, or the error
 pub record ReadsLength (address : IpAddr) (text : List ℕ) (result : Result NetworkText ReplacementError) : Type 0 where
   pub other : ¬ (IsNumberText text) → result ≡ Err errors.PrefixLength
   pub above : IsNumberText text → bits_of address < digits_value 10 (without_leading_plus text) → result ≡ Err errors.PrefixLength
   pub within : IsNumberText text → digits_value 10 (without_leading_plus text) ≤ bits_of address
       → ReadsHostBits address (bits_of address - digits_value 10 (without_leading_plus text)) result
 
--- the network with these texts before and after its slash
+-- the network that is read from the texts before and after its slash, or the error
 abbrev pub ReadsPrefixed : List ℕ → List ℕ → Result NetworkText ReplacementError → Type 0
 ReadsPrefixed text prefix_len result =
     (IsNoAddress text × (result ≡ Err errors.Address)) ⊎ ((address : IpAddr) × IsIpText text address × ReadsLength address prefix_len result)
 
--- the network of a text without a slash, which is one address
+-- the network that is read from a text without a slash, which is one address, or the error
 abbrev pub ReadsSingle : List ℕ → Result NetworkText ReplacementError → Type 0
 ReadsSingle text result =
     (IsNoAddress text × (result ≡ Err errors.Address)) ⊎ ((address : IpAddr) × IsIpText text address × ReadsHostBits address 0 result)
@@ -93,7 +95,7 @@ ReadsSingle text result =
 abbrev pub is_slash : ℕ → Bool
 is_slash byte = byte == 47
 
--- the network of a text: an address, or an address and the length of its prefix with the first slash of the text between them
+-- the network that is read from a text, or the error; the text is an address, or an address and a prefix length after the first slash
 pub record ReadsNetwork (text : List ℕ) (result : Result NetworkText ReplacementError) : Type 0 where
   pub single : position_or_len is_slash text ≡ length text → ReadsSingle text result
   pub prefixed : position_or_len is_slash text < length text → ReadsPrefixed (before_first is_slash text) (after_first is_slash text) result
@@ -103,14 +105,16 @@ abbrev pub is_same_version : Bool → Bool → Bool
 is_same_version true other = other
 is_same_version false other = not other
 
--- the replacement of one network by another, or why there is none: both have the same IP version, and the new prefix is not shorter
+-- The replacement of one network by another, and whether it is for IPv6. It is an error if their IP versions differ, or if the new prefix
+-- is shorter.
 abbrev pub replacement_of : NetworkText → NetworkText → Result (NetworkReplacement × Bool) ReplacementError
 replacement_of old new =
     if is_same_version old.is_ipv6 new.is_ipv6
     then (if nat_lt old.host_bits new.host_bits then Err errors.ShorterPrefix else Ok (record { old = old.network; new = new.network }, old.is_ipv6))
     else Err errors.Versions
 
--- What is read of the texts of an old and a new network. If both are wrong, the error is the error of the first one.
+-- The result of reading a replacement from the texts of the old and the new network. If both texts are wrong, the error is about the old
+-- one.
 abbrev pub ReadsNetworks : List ℕ → List ℕ → Result (NetworkReplacement × Bool) ReplacementError → Type 0
 ReadsNetworks old new result =
     ((error : ReplacementError) × ReadsNetwork old (Err error) × (result ≡ Err error))
@@ -118,7 +122,7 @@ ReadsNetworks old new result =
     × (((error : ReplacementError) × ReadsNetwork new (Err error) × (result ≡ Err error))
     ⊎ ((second : NetworkText) × ReadsNetwork new (Ok second) × (result ≡ replacement_of first second))))
 
--- what is read of a text: two networks, with the first `=` of the text between them
+-- the result of reading a replacement of a network from a text; the first `=` separates the two networks
 pub record ReadsNetworkReplacement (text : List ℕ) (result : Result (NetworkReplacement × Bool) ReplacementError) : Type 0 where
   pub alone : position_or_len is_equals text ≡ length text → result ≡ Err errors.Form
   pub pair : position_or_len is_equals text < length text → ReadsNetworks (before_first is_equals text) (after_first is_equals text) result

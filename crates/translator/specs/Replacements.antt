@@ -1,4 +1,4 @@
--- The table of replacements, and what it gives for the addresses and ports of a packet.
+-- The table of replacements, and the new addresses and ports that it gives.
 use Rattle.std.specs.Prelude.{ℕ, ◌-◌, ◌^◌, ◌≡◌, ◌==◌, ◌&&◌, Bool, length, min, bit_and, bit_or, List, Option, Some, None}
 use Rattle.std.specs.Int.{from_be_bytes, to_be_bytes, w32, w128}
 use Rattle.std.specs.List.{find}
@@ -15,7 +15,7 @@ use Rattle.translator.specs.declared.table.Table.{Table}
 
 -- ---- networks
 
--- the number whose last `host_bits` bits are 1 and whose other bits are 0; an address has at most 128 bits
+-- the number whose last `host_bits` bits are 1 and whose other bits are 0, for at most 128 bits
 abbrev pub host_mask : ℕ → ℕ
 host_mask host_bits = min (2 ^ host_bits) (2 ^ 128) - 1
 
@@ -25,30 +25,30 @@ pub record HasHostBits (address host_bits : ℕ) (network : Network) : Type 0 wh
   pub mask : network.host_mask ≡ host_mask host_bits
   pub none_set : bit_and address network.host_mask ≡ 0
 
--- the network contains this address: their bits before the host bits are the same
+-- the network contains this address: the bits before the host bits are the same
 abbrev pub is_in : Network → ℕ → Bool
 is_in network address = bit_or address network.host_mask == bit_or network.first network.host_mask
 
--- the address in the network with the host bits of this address
+-- the address in this network that has the host bits of the given address
 abbrev pub in_network : Network → ℕ → ℕ
 in_network network address = bit_or network.first (bit_and address network.host_mask)
 
 -- ---- first matches
 
--- the new address by the first replacement whose old network contains the address
+-- the new address that is given by the first replacement whose old network contains this address
 abbrev pub new_address : List NetworkReplacement → ℕ → Option ℕ
 new_address replacements address =
     option_map (λ replacement. in_network replacement.new address) (find (λ replacement. is_in replacement.old address) replacements)
 
--- the new port by the first replacement of this port
+-- the port that the first replacement of this port gives
 abbrev pub new_port : List PortReplacement → ℕ → Option ℕ
 new_port replacements port = option_map (λ replacement. replacement.new) (find (λ replacement. replacement.old == port) replacements)
 
--- the new address of IPv4, by its number
+-- the address that replaces this IPv4 address
 abbrev pub new_ipv4 : Replacements → List ℕ → Option (List ℕ)
 new_ipv4 replacements address = option_map (to_be_bytes w32) (new_address replacements.ipv4.items (from_be_bytes w32 address))
 
--- the new address of IPv6, by its number
+-- the address that replaces this IPv6 address
 abbrev pub new_ipv6 : Replacements → List ℕ → Option (List ℕ)
 new_ipv6 replacements address = option_map (to_be_bytes w128) (new_address replacements.ipv6.items (from_be_bytes w128 address))
 
@@ -68,16 +68,16 @@ abbrev pub new_source_port : Table → Option (ℕ × ℕ) → Option ℕ
 new_source_port table None = None
 new_source_port table (Some ports) = new_port table.source.ports.items ports.0
 
--- the new destination port
+-- the new destination port, if the packet has ports
 abbrev pub new_destination_port : Table → Option (ℕ × ℕ) → Option ℕ
 new_destination_port table None = None
 new_destination_port table (Some ports) = new_port table.destination.ports.items ports.1
 
--- both
+-- the new source port and the new destination port
 abbrev pub new_ports : Table → Option (ℕ × ℕ) → Option ℕ × Option ℕ
 new_ports table ports = (new_source_port table ports, new_destination_port table ports)
 
--- what is replaced in an IPv4 packet with these addresses and ports
+-- what the table replaces in an IPv4 packet with these addresses and ports
 abbrev pub ipv4_translation : Table → Ipv4Header → Option (ℕ × ℕ) → Ipv4Translation
 ipv4_translation table addresses ports = record {
   source = new_ipv4 table.source addresses.source;
@@ -86,7 +86,7 @@ ipv4_translation table addresses ports = record {
   destination_port = new_destination_port table ports;
 }
 
--- what is replaced in an IPv6 packet with these addresses and ports
+-- what the table replaces in an IPv6 packet with these addresses and ports
 abbrev pub ipv6_translation : Table → Ipv6Header → Option (ℕ × ℕ) → Ipv6Translation
 ipv6_translation table addresses ports = record {
   source = new_ipv6 table.source addresses.source;
@@ -95,7 +95,7 @@ ipv6_translation table addresses ports = record {
   destination_port = new_destination_port table ports;
 }
 
--- the ports of a packet in the other direction
+-- the source port and the destination port, exchanged
 abbrev pub exchanged : Option (ℕ × ℕ) → Option (ℕ × ℕ)
 exchanged None = None
 exchanged (Some ports) = Some (ports.1, ports.0)

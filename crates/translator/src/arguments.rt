@@ -11,7 +11,7 @@ use clap::error::ErrorKind;
 use clap::{Arg, ArgAction, ArgMatches, Command, Error};
 use std::alloc::{AllocError, Global};
 
-/// The version of the program, which is that of the library (`ETHERPARSE_VERSION` in the C header).
+/// The version of the program. It is the version of the library, `ETHERPARSE_VERSION` in the C header.
 const VERSION: &str = "0.5.0";
 
 /// The example and the exit statuses in the help.
@@ -30,7 +30,7 @@ Exit status:
   3  Opening, reading or writing failed, or no memory was left.
   141  The reader of standard output or standard error ended first.";
 
-/// The options with replacements: their names, and their texts in the help.
+/// The options that give replacements: their names, and their texts in the help.
 static REPLACEMENTS: [(&str, &str); 4] = [
     ("source", "Replace a network of source addresses"),
     ("destination", "Replace a network of destination addresses"),
@@ -41,21 +41,21 @@ static REPLACEMENTS: [(&str, &str); 4] = [
     ),
 ];
 
-/// The options in the arguments.
+/// The options that the arguments give.
 #[derive(Drop)]
 pub struct Options<'a> {
     /// The replacements.
     pub table: Table,
-    /// The name of the capture. `-` names standard input, which is also read if there is no name.
+    /// The name of the capture. The program reads standard input if the name is `-`, or if there is no name.
     pub file: Option<&'a str>,
 }
 
-/// The options in the arguments after the name of the program.
+/// Reads the options from the arguments after the name of the program.
 ///
 /// # Errors
 ///
-/// An unknown argument, or one that is no replacement, is named in the text of the error, whose exit status is 2. A request for help or for
-/// the version is also an error. Its text goes to standard output, and its exit status is 0.
+/// If an argument is unknown or is no replacement, the text of the error names it, and the exit status is 2. A request for help or for the
+/// version is also returned as an error. Its text goes to standard output, and its exit status is 0.
 pub fn requested_options<'a>(alloc: Global, words: &'a [String]) -> Result<Options<'a>, Error>
     ensures some { IfOk result (λ options. is_empty_table options.table ≡ false) }
 {
@@ -69,12 +69,13 @@ pub fn requested_options<'a>(alloc: Global, words: &'a [String]) -> Result<Optio
     Ok(Options { table, file })
 }
 
-/// The error if there is no capture to read, with the usage.
+/// The error if there is no capture to read. Its text contains the usage.
 pub fn no_capture(alloc: Global) -> Error {
     missing(alloc, "no FILE is named, and standard input is a terminal")
 }
 
-/// The error for an argument that is missing, with the usage. If no memory is left for its text, the error is about the memory.
+/// The error for an argument that is missing. Its text contains the usage. If no memory is left for the text, the result is an error about
+/// memory.
 fn missing(alloc: Global, message: &str) -> Error {
     match error_with_usage(alloc, ErrorKind::MissingRequiredArgument, message) {
         Ok(error) => error,
@@ -82,18 +83,18 @@ fn missing(alloc: Global, message: &str) -> Error {
     }
 }
 
-/// An error with this message and the usage.
+/// An error with this message and with the usage of the program.
 fn error_with_usage(alloc: Global, kind: ErrorKind, message: &str) -> Result<Error, Error> {
     let mut command = command(alloc)?;
     error_of(&mut command, kind, message)
 }
 
-/// An error with this message and the usage of this command.
+/// An error with this message and with the usage of this command.
 fn error_of(command: &mut Command<'_>, kind: ErrorKind, message: &str) -> Result<Error, Error> {
     Ok(command.error(kind, message)?)
 }
 
-/// Adds all replacements that the arguments give.
+/// Adds the replacements that the arguments give to the table.
 fn add_replacements(
     alloc: Global,
     matches: &ArgMatches<'_>,
@@ -105,7 +106,7 @@ fn add_replacements(
     add_ports(alloc, matches, "destination-port", &mut table.destination)
 }
 
-/// Adds the replacements of networks that an option gives.
+/// Adds the replacements of networks that the option of this name gives.
 fn add_networks(
     alloc: Global,
     matches: &ArgMatches<'_>,
@@ -125,7 +126,7 @@ fn add_networks(
     Ok(())
 }
 
-/// Adds the replacements of ports that an option gives.
+/// Adds the replacements of ports that the option of this name gives.
 fn add_ports(
     alloc: Global,
     matches: &ArgMatches<'_>,
@@ -144,18 +145,18 @@ fn add_ports(
     Ok(())
 }
 
-/// The error for a text that is no replacement, with the usage.
+/// The error for a text that is no replacement. Its text contains the usage.
 fn invalid(alloc: Global, id: &str, text: &str, error: ReplacementError) -> Result<Error, Error> {
     let message = format!(in alloc; "invalid value '{text}' for '--{id} <OLD=NEW>': {error}")?;
     error_with_usage(alloc, ErrorKind::ValueValidation, message.as_str())
 }
 
-/// The command line.
+/// The command line that the program accepts.
 fn command<'a>(alloc: Global) -> Result<Command<'a>, Error> {
     Ok(with_options(alloc)?)
 }
 
-/// The command line with the options and the name of the capture.
+/// The command line with all options and the name of the capture.
 fn with_options<'a>(alloc: Global) -> Result<Command<'a>, AllocError> {
     let mut command = bare(alloc);
     for (name, help) in &REPLACEMENTS {
@@ -172,7 +173,7 @@ fn bare<'a>(alloc: Global) -> Command<'a> {
         .after_help(AFTER_HELP)
 }
 
-/// The command line with one more option with replacements.
+/// The command line with another option that gives replacements.
 fn with_replacement<'a>(
     alloc: Global,
     command: Command<'a>,
@@ -182,7 +183,7 @@ fn with_replacement<'a>(
     command.arg(replacement(alloc, name, help))
 }
 
-/// An option with replacements.
+/// An option that gives replacements. It may occur more than once.
 fn replacement<'a>(alloc: Global, name: &'a str, help: &'a str) -> Arg<'a> {
     Arg::new(alloc, name)
         .long(name)

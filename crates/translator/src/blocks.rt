@@ -24,17 +24,17 @@ use capture_file::reader::{CapturedPacket, PacketError, PlacedPacketError, Secti
 use capture_packet::MAX_PACKET_LEN;
 use std::io::{Read, Write};
 
-/// A pcapng file after some of its blocks.
+/// The state of reading after some blocks of a pcapng file.
 #[derive(Drop)]
 pub(crate) struct Blocks {
-    /// The section that the next block is in.
+    /// The section that contains the next block.
     pub section: Section,
-    /// The start of the next block, in bytes from the start of the file. It counts to 2^64 - 1 at most.
+    /// The start of the next block, in bytes from the start of the file. An offset above 2^64 - 1 is stored as 2^64 - 1.
     pub offset: u64,
 }
 
 impl Blocks {
-    /// The start of a file. Its section header block states the byte order.
+    /// The state at the start of a file. The byte order does not matter, since the section header block states its own.
     pub fn start() -> Blocks
         ensures { IsFileStart result }
     {
@@ -91,7 +91,7 @@ fn translate_others<R: Read, W: Write>(
     Err(CaptureError::TooManyParts)
 }
 
-/// Translates the next block. Returns whether there is a block.
+/// Translates the next block. Returns `false` if there is no next block.
 fn translate_next<R: Read, W: Write>(
     copier: &mut Copier<'_, R, W>,
     file: &mut Blocks,
@@ -190,14 +190,14 @@ fn write_rejected<W: Write>(output: &mut W, offset: u64, bytes: &[u8]) -> Result
     write(output, bytes)
 }
 
-/// The number of bytes of the block with this header for which the buffer has room.
+/// The number of bytes of the block with this header that fit in the buffer.
 fn kept_len(header: &BlockHeader) -> usize
     ensures { result ≡ min header.now.total_len max_packet_len }
 {
     (header.total_len as usize).min(MAX_PACKET_LEN)
 }
 
-/// Checks the block in these bytes, if the buffer has room for it.
+/// Checks the block in these bytes. A block that does not fit in the buffer is accepted here.
 fn check(header: &BlockHeader, bytes: &[u8], order: ByteOrder) -> Result<(), BlockError>
     ensures accepted { OnOk result (header.now.total_len ≤ max_packet_len → block_refusal order bytes.now ≡ None) }
     ensures refused { IfErr result (λ error. (header.now.total_len ≤ max_packet_len) × (block_refusal order bytes.now ≡ Some error)) }
@@ -211,8 +211,8 @@ fn check(header: &BlockHeader, bytes: &[u8], order: ByteOrder) -> Result<(), Blo
     }
 }
 
-/// Translates the packet of a block, if it is a packet block, and returns its outcome. The bytes are the block, or its beginning if the buffer
-/// has no room for it.
+/// Translates the packet of a block and returns its outcome, or `None` if the block contains no packet. The bytes are the block, or its
+/// beginning if the block does not fit in the buffer.
 fn translate_kept(
     header: &BlockHeader,
     bytes: &mut [u8],
@@ -233,7 +233,7 @@ fn translate_kept(
     match section.take(&block) {
         Ok(Some(packet)) => Ok(Some(translate_captured(&packet, bytes, table))),
         Ok(None) => Ok(None),
-        // The captured bytes of a packet are not all in the buffer.
+        // The packet does not fit in the buffer.
         Err(PacketError::Body(BodyError::CutOff { .. })) if total_len > MAX_PACKET_LEN => {
             Ok(Some(Err(Reason::TooLong)))
         }
@@ -241,7 +241,7 @@ fn translate_kept(
     }
 }
 
-/// Translates the captured bytes of a packet in these bytes.
+/// Translates the frame of this packet in the bytes of its block.
 fn translate_captured(
     packet: &CapturedPacket,
     bytes: &mut [u8],
@@ -255,10 +255,10 @@ fn translate_captured(
     translate_captured_frame(packet.link_type, packet.byte_order, frame, table)
 }
 
-/// The length of the last total length of a block, in bytes.
+/// The length of the field at the end of a block that repeats its total length, in bytes.
 const LAST_LEN: usize = 4;
 
-/// Copies the bytes of a block for which the buffer has no room, and checks the last total length.
+/// Copies the bytes of a block that do not fit in the buffer, and checks the total length at its end.
 fn copy_rest<R: Read, W: Write>(
     copier: &mut Copier<'_, R, W>,
     header: &BlockHeader,
@@ -296,7 +296,7 @@ fn copy_rest<R: Read, W: Write>(
     Ok(())
 }
 
-/// The error for a file that ends after this number of bytes of the block with this header.
+/// The error for a block with this header after whose first `len` bytes the file ends.
 fn cut_off(offset: u64, header: &BlockHeader, len: usize) -> CaptureError
     ensures { result ≡ cut_at offset header.now.total_len len }
 {

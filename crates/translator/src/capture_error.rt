@@ -9,7 +9,7 @@ use thiserror::Error;
 /// Why a capture is not translated to its end.
 #[derive(Debug, Error, Drop)]
 pub enum CaptureError {
-    /// The input does not begin with the header of a capture that is read.
+    /// The input begins with no header of a capture, or with a header of a format that is not read.
     #[error(transparent)]
     Header(CaptureHeaderError),
     /// The input ends within a record of a classic capture.
@@ -17,9 +17,9 @@ pub enum CaptureError {
     RecordCutOff {
         /// The start of the record, in bytes from the start of the file.
         offset: u64,
-        /// The length of the record in bytes, as far as it is known.
+        /// The least length that the record has, in bytes: the length of its header if the header is cut off.
         required_len: usize,
-        /// The number of bytes that are present.
+        /// The number of bytes of the record that are present.
         len: usize,
     },
     /// A block of a pcapng file can't be read, or the file ends within it.

@@ -6,7 +6,7 @@ use crate::reason::Reason;
 use std::io;
 use std::io::Write;
 
-/// How many packets were translated, and why the others were not.
+/// How many packets were translated, and how many were not, by reason.
 #[derive(Clone, Copy, Debug, PartialEq, Eq)]
 pub struct Counts {
     /// The packets that were translated.
@@ -18,14 +18,14 @@ pub struct Counts {
 }
 
 impl Counts {
-    /// No packet.
+    /// The counts before the first packet.
     pub const NONE: Counts = Counts {
         translated: 0,
         unaffected: 0,
         by_reason: [0; Reason::COUNT],
     };
 
-    /// Counts a packet with this outcome of `translate_frame`. A count of 2^64 - 1 stays.
+    /// Counts a packet with this outcome of `translate_frame`. A count that has reached 2^64 - 1 does not change.
     pub fn add(&mut self, outcome: Result<bool, Reason>)
         ensures { self.new ≡ counted self.old outcome }
     {
@@ -39,7 +39,7 @@ impl Counts {
         }
     }
 
-    /// Counts the packet with this outcome, if there is one.
+    /// Counts a packet with this outcome, or nothing if the outcome is `None`.
     pub fn add_if(&mut self, outcome: Option<Result<bool, Reason>>)
         ensures { self.new ≡ counted_if self.old outcome }
     {
@@ -48,7 +48,7 @@ impl Counts {
         }
     }
 
-    /// Writes the counts, a line each. A reason without a packet has no line.
+    /// Writes the counts as lines. A reason that applies to no packet has no line.
     ///
     /// # Errors
     ///
@@ -67,7 +67,7 @@ impl Counts {
         Ok(())
     }
 
-    /// Writes the line for a reason, unless it counts no packet.
+    /// Writes the line of a reason. Nothing is written if the reason applies to no packet.
     fn write_reason<W: Write>(&self, output: &mut W, reason: Reason) -> io::Result<()>
         ensures { OnOk result (Appends (W.contents output.old) (W.contents output.new) (counted_line self.now reason)) }
     {
@@ -75,7 +75,7 @@ impl Counts {
     }
 }
 
-/// Writes the line for a reason in these words, unless it counts no packet.
+/// Writes the line of the reason with this text. Nothing is written if the count is 0.
 fn write_line<W: Write>(output: &mut W, reason: &str, count: u64) -> io::Result<()>
     ensures { OnOk result (Appends (W.contents output.old) (W.contents output.new) (reason_line reason.now count)) }
 {

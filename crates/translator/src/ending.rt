@@ -11,7 +11,7 @@ use std::io;
 use std::io::Write;
 use streams::write_whole;
 
-/// Writes the error of a capture, if it has an error, and then the counts of packets. Returns the exit status. The counts are left out if
+/// Writes the error of the capture, if there is one, and then the counts of packets. Returns the exit status. The counts are not written if
 /// the output could not be written or flushed.
 ///
 /// # Errors
@@ -36,7 +36,7 @@ pub fn finished<E: Write>(
     Ok(status)
 }
 
-/// Writes the error of a capture, if it has an error, and returns the exit status.
+/// Writes the error of the capture, if there is one, and returns the exit status.
 fn ended_status<E: Write>(
     errors: &mut E,
     alloc: Global,
@@ -57,7 +57,7 @@ fn ended_status<E: Write>(
     }
 }
 
-/// Writes the line of an error of a capture.
+/// Writes the line for an error of a capture.
 fn write_error<E: Write>(errors: &mut E, alloc: Global, error: &CaptureError) -> io::Result<()>
     ensures { WritesText (E.contents errors.old) (E.contents errors.new) (IsOk result) IsErrorLine }
 {
@@ -65,7 +65,7 @@ fn write_error<E: Write>(errors: &mut E, alloc: Global, error: &CaptureError) ->
     write_whole(errors, line.as_bytes())
 }
 
-/// The line of an error of a capture: the name of the program, and the text of the error.
+/// The line for an error of a capture: the name of the program, and the text of the error.
 fn error_line(alloc: Global, error: &CaptureError) -> Result<String, AllocError>
     ensures { IfOk result (λ line. IsErrorLine (string_bytes line)) }
 {

@@ -1,4 +1,4 @@
-//! The translation of an IPv4 packet by the table.
+//! The translation of an IPv4 packet as the table of replacements requires.
 
 ghost use Rattle.std.specs.Prelude.{◌≡◌, IfOk, Some};
 ghost use Rattle.net_base.specs.Refusals.{RefusesExactly};
@@ -13,7 +13,7 @@ use capture_packet::ports_in;
 use etherparse_transport::ip::{Ipv4Translation, translate_ipv4, transport_in_ip_lax};
 use etherparse_transport::{Ipv4Header, Ipv4HeaderSlice};
 
-/// Translates an IPv4 packet in place. Returns whether a replacement applies to it.
+/// Translates an IPv4 packet in place. Returns whether a replacement of the table applies to it.
 pub(crate) fn translate_ipv4_packet(packet: &mut [u8], table: &Table) -> Result<bool, Reason>
     ensures { TranslatesIpv4 table.now packet.old packet.new result }
 {
@@ -27,7 +27,7 @@ pub(crate) fn translate_ipv4_packet(packet: &mut [u8], table: &Table) -> Result<
     }
 }
 
-/// What is replaced in an IPv4 packet.
+/// What the table replaces in an IPv4 packet.
 fn translation(packet: &[u8], table: &Table) -> Result<Ipv4Translation, Reason>
     ensures given { IfOk result (λ new. new ≡ ipv4_given table.now packet.now) }
     ensures refused { RefusesExactly result (ipv4_unknown_reason table.now packet.now) }
@@ -45,9 +45,9 @@ fn translation(packet: &[u8], table: &Table) -> Result<Ipv4Translation, Reason>
     }
 }
 
-/// What is replaced in an ICMP error about this packet, where the table gives `outer` for the error itself. The ports are those of the
-/// quoted packet, which went in the other direction. The addresses of both need the same replacements, since one translation replaces both
-/// (RFC 5508, section 4).
+/// What the table replaces in an ICMP error that quotes this packet. `outer` is what it gives for the addresses of the error itself. The
+/// ports of the quoted packet are exchanged, since it went in the other direction. One translation replaces the addresses of both packets,
+/// so both need the same replacements (RFC 5508, section 4).
 fn quoting_translation(
     quoted: &[u8],
     table: &Table,

@@ -1,8 +1,8 @@
 //! Rewrites addresses and ports in a capture: every packet is translated by a table of replacements, and its checksums are updated.
 //!
-//! The capture is read from a file or from standard input, and is written to standard output. Both formats are read, the classic format of
-//! libpcap and pcapng, and each is written as it was read: every byte outside of the translated packets stays. A capture is read as a
-//! stream, one record or block at a time. The memory needed does not grow with the capture.
+//! The capture is read from a file or from standard input, and is written to standard output. The classic format of libpcap and pcapng are
+//! read. The output has the format of the input, and every byte outside of the translated packets stays. A capture is read as a stream, one
+//! record or block at a time. The memory needed does not grow with the capture.
 //!
 //! ```text
 //! $ translator --source 10.0.0.0/8=192.0.2.0/24 --source-port 80=8080 capture.pcap > translated.pcap
@@ -49,10 +49,11 @@ use table::Table;
 /// The size of the buffers of input and output, in bytes.
 const STREAM_LEN: usize = 1 << 16;
 
-/// The exit status if opening, reading or writing failed, or no memory was left.
+/// The exit status if opening, reading or writing failed, or if no memory was left.
 const FAILED: u8 = 3;
 
-/// The exit status if the reader of standard output or standard error ended first. A shell reports it for a program that SIGPIPE ended.
+/// The exit status if the reader of standard output or standard error ended first. A shell reports this status for a program that SIGPIPE
+/// ended.
 const BROKEN_PIPE: u8 = 128 + 13;
 
 fn main(rt: HostRuntime) -> ExitCode {
@@ -102,7 +103,7 @@ fn status(rt: &HostRuntime) -> io::Result<u8> {
     }
 }
 
-/// Writes the error in the arguments, or the text that they request, and returns the exit status.
+/// Writes the text of an error in the arguments, or the help or version that they request. Returns the exit status.
 fn answer(rt: &HostRuntime, error: clap::Error) -> io::Result<u8>
     ensures { IfOk result (λ status. status ≡ answer_number (kind_of error)) }
 {
@@ -121,7 +122,7 @@ fn translate_file(rt: &HostRuntime, table: &Table, name: &str) -> io::Result<u8>
     }
 }
 
-/// Writes the error of a capture that can't be opened, and returns the exit status.
+/// Writes the error for a capture that can't be opened, and returns the exit status.
 fn unopened<E: Write>(
     errors: &mut E,
     alloc: Global,
@@ -136,7 +137,7 @@ fn unopened<E: Write>(
     Ok(FAILED)
 }
 
-/// The line of a capture that can't be opened: the names of the program and of the capture, and the text of the error.
+/// The line for a capture that can't be opened: the name of the program, the name of the capture, and the text of the error.
 fn open_error_line(alloc: Global, name: &str, error: &io::Error) -> Result<String, AllocError>
     ensures { IfOk result (λ line. IsOpenErrorLine name.now (string_bytes line)) }
 {
@@ -144,7 +145,7 @@ fn open_error_line(alloc: Global, name: &str, error: &io::Error) -> Result<Strin
     format!(in alloc; "translator: {name}: {text}\n")
 }
 
-/// Translates a capture, and returns the exit status.
+/// Translates a capture to standard output, and returns the exit status.
 fn translate<R: Read + Drop>(rt: &HostRuntime, table: &Table, input: R) -> io::Result<u8> {
     let input = BufReader::with_capacity(rt.alloc(), STREAM_LEN, input)?;
     let output = BufWriter::with_capacity(rt.alloc(), STREAM_LEN, rt.stdout())?;
@@ -163,8 +164,7 @@ fn translate<R: Read + Drop>(rt: &HostRuntime, table: &Table, input: R) -> io::R
 ///
 /// # Errors
 ///
-/// The error of writing to the output, or the error of writing to `errors`. All bytes are written to the output before anything is written
-/// to `errors`.
+/// The error of writing to the output, or the error of writing to `errors`. The output is written and flushed before `errors`.
 fn write_translation<R: Read, W: Write, E: Write>(
     alloc: Global,
     table: &Table,

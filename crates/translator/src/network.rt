@@ -1,18 +1,18 @@
 ghost use Rattle.std.specs.Prelude.{◌≡◌, ◌≢◌, IfNone, IfSome, bit_and};
 ghost use Rattle.translator.specs.Replacements.{HasHostBits, host_mask, in_network, is_in};
 
-/// A network: the addresses of one IP version that begin with the bits of a prefix. An address is a number of 32 or 128 bits.
+/// A network: all addresses of one IP version that begin with the same prefix. An address is a number of 32 or 128 bits.
 #[derive(Clone, Copy, Debug, PartialEq, Eq)]
 pub struct Network {
-    /// The address whose bits after the prefix are 0.
+    /// The address of the network whose bits after the prefix are 0.
     pub first: u128,
     /// The number whose bits after the prefix are 1, and whose other bits are 0.
     pub host_mask: u128,
 }
 
 impl Network {
-    /// The network of the addresses that begin with the same bits as this address, except for this number of bits at their ends. `None` if
-    /// one of these bits is set in the address.
+    /// The network of all addresses that differ from this address only in the last `host_bits` bits. `None` if one of these bits is 1 in
+    /// the address.
     pub fn new(address: u128, host_bits: u32) -> Option<Network>
         ensures accepted { IfSome result (HasHostBits address host_bits) }
         ensures refused { IfNone result (bit_and address (host_mask host_bits) ≢ 0) }
@@ -37,7 +37,7 @@ impl Network {
         address | self.host_mask == self.first | self.host_mask
     }
 
-    /// The address in this network with the host bits of another address.
+    /// The address in this network that has the host bits of the given address.
     pub fn with_host_of(&self, address: u128) -> u128
         ensures { result ≡ in_network self.now address }
     {

@@ -14,12 +14,12 @@ use capture_link::{Frame, network_packet};
 use etherparse_transport::ip::TransportInIp;
 use etherparse_transport::{Icmpv4Slice, Icmpv6Slice, Ipv6HeaderSlice, Proto};
 
-/// Translates the packet in a frame of this link type, in place. `order` is the byte order of the numbers in the capture. Returns whether a
-/// replacement applies to the packet. The frame stays as it is if none applies, and after an error.
+/// Translates the packet in a frame of this link type, in place. `order` is the byte order of the capture. Returns whether a replacement
+/// applies to the packet. If no replacement applies, or after an error, the frame is unchanged.
 ///
 /// # Errors
 ///
-/// The reason if the frame contains no packet that can be translated.
+/// The reason why the packet can't be translated.
 pub fn translate_frame(
     link_type: LinkType,
     order: ByteOrder,
@@ -33,11 +33,11 @@ pub fn translate_frame(
     translate_packet(&mut frame[start..end], table)
 }
 
-/// Translates the packet in a frame, as `translate_frame` does, if the link type of the frame is read.
+/// Translates the packet in a frame, as `translate_frame` does. `link_type` is an error if the program does not read this link type.
 ///
 /// # Errors
 ///
-/// The errors of `translate_frame`, and `LinkType` if the link type is not read.
+/// `LinkType` if the link type is not read, and the errors of `translate_frame`.
 pub fn translate_captured_frame(
     link_type: Result<LinkType, u16>,
     order: ByteOrder,
@@ -53,7 +53,7 @@ pub fn translate_captured_frame(
     }
 }
 
-/// The start and the end of the bytes of a frame with its IP packet.
+/// The IP packet in a frame: the place of its first byte, and the place after its last byte.
 fn packet_place(
     link_type: LinkType,
     order: ByteOrder,
@@ -80,7 +80,7 @@ fn translate_packet(packet: &mut [u8], table: &Table) -> Result<bool, Reason>
     }
 }
 
-/// The packet that the ICMP error in an IP packet is about. `None` if it contains no ICMP error.
+/// The packet that an ICMP error quotes. `None` if the IP packet contains no ICMP error.
 pub(crate) fn quoted_in<'a>(found: &TransportInIp<'a>) -> Option<&'a [u8]>
     ensures { option_map (λ quoted. quoted.now) result ≡ specs.quoted_in found.now }
 {

@@ -7,27 +7,27 @@ use etherparse_transport::err::packet::TranslateError;
 /// Why a packet is written as it was read, although replacements may apply to it.
 #[derive(Clone, Copy, Debug, PartialEq, Eq)]
 pub enum Reason {
-    /// The record or block has more bytes of the packet than the buffer has room for.
+    /// The packet does not fit in the buffer.
     TooLong,
-    /// The link type of its capture, or of its interface in a pcapng file, is not read.
+    /// The link type of the capture, or of the packet's interface in a pcapng file, is not read.
     LinkType,
     /// The frame ends within its link header.
     LinkHeader,
     /// The frame contains no IP packet.
     NotIp,
-    /// The headers of IP are refused or cut off.
+    /// The IP headers are refused or cut off.
     IpHeaders,
     /// The IPv4 options contain a source route.
     SourceRoute,
-    /// The protocol is not UDP, TCP or ICMP, or another extension header of IPv6 than one fragment header is before it.
+    /// The protocol is not UDP, TCP or ICMP, or an extension header of IPv6 other than one fragment header precedes it.
     Protocol,
     /// The transport header is cut off.
     TransportHeader,
-    /// The ICMP message is no query and no error, or a redirect.
+    /// The ICMP message is neither a query nor an error, or it is a redirect.
     IcmpMessage,
-    /// The packet that an ICMP error is about can't be translated.
+    /// The packet that an ICMP error quotes can't be translated.
     QuotedPacket,
-    /// The addresses of an ICMP error and of the packet that it is about have different replacements.
+    /// The table replaces the addresses of an ICMP error and of the packet that it quotes differently.
     QuotedAddresses,
 }
 
@@ -50,7 +50,7 @@ impl Reason {
         Reason::QuotedAddresses,
     ];
 
-    /// The reason for an error of the translation.
+    /// The reason that corresponds to an error of the translation.
     pub fn of(error: &TranslateError) -> Reason
         ensures { result ≡ of_error error.now }
     {
@@ -64,7 +64,7 @@ impl Reason {
         }
     }
 
-    /// The place of the reason among all reasons.
+    /// The place of the reason in `ALL`, from 0.
     pub fn place(self) -> usize
         ensures place { result ≡ place self }
         ensures below { result < 11 }
@@ -72,7 +72,7 @@ impl Reason {
         self as usize
     }
 
-    /// The reason in words.
+    /// The words for the reason in the counts.
     pub fn text(self) -> &'static str
         ensures { result.now ≡ reason_text self }
     {

@@ -41,7 +41,7 @@ pub(crate) fn translate_records<R: Read, W: Write>(
     Err(CaptureError::TooManyParts)
 }
 
-/// Translates the next record. Returns whether there is a record.
+/// Translates the next record. Returns `false` if there is no next record.
 fn translate_record<R: Read, W: Write>(
     copier: &mut Copier<'_, R, W>,
     records: &mut ClassicReader,
@@ -66,7 +66,7 @@ fn translate_record<R: Read, W: Write>(
     Ok(true)
 }
 
-/// The error for a capture that ends within the record at this place.
+/// The error for a capture that ends within the record at this offset.
 fn cut_off(offset: u64, required_len: usize, len: usize) -> CaptureError
     ensures { result ≡ RecordCutOff offset required_len len }
 {
@@ -77,7 +77,7 @@ fn cut_off(offset: u64, required_len: usize, len: usize) -> CaptureError
     }
 }
 
-/// Translates a record after its header, which was read and written.
+/// Translates the rest of a record. Its header was already read and written.
 fn translate_headed<R: Read, W: Write>(
     copier: &mut Copier<'_, R, W>,
     records: &mut ClassicReader,
@@ -99,7 +99,7 @@ fn translate_headed<R: Read, W: Write>(
     }
 }
 
-/// Copies the captured bytes of a record, for which the buffer has no room.
+/// Copies the captured bytes of a record, which do not fit in the buffer.
 fn copy_long<R: Read, W: Write>(
     copier: &mut Copier<'_, R, W>,
     records: &mut ClassicReader,
@@ -126,7 +126,7 @@ fn copy_long<R: Read, W: Write>(
     Ok(())
 }
 
-/// Translates the captured bytes of a record. If they are not all present, they are written as they were read.
+/// Translates the captured bytes of a record. If the capture ends within them, they are written as they were read.
 fn translate_kept<R: Read, W: Write>(
     copier: &mut Copier<'_, R, W>,
     records: &mut ClassicReader,
@@ -157,7 +157,7 @@ fn translate_kept<R: Read, W: Write>(
     Ok(())
 }
 
-/// Goes on to the place after a record with this header.
+/// Moves the offset past a record with this header.
 fn pass(records: &mut ClassicReader, header: &RecordHeader)
     ensures { records.new ≡ passed records.old header.now }
 {

@@ -1,4 +1,4 @@
-//! Replacements as texts: two networks, or two ports, with `=` between them.
+//! Replacements as texts: two networks or two ports, separated by `=`.
 
 ghost use Rattle.std.specs.Prelude.{◌≡◌};
 ghost use Rattle.translator.specs.ReplacementTexts.{ReadsHostBits, ReadsNetwork, ReadsNetworkReplacement, ReadsNetworks, ReadsPort, ReadsPortReplacement, ReadsPorts, ReadsPrefixed, replacement_of};
@@ -9,7 +9,7 @@ use crate::replacements::{NetworkReplacement, PortReplacement, Replacements};
 use std::alloc::AllocError;
 use std::net::IpAddr;
 
-/// A network with the facts of its text.
+/// A network that was read from a text, and what its text states.
 #[derive(Clone, Copy)]
 struct NetworkText {
     network: Network,
@@ -19,11 +19,11 @@ struct NetworkText {
     host_bits: u32,
 }
 
-/// A replacement of a network, and whether it is of IPv6.
+/// Reads a replacement of a network from its text. Also returns whether it replaces IPv6 networks.
 ///
 /// # Errors
 ///
-/// Why the text is no replacement of a network.
+/// The reason why the text is no replacement of a network.
 pub(crate) fn network_replacement(
     text: &str,
 ) -> Result<(NetworkReplacement, bool), ReplacementError>
@@ -64,7 +64,7 @@ fn replacement_of(
     Ok((replacement, old.is_ipv6))
 }
 
-/// A network: an address, `/` and the length of its prefix. An address without the length is a network of one address.
+/// Reads a network: an address, `/` and the length of the prefix. An address without a length is a network of one address.
 fn network(text: &str) -> Result<NetworkText, ReplacementError>
     ensures { ReadsNetwork text.now result }
 {
@@ -77,7 +77,7 @@ fn network(text: &str) -> Result<NetworkText, ReplacementError>
     }
 }
 
-/// The network with these texts before and after its slash.
+/// Reads a network from the texts before and after its slash.
 fn prefixed(address: &str, prefix_len: &str) -> Result<NetworkText, ReplacementError>
     ensures { ReadsPrefixed address.now prefix_len.now result }
 {
@@ -96,7 +96,7 @@ fn prefixed(address: &str, prefix_len: &str) -> Result<NetworkText, ReplacementE
     network_of(address, bits - prefix_len)
 }
 
-/// The network of this address with this number of bits after its prefix.
+/// The network that begins at this address and has this number of host bits.
 fn network_of(address: IpAddr, host_bits: u32) -> Result<NetworkText, ReplacementError>
     ensures { ReadsHostBits address host_bits result }
 {
@@ -114,11 +114,11 @@ fn network_of(address: IpAddr, host_bits: u32) -> Result<NetworkText, Replacemen
     }
 }
 
-/// A replacement of a port.
+/// Reads a replacement of a port from its text.
 ///
 /// # Errors
 ///
-/// Why the text is no replacement of a port.
+/// The reason why the text is no replacement of a port.
 pub(crate) fn port_replacement(text: &str) -> Result<PortReplacement, ReplacementError>
     ensures reads { ReadsPortReplacement text.now result }
 {
@@ -137,7 +137,7 @@ fn ports(old: &str, new: &str) -> Result<PortReplacement, ReplacementError>
     Ok(PortReplacement { old, new })
 }
 
-/// A port.
+/// Reads a port from its text.
 fn port(text: &str) -> Result<u16, ReplacementError>
     ensures { ReadsPort text.now result }
 {

@@ -5,8 +5,8 @@ ghost use Rattle.translator.specs.Replacements.{new_address, new_ipv4, new_ipv6,
 use crate::network::Network;
 use std::alloc::{AllocError, Global};
 
-/// The replacement of a network by another network of the same IP version, whose prefix is as long or longer. The bits after the new prefix
-/// are kept.
+/// The replacement of a network by another network of the same IP version. The new prefix is at least as long as the old one. The bits
+/// after the new prefix are kept.
 #[derive(Clone, Copy, Debug)]
 pub struct NetworkReplacement {
     /// The network whose addresses are replaced.
@@ -24,19 +24,19 @@ pub struct PortReplacement {
     pub new: u16,
 }
 
-/// The replacements of sources, or of destinations. The first replacement that applies to an address or port counts.
+/// The replacements for sources, or for destinations. If several replacements apply to an address or port, the first one counts.
 #[derive(Debug, Drop)]
 pub struct Replacements {
-    /// The networks of IPv4.
+    /// The replacements of IPv4 networks.
     pub ipv4: Vec<NetworkReplacement>,
-    /// The networks of IPv6.
+    /// The replacements of IPv6 networks.
     pub ipv6: Vec<NetworkReplacement>,
-    /// The ports of UDP and TCP.
+    /// The replacements of UDP and TCP ports.
     pub ports: Vec<PortReplacement>,
 }
 
 impl Replacements {
-    /// No replacement.
+    /// An empty list of replacements.
     pub fn new(alloc: Global) -> Replacements
         ensures none { specs.is_empty result ≡ true }
     {
@@ -54,7 +54,7 @@ impl Replacements {
         self.ipv4.is_empty() && self.ipv6.is_empty() && self.ports.is_empty()
     }
 
-    /// The new address for an IPv4 address, or `None` if no replacement applies.
+    /// The new address that replaces this IPv4 address, or `None` if no replacement applies.
     pub fn ipv4(&self, address: [u8; 4]) -> Option<[u8; 4]>
         ensures { result ≡ new_ipv4 self.now address }
     {
@@ -63,7 +63,7 @@ impl Replacements {
         Some([a, b, c, d])
     }
 
-    /// The new address for an IPv6 address, or `None` if no replacement applies.
+    /// The new address that replaces this IPv6 address, or `None` if no replacement applies.
     pub fn ipv6(&self, address: [u8; 16]) -> Option<[u8; 16]>
         ensures { result ≡ new_ipv6 self.now address }
     {
@@ -71,7 +71,7 @@ impl Replacements {
         Some(first_address(self.ipv6.as_slice(), number)?.to_be_bytes())
     }
 
-    /// The new port for a port of UDP or TCP, or `None` if no replacement applies.
+    /// The new port that replaces this UDP or TCP port, or `None` if no replacement applies.
     pub fn port(&self, port: u16) -> Option<u16>
         ensures { result ≡ new_port self.now.ports.items port }
     {
@@ -86,7 +86,7 @@ impl Replacements {
     }
 }
 
-/// The new address by the first replacement of a network that contains this address.
+/// The address that the first replacement of a network containing this address gives.
 fn first_address(replacements: &[NetworkReplacement], address: u128) -> Option<u128>
     ensures { result ≡ new_address replacements.now address }
 {

@@ -15,7 +15,7 @@ pub struct Table {
     pub destination: Replacements,
 }
 
-/// The source port and the destination port of UDP or TCP. `None` if a packet contains no ports.
+/// The source port and the destination port of UDP or TCP. `None` if the packet contains no ports.
 pub type Ports = Option<(u16, u16)>;
 
 impl Table {
@@ -36,7 +36,7 @@ impl Table {
         self.source.is_empty() && self.destination.is_empty()
     }
 
-    /// What is replaced in an IPv4 packet with these addresses and ports.
+    /// What the table replaces in an IPv4 packet with these addresses and ports.
     pub fn ipv4_translation(&self, addresses: &Ipv4Header, ports: Ports) -> Ipv4Translation
         ensures { result ≡ specs.ipv4_translation self.now addresses.now ports }
     {
@@ -49,7 +49,7 @@ impl Table {
         }
     }
 
-    /// What is replaced in an IPv6 packet with these addresses and ports.
+    /// What the table replaces in an IPv6 packet with these addresses and ports.
     pub fn ipv6_translation(&self, addresses: &Ipv6Header, ports: Ports) -> Ipv6Translation
         ensures { result ≡ specs.ipv6_translation self.now addresses.now ports }
     {
@@ -62,7 +62,7 @@ impl Table {
         }
     }
 
-    /// The new source port and the new destination port.
+    /// The new source port and the new destination port. Each is `None` if no replacement applies.
     fn new_ports(&self, ports: Ports) -> (Option<u16>, Option<u16>)
         ensures { result ≡ specs.new_ports self.now ports }
     {
@@ -76,7 +76,7 @@ impl Table {
     }
 }
 
-/// The ports of a packet in the other direction.
+/// The source port and the destination port, exchanged.
 pub fn exchanged(ports: Ports) -> Ports
     ensures { result ≡ specs.exchanged ports }
 {

@@ -1,4 +1,4 @@
-//! Reading and writing, with the errors of the program.
+//! Reading and writing, with errors of the type `CaptureError`.
 
 ghost use Rattle.std.specs.Prelude.{◌≡◌, ◌<◌, ◌≤◌, IfErr, IfOk, IfSome, OnOk, length, take};
 ghost use Rattle.std.specs.Io.KnownBytes.{Appends, Consumes, IsAtEnd};
@@ -29,7 +29,8 @@ pub(crate) fn read_into<R: Read>(
     }
 }
 
-/// Copies the first bytes to the front of a buffer, and reads into the buffer after them. Returns the number of bytes present.
+/// Copies `first` to the front of a buffer, and then reads from the input until the buffer is full or the input ends. Returns the number of
+/// bytes in the buffer.
 pub(crate) fn read_after<R: Read>(
     input: &mut R,
     first: &[u8],
@@ -58,7 +59,7 @@ pub(crate) fn write<W: Write>(output: &mut W, bytes: &[u8]) -> Result<(), Captur
     }
 }
 
-/// Copies `count` bytes, or all bytes up to the end of input if there are fewer, and returns the number of bytes copied.
+/// Copies `count` bytes, or all bytes that are left if there are fewer. Returns the number of bytes copied.
 pub(crate) fn copy<R: Read, W: Write>(
     copier: &mut Copier<'_, R, W>,
     count: usize,

@@ -43,7 +43,7 @@ by_order n a b false true is is_less with_a with_b small_a small_b not_a not_b =
     absurd (not_a zeros.1 zeros.0)
 by_order n a b false false is is_too with_a with_b small_a small_b not_a not_b = grind (arith, nat_tests)
 
--- the sum of a packet with another checksum that passes the test
+-- if a packet passes the test with this checksum, 65535 divides its sum
 divided : (max_len : ℕ) (pseudo_header_of : ℕ → List ℕ) (place : ℕ) (bytes : List ℕ) (checksum : ℕ)
     → place + 2 ≤ length bytes → place % 2 ≡ 0 → checksum < 65536
     → VerifiesUpTo max_len pseudo_header_of (with_checksum place bytes checksum)
@@ -66,7 +66,7 @@ same_expected max_len pseudo_header_of place bytes a b there even small_a small_
     (divided max_len pseudo_header_of place bytes b there even small_b passes_b)
     small_a small_b not_a not_b
 
--- the same for a checksum that is wrong
+-- a checksum that is wrong in one packet is wrong in the packet in which it is stored
 wrong_once : (IsValid : List ℕ → Type 0) (max_len : ℕ) (pseudo_header_of : ℕ → List ℕ) (place : ℕ) (packet : List ℕ)
     → ((checksum : ℕ) → IsValid (with_checksum place packet checksum) → VerifiesUpTo max_len pseudo_header_of (with_checksum place packet checksum))
     → place + 2 ≤ length packet → place % 2 ≡ 0 → (a b : ℕ) → a < 65536 → b < 65536
@@ -181,7 +181,7 @@ over_ipv6 source destination (Icmpv6 message) there =
     (wrong_once (IsValidIcmpv6 source destination) max_len_over_ipv6 (ipv6_pseudo_header source destination icmpv6_number) icmp_checksum_place message
     (λ checksum valid. valid) (omega (arith, there)) (omega arith))
 
--- if another condition is tested first
+-- a checksum is unique if another condition is tested first
 unless : (condition : Bool) (why : Reason) (IsTrueOf : ChecksumVerdict → Type 0) → AreOne IsTrueOf
     → AreOne (λ verdict. MatchBool condition (verdict ≡ Untested why) (IsTrueOf verdict))
 unless true why IsTrueOf once a b has_a has_b is_a is_b = is_a ∙ sym is_b

@@ -87,7 +87,7 @@ right_icmpv4 message (Wrong expected) checksum fits there judged is =
 right_icmpv4 message (Partial expected) checksum fits there judged is = absurd judged
 right_icmpv4 message (Untested why) checksum fits there judged is = absurd judged
 
--- a UDP packet over IPv4 with a checksum other than 0 that sums up
+-- a UDP packet over IPv4 with a checksum other than 0 is valid if its sum is right
 pub some_stored : (source destination packet : List ℕ) (checksum : ℕ) → 8 ≤ length packet → checksum < 65536 → checksum ≢ 0
     → SumsUpOverIpv4 source destination (with_checksum udp_checksum_place packet checksum)
     → JudgesUdpIpv4 source destination (with_checksum udp_checksum_place packet checksum) Right
@@ -148,7 +148,7 @@ right_over_ipv6 source destination (Icmpv6 message) verdict checksum fits there 
     right_by (IsValidIcmpv6 source destination) (partial_over_ipv6 source destination icmpv6_number message) icmp_checksum_place message verdict checksum
     fits (omega (arith, there)) judged is
 
--- if another condition is tested first, and stays
+-- a verdict after another condition is tested first, which has the same result
 unless : (P Q : Type 0) (verdict : ChecksumVerdict) (why : Reason) (condition condition_too : Bool) → condition_too ≡ condition
     → (verdict ≡ Untested why → ⊥) → MatchBool condition (verdict ≡ Untested why) P → (P → Q)
     → MatchBool condition_too (Right ≡ Untested why) Q
@@ -172,7 +172,7 @@ right_over (Ipv6 source (Some destination)) transport verdict checksum fits ther
 right_over (Ipv6 source None) transport verdict checksum fits there has some judged is =
     absurd (none_untested verdict UnknownDestination (stored_checksum transport) checksum judged is)
 
--- a packet with the right checksum, if it contained a checksum
+-- a packet with the right checksum is judged `Right`, if it contained a checksum
 pub judged_right : (addresses : Addresses) (transport : TransportSlice) (verdict : ChecksumVerdict) (checksum : ℕ)
     → IsBytes (bytes_of transport) → min_len transport ≤ length (bytes_of transport) → HasChecksum verdict → (verdict ≡ Absent → ⊥)
     → Judges addresses transport verdict → IsRightBy verdict (stored_checksum transport) checksum
@@ -182,7 +182,7 @@ judged_right addresses transport verdict checksum fits there has some judged is 
     (λ untested. none_untested verdict ZeroLength (stored_checksum transport) checksum untested is) judged
     (λ judged. right_over addresses transport verdict checksum fits there has some judged is)
 
--- a checksum that is right by a true verdict is right by each true verdict, since a packet has one
+-- a checksum that is right by one verdict is right by each true verdict, since a packet has only one verdict
 pub chosen_by : (addresses : Addresses) (transport : TransportSlice) (known : ChecksumVerdict) (stored checksum : ℕ) → AreOne (Judges addresses transport)
     → HasChecksum known → Judges addresses transport known → IsRightBy known stored checksum
     → (verdict : ChecksumVerdict) → HasChecksum verdict → Judges addresses transport verdict → IsRightBy verdict stored checksum
@@ -195,7 +195,7 @@ chosen_by addresses transport known stored checksum once has is right verdict ha
 absent_is_tested : (why : Reason) → Absent ≡ Untested why → ⊥
 absent_is_tested why is = cc is
 
--- a packet without a checksum, if another condition is tested first
+-- a packet without a checksum is absent, if another condition that is tested first fails
 tested : (P : Type 0) (why : Reason) (condition : Bool) → MatchBool condition (Absent ≡ Untested why) P → (condition ≡ false) × P
 tested P why true judged = absurd (absent_is_tested why judged)
 tested P why false judged = (refl, judged)
@@ -309,7 +309,7 @@ partial_over_six source destination (Icmpv4 message) verdict judged = untested �
 partial_over_six source destination (Icmpv6 message) verdict judged =
     partial_by (IsValidIcmpv6 source destination) (partial_over_ipv6 source destination icmpv6_number message) icmp_checksum_place message verdict judged
 
--- if the packet is too long
+-- the statement about a partial checksum holds if the packet is too long
 partial_unless : (P : Type 0) (header : Option (List ℕ)) (transport : TransportSlice) (verdict : ChecksumVerdict) (condition : Bool)
     → MatchBool condition (verdict ≡ Untested TooLong) P → (P → SaysWhetherPartial (IsSumOf header transport) verdict)
     → SaysWhetherPartial (IsSumOf (if condition then None else header) transport) verdict
@@ -336,7 +336,7 @@ pub says_partial : (addresses : Addresses) (transport : TransportSlice) (verdict
 says_partial addresses transport verdict judged =
     partial_stated _ _ verdict (lacks_length transport) judged (partial_over addresses transport verdict)
 
--- the test of a stored checksum by the complement of the sum of a pseudo header
+-- a stored checksum is compared with the complement of the sum of a pseudo header
 pub partial_tested : (header : Option (List ℕ)) (transport : TransportSlice) (sum number stored : ℕ)
     → Some sum ≡ option_map (λ bytes. folded (total bytes)) header → number ≡ complement sum → stored ≡ stored_checksum transport
     → IsTrue (stored == 65535 - number) ↔ MatchOption header ⊥ (λ bytes. stored_checksum transport ≡ folded (total bytes))
@@ -347,7 +347,7 @@ partial_tested (Some bytes) transport sum number stored is tested is_stored =
     let same : IsTrue (stored == 65535 - number) ↔ (stored ≡ 65535 - number) = grind (arith, nat_tests) in
     (λ is_true. sym is_stored ∙ same.0 is_true ∙ back, λ holds. same.1 (is_stored ∙ holds ∙ sym back))
 
--- the partial checksum by the complement of the sum of a pseudo header
+-- the partial checksum is computed from the complement of the sum of a pseudo header
 pub partial_is : (header : Option (List ℕ)) (sum number : ℕ) → Some sum ≡ option_map (λ bytes. folded (total bytes)) header → number ≡ complement sum
     → Some (65535 - number) ≡ option_map (λ bytes. folded (total bytes)) header
 partial_is None sum number is tested = absurd (cc is)
@@ -400,7 +400,7 @@ stored_partial : (header : Option (List ℕ)) (stored checksum : ℕ) → Some c
 stored_partial None stored checksum is same = absurd (cc is)
 stored_partial (Some bytes) stored checksum is same = let checksum_is : checksum ≡ folded (total bytes) = cc is in same ∙ checksum_is
 
--- with the partial checksum a packet is partial
+-- a packet with the partial checksum has the verdict `Partial`
 pub partial_with : (addresses : Addresses) (transport : TransportSlice) (checksum : ℕ) → min_len transport ≤ length (bytes_of transport) → checksum < 65536
     → Some checksum ≡ option_map (λ bytes. folded (total bytes)) (pseudo_header_over addresses transport)
     → IsPartial addresses (with_stored transport checksum)

@@ -81,7 +81,7 @@ over (Ipv6 source (Some destination)) transport verdict is =
     unless _ _ verdict TooLong (nat_lt max_len_over_ipv6 (length (bytes_of transport))) is (over_ipv6 source destination transport verdict)
 over (Ipv6 source None) transport verdict is = untested ⊥ verdict UnknownDestination is
 
--- a verdict on a packet
+-- a verdict on a packet states whether it is valid
 pub says_over : (addresses : Addresses) (transport : TransportSlice) (verdict : ChecksumVerdict) → Judges addresses transport verdict
     → SaysWhether (IsValidOver addresses transport) verdict
 says_over addresses transport verdict is = unless _ _ verdict ZeroLength (lacks_length transport) is (over addresses transport verdict)
@@ -94,7 +94,7 @@ says_kept addresses None verdict is_fragment is_cut_off is = tt
 says_kept addresses (Some transport) verdict is_fragment is_cut_off is =
     unless _ _ verdict Fragment is_fragment is (λ whole. unless _ _ verdict CutOff is_cut_off whole (says_over addresses transport verdict))
 
--- a verdict on the transport of an IP packet
+-- a verdict on the transport of an IP packet states whether it is valid
 pub says_found : (found : TransportInIp) (verdict : ChecksumVerdict) → JudgesFound found verdict
     → IfSome (kept found) (λ transport. SaysWhether (IsValidOver (by_value found.addresses) transport) verdict)
 says_found found verdict is = says_kept (by_value found.addresses) (kept found) verdict found.is_fragment found.is_cut_off is

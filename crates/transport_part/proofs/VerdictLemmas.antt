@@ -13,7 +13,7 @@ use Rattle.transport_part.specs.Verdicts.{VerifiesUpTo, IsWrong, IsWrongUdpIpv4,
 use Rattle.transport_part.specs.declared.checksum_verdict.ChecksumVerdict.{ChecksumVerdict}
 use Rattle.transport_part.specs.declared.checksum_verdict.ChecksumVerdict.TheVariants.{Partial, Wrong}
 
--- the total of a packet as received, by the parts around its checksum
+-- the total of a packet is the sum of the parts around its checksum and of the checksum
 total-stored : (place : ℕ) (bytes : List ℕ) → place + 2 ≤ length bytes → place % 2 ≡ 0
     → total bytes ≡ total (take place bytes) + (be_number bytes place 2 + total (drop (place + 2) bytes))
 total-stored zero [] there even = absurd (omega arith)
@@ -32,7 +32,7 @@ total-stored (suc (suc place)) (high ∷ (low ∷ rest)) there even =
     let back : total (drop (suc (suc place) + 2) bytes) ≡ total (drop (place + 2) rest) = ap (λ k. total (drop k bytes)) behind in
     omega (arith, first, second, back, total-stored place rest (omega arith) (omega arith))
 
--- so pseudo header and packet sum up to the sum without the checksum plus the checksum
+-- the sum of pseudo header and packet is the sum without the checksum plus the checksum
 pub stored_in_sum : (pseudo place : ℕ) (bytes : List ℕ) → place + 2 ≤ length bytes → place % 2 ≡ 0
     → folded (pseudo + total bytes) ≡ folded (pseudo + total (with_checksum place bytes 0) + be_number bytes place 2)
 stored_in_sum pseudo place bytes there even =
@@ -59,7 +59,7 @@ stored_passes max_len pseudo_header_of place bytes pseudo sum stored there even 
     ap (λ s. folded (s + stored)) whole ∙ folded-add n stored ∙ ap folded (omega (arith, without, is, total-stored place bytes there even)) in
     (λ ones. (within, sym same ∙ ones), λ passes. same ∙ passes.1)
 
--- if pseudo header, packet without its checksum, and this checksum sum up to all ones, the packet with it passes the test
+-- if the sum of pseudo header, packet without its checksum, and this checksum is all ones, the packet with this checksum passes the test
 pub verifies_with : (max_len : ℕ) (pseudo_header_of : ℕ → List ℕ) (place : ℕ) (bytes : List ℕ) (checksum : ℕ)
     → place + 2 ≤ length bytes → place % 2 ≡ 0 → checksum < 65536 → length bytes ≤ max_len
     → IsAllOnes (total (pseudo_header_of (length bytes)) + total (with_checksum place bytes 0) + checksum)
@@ -71,7 +71,7 @@ verifies_with max_len pseudo_header_of place bytes checksum there even small wit
     let stored = total-with_checksum place bytes checksum there even small in
     (omega (arith, within, same_len), ap folded (omega (arith, pseudo, without, stored)) ∙ ones)
 
--- the expected checksum, from the sum of the pseudo header, as TCP and ICMP store it
+-- the packet with the expected checksum passes the test, if TCP or ICMP stores it
 pub verifies_expected : (max_len : ℕ) (pseudo_header_of : ℕ → List ℕ) (place : ℕ) (bytes : List ℕ) (pseudo sum expected : ℕ)
     → place + 2 ≤ length bytes → place % 2 ≡ 0 → length bytes ≤ max_len
     → pseudo ≡ folded (total (pseudo_header_of (length bytes))) → sum ≡ folded (pseudo + total (with_checksum place bytes 0))
@@ -83,7 +83,7 @@ verifies_expected max_len pseudo_header_of place bytes pseudo sum expected there
     verifies_with max_len pseudo_header_of place bytes expected there even (omega (arith, is)) within
     (checksum_verifies n expected (is ∙ ap complement whole))
 
--- if it is 65535, the packet with a checksum of 0 does not pass the test
+-- if the expected checksum is 65535, the packet with checksum 0 does not pass the test
 pub zero_fails : (pseudo_header_of : ℕ → List ℕ) (place : ℕ) (bytes : List ℕ) (pseudo sum expected : ℕ) → place + 2 ≤ length bytes
     → pseudo ≡ folded (total (pseudo_header_of (length bytes))) → sum ≡ folded (pseudo + total (with_checksum place bytes 0))
     → expected ≡ complement sum → expected ≡ 65535
@@ -96,7 +96,7 @@ zero_fails pseudo_header_of place bytes pseudo sum expected there is_pseudo is_s
     ap (λ k. folded (total (pseudo_header_of k) + total (with_checksum place bytes 0))) (sym (length-with_checksum place bytes 0 there)) ∙ verifies in
     omega (arith, whole, ones, is, most)
 
--- and as UDP stores it
+-- the expected checksum of UDP has 16 bits
 small_udp : (n expected : ℕ) → expected ≡ zero_as_all_ones (complement n) → expected < 65536
 small_udp n expected is = grind (arith, nat_tests)
 
@@ -114,7 +114,7 @@ verifies_expected_udp max_len pseudo_header_of place bytes pseudo sum expected t
     verifies_with max_len pseudo_header_of place bytes expected there even (small_udp sum expected is) within
     (udp_checksum_verifies n expected (is ∙ ap (λ s. zero_as_all_ones (complement s)) whole))
 
--- a checksum of 0 is read as none, and a computed one is not
+-- a UDP packet with checksum 0 has no checksum
 pub zero_is_absent : (bytes : List ℕ) → 8 ≤ length bytes → be_number (with_checksum 6 bytes 0) 6 2 ≢ 0 → ⊥
 zero_is_absent bytes there some = some (stored_checksum 6 bytes 0 (omega (arith, there)) (omega arith))
 
@@ -123,24 +123,24 @@ pub stored_udp : (bytes : List ℕ) (n expected : ℕ) → 8 ≤ length bytes �
 stored_udp bytes n expected there is none =
     some_udp n expected is (sym (stored_checksum 6 bytes expected (omega (arith, there)) (small_udp n expected is)) ∙ none)
 
--- a sum that is all ones with a stored 0 is all ones without it, and is sent as all ones
+-- if a sum with a stored 0 is all ones, it is all ones without it, and the checksum is sent as all ones
 pub all_ones_expected : (n stored : ℕ) → stored ≡ 0 → IsAllOnes (folded n + stored) → 65535 ≡ zero_as_all_ones (complement (folded n))
 all_ones_expected n stored none ones =
     let all : folded n ≡ 65535 = sym (folded-folded n) ∙ ap folded (omega (arith, none)) ∙ ones in
     rw all refl
 
--- a packet that was tested and is not valid
+-- a packet whose test failed is not valid
 pub not_valid : {P : Type 0} (valid : Bool) → valid ≡ false → (IsTrue valid ↔ P) → P → ⊥
 not_valid valid is same holds = let clash : false ≡ true = sym is ∙ same.1 holds in search (rules, clash)
 
--- the result of comparing two numbers
+-- numbers that are equal as a test are equal
 equal_numbers : (a b : ℕ) → (a == b) ≡ true → a ≡ b
 equal_numbers a b tested = grind (arith, nat_tests)
 
 other_numbers : (a b : ℕ) → (a == b) ≡ false → a ≡ b → ⊥
 other_numbers a b tested same = grind (arith, nat_tests)
 
--- the stored sum of a pseudo header, known by its complement
+-- a stored sum of a pseudo header, which is known by its complement
 pub is_partial : (A B : Type 0) (word stored number : ℕ) → number ≡ complement (folded word) → stored ≡ 65535 - number → A
     → MatchBool (stored == folded word) A B
 is_partial A B word stored number is_complement is a =
@@ -167,7 +167,7 @@ pub judged_wrong : (IsValid : List ℕ → Type 0) (place : ℕ) (packet : List 
 judged_wrong IsValid place packet partial stored pseudo expected verdict is_stored is_pseudo wrong is =
     wrong_by_sum IsValid place packet partial stored pseudo expected verdict (stored == pseudo) refl is_stored is_pseudo wrong is
 
--- the same for a UDP packet over IPv4
+-- the verdict on a UDP packet over IPv4, given its sum
 wrong_by_sum_udp : (source destination packet : List ℕ) (stored pseudo expected : ℕ) (verdict : ChecksumVerdict) (same : Bool)
     → (stored == pseudo) ≡ same → stored ≡ checksum_field packet → pseudo ≡ partial_over_ipv4 source destination udp_number packet
     → IsWrongUdpIpv4 source destination packet expected

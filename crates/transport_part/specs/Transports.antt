@@ -1,4 +1,4 @@
--- The transport of an IP packet as a typed slice: its protocol, the errors, and the bytes that are kept.
+-- The transport of an IP packet as a typed slice: its protocol, its errors, and the bytes that the slice contains.
 use Rattle.std.specs.Prelude.{ℕ, Bool, if◌then◌else◌, List, drop, Option, Some, None}
 use Rattle.std.specs.Option.{option_map}
 use Rattle.icmp_part.specs.Icmpv4Format as icmpv4
@@ -37,14 +37,14 @@ bytes_of (Icmpv6 message) = message
 abbrev pub payload_of : TransportSlice → List ℕ
 payload_of transport = drop ((layout_of (proto_of transport) (bytes_of transport)).header_len) (bytes_of transport)
 
--- the packet that an ICMP error is about, as far as the error contains it
+-- the packet that an ICMP error quotes, as far as the error contains it
 abbrev pub quoted_by : TransportSlice → Option (List ℕ)
 quoted_by (Udp packet) = None
 quoted_by (Tcp segment) = None
 quoted_by (Icmpv4 message) = quoted_by_icmpv4 message
 quoted_by (Icmpv6 message) = quoted_by_icmpv6 message
 
--- the length of the shortest header of its protocol, in bytes
+-- the length of the shortest header of this protocol, in bytes
 abbrev pub min_len : TransportSlice → ℕ
 min_len (Udp packet) = 8
 min_len (Tcp segment) = 20
@@ -53,11 +53,11 @@ min_len (Icmpv6 message) = 8
 
 -- ---- the transport of an IP packet
 
--- the protocol of the header after the IP headers; none for a fragment, whose payload is only a part of a packet's payload
+-- the protocol of the header after the IP headers; a fragment has none, since its payload is only a part of the whole payload
 abbrev pub proto_in : TransportInIp → Option Proto
 proto_in found = if found.is_fragment then None else proto_over (by_value found.addresses) found.protocol.0
 
--- the errors of its slice; in a UDP packet that is cut off, the length field is not checked
+-- the error for a payload of this protocol; the length field of a UDP packet that is cut off is not checked
 abbrev pub refusal_by : Option Proto → Bool → List ℕ → Option HeaderSliceError
 refusal_by None is_cut_off payload = None
 refusal_by (Some protos.Udp) is_cut_off payload =
@@ -69,7 +69,7 @@ refusal_by (Some protos.Icmpv6) is_cut_off payload = option_map Len (icmpv6.refu
 abbrev pub refusal : TransportInIp → Option HeaderSliceError
 refusal found = refusal_by (proto_in found) found.is_cut_off found.payload.now
 
--- the kept bytes: for UDP the bytes that the length field counts, for any other protocol all bytes
+-- the payload as a slice: of UDP the bytes that the length field counts, and of any other protocol all bytes
 abbrev pub kept_by : Option Proto → List ℕ → Option TransportSlice
 kept_by None payload = None
 kept_by (Some protos.Udp) payload = Some (Udp (cut payload))

@@ -21,32 +21,32 @@ use Rattle.transport_part.specs.declared.transport_slice.TransportSlice.TheVaria
 
 -- ---- the stored checksum
 
--- the sum of only the pseudo header: source, destination, protocol and length; a host stores it for its network card,
--- which adds the rest and takes the complement
+-- The sum of only the pseudo header, which contains source, destination, protocol and length. A host stores it for its network card, which
+-- adds the rest and takes the complement.
 abbrev pub partial_over_ipv4 : List ℕ → List ℕ → ℕ → List ℕ → ℕ
 partial_over_ipv4 source destination protocol packet = folded (total (ipv4_pseudo_header source destination protocol (length packet)))
 
 abbrev pub partial_over_ipv6 : List ℕ → List ℕ → ℕ → List ℕ → ℕ
 partial_over_ipv6 source destination protocol packet = folded (total (ipv6_pseudo_header source destination protocol (length packet)))
 
--- the sum of a packet and a pseudo header with this sum, without the checksum stored at this place
+-- the sum of a packet and of a pseudo header that has this sum; the checksum stored at this place counts as zeros
 abbrev pub sum_without : ℕ → ℕ → List ℕ → ℕ
 sum_without pseudo_header place packet = folded (pseudo_header + total (with_checksum place packet 0))
 
--- a packet of at most this length is valid over the pseudo header that counts its bytes
+-- a packet of at most this length is valid with the pseudo header that contains its length
 abbrev pub VerifiesUpTo : ℕ → (ℕ → List ℕ) → List ℕ → Type 0
 VerifiesUpTo max_len pseudo_header_of packet = (length packet ≤ max_len) × Verifies (pseudo_header_of (length packet)) packet
 
 -- ---- the verdict by the protocol
 
--- the packet is not valid, and is valid with the expected checksum instead. 0 and 65535 give the same sum. If both
--- are valid, 0 is the expected value
+-- The packet is not valid, and becomes valid with the expected checksum. 0 and 65535 give the same sum. If both are valid, the expected
+-- checksum is 0.
 abbrev pub IsWrong : (List ℕ → Type 0) → ℕ → List ℕ → ℕ → Type 0
 IsWrong IsValid place packet expected = (¬ IsValid packet) × IsValid (with_checksum place packet expected)
     × (expected ≡ 65535 → ¬ IsValid (with_checksum place packet 0))
 
--- the verdict by the validity of a packet and the sum of its pseudo header: right exactly if the packet is valid,
--- partial if it is wrong and that sum is stored, otherwise wrong
+-- The verdict by two facts: whether the packet is valid, and the sum of its pseudo header. It is right exactly if the packet is valid. If
+-- the packet is not valid, the verdict is partial if that sum is stored, otherwise wrong.
 abbrev pub JudgesBy : (List ℕ → Type 0) → ℕ → ℕ → List ℕ → ChecksumVerdict → Type 0
 JudgesBy IsValid partial place packet Right = IsValid packet
 JudgesBy IsValid partial place packet (Wrong expected) = (be_number packet place 2 ≢ partial) × IsWrong IsValid place packet expected
@@ -54,7 +54,8 @@ JudgesBy IsValid partial place packet (Partial expected) = (be_number packet pla
 JudgesBy IsValid partial place packet Absent = ⊥
 JudgesBy IsValid partial place packet (Untested why) = ⊥
 
--- the same for a UDP packet over IPv4: a checksum of 0 means that there is none (RFC 768), and 0 is never expected
+-- A wrong checksum of a UDP packet over IPv4, and the expected checksum. A stored 0 means that there is no checksum (RFC 768), and 0 is
+-- never expected.
 abbrev pub IsWrongUdpIpv4 : List ℕ → List ℕ → List ℕ → ℕ → Type 0
 IsWrongUdpIpv4 source destination packet expected = (checksum_field packet ≢ 0) × ((¬ SumsUpOverIpv4 source destination packet)
     × ((expected ≢ 0) × SumsUpOverIpv4 source destination (with_checksum udp_checksum_place packet expected)))
@@ -68,7 +69,7 @@ JudgesUdpIpv4 source destination packet (Partial expected) =
 JudgesUdpIpv4 source destination packet Absent = checksum_field packet ≡ 0
 JudgesUdpIpv4 source destination packet (Untested why) = ⊥
 
--- an ICMPv4 message has no pseudo header
+-- the verdict on an ICMPv4 message, which has no pseudo header
 abbrev pub JudgesIcmpv4 : List ℕ → ChecksumVerdict → Type 0
 JudgesIcmpv4 message Right = IsValidIcmpv4 message
 JudgesIcmpv4 message (Wrong expected) = IsWrong IsValidIcmpv4 icmp_checksum_place message expected
@@ -76,7 +77,7 @@ JudgesIcmpv4 message (Partial expected) = ⊥
 JudgesIcmpv4 message Absent = ⊥
 JudgesIcmpv4 message (Untested why) = ⊥
 
--- over IPv4 and over IPv6
+-- the verdict over IPv4, and the verdict over IPv6
 abbrev pub JudgesOverIpv4 : List ℕ → List ℕ → TransportSlice → ChecksumVerdict → Type 0
 JudgesOverIpv4 source destination (Udp packet) verdict = JudgesUdpIpv4 source destination packet verdict
 JudgesOverIpv4 source destination (Tcp segment) verdict =
@@ -95,14 +96,15 @@ JudgesOverIpv6 source destination (Icmpv6 message) verdict =
 
 -- ---- the verdict by the addresses
 
--- The packet is too long for a pseudo header over IPv4, whose length is 16 bits (RFC 768). An ICMPv4 message has no pseudo header.
+-- The packet is too long for a pseudo header over IPv4, whose length field has 16 bits (RFC 768). An ICMPv4 message has no pseudo header.
 abbrev pub is_too_long_over_ipv4 : TransportSlice → Bool
 is_too_long_over_ipv4 (Udp packet) = nat_lt max_len_over_ipv4 (length packet)
 is_too_long_over_ipv4 (Tcp segment) = nat_lt max_len_over_ipv4 (length segment)
 is_too_long_over_ipv4 (Icmpv4 message) = false
 is_too_long_over_ipv4 (Icmpv6 message) = false
 
--- A packet too long for a pseudo header is not tested, nor over IPv6 a packet without a final destination (RFC 8200, section 8.1).
+-- The verdict over these addresses. A packet that is too long for a pseudo header is not tested. A packet over IPv6 without a known final
+-- destination is not tested either (RFC 8200, section 8.1).
 abbrev pub JudgesOver : Addresses → TransportSlice → ChecksumVerdict → Type 0
 JudgesOver (Ipv4 source destination) transport verdict =
     MatchBool (is_too_long_over_ipv4 transport) (verdict ≡ Untested TooLong) (JudgesOverIpv4 source destination transport verdict)
@@ -110,12 +112,12 @@ JudgesOver (Ipv6 source (Some destination)) transport verdict =
     MatchBool (nat_lt max_len_over_ipv6 (length (bytes_of transport))) (verdict ≡ Untested TooLong) (JudgesOverIpv6 source destination transport verdict)
 JudgesOver (Ipv6 source None) transport verdict = verdict ≡ Untested UnknownDestination
 
--- the longest packet that the length field of UDP can count (RFC 768)
+-- the greatest length that the length field of UDP can state (RFC 768)
 abbrev pub max_length_field : ℕ
 max_length_field = 65535
 
--- a UDP packet whose length field is 0 although it could count the packet: it is malformed (RFC 768); in a jumbogram,
--- which is longer, the field is 0 (RFC 2675, section 4)
+-- The length field of a UDP packet is 0 although it could state the length. This is malformed (RFC 768). A jumbogram is longer, and its
+-- length field is 0 (RFC 2675, section 4).
 abbrev pub lacks_length : TransportSlice → Bool
 lacks_length (Udp packet) = (length_field packet == 0) && not (nat_lt max_length_field (length packet))
 lacks_length (Tcp segment) = false
@@ -133,15 +135,15 @@ HasChecksum Right = ⊤
 HasChecksum Absent = ⊤
 HasChecksum (Untested why) = ⊤
 
--- any two verdicts for which this is true are equal
+-- `IsTrueOf` holds for at most one verdict
 abbrev pub AreOne : (ChecksumVerdict → Type 0) → Type 0
 AreOne IsTrueOf = (a b : ChecksumVerdict) → HasChecksum a → HasChecksum b → IsTrueOf a → IsTrueOf b → a ≡ b
 
 -- ---- the verdict on the transport of an IP packet
 
--- The reasons not to test a checksum, in their order: a fragment, since a checksum covers all fragments; a packet
--- that is cut off, since a checksum covers all bytes; another protocol; a UDP length field of 0 (`Judges`); over IPv6
--- an unknown destination; a packet that is too long (`JudgesOver`). ICMP of the other IP version is another protocol.
+-- The verdict on what was found. A checksum is not tested for the first of these reasons that applies: a fragment, since a checksum covers
+-- all fragments; a packet that is cut off, since a checksum covers all bytes; another protocol; a UDP length field of 0 (`Judges`); an
+-- unknown destination over IPv6; a packet that is too long (`JudgesOver`). ICMP of the wrong IP version is another protocol.
 abbrev pub JudgesFound : TransportInIp → ChecksumVerdict → Type 0
 JudgesFound found verdict = MatchBool found.is_fragment (verdict ≡ Untested Fragment) (
     MatchBool found.is_cut_off (verdict ≡ Untested CutOff) (
@@ -149,7 +151,7 @@ JudgesFound found verdict = MatchBool found.is_fragment (verdict ≡ Untested Fr
 
 -- ---- in short
 
--- a receiver's check over these addresses, by protocol
+-- a receiver over these addresses accepts the packet, by its protocol
 abbrev pub IsValidOver : Addresses → TransportSlice → Type 0
 IsValidOver (Ipv4 source destination) (Udp packet) = IsValidUdpIpv4 source destination packet
 IsValidOver (Ipv4 source destination) (Tcp segment) = IsValidTcpIpv4 source destination segment
@@ -161,7 +163,7 @@ IsValidOver (Ipv6 source (Some destination)) (Icmpv4 message) = ⊥
 IsValidOver (Ipv6 source (Some destination)) (Icmpv6 message) = IsValidIcmpv6 source destination message
 IsValidOver (Ipv6 source None) transport = ⊥
 
--- a tested packet passes the test exactly if its checksum is right or absent
+-- if the checksum is tested, a receiver accepts the packet exactly if its checksum is right or absent
 abbrev pub SaysWhether : Type 0 → ChecksumVerdict → Type 0
 SaysWhether IsValid Right = IsValid
 SaysWhether IsValid Absent = IsValid

@@ -15,17 +15,17 @@
 pub enum ChecksumVerdict {
     /// The stored checksum is right.
     Right,
-    /// The packet contains no checksum: over IPv4 a UDP checksum of 0 means that (RFC 768).
+    /// The packet contains no checksum. A UDP checksum of 0 over IPv4 means this (RFC 768).
     Absent,
     /// The stored checksum is wrong.
     Wrong {
-        /// The checksum that would be right.
+        /// The right checksum.
         expected: u16,
     },
-    /// The stored checksum is wrong, and is the sum of only the pseudo header. A host leaves the rest to its network
-    /// card (checksum offload), so a packet that it captures before sending contains this value.
+    /// The stored checksum is wrong, and is the sum of only the pseudo header. A host leaves the rest to its network card (checksum
+    /// offload). So a packet that the host captures before sending contains this value.
     Partial {
-        /// The checksum that would be right.
+        /// The right checksum.
         expected: u16,
     },
     /// The checksum is not tested.
@@ -49,16 +49,16 @@ pub enum Untested {
     Fragment,
     /// Some bytes of the packet are missing.
     CutOff,
-    /// A routing header doesn't give the final address, which the checksum covers, in a known way (RFC 8200, section 8.1).
+    /// A routing header does not state the final destination, which the checksum covers, in a known way (RFC 8200, section 8.1).
     UnknownDestination,
-    /// A protocol other than UDP, TCP, ICMPv4 over IPv4 and ICMPv6 over IPv6.
+    /// The protocol is not UDP, TCP, ICMPv4 over IPv4, or ICMPv6 over IPv6.
     OtherProtocol,
-    /// The length field of a UDP packet is 0, which is malformed: it counts at least 8 bytes (RFC 768). In a
-    /// jumbogram that is too long for the field, it is 0 (RFC 2675, section 4), and the packet is tested.
+    /// The length field of a UDP packet is 0. This is malformed, since the field counts at least 8 bytes (RFC 768). In a jumbogram that is
+    /// too long for the field, it is 0 (RFC 2675, section 4), and the checksum is tested.
     ZeroLength,
-    /// More bytes than a pseudo header can count: 65,535 over IPv4, and 4,294,967,295 over IPv6. An ICMPv4 message
-    /// has no pseudo header, and is tested at any length. A payload from `transport_in_ip` is never too long, since
-    /// IPv4 counts at most 65,535 bytes, and a jumbo payload length at most 4,294,967,295 (RFC 2675, section 2). A
-    /// payload from `transport_in_ip_lax` without a stated length can be too long, and so can another slice.
+    /// The packet has more bytes than a pseudo header can count: 65,535 over IPv4, and 4,294,967,295 over IPv6. An ICMPv4 message has no
+    /// pseudo header, and is tested at any length. A payload from `transport_in_ip` is never too long, since IPv4 counts at most 65,535
+    /// bytes, and a jumbo payload length at most 4,294,967,295 (RFC 2675, section 2). A payload from `transport_in_ip_lax` without a stated
+    /// length can be too long. So can a slice that the caller made.
     TooLong,
 }

@@ -9,7 +9,7 @@ ghost use Rattle.transport_part.specs.declared.checksum_verdict.ChecksumVerdict.
 use crate::ChecksumVerdict;
 use word_sum::checksum::Sum16BitWords;
 
-/// The sum of an ICMPv4 message without the checksum in its bytes 2 and 3.
+/// The sum of an ICMPv4 message. Its checksum, in bytes 2 and 3, counts as zeros.
 #[inline(always)]
 pub(crate) fn sum_but_checksum(message: &[u8]) -> Sum16BitWords
     requires { 4 ≤ length message.now }
@@ -20,9 +20,9 @@ pub(crate) fn sum_but_checksum(message: &[u8]) -> Sum16BitWords
         .add_slice(&message[4..])
 }
 
-/// The sum of a pseudo header and a packet without the checksum stored in the two bytes at `place`. `None` if that checksum
-/// is right, so that the sum with it is all ones. All bytes are summed once, and then the stored checksum is subtracted.
-/// This requires a pseudo header whose sum is not 0. The function is inlined, since each caller knows the place.
+/// The sum of a pseudo header and a packet. The checksum, stored in the two bytes at `place`, counts as zeros. `None` if the stored
+/// checksum is right, so that the sum with it is all ones. All bytes are summed once, and then the stored checksum is subtracted. This
+/// requires a pseudo header whose sum is not 0. The function is inlined, since each caller knows the place.
 #[inline(always)]
 pub(crate) fn sum_unless_right(
     pseudo_header: Sum16BitWords,
@@ -45,7 +45,7 @@ pub(crate) fn sum_unless_right(
     Some(sum.add_2bytes((!stored).to_be_bytes()))
 }
 
-/// Whether a sum without the stored checksum is all ones with it.
+/// Whether a sum without the stored checksum becomes all ones if the stored checksum is added.
 #[inline(always)]
 pub(crate) fn is_all_ones_with(sum: Sum16BitWords, stored: u16) -> bool
     ensures { IsTrue result ↔ IsAllOnes (sum_value sum + stored) }
@@ -53,7 +53,7 @@ pub(crate) fn is_all_ones_with(sum: Sum16BitWords, stored: u16) -> bool
     sum.add_2bytes(stored.to_be_bytes()).ones_complement() == 0
 }
 
-/// The verdict on a wrong stored checksum, which may be the sum of only the pseudo header.
+/// The verdict on a wrong checksum: `Partial` if it is the sum of only the pseudo header, otherwise `Wrong`.
 #[inline(always)]
 pub(crate) fn wrong_or_partial(
     pseudo_header: Sum16BitWords,
@@ -70,8 +70,8 @@ pub(crate) fn wrong_or_partial(
     }
 }
 
-/// The verdict on a packet that stores its checksum in the two bytes at `place`, from the sum of its pseudo header.
-/// The function is inlined, since each caller knows the place.
+/// The verdict on a packet that stores its checksum in the two bytes at `place`. The sum of its pseudo header is given. The function is
+/// inlined, since each caller knows the place.
 #[inline(always)]
 pub(crate) fn judged(pseudo_header: Sum16BitWords, packet: &[u8], place: usize) -> ChecksumVerdict
     requires some { 0 < sum_value pseudo_header }

@@ -1,4 +1,4 @@
-//! From what `transport_in_ip` found to its protocol, to a typed slice, and to the verdict on its checksum.
+//! The protocol of what `transport_in_ip` found, its typed slice, and the verdict on its checksum.
 
 mod proto;
 mod slice;

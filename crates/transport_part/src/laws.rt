@@ -1,9 +1,9 @@
-//! Laws of the types: a clone is the same value, and `==` holds exactly if two values are the same. Each law is the contract of a
-//! function, so that it is checked with the calls.
+//! Laws of the types: a clone is the same value, and `==` holds exactly if two values are the same. Each law is the contract of a function,
+//! so that it is checked with the calls.
 //!
 //! # Errors
 //!
-//! None: each clone succeeds.
+//! No call returns an error: each clone succeeds.
 
 ghost use Rattle.std.specs.Prelude.{◌≡◌, ◌↔◌, IsTrue, IsOkAnd};
 

@@ -29,7 +29,7 @@ pub(crate) fn stored_at(bytes: &[u8], place: usize) -> u16
 
 // ---- the pseudo header
 
-/// The sum of the pseudo header over these addresses. `None` if the packet has no pseudo header there.
+/// The sum of the pseudo header of this packet over these addresses. `None` if the packet has no pseudo header over them.
 pub(crate) fn pseudo_header_over(
     addresses: IpAddresses<'_>,
     transport: &TransportSlice<'_>,
@@ -94,7 +94,7 @@ fn pseudo_header_over_ipv6(
     }
 }
 
-/// The sum of the pseudo header over IPv4 for so many bytes. `None` if it can't count them.
+/// The sum of the pseudo header over IPv4 for this number of bytes. `None` if the pseudo header can't count them.
 fn counted_over_ipv4(
     source: [u8; 4],
     destination: [u8; 4],
@@ -110,7 +110,7 @@ fn counted_over_ipv4(
     Some(pseudo_header_ipv4(source, destination, protocol, len as u16))
 }
 
-/// The sum of the pseudo header over IPv6 for so many bytes. `None` if it can't count them.
+/// The sum of the pseudo header over IPv6 for this number of bytes. `None` if the pseudo header can't count them.
 fn counted_over_ipv6(
     source: [u8; 16],
     destination: [u8; 16],
@@ -128,7 +128,7 @@ fn counted_over_ipv6(
 
 // ---- an absent checksum
 
-/// The checksum of a packet that contains none, which only a UDP packet over IPv4 may do.
+/// The right checksum of a packet that contains no checksum. This is a UDP packet over IPv4.
 pub(crate) fn absent_checksum(addresses: IpAddresses<'_>, transport: &TransportSlice<'_>) -> u16
     requires absent { Judges (by_value addresses) transport.now verdicts.Absent }
     ensures some { result ≢ 0 }
@@ -146,7 +146,7 @@ pub(crate) fn absent_checksum(addresses: IpAddresses<'_>, transport: &TransportS
     }
 }
 
-/// The checksum of a UDP packet over IPv4 that contains none (RFC 768).
+/// The right checksum of a UDP packet over IPv4 that contains no checksum (RFC 768).
 fn absent_udp_checksum(source: [u8; 4], destination: [u8; 4], packet: &UdpSlice<'_>) -> u16
     requires counted { length packet.now ≤ max_len_over_ipv4 }
     requires absent { checksum_field packet.now ≡ 0 }

@@ -48,7 +48,7 @@ impl<'a> TransportSlice<'a> {
     ghost use Rattle.transport_part.specs.declared.checksum_verdict.ChecksumVerdict.TheVariants as verdicts;
     ghost use Rattle.transport_part.specs.declared.checksum_verdict.Untested.{Untested as Reason};
 
-    /// The protocol.
+    /// The protocol of the transport.
     pub fn proto(&self) -> Proto
         ensures { result ≡ proto_of self.now }
     {
@@ -73,8 +73,8 @@ impl<'a> TransportSlice<'a> {
         }
     }
 
-    /// The length of the header, in bytes: 20 to 60 for TCP, 20 for an ICMPv4 timestamp message or its reply, of code
-    /// 0, otherwise 8.
+    /// The length of the header, in bytes. It is 20 to 60 for TCP, 20 for an ICMPv4 timestamp message or reply with code 0, and otherwise
+    /// 8.
     pub fn header_len(&self) -> usize
         ensures { result ≡ (layout_of (proto_of self.now) (bytes_of self.now)).header_len }
     {
@@ -98,7 +98,7 @@ impl<'a> TransportSlice<'a> {
         }
     }
 
-    /// The packet that an ICMP error is about, from its IP header on, as far as the error contains it. None if this is not an ICMP error.
+    /// The packet that an ICMP error quotes, from its IP header on, as far as the error contains it. `None` if this is not an ICMP error.
     /// `ip::transport_in_ip_lax` reads the quoted packet, which usually is not complete.
     pub fn quoted_packet(&self) -> Option<&'a [u8]>
         ensures { option_map (λ packet. packet.now) result ≡ quoted_by self.now }
@@ -110,15 +110,15 @@ impl<'a> TransportSlice<'a> {
         }
     }
 
-    /// Whether the checksum over these addresses is right, and the right checksum if it is wrong (RFC 1071, section 1).
-    /// The slice must contain the whole packet, which must not be a fragment: `ip::checksum_verdict` also checks that.
+    /// Whether the checksum over these addresses is right, and the right checksum if it is wrong (RFC 1071, section 1). The slice must
+    /// contain the whole packet, and the packet must not be a fragment. `ip::checksum_verdict` checks both.
     #[inline(always)]
     #[tactic(auto, using(crate::proofs::ValidityLaw::says_over))]
     pub fn checksum_verdict(&self, addresses: IpAddresses<'_>) -> ChecksumVerdict
         ensures judged { Judges (by_value addresses.entry) self.now result }
-        // In short: a tested packet passes its protocol's test exactly if the verdict is `Right` or `Absent`.
+        // In short: if the checksum is tested, a receiver accepts the packet exactly if the verdict is `Right` or `Absent`.
         ensures valid { SaysWhether (IsValidOver (by_value addresses.entry) self.now) result }
-        // No other verdict on the packet is true.
+        // This is the only true verdict on the packet.
         ensures one_verdict { AreOne (Judges (by_value addresses.entry) self.now) }
     {
         if lacks_length(self) {
@@ -139,7 +139,7 @@ impl<'a> TransportSlice<'a> {
         }
     }
 
-    /// The stored checksum. Over IPv4 a UDP checksum of 0 means that there is none.
+    /// The stored checksum. Over IPv4, a UDP checksum of 0 means that the packet has no checksum.
     pub fn stored_checksum(&self) -> u16
         ensures stored { result ≡ specs.stored_checksum self.now }
         ensures long { min_len self.now ≤ length (bytes_of self.now) }
@@ -148,12 +148,12 @@ impl<'a> TransportSlice<'a> {
         stored_at(self.slice(), self.checksum_place())
     }
 
-    /// The partial checksum over these addresses: the sum of only the pseudo header, which counts the bytes of the slice. A host stores it, and
-    /// leaves the rest to its network card (checksum offload). A translation changes a stored checksum as if it were complete. If it was
-    /// partial, write the partial checksum over the new addresses to `checksum_place` afterwards.
+    /// The partial checksum over these addresses: the sum of only the pseudo header, whose length is the length of the slice. A host stores
+    /// the partial checksum, and leaves the rest to its network card (checksum offload). A translation changes a stored checksum as if it
+    /// were complete. If the stored checksum was partial, write the partial checksum over the new addresses to `checksum_place` afterwards.
     ///
-    /// `None` if the packet has no pseudo header: an ICMPv4 message, ICMP over the other IP version, a packet without a final destination, and
-    /// a packet with more bytes than a pseudo header can count.
+    /// `None` if the packet has no pseudo header. It is an ICMPv4 message, ICMP of the wrong IP version, a packet without a final
+    /// destination, or a packet with more bytes than a pseudo header can count.
     pub fn partial_checksum(&self, addresses: IpAddresses<'_>) -> Option<u16>
         ensures sum { result ≡ option_map (λ header. folded (total header)) (specs.pseudo_header_over (by_value addresses.entry) self.now) }
         // With this checksum `is_checksum_partial` is true.
@@ -165,12 +165,12 @@ impl<'a> TransportSlice<'a> {
         }
     }
 
-    /// Whether the stored checksum is partial over these addresses: the sum of only the pseudo header, which counts the bytes of the slice.
-    /// A host leaves the rest to its network card (checksum offload). The payload is not read, so the call takes the same time for
-    /// any length. A partial checksum is rarely also right. `checksum_verdict` returns `Partial` only if it is wrong.
+    /// Whether the stored checksum is partial over these addresses: the sum of only the pseudo header, whose length is the length of the
+    /// slice. A host leaves the rest to its network card (checksum offload). The payload is not read, so the call takes the same time for
+    /// any length. In rare cases a partial checksum is also right. Then `checksum_verdict` returns `Right`, not `Partial`.
     ///
-    /// An ICMPv4 message has no pseudo header, and so its checksum is never partial. Over the other IP version, without a final
-    /// destination, and for more bytes than a pseudo header can count, it isn't either.
+    /// The result is `false` if the packet has no pseudo header. It is an ICMPv4 message, ICMP of the wrong IP version, a packet without a
+    /// final destination, or a packet with more bytes than a pseudo header can count.
     #[tactic(auto, using(crate::proofs::RightChecksumLaws::says_partial))]
     pub fn is_checksum_partial(&self, addresses: IpAddresses<'_>) -> bool
         ensures partial { IsTrue result ↔ IsPartial (by_value addresses.entry) self.now }
@@ -184,12 +184,12 @@ impl<'a> TransportSlice<'a> {
         }
     }
 
-    /// The checksum that the packet over these addresses has to contain, whatever checksum it contains. It is the stored checksum if that is
-    /// right, and otherwise the expected checksum. For UDP it is never 0.
+    /// The right checksum of the packet over these addresses, whatever checksum the packet contains. If the stored checksum is right, it is
+    /// the result, and otherwise the expected checksum is. For UDP it is never 0.
     ///
     /// # Errors
     ///
-    /// The reason of `checksum_verdict` not to test the checksum.
+    /// The reason why `checksum_verdict` does not test the checksum.
     pub fn right_checksum(&self, addresses: IpAddresses<'_>) -> Result<u16, Untested>
         ensures refused { MatchResult result (λ _. (why : Reason) → ¬ Judges (by_value addresses.entry) self.now (verdicts.Untested why))
             (λ why. Judges (by_value addresses.entry) self.now (verdicts.Untested why)) }

@@ -40,7 +40,7 @@ pub(crate) fn lacks_length(transport: &TransportSlice<'_>) -> bool
     }
 }
 
-/// The verdict by the addresses, whatever the length field of a UDP packet is.
+/// The verdict over these addresses. The length field of a UDP packet is not checked.
 #[inline(always)]
 pub(crate) fn verdict_over(
     addresses: IpAddresses<'_>,
@@ -122,7 +122,7 @@ fn verdict_over_ipv6(
     }
 }
 
-/// A UDP packet over IPv4, where a checksum of 0 means that there is none (RFC 768).
+/// The verdict on a UDP packet over IPv4. A checksum of 0 means that the packet has no checksum (RFC 768).
 #[inline(always)]
 fn udp_verdict_ipv4(source: [u8; 4], destination: [u8; 4], packet: &UdpSlice<'_>) -> ChecksumVerdict
     requires counted { length packet.now ≤ max_len_over_ipv4 }
@@ -142,7 +142,7 @@ fn udp_verdict_ipv4(source: [u8; 4], destination: [u8; 4], packet: &UdpSlice<'_>
     }
 }
 
-/// A UDP packet over IPv6, where a checksum of 0 is wrong (RFC 8200, section 8.1).
+/// The verdict on a UDP packet over IPv6. A checksum of 0 is wrong (RFC 8200, section 8.1).
 #[inline(always)]
 fn udp_verdict_ipv6(
     source: [u8; 16],
@@ -164,7 +164,7 @@ fn udp_verdict_ipv6(
     }
 }
 
-/// A TCP segment over IPv4.
+/// The verdict on a TCP segment over IPv4.
 #[inline(always)]
 fn tcp_verdict_ipv4(
     source: [u8; 4],
@@ -179,7 +179,7 @@ fn tcp_verdict_ipv4(
     judged(pseudo_header, bytes, TCP_CHECKSUM_AT)
 }
 
-/// A TCP segment over IPv6.
+/// The verdict on a TCP segment over IPv6.
 #[inline(always)]
 fn tcp_verdict_ipv6(
     source: [u8; 16],
@@ -194,7 +194,7 @@ fn tcp_verdict_ipv6(
     judged(pseudo_header, bytes, TCP_CHECKSUM_AT)
 }
 
-/// An ICMPv4 message, which has no pseudo header (RFC 792).
+/// The verdict on an ICMPv4 message, which has no pseudo header (RFC 792).
 #[inline(always)]
 fn icmpv4_verdict(message: &Icmpv4Slice<'_>) -> ChecksumVerdict
     ensures { JudgesIcmpv4 message.now result }
@@ -208,7 +208,7 @@ fn icmpv4_verdict(message: &Icmpv4Slice<'_>) -> ChecksumVerdict
     }
 }
 
-/// An ICMPv6 message (RFC 4443, section 2.3).
+/// The verdict on an ICMPv6 message (RFC 4443, section 2.3).
 #[inline(always)]
 fn icmpv6_verdict(
     source: [u8; 16],

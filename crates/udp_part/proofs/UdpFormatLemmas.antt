@@ -17,7 +17,7 @@ canonical-bytes bytes fits = masked-all 8 bytes fits
 pub length-accepted : (bytes : List ℕ) → refusal bytes ≡ None → 8 ≤ length bytes
 length-accepted bytes accepted = grind (arith, nat_tests)
 
--- and a whole header is accepted
+-- bytes with a whole header are accepted
 accepted_whole : (bytes : List ℕ) → 8 ≤ length bytes → refusal bytes ≡ None
 accepted_whole bytes whole = grind (arith, nat_tests)
 
@@ -34,7 +34,7 @@ header_of-take bytes =
     same_fields (header_of (take 8 bytes)) (header_of bytes)
     (number 0 (omega arith)) (number 2 (omega arith)) (number 4 (omega arith)) (number 6 (omega arith))
 
--- bytes are read as the header in their kept front, and the bytes after it
+-- bytes are read as the header in their front, and the bytes after it
 pub decoded : (bytes kept : List ℕ) (header : UdpHeader) (rest : List ℕ) → refusal bytes ≡ None → kept ≡ take 8 bytes
     → header ≡ header_of kept → rest ≡ drop 8 bytes → DecodesAs bytes header rest
 decoded bytes kept header rest accepted front fields after = record {
@@ -43,7 +43,7 @@ decoded bytes kept header rest accepted front fields after = record {
   after_header = after;
 }
 
--- writing the header of some bytes and the bytes after it gives the same bytes
+-- writing the header of bytes, and the bytes after it, gives the same bytes
 pub wire-header_of : (bytes rest : List ℕ) → IsBytes bytes → 8 ≤ length bytes → rest ≡ drop 8 bytes → wire (header_of bytes) ++ rest ≡ bytes
 wire-header_of bytes rest fits enough after =
     to_be_bytes-be_number_2 bytes 0 2 _ _ fits refl (omega arith) refl

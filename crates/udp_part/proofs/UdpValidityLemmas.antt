@@ -15,11 +15,11 @@ use Rattle.udp_part.proofs.UdpFormatLemmas.{wire-header_of}
 
 -- ---- the sum of a packet
 
--- the checksum adds itself to the total of a header
+-- a header with a checksum has the sum of the header without it, plus the checksum
 total_wire : (header : UdpHeader) → header.checksum < 2 ^ 16 → total (wire header) ≡ total (wire (record header { checksum = 0 })) + header.checksum
 total_wire header small = omega (arith, small)
 
--- if the length field is the length of the packet, pseudo header and packet sum up to the sum for the checksum plus the checksum
+-- if the length field is the length of the packet, the sum of pseudo header and packet is the sum for the checksum plus the checksum
 covered : (pseudo_header : ℕ → List ℕ) (header : UdpHeader) (payload : List ℕ) → header.length ≡ length (wire header ++ payload)
     → header.checksum < 2 ^ 16
     → total (pseudo_header (length (wire header ++ payload))) + total (wire header ++ payload)
@@ -35,7 +35,7 @@ covered pseudo_header header payload same_len small =
 stores_some : (n checksum : ℕ) → checksum ≡ udp_checksum_of n → checksum ≢ 0
 stores_some n checksum is none = grind (arith, nat_tests)
 
--- a header that counts the payload, with its checksum, and this payload
+-- a header that counts the payload, with its checksum, and the payload form a valid packet
 pub built_ipv4 : (source destination payload : List ℕ) (header : UdpHeader) → header.length ≡ 8 + length payload
     → header.length ≤ max_len_over_ipv4 → header.checksum < 2 ^ 16
     → header.checksum ≡ udp_checksum_of (checksummed_ipv4 source destination header payload)
@@ -62,19 +62,19 @@ built_ipv6 source destination payload header same_len counts small is =
 
 -- ---- received packets
 
--- the fields are numbers of 16 bits
+-- the checksum field is a number of 16 bits
 checksum_field_small : (bytes : List ℕ) → IsBytes bytes → checksum_field bytes < 2 ^ 16
 checksum_field_small bytes fits = omega (arith, fits 6, fits 7)
 
 pub length_field_small : (bytes : List ℕ) → IsBytes bytes → length_field bytes < 2 ^ 16
 length_field_small bytes fits = omega (arith, fits 4, fits 5)
 
--- if the length field is the length of the packet, it is the length of the header, written again, and the bytes after it
+-- if the length field is the length of the packet, it is the length of the header that is written again and of the bytes after it
 counted : (bytes : List ℕ) → IsBytes bytes → 8 ≤ length bytes → length_field bytes ≡ length bytes
     → (header_of bytes).length ≡ length (wire (header_of bytes) ++ drop 8 bytes)
 counted bytes fits enough same_len = same_len ∙ sym (ap length (wire-header_of bytes (drop 8 bytes) fits enough refl))
 
--- so pseudo header and packet sum up to the sum for the checksum plus the checksum
+-- the sum of pseudo header and packet is the sum for the checksum plus the checksum
 covered_packet : (pseudo_header : ℕ → List ℕ) (bytes : List ℕ) → IsBytes bytes → 8 ≤ length bytes → length_field bytes ≡ length bytes
     → total (pseudo_header (length bytes)) + total bytes
     ≡ checksummed (pseudo_header (length_field bytes)) (header_of bytes) (drop 8 bytes) + checksum_field bytes
@@ -84,7 +84,7 @@ covered_packet pseudo_header bytes fits enough same_len =
     subst P (wire-header_of bytes (drop 8 bytes) fits enough refl)
     (covered pseudo_header (header_of bytes) (drop 8 bytes) (counted bytes fits enough same_len) (checksum_field_small bytes fits))
 
--- and this is all ones exactly if a sender stores the same checksum
+-- the sum of pseudo header and packet is all ones exactly if a sender stores the same checksum
 agrees : (pseudo_header : ℕ → List ℕ) (bytes : List ℕ) → IsBytes bytes → 8 ≤ length bytes
     → checksum_field bytes ≢ 0 → length_field bytes ≡ length bytes
     → Verifies (pseudo_header (length bytes)) bytes
@@ -100,12 +100,12 @@ agrees pseudo_header bytes fits enough stores same_len =
 
 -- ---- over IPv4
 
--- a change of the second case
+-- the second of two cases is replaced
 either : {A B C : Type 0} → (B → C) → A ⊎ B → A ⊎ C
 either f (inl a) = inl a
 either f (inr b) = inr (f b)
 
--- a valid packet with a checksum sums up
+-- a valid packet with a checksum has the right sum
 pub sums_up_ipv4 : (source destination bytes : List ℕ) → checksum_field bytes ≢ 0 → IsValidUdpIpv4 source destination bytes
     → SumsUpOverIpv4 source destination bytes
 sums_up_ipv4 source destination bytes stores (inl none) = absurd (stores none)

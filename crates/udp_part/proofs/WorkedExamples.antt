@@ -53,7 +53,7 @@ limit_of_32_bits = refl
 nowhere : List ℕ
 nowhere = replicate 4 0
 
--- only the length field is set, and the pseudo header repeats it next to the protocol 17
+-- the sum over a header in which only the length field is set; the pseudo header contains the length too, and protocol 17
 covered : ℕ → List ℕ → ℕ
 covered port payload =
     checksummed_ipv4 nowhere nowhere (record { source_port = port; destination_port = 0; length = 8; checksum = 99 }) payload
@@ -82,7 +82,7 @@ one_byte_checksum : udp_checksum_of 0x0121 ≡ 0xFEDE
 unfolding folded
 one_byte_checksum = refl
 
--- from 192.168.1.1, port 21, to 192.168.1.2, port 1234, the bytes 1 to 8
+-- the sum over a packet from 192.168.1.1, port 21, to 192.168.1.2, port 1234, with the bytes 1 to 8
 eight_bytes_covered : checksummed_ipv4 (192 ∷ 168 ∷ 1 ∷ 1 ∷ []) (192 ∷ 168 ∷ 1 ∷ 2 ∷ [])
     (record { source_port = 21; destination_port = 1234; length = 16; checksum = 0 }) (1 ∷ 2 ∷ 3 ∷ 4 ∷ 5 ∷ 6 ∷ 7 ∷ 8 ∷ []) ≡ 0x1987F
 eight_bytes_covered = refl
@@ -94,19 +94,19 @@ eight_bytes_folded = refl
 empty_covered_ipv6 : checksummed_ipv6 (replicate 16 0) (replicate 16 0) (record { source_port = 0; destination_port = 0; length = 8; checksum = 0 }) [] ≡ 33
 empty_covered_ipv6 = refl
 
--- eight words 0101, eight words 0202, the length twice, the protocol, the ports, and the payload
+-- the sum of eight words 0101, eight words 0202, the length twice, the protocol, the ports, and the payload
 covered_ipv6 : checksummed_ipv6 (replicate 16 1) (replicate 16 2) (record { source_port = 21; destination_port = 1234; length = 9; checksum = 7 }) (5 ∷ [])
     ≡ 8 * 0x0101 + 8 * 0x0202 + 9 + 17 + 21 + 1234 + 9 + 0x0500
 covered_ipv6 = refl
 
--- from 2001:db8:1:2:3:4:5:6, port 5353, to 2001:db8:a:b:c:d:e:f, port 53, the bytes `abc`
+-- the addresses of a packet from 2001:db8:1:2:3:4:5:6, port 5353, to 2001:db8:a:b:c:d:e:f, port 53, with the bytes `abc`
 source : List ℕ
 source = 0x20 ∷ 0x01 ∷ 0x0D ∷ 0xB8 ∷ 0 ∷ 1 ∷ 0 ∷ 2 ∷ 0 ∷ 3 ∷ 0 ∷ 4 ∷ 0 ∷ 5 ∷ 0 ∷ 6 ∷ []
 
 destination : List ℕ
 destination = 0x20 ∷ 0x01 ∷ 0x0D ∷ 0xB8 ∷ 0 ∷ 10 ∷ 0 ∷ 11 ∷ 0 ∷ 12 ∷ 0 ∷ 13 ∷ 0 ∷ 14 ∷ 0 ∷ 15 ∷ []
 
--- source, destination, the length twice, the protocol, the ports, and the payload
+-- the sum of source, destination, the length twice, the protocol, the ports, and the payload
 abc_covered_ipv6 : checksummed_ipv6 source destination (record { source_port = 5353; destination_port = 53; length = 11; checksum = 7 }) (0x61 ∷ 0x62 ∷ 0x63 ∷ [])
     ≡ 0x2DCE + 0x2E04 + 2 * 11 + 17 + 5353 + 53 + 0xC462
 unfolding source destination
@@ -186,7 +186,7 @@ from = 192 ∷ 168 ∷ 1 ∷ 1 ∷ []
 to : List ℕ
 to = 192 ∷ 168 ∷ 1 ∷ 2 ∷ []
 
--- port 21 to port 1234, the bytes `abc`, an odd length
+-- a packet from port 21 to port 1234 with the bytes `abc`, and so with an odd length
 received : ℕ → ℕ → ℕ → List ℕ
 received field high low = 0x00 ∷ 0x15 ∷ 0x04 ∷ 0xD2 ∷ 0x00 ∷ field ∷ high ∷ low ∷ 0x61 ∷ 0x62 ∷ 0x63 ∷ []
 
@@ -210,7 +210,7 @@ none_over_ipv6 : IsValidUdpIpv6 source destination (received 11 0 0) → ⊥
 unfolding received
 none_over_ipv6 valid = valid.0 refl
 
--- the bytes are counted, not the length field, as in a jumbogram
+-- a length field of 0 states no length, as in a jumbogram; the bytes are counted
 field_0_over_ipv4 : SumsUpOverIpv4 from to (received 0 0xB3 0x45)
 unfolding folded from to received
 field_0_over_ipv4 = (lit≤ tt, refl)
@@ -219,6 +219,6 @@ field_0_over_ipv6 : SumsUpOverIpv6 source destination (received 0 0xDA 0xC7)
 unfolding folded source destination received
 field_0_over_ipv6 = (lit≤ tt, refl)
 
--- no pseudo header over IPv4 can count this packet, for any sum
+-- no pseudo header over IPv4 can count this packet
 too_long_over_ipv4 : (bytes : List ℕ) → length bytes ≡ 65536 → SumsUpOverIpv4 from to bytes → ⊥
 too_long_over_ipv4 bytes long sums_up = omega (arith, long, sums_up.0)

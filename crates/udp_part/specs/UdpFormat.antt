@@ -15,18 +15,18 @@ use Rattle.udp_part.specs.declared.udp_header.UdpHeader.{UdpHeader}
 
 -- ---- accepted bytes
 
--- a header of eight bytes without reserved bits
+-- the layout of a header: eight bytes, without reserved bits
 abbrev pub layout : HeaderLayout
 layout = record { header_len = 8; masks = replicate 8 0xff }
 
--- a slice shorter than a header is refused; the length field is not checked
+-- the error if a slice is shorter than a header; the length field is not checked
 abbrev pub refusal : List ℕ → Option LenError
 refusal bytes = first_of (
     refused_if (nat_lt (length bytes) layout.header_len) (wrong_length layers.UdpHeader layout.header_len (length bytes)) ∷ [])
 
 -- ---- reading
 
--- each field at its place
+-- the header in these bytes, with each field read at its place
 abbrev pub header_of : List ℕ → UdpHeader
 header_of bytes = record {
   source_port = be_number bytes 0 2;
@@ -41,7 +41,7 @@ pub record DecodesAs (bytes : List ℕ) (header : UdpHeader) (rest : List ℕ) :
   pub fields : header ≡ header_of bytes
   pub after_header : rest ≡ drop layout.header_len bytes
 
--- accepted bytes with the meaningless bits cleared; the bytes after the header are kept
+-- accepted bytes with the meaningless bits of the header cleared; the bytes after the header are kept
 abbrev pub canonical : List ℕ → List ℕ
 canonical bytes = masked layout.masks bytes
 
@@ -55,21 +55,21 @@ wire header =
 
 -- ---- the checksum
 
--- the longest payload that the length field, a number of 16 bits, can count in addition to the header (RFC 768)
+-- the length of the longest payload that the length field can count; it has 16 bits, and counts the header too (RFC 768)
 abbrev pub max_payload_len : ℕ
 max_payload_len = 65535 - layout.header_len
 
--- the longest payload that the length in the pseudo header over IPv6, a number of 32 bits, can count in addition to
--- the header (RFC 8200, section 8.1)
+-- the length of the longest payload that the pseudo header over IPv6 can count; its length field has 32 bits, and
+-- counts the header too (RFC 8200, section 8.1)
 abbrev pub max_payload_len_of_32_bits : ℕ
 max_payload_len_of_32_bits = 4294967295 - layout.header_len
 
--- the sum for a checksum: pseudo header, header with a zero instead of the checksum, and payload
+-- the sum from which the checksum is computed: the pseudo header, the header with a zero instead of the checksum, and the payload
 abbrev pub checksummed : List ℕ → UdpHeader → List ℕ → ℕ
 checksummed pseudo_header header payload =
     total pseudo_header + total (wire (record header { checksum = 0 })) + total payload
 
--- this sum over IPv4 and over IPv6; the length is the header's own field
+-- the sum from which the checksum is computed, over IPv4 and over IPv6; the pseudo header contains the length field of the header
 abbrev pub checksummed_ipv4 : List ℕ → List ℕ → UdpHeader → List ℕ → ℕ
 checksummed_ipv4 source destination header payload =
     checksummed (ipv4_pseudo_header source destination udp_number header.length) header payload

@@ -1,4 +1,4 @@
--- The part of a slice that is a UDP packet by its length field (RFC 768: the length of header and payload, in bytes).
+-- The UDP packet at the front of a slice. Its length field states the length of header and payload, in bytes (RFC 768).
 use Rattle.std.specs.Prelude.{ℕ, Bool, not, ◌==◌, ◌&&◌, nat_lt, if◌then◌else◌, List, [], ◌∷◌, length, take, Option}
 use Rattle.net_base.specs.Bytes.{be_number}
 use Rattle.net_base.specs.Refusals.{first_of, refused_if, wrong_length}
@@ -12,15 +12,15 @@ use Rattle.udp_part.specs.UdpFormat.{layout, refusal}
 abbrev pub length_field : List ℕ → ℕ
 length_field bytes = be_number bytes 4 2
 
--- the length field counts the packet: at least a header, and at most the bytes of the slice
+-- the length field is valid: it counts at least a header, and at most the bytes of the slice
 abbrev pub length_counts : List ℕ → Bool
 length_counts bytes = not (nat_lt (length_field bytes) layout.header_len) && not (nat_lt (length bytes) (length_field bytes))
 
--- the length field counts more bytes than the slice contains
+-- the error if the length field counts more bytes than the slice contains
 abbrev pub packet_cut_off : List ℕ → LenError
 packet_cut_off bytes = wrong_length layers.UdpPayload (length_field bytes) (length bytes)
 
--- the length field counts fewer bytes than a header
+-- the error if the length field counts fewer bytes than a header
 abbrev pub length_below_header : List ℕ → LenError
 length_below_header bytes = record {
   required_len = layout.header_len;
@@ -30,8 +30,8 @@ length_below_header bytes = record {
   layer_start_offset = 0;
 }
 
--- the errors, in this order: a missing header; a length field above the length of the slice; a length field below a
--- header, except 0, which states no length, for example in a jumbogram (RFC 2675, section 4)
+-- The first error that applies: a missing header; a length field above the length of the slice; a length field below the length of a
+-- header. A length field of 0 is accepted, since it states no length, for example in a jumbogram (RFC 2675, section 4).
 abbrev pub strict_refusal : List ℕ → Option LenError
 strict_refusal bytes = first_of (
     refusal bytes
@@ -39,10 +39,10 @@ strict_refusal bytes = first_of (
     ∷ refused_if (nat_lt (length_field bytes) layout.header_len && not (length_field bytes == 0)) (length_below_header bytes)
     ∷ [])
 
--- the kept part of accepted bytes: the packet if the length field counts it, otherwise all bytes
+-- the packet at the front of accepted bytes: the bytes that a valid length field counts, otherwise all bytes
 abbrev pub cut : List ℕ → List ℕ
 cut bytes = if length_counts bytes then take (length_field bytes) bytes else bytes
 
--- the source of the length of the kept part
+-- what states the length of this packet
 abbrev pub len_source_of : List ℕ → LenSource
 len_source_of kept = if length_field kept == length kept then UdpHeaderLen else Slice

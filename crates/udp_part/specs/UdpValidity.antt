@@ -9,17 +9,18 @@ use Rattle.net_base.specs.StoredChecksum.{udp_checksum_place}
 abbrev pub checksum_field : List ℕ → ℕ
 checksum_field bytes = be_number bytes udp_checksum_place 2
 
--- pseudo header and packet sum up to all ones; the pseudo header counts the bytes of the packet, whatever its length field is
+-- the one's complement sum of pseudo header and packet is all ones; the pseudo header contains the number of bytes of the packet, not its
+-- length field
 abbrev pub SumsUpOverIpv4 : List ℕ → List ℕ → List ℕ → Type 0
 SumsUpOverIpv4 source destination bytes = VerifiesOverIpv4 source destination udp_number bytes
 
 abbrev pub SumsUpOverIpv6 : List ℕ → List ℕ → List ℕ → Type 0
 SumsUpOverIpv6 source destination bytes = VerifiesOverIpv6 source destination udp_number bytes
 
--- over IPv4 a checksum of 0 means that there is none (RFC 768)
+-- a packet over IPv4 is valid; a checksum of 0 means that there is none (RFC 768)
 abbrev pub IsValidUdpIpv4 : List ℕ → List ℕ → List ℕ → Type 0
 IsValidUdpIpv4 source destination bytes = (checksum_field bytes ≡ 0) ⊎ SumsUpOverIpv4 source destination bytes
 
--- over IPv6 a packet with a checksum of 0 is discarded (RFC 8200, section 8.1)
+-- a packet over IPv6 is valid; a packet with a checksum of 0 is discarded (RFC 8200, section 8.1)
 abbrev pub IsValidUdpIpv6 : List ℕ → List ℕ → List ℕ → Type 0
 IsValidUdpIpv6 source destination bytes = (checksum_field bytes ≢ 0) × SumsUpOverIpv6 source destination bytes

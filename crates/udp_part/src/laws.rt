@@ -1,9 +1,9 @@
-//! Laws of types and constants that the contracts of the calls don't state: a copy is equal, headers are equal
-//! exactly if all fields are equal, and the constants are the constants of the format.
+//! Laws of types and constants that the contracts of the calls do not state. A clone is the same value. Headers are
+//! equal exactly if all their fields are equal. The constants are those of the format.
 //!
 //! # Errors
 //!
-//! None: each clone succeeds.
+//! No call returns an error: each clone succeeds.
 ghost use Rattle.std.specs.Prelude.{◌≡◌, ◌↔◌, IsTrue, IsOkAnd};
 ghost use Rattle.udp_part.specs.UdpFormat.{layout};
 
@@ -17,7 +17,7 @@ pub fn cloned_header(header: &UdpHeader) -> Result<UdpHeader, AllocError>
     header.clone()
 }
 
-/// A clone of a header's bytes is the same bytes.
+/// A clone of the slice of a header is the same value.
 pub fn cloned_header_slice<'a>(
     header: &UdpHeaderSlice<'a>,
 ) -> Result<UdpHeaderSlice<'a>, AllocError>
@@ -26,7 +26,7 @@ pub fn cloned_header_slice<'a>(
     header.clone()
 }
 
-/// A clone of a packet's bytes is the same bytes.
+/// A clone of the slice of a packet is the same value.
 pub fn cloned_slice<'a>(packet: &UdpSlice<'a>) -> Result<UdpSlice<'a>, AllocError>
     ensures same { IsOkAnd result (λ copy. copy ≡ packet.now) }
 {
@@ -54,7 +54,7 @@ pub fn equal_slices(a: &UdpSlice<'_>, b: &UdpSlice<'_>) -> bool
     a == b
 }
 
-/// The constants are the header length of the format.
+/// The constants are the length of the header in the format.
 pub fn constants()
     ensures len { UdpHeader.LEN ≡ layout.header_len }
     ensures len_u16 { UdpHeader.LEN_U16 ≡ layout.header_len }

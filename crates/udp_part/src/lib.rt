@@ -1,12 +1,12 @@
-//! UDP (RFC 768): the header read and written, its checksum over IPv4 and IPv6, and slices of packets.
+//! UDP (RFC 768): reading and writing the header, its checksum over IPv4 and IPv6, and slices of packets.
 //!
-//! `UdpHeader` is the header as numbers, `UdpHeaderSlice` its eight bytes, and `UdpSlice` header and payload, cut by
-//! the length field. A slice returns bytes borrowed from its input. This crate re-exports the errors and the IP
-//! headers of `net_base`, and the sum of `word_sum`.
+//! `UdpHeader` contains the numbers of a header, `UdpHeaderSlice` its eight bytes, and `UdpSlice` the bytes of a
+//! packet, which the length field counts. A slice returns bytes borrowed from its input. This crate re-exports the
+//! errors and the IP headers of `net_base`, and the sum of `word_sum`.
 //!
-//! To check a received packet: over IPv4 a checksum of 0 means that there is none, and over IPv6 it is wrong. A
-//! `UdpSlice` leaves out the bytes after the packet, for example Ethernet padding, and keeps them if the length field
-//! is 0. `UdpHeader::from_slice` returns them in its rest.
+//! Over IPv4, a checksum of 0 means that a received packet has no checksum. Over IPv6, 0 is wrong. A `UdpSlice`
+//! excludes bytes after the packet, such as Ethernet padding, unless the length field is 0. `UdpHeader::from_slice`
+//! returns them with the bytes after the header.
 //!
 //! ```
 //! let packet = UdpSlice::from_slice(bytes)?;

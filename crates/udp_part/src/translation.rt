@@ -5,14 +5,14 @@ ghost use Rattle.word_sum.specs.ChecksumChange.{TurnsInto};
 use crate::UdpHeader;
 use word_sum::checksum_change::ChecksumChange;
 
-/// Changes to a UDP header by an address translator (RFC 3022, section 4). It replaces a port, and updates the
-/// checksum, which also covers the addresses. It needs no payload.
+/// Changes of a UDP header by an address translator (RFC 3022, section 4). A call replaces a port, and updates the checksum, which also
+/// covers the addresses. The payload is not needed.
 impl UdpHeader {
     ghost use Rattle.udp_part.specs.UdpFormat.{checksummed, checksummed_ipv4, checksummed_ipv6};
 
-    /// Replaces the source of a packet over IPv4: stores this port, and updates the checksum for the port and for the
-    /// address `new` instead of `old`. The IP header with the address and its own checksum is not changed. A checksum
-    /// of 0 means that there is none, and stays.
+    /// Replaces the source of a packet over IPv4. The call stores this port. It updates the checksum, since the port changes and the
+    /// address `old` becomes `new`. The IP header, which contains the address and its own checksum, is not changed. A checksum of 0 means
+    /// that there is none, and it stays 0.
     ///
     /// In a fragmented packet only the first fragment contains the header, and its checksum covers all fragments (RFC 791).
     pub fn translate_source_ipv4(&mut self, old: [u8; 4], new: [u8; 4], port: u16)
@@ -48,7 +48,7 @@ impl UdpHeader {
         self.replace_destination_port(ChecksumChange::new().replace_4bytes(old, new), port);
     }
 
-    /// Replaces the source of a packet over IPv6, as `translate_source_ipv4` replaces it over IPv4.
+    /// Replaces the source of a packet over IPv6, as `translate_source_ipv4` replaces the source over IPv4.
     ///
     /// In a fragmented packet only the first fragment contains the header, and its checksum covers all fragments (RFC 8200, section 4.5).
     pub fn translate_source_ipv6(&mut self, old: [u8; 16], new: [u8; 16], port: u16)
@@ -66,8 +66,8 @@ impl UdpHeader {
         self.replace_source_port(ChecksumChange::new().replace_16bytes(old, new), port);
     }
 
-    /// Replaces the destination of a packet over IPv6, as `translate_source_ipv4` replaces the source over IPv4. With
-    /// a routing header the checksum covers the final destination (RFC 8200, section 8.1).
+    /// Replaces the destination of a packet over IPv6, as `translate_source_ipv4` replaces the source over IPv4. If the packet has a
+    /// routing header, the checksum covers the final destination (RFC 8200, section 8.1).
     ///
     /// In a fragmented packet only the first fragment contains the header, and its checksum covers all fragments (RFC 8200, section 4.5).
     pub fn translate_destination_ipv6(&mut self, old: [u8; 16], new: [u8; 16], port: u16)
@@ -85,11 +85,11 @@ impl UdpHeader {
         self.replace_destination_port(ChecksumChange::new().replace_16bytes(old, new), port);
     }
 
-    /// Replaces the source port, and updates the checksum for the port and for this change of the pseudo header.
+    /// Replaces the source port. Updates the checksum by the port and by this change of the pseudo header.
     fn replace_source_port(&mut self, pseudo_header: ChecksumChange, port: u16)
         ensures unchanged { self.new ≡ record self.old { source_port = port; checksum = self.new.checksum } }
         ensures none { (self.new.checksum ≡ 0) ↔ (self.old.checksum ≡ 0) }
-        // This holds for all pseudo headers that depend on the length field.
+        // The pseudo header may depend on the length field.
         ensures updated { (old new : ℕ → List ℕ) (payload : List ℕ) →
             TurnsInto pseudo_header (checksummed (old self.old.length) self.old payload) (checksummed (new self.old.length) self.old payload) →
             (self.new.checksum ≡ udp_checksum_of (checksummed (new self.new.length) self.new payload))
@@ -108,11 +108,11 @@ impl UdpHeader {
         self.checksum = change.apply_udp(self.checksum);
     }
 
-    /// Replaces the destination port, and updates the checksum for the port and for this change of the pseudo header.
+    /// Replaces the destination port. Updates the checksum by the port and by this change of the pseudo header.
     fn replace_destination_port(&mut self, pseudo_header: ChecksumChange, port: u16)
         ensures unchanged { self.new ≡ record self.old { destination_port = port; checksum = self.new.checksum } }
         ensures none { (self.new.checksum ≡ 0) ↔ (self.old.checksum ≡ 0) }
-        // This holds for all pseudo headers that depend on the length field.
+        // The pseudo header may depend on the length field.
         ensures updated { (old new : ℕ → List ℕ) (payload : List ℕ) →
             TurnsInto pseudo_header (checksummed (old self.old.length) self.old payload) (checksummed (new self.old.length) self.old payload) →
             (self.new.checksum ≡ udp_checksum_of (checksummed (new self.new.length) self.new payload))

@@ -28,8 +28,8 @@ pub struct UdpHeader {
     /// The length of header and payload, in bytes (bytes 4 and 5). In a valid packet it is at least 8, or 0 in a
     /// jumbogram (RFC 2675, section 4).
     pub length: u16,
-    /// The checksum over pseudo header, header and payload (bytes 6 and 7). Over IPv4 a 0 means that there is none.
-    /// Over IPv6 a 0 is wrong (RFC 8200, section 8.1).
+    /// The checksum over pseudo header, header and payload (bytes 6 and 7). Over IPv4, 0 means that there is no checksum. Over IPv6, 0 is
+    /// wrong (RFC 8200, section 8.1).
     pub checksum: u16,
 }
 
@@ -60,7 +60,7 @@ impl UdpHeader {
     /// The length of a UDP header, in bytes.
     pub const LEN: usize = 8;
 
-    /// The length of a UDP header, in bytes, as a number of the length field's type.
+    /// The length of a UDP header, in bytes, in the type of the length field.
     pub const LEN_U16: u16 = 8;
 
     /// The length of a UDP header, in bytes: an older name of `LEN`.
@@ -75,13 +75,13 @@ impl UdpHeader {
     /// The place of the checksum, in bytes from the start of the header.
     pub const CHECKSUM_AT: usize = 6;
 
-    /// The longest payload that the length field can count, in bytes: 65,535 minus the header.
+    /// The length of the longest payload that the length field can count, in bytes: 65,535 minus the length of the header.
     const MAX_PAYLOAD_LEN: usize = u16::MAX as usize - UdpHeader::LEN;
 
-    /// The longest payload that a length of 32 bits can count, in bytes: 4,294,967,295 minus the header.
+    /// The length of the longest payload that 32 bits can count, in bytes: 4,294,967,295 minus the length of the header.
     const MAX_PAYLOAD_LEN_32_BITS: usize = u32::MAX as usize - UdpHeader::LEN;
 
-    /// A header with the checksum 0, which means that there is none, over IPv4 (RFC 768).
+    /// A header with the checksum 0. Over IPv4, 0 means that there is no checksum (RFC 768).
     ///
     /// # Errors
     ///
@@ -112,7 +112,7 @@ impl UdpHeader {
         })
     }
 
-    /// A header for this payload with its checksum over IPv4 (RFC 768).
+    /// A header for this payload, with its checksum over IPv4 (RFC 768).
     ///
     /// # Errors
     ///
@@ -135,7 +135,7 @@ impl UdpHeader {
             (checksummed_ipv4 ip_header.now.source ip_header.now.destination header payload.now)) }
         ensures verifies { IfOk result (λ header. IsAllOnes
             (checksummed_ipv4 ip_header.now.source ip_header.now.destination header payload.now + header.checksum)) }
-        // The packet of this header and this payload contains a checksum, and is valid.
+        // A packet of this header and this payload contains a checksum and is valid.
         ensures sums_up { IfOk result (λ header. SumsUpOverIpv4 ip_header.now.source ip_header.now.destination (wire header ++ payload.now)) }
         ensures valid { IfOk result (λ header. IsValidUdpIpv4 ip_header.now.source ip_header.now.destination (wire header ++ payload.now)) }
     {
@@ -152,8 +152,8 @@ impl UdpHeader {
         Ok(header)
     }
 
-    /// A header for this payload with its checksum over IPv6 (RFC 768; RFC 8200, section 8.1). With a routing header,
-    /// pass the final destination.
+    /// A header for this payload, with its checksum over IPv6 (RFC 768; RFC 8200, section 8.1). If the packet has a routing header, pass
+    /// the final destination.
     ///
     /// # Errors
     ///
@@ -197,8 +197,7 @@ impl UdpHeader {
         Ok(header)
     }
 
-    /// Reads a header (RFC 768), and returns it with the bytes after it, borrowed from the slice. The length field is
-    /// not checked.
+    /// Reads a header (RFC 768). Returns the header, and the bytes after it, borrowed from the slice. The length field is not checked.
     ///
     /// # Errors
     ///
@@ -232,7 +231,7 @@ impl UdpHeader {
         UdpHeader::from_slice(slice)
     }
 
-    /// The header in these bytes, with each field at its place (RFC 768).
+    /// Reads the header in these bytes (RFC 768).
     pub fn from_bytes(bytes: [u8; 8]) -> UdpHeader
         ensures read { result ≡ header_of bytes }
         ensures written_back { wire result ≡ bytes }
@@ -252,8 +251,8 @@ impl UdpHeader {
         ensures read_back { header_of result ≡ self.now }
         ensures reads_back { (payload : List ℕ) → DecodesAs (wire self.now ++ payload) self.now payload }
     {
-        // perf: the fields are one number whose lowest byte is the first byte, so that the header is one move
-        // (23 Nov 2026).
+        // perf: the fields become one number whose lowest byte is the first byte, so that the header is stored by one instruction (23 Nov
+        // 2026).
         let source_port = u64::from(self.source_port.swap_bytes());
         let destination_port = u64::from(self.destination_port.swap_bytes());
         let length = u64::from(self.length.swap_bytes());
@@ -265,12 +264,12 @@ impl UdpHeader {
         number.to_le_bytes()
     }
 
-    /// Writes the bytes of the header (RFC 768) to the front of the slice, and returns their number: 8. The rest of the
-    /// slice is not changed.
+    /// Writes the bytes of the header (RFC 768) to the front of the slice, and returns their number: 8. The rest of the slice is not
+    /// changed.
     ///
     /// # Errors
     ///
-    /// `LenError` of the layer `UdpHeader` if the slice is shorter than 8 bytes. Nothing is written then.
+    /// `LenError` of the layer `UdpHeader` if the slice is shorter than 8 bytes. After this error the slice is unchanged.
     #[inline(always)]
     pub fn write_to_slice(&self, slice: &mut [u8]) -> Result<usize, LenError>
         ensures refused { RefusesExactly result (no_room Layer.UdpHeader (wire self.now) (length slice.old)) }
@@ -282,7 +281,7 @@ impl UdpHeader {
         let Some(front) = slice.first_chunk_mut::<8>() else {
             return Err(wrong_length(Layer::UdpHeader, UdpHeader::LEN, len));
         };
-        // perf: a copy of 8 bytes goes through memory, the assignment of an array does not (25 Nov 2026).
+        // perf: a copy of 8 bytes goes through memory. The assignment of an array does not (25 Nov 2026).
         *front = self.to_bytes();
         Ok(UdpHeader::LEN)
     }
@@ -301,7 +300,7 @@ impl UdpHeader {
         UdpHeader::LEN_U16
     }
 
-    /// The checksum over IPv4: `calc_checksum_ipv4_raw` with the addresses of an IP header.
+    /// The checksum over IPv4, as `calc_checksum_ipv4_raw` computes it from the addresses of this IP header.
     ///
     /// # Errors
     ///
@@ -316,7 +315,7 @@ impl UdpHeader {
             (checksummed_ipv4 ip_header.now.source ip_header.now.destination self.now payload.now)) }
         ensures verifies { IfOk result (λ checksum. IsAllOnes
             (checksummed_ipv4 ip_header.now.source ip_header.now.destination self.now payload.now + checksum)) }
-        // The packet of the header with this checksum, and of this payload, is valid.
+        // A packet of the header with this checksum, and of this payload, is valid.
         ensures sums_up { self.now.length ≡ 8 + length payload.now → IfOk result (λ checksum. SumsUpOverIpv4
             ip_header.now.source ip_header.now.destination (wire (record self.now { checksum = checksum }) ++ payload.now)) }
         ensures valid { self.now.length ≡ 8 + length payload.now → IfOk result (λ checksum. IsValidUdpIpv4
@@ -325,9 +324,8 @@ impl UdpHeader {
         self.calc_checksum_ipv4_raw(ip_header.source, ip_header.destination, payload)
     }
 
-    /// The checksum over IPv4, with the header's own length field in the pseudo header, even if it is wrong (RFC
-    /// 768). The field `checksum` is not summed, and a computed 0 is returned as 65535. To check a received packet,
-    /// use `UdpSlice::is_checksum_valid_ipv4`.
+    /// The checksum over IPv4 (RFC 768). The pseudo header contains the length field of this header, even if it is wrong. The field
+    /// `checksum` is not summed, and 65535 is returned instead of 0. To check a received packet, use `UdpSlice::is_checksum_valid_ipv4`.
     ///
     /// # Errors
     ///
@@ -344,7 +342,7 @@ impl UdpHeader {
             (checksummed_ipv4 source destination self.now payload.now)) }
         ensures verifies { IfOk result (λ checksum. IsAllOnes
             (checksummed_ipv4 source destination self.now payload.now + checksum)) }
-        // The packet of the header with this checksum, and of this payload, is valid.
+        // A packet of the header with this checksum, and of this payload, is valid.
         ensures sums_up { self.now.length ≡ 8 + length payload.now → IfOk result (λ checksum. SumsUpOverIpv4
             source destination (wire (record self.now { checksum = checksum }) ++ payload.now)) }
         ensures valid { self.now.length ≡ 8 + length payload.now → IfOk result (λ checksum. IsValidUdpIpv4
@@ -374,8 +372,8 @@ impl UdpHeader {
             .to_ones_complement_with_no_zero()
     }
 
-    /// The checksum over IPv6: `calc_checksum_ipv6_raw` with the addresses of an IP header. With a routing header,
-    /// pass the final destination (RFC 8200, section 8.1).
+    /// The checksum over IPv6, as `calc_checksum_ipv6_raw` computes it from the addresses of this IP header. If the packet has a routing
+    /// header, pass the final destination (RFC 8200, section 8.1).
     ///
     /// # Errors
     ///
@@ -396,12 +394,12 @@ impl UdpHeader {
         self.calc_checksum_ipv6_raw(ip_header.source, ip_header.destination, payload)
     }
 
-    /// The checksum over IPv6, with the header's own length field in the pseudo header (RFC 768; RFC 8200, section
-    /// 8.1). The field `checksum` is not summed, and a computed 0 is returned as 65535. With a routing header, pass
-    /// the final destination. To check a received packet, use `UdpSlice::is_checksum_valid_ipv6`.
+    /// The checksum over IPv6 (RFC 768; RFC 8200, section 8.1). The pseudo header contains the length field of this header. The field
+    /// `checksum` is not summed, and 65535 is returned instead of 0. If the packet has a routing header, pass the final destination. To
+    /// check a received packet, use `UdpSlice::is_checksum_valid_ipv6`.
     ///
-    /// The length field is summed as it is, even if it is wrong. In a jumbogram it is 0, but the receiver sums the true
-    /// length (RFC 2675, section 4), so this is not the checksum to send.
+    /// The length field is summed even if it is wrong. In a jumbogram it is 0, but a receiver sums the true length (RFC 2675, section 4).
+    /// So the result is not the checksum of a jumbogram.
     ///
     /// # Errors
     ///
@@ -445,18 +443,18 @@ impl UdpHeader {
             .to_ones_complement_with_no_zero()
     }
 
-    /// The sum of the header without its checksum, and of the pseudo header without the addresses: the protocol and
-    /// the length again (RFC 768). Over IPv6 these two fields are 4 bytes each (RFC 8200, section 8.1). The first 2
-    /// bytes of the length are 0, and so are the first 3 bytes of the protocol.
-    // perf: the addresses are added after these fields, since numbers this small have no carry. Over IPv6 a packet of
-    // 8 bytes went from 1.26 to 1.48 of the speed of `etherparse` (25 Nov 2026). Adding the fields as numbers, with one
-    // shift in place of a swap for each field, saves three to four instructions of 67 (27 Nov 2026).
+    /// The sum of the header without its checksum, and of the protocol and the length in the pseudo header (RFC 768). Over IPv6 these two
+    /// fields have 4 bytes each (RFC 8200, section 8.1), but only the last 2 bytes of the length and the last byte of the protocol are not
+    /// 0.
+    // perf: the addresses are added after these fields, since numbers this small have no carry. Over IPv6 a packet of 8 bytes went from
+    // 1.26 to 1.48 of the speed of `etherparse` (25 Nov 2026). The fields are added as numbers, with one shift instead of a swap for each
+    // field, which saves three to four instructions of 67 (27 Nov 2026).
     fn sum_of_fields(&self) -> Sum16BitWords
         ensures sum { sum_value result ≡ folded (17 + self.now.length + total (wire (record self.now { checksum = 0 }))) }
         ensures fits { self.now.length < 2 ^ 16 }
     {
-        // The sum of the fields has less than 24 bits. A sum keeps its words with their bytes swapped, which is the same
-        // as shifting the number by eight bits.
+        // The sum of the fields has less than 24 bits. A sum keeps its words with their bytes swapped, so the number is shifted by eight
+        // bits.
         let words = u32::from(self.source_port)
             + u32::from(self.destination_port)
             + u32::from(self.length)
@@ -466,9 +464,9 @@ impl UdpHeader {
     }
 }
 
-/// The error if a slice of this length, in bytes, ends within the header.
-// perf: as a call, the refusal is out of the way of accepted headers. `UdpHeader::from_slice` then takes 1.9 instead of 3.0 ns, but a
-// refusal takes 2.7 instead of 1.7 (27 Nov 2026).
+/// The error if a slice of this length ends within the header. The length is in bytes.
+// perf: the refusal is a call, so that accepted headers do not run its code. `UdpHeader::from_slice` then takes 1.9 instead of 3.0 ns, but
+// a refusal takes 2.7 instead of 1.7 (27 Nov 2026).
 #[cold]
 #[inline(never)]
 pub(crate) fn header_cut_off(len: usize) -> LenError

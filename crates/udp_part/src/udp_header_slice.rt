@@ -34,7 +34,7 @@ impl<'a> UdpHeaderSlice<'a> {
     ghost use Rattle.net_base.specs.Refusals.{RefusesExactly};
     ghost use Rattle.udp_part.specs.UdpFormat.{header_of, layout, refusal};
 
-    /// The header at the front of the slice (RFC 768). The length field is not checked.
+    /// Reads the header at the front of the slice (RFC 768). The length field is not checked.
     ///
     /// # Errors
     ///
@@ -80,15 +80,15 @@ impl<'a> UdpHeaderSlice<'a> {
         u16::from_be_bytes([self.slice[4], self.slice[5]])
     }
 
-    /// The checksum over pseudo header, header and payload (bytes 6 and 7). Over IPv4 a 0 means that there is none.
-    /// Over IPv6 a 0 is wrong.
+    /// The checksum over pseudo header, header and payload (bytes 6 and 7). Over IPv4, 0 means that there is no
+    /// checksum. Over IPv6, 0 is wrong.
     pub fn checksum(&self) -> u16
         ensures { result ≡ be_number self.now 6 2 }
     {
         u16::from_be_bytes([self.slice[6], self.slice[7]])
     }
 
-    /// The header as numbers.
+    /// The numbers of the header.
     pub fn to_header(&self) -> UdpHeader
         ensures { result ≡ header_of self.now }
     {

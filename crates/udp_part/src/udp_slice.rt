@@ -44,8 +44,8 @@ impl<'a> UdpSlice<'a> {
     ghost use Rattle.udp_part.specs.UdpSlice.{cut, len_source_of, length_field, strict_refusal};
     ghost use Rattle.udp_part.specs.UdpValidity.{IsValidUdpIpv4, IsValidUdpIpv6, SumsUpOverIpv4, SumsUpOverIpv6, checksum_field};
 
-    /// The packet at the front of the slice (RFC 768): the bytes that its length field counts, or the whole slice if
-    /// that field is 0, for example in a jumbogram (RFC 2675, section 4).
+    /// Reads the packet at the front of the slice (RFC 768). It consists of the bytes that its length field counts. If the length field is
+    /// 0, for example in a jumbogram (RFC 2675, section 4), it is the whole slice.
     ///
     /// # Errors
     ///
@@ -72,8 +72,8 @@ impl<'a> UdpSlice<'a> {
         })
     }
 
-    /// The packet at the front of the slice (RFC 768): the bytes that its length field counts. The whole slice is kept
-    /// if that field is 0 or invalid: above the length of the slice, or below a header.
+    /// Reads the packet at the front of the slice (RFC 768). It consists of the bytes that its length field counts. If the length field is
+    /// 0, above the length of the slice, or below the length of a header, it is the whole slice.
     ///
     /// # Errors
     ///
@@ -115,8 +115,8 @@ impl<'a> UdpSlice<'a> {
         &self.slice[UdpHeader::LEN..]
     }
 
-    /// The source of the payload length: the length field if it is the length of header and payload, otherwise the
-    /// slice that was passed in.
+    /// What states the length of the payload. It is the length field if this equals the length of header and payload, otherwise the length
+    /// of the slice that was passed in.
     pub fn payload_len_source(&self) -> LenSource
         ensures { result ≡ len_source_of self.now }
     {
@@ -141,42 +141,42 @@ impl<'a> UdpSlice<'a> {
         u16::from_be_bytes([self.slice[2], self.slice[3]])
     }
 
-    /// The length of header and payload that the header states, in bytes (bytes 4 and 5): 0 or the length of the slice,
-    /// or any number after `from_slice_lax`.
+    /// The length of header and payload that the header states, in bytes (bytes 4 and 5). It is 0 or the length of the slice. After
+    /// `from_slice_lax` it can be any number.
     pub fn length(&self) -> u16
         ensures { result ≡ be_number self.now 4 2 }
     {
         u16::from_be_bytes([self.slice[4], self.slice[5]])
     }
 
-    /// The checksum over pseudo header, header and payload (bytes 6 and 7). Over IPv4 a 0 means that there is none.
-    /// Over IPv6 a 0 is wrong.
+    /// The checksum over pseudo header, header and payload (bytes 6 and 7). Over IPv4, 0 means that there is no checksum. Over IPv6, 0 is
+    /// wrong.
     pub fn checksum(&self) -> u16
         ensures { result ≡ be_number self.now 6 2 }
     {
         u16::from_be_bytes([self.slice[6], self.slice[7]])
     }
 
-    /// Whether the checksum is right over IPv4, as a receiver checks it. It is right if it is 0, which means that
-    /// there is none (RFC 768), or if pseudo header and packet sum up to all ones (RFC 1071, section 1).
+    /// Whether the checksum over IPv4 is right. It is right if it is 0, which means that there is no checksum (RFC 768). It is also right
+    /// if the one's complement sum of pseudo header and packet is all ones (RFC 1071, section 1).
     ///
-    /// The sum covers all bytes of the slice, and the pseudo header counts them, whatever the length field is. If that
-    /// field is 0, or above the bytes that `from_slice_lax` kept, the kept bytes are summed. So a truncated packet is
-    /// usually wrong. With a checksum, more than 65,535 bytes are never right.
+    /// The sum covers all bytes of the slice, and the pseudo header contains their number, whatever the length field is. So a truncated
+    /// packet, which `from_slice_lax` accepts, usually has a wrong checksum. If there is a checksum and the slice is longer than 65,535
+    /// bytes, the result is false.
     ///
-    /// In a packet with a right checksum this check detects each change of one byte, and of one aligned two-byte word
-    /// except between 0000 and FFFF. It misses an exchange of two aligned words. If the checksum becomes 0, it
-    /// detects nothing.
+    /// This check detects each change of one byte of a packet with a right checksum. It detects each change of one aligned two-byte word,
+    /// except between 0000 and FFFF. It does not detect that two aligned words were exchanged. If the checksum becomes 0, it detects no
+    /// change.
     pub fn is_checksum_valid_ipv4(&self, source: [u8; 4], destination: [u8; 4]) -> bool
         ensures valid { IsTrue result ↔ IsValidUdpIpv4 source destination self.now }
-        // Reading and writing agree: the sender stores the same checksum.
+        // The stored checksum is right exactly if the sender of the packet would store it.
         ensures agrees { checksum_field self.now ≢ 0 → length_field self.now ≡ length self.now →
             (IsTrue result ↔ (checksum_field self.now ≡ udp_checksum_of
             (checksummed_ipv4 source destination (header_of self.now) (drop 8 self.now)))) }
-        // If a packet with a checksum is valid, this states which other packets of its length sum up.
+        // These are the changes of a packet with a checksum that the check detects, and the changes that it does not detect.
         ensures detects { IsTrue result → checksum_field self.now ≢ 0
             → Detects (SumsUpOverIpv4 source destination) self.now }
-        // So exactly these packets are valid.
+        // So exactly these packets of the same length are valid.
         ensures valid_others { IsTrue result → checksum_field self.now ≢ 0 → (other : List ℕ) → length other ≡ length self.now →
             (IsValidUdpIpv4 source destination other
             ↔ ((checksum_field other ≡ 0) ⊎ (total other % all_ones ≡ total self.now % all_ones))) }
@@ -192,26 +192,26 @@ impl<'a> UdpSlice<'a> {
         pseudo_header.add_slice(packet).ones_complement() == 0
     }
 
-    /// Whether the checksum is right over IPv6, as a receiver checks it: it is not 0, and pseudo header and packet
-    /// sum up to all ones (RFC 8200, section 8.1; RFC 1071, section 1). With a routing header, pass the final
-    /// destination. A tunnel that allows packets without a checksum must check for 0 first (RFC 6935).
+    /// Whether the checksum over IPv6 is right: it is not 0, and the one's complement sum of pseudo header and packet is all ones (RFC
+    /// 8200, section 8.1; RFC 1071, section 1). If the packet has a routing header, pass the final destination. A tunnel that allows
+    /// packets without a checksum must check for 0 first (RFC 6935).
     ///
-    /// The sum covers all bytes of the slice, and the pseudo header counts them, whatever the length field is. So a jumbogram, whose
-    /// length field is 0, is summed with its real length (RFC 2675, section 4). If the field is above the bytes that `from_slice_lax` kept,
-    /// the kept bytes are summed. So a truncated packet is usually wrong. More than 4,294,967,295 bytes are never right.
+    /// The sum covers all bytes of the slice, and the pseudo header contains their number, whatever the length field is. So a jumbogram,
+    /// whose length field is 0, is summed with its real length (RFC 2675, section 4). A truncated packet, which `from_slice_lax` accepts,
+    /// usually has a wrong checksum. If the slice is longer than 4,294,967,295 bytes, the result is false.
     ///
-    /// In a right packet this check detects each change of one byte, and of one aligned two-byte word except from
-    /// 0000 to FFFF and, outside the checksum, from FFFF to 0000. It misses an exchange of two aligned words, unless
-    /// the checksum becomes 0.
+    /// This check detects each change of one byte of a valid packet. It detects each change of one aligned two-byte word, except from 0000
+    /// to FFFF and, outside the checksum, from FFFF to 0000. It does not detect that two aligned words were exchanged, unless the checksum
+    /// becomes 0.
     pub fn is_checksum_valid_ipv6(&self, source: [u8; 16], destination: [u8; 16]) -> bool
         ensures valid { IsTrue result ↔ IsValidUdpIpv6 source destination self.now }
-        // Reading and writing agree: the sender stores the same checksum.
+        // The stored checksum is right exactly if the sender of the packet would store it.
         ensures agrees { checksum_field self.now ≢ 0 → length_field self.now ≡ length self.now →
             (IsTrue result ↔ (checksum_field self.now ≡ udp_checksum_of
             (checksummed_ipv6 source destination (header_of self.now) (drop 8 self.now)))) }
-        // If a packet is valid, this states which other packets of its length sum up.
+        // These are the changes that the check detects, and the changes that it does not detect.
         ensures detects { IsTrue result → Detects (SumsUpOverIpv6 source destination) self.now }
-        // So exactly these packets are valid.
+        // So exactly these packets of the same length are valid.
         ensures valid_others { IsTrue result → (other : List ℕ) → length other ≡ length self.now →
             (IsValidUdpIpv6 source destination other
             ↔ ((checksum_field other ≢ 0) × (total other % all_ones ≡ total self.now % all_ones))) }
@@ -238,7 +238,7 @@ impl<'a> UdpSlice<'a> {
         UdpHeader::LEN_U16
     }
 
-    /// The header as numbers.
+    /// The numbers of the header.
     pub fn to_header(&self) -> UdpHeader
         ensures { result ≡ header_of self.now }
     {
@@ -251,8 +251,8 @@ impl<'a> UdpSlice<'a> {
     }
 }
 
-/// The error if the length field, in bytes, is above the length of the slice.
-// perf: as a call, the refusal is out of the way of accepted packets, as in `UdpHeader::from_slice` (27 Nov 2026).
+/// The error if the length field is above the length of the slice. Both are in bytes.
+// perf: the refusal is a call, so that accepted packets do not run its code, as in `UdpHeader::from_slice` (27 Nov 2026).
 #[cold]
 #[inline(never)]
 fn packet_cut_off(length: usize, len: usize) -> LenError
@@ -261,7 +261,7 @@ fn packet_cut_off(length: usize, len: usize) -> LenError
     wrong_length(Layer::UdpPayload, length, len)
 }
 
-/// The error if the length field, in bytes, is below the length of a header.
+/// The error if the length field is below the length of a header. The length is in bytes.
 #[cold]
 #[inline(never)]
 fn length_below_header(length: usize) -> LenError

@@ -12,14 +12,14 @@ use Rattle.word_sum.specs.UpdatedChecksum.{updated_checksum_of, updated_udp_chec
 use Rattle.word_sum.proofs.ChecksumLemmas.{folded-add, folded-lt, folded-none, folded-some, total-append}
 use Rattle.word_sum.proofs.NumberLemmas.{folded-add_alike}
 
--- the total of a front of an odd length and a back: the first byte of the back is the low half of the front's last word
+-- the total of a front of odd length and a back: the first byte of the back is the low half of the last word of the front
 pub total-append_odd : (front back : List ℕ) → length front % 2 ≡ 1 → total (front ++ back) ≡ total front + total (0 ∷ back)
 total-append_odd [] back odd = absurd (omega arith)
 total-append_odd (high ∷ []) [] odd = omega arith
 total-append_odd (high ∷ []) (low ∷ back) odd = omega arith
 total-append_odd (high ∷ (low ∷ front)) back odd = omega (arith, total-append_odd front back (omega arith))
 
--- bytes at an even place are replaced by others, both of an even or both of an odd length
+-- the total after bytes at an even place are replaced by other bytes, both of even or both of odd length
 pub total_replaced : (before old new after : List ℕ) → length before % 2 ≡ 0 → length old % 2 ≡ length new % 2
     → total (before ++ (old ++ after)) + total new ≡ total (before ++ (new ++ after)) + total old
 total_replaced before old new after even alike =
@@ -42,12 +42,11 @@ total_replaced before old new after even alike =
     ))
     (cases_lt (length old % 2) 1)
 
--- folding the second of two numbers first changes nothing
+-- folding the second of two numbers before the sum does not change the folded sum
 folded-add_second : (a b : ℕ) → folded (a + folded b) ≡ folded (a + b)
 folded-add_second a b = ap folded (omega arith) ∙ folded-add b a ∙ ap folded (omega arith)
 
--- if a change with the sums added and removed turns the total before into the total between, one more replacement
--- turns it into the total after
+-- if a change with these sums turns the total before into the total between, another replacement turns it into the total after
 pub folded_extended : (before added between removed old new after : ℕ) → folded (before + added) ≡ folded (between + removed)
     → between + new ≡ after + old → folded (before + folded (added + new)) ≡ folded (after + folded (removed + old))
 folded_extended before added between removed old new after turns replaced =
@@ -57,7 +56,7 @@ folded_extended before added between removed old new after turns replaced =
     ∙ ap folded (omega arith)
     ∙ sym (folded-add_second after (removed + old))
 
--- a change with the sums added and removed, followed by a change with the sums added_too and removed_too
+-- two changes, one after the other, are one change with the sums of both
 pub folded_joined : (before added between removed added_too after removed_too : ℕ) → folded (before + added) ≡ folded (between + removed)
     → folded (between + added_too) ≡ folded (after + removed_too)
     → folded (before + folded (added + added_too)) ≡ folded (after + folded (removed + removed_too))
@@ -74,7 +73,7 @@ folded_joined before added between removed added_too after removed_too turns tur
 pub folded-remainder : (n : ℕ) → folded n % 65535 ≡ n % 65535
 folded-remainder n = grind (arith, folded-none, folded-some)
 
--- and is 0 only if the sum is 0
+-- a sum is folded to 0 only if it is 0
 folded-nonzero : (n : ℕ) → n ≢ 0 → folded n ≢ 0
 folded-nonzero n some none = grind (arith, folded-none, folded-some)
 
@@ -92,7 +91,7 @@ folded_all_ones_iff n = (
 pub udp_checksum_of-remainder : (n : ℕ) → udp_checksum_of n ≡ 65535 - n % 65535
 udp_checksum_of-remainder n = grind (arith, nat_tests, folded-none, folded-some)
 
--- the equation applied to the checksum of a packet gives the checksum of the changed packet with all ones added to it
+-- the update of the checksum of a packet gives the checksum of the changed packet with all ones added to it
 pub updated_checksum_of-checksum_of : (before after checksum removed added : ℕ) → removed < 65536
     → folded (before + added) ≡ folded (after + removed) → checksum ≡ checksum_of before
     → updated_checksum_of checksum removed added ≡ checksum_of (after + 65535)
@@ -112,7 +111,7 @@ checksum_of-add_ones_iff n = (
   λ some. grind (arith, folded-none, folded-some),
 )
 
--- so the checksum of a packet becomes the checksum of the changed packet, except if the changed packet is all zeros
+-- the checksum of a packet becomes the checksum of the changed packet, except if the changed packet is all zeros
 pub updated_iff : (before after checksum removed added result : ℕ) → removed < 65536
     → folded (before + added) ≡ folded (after + removed) → result ≡ updated_checksum_of checksum removed added
     → checksum ≡ checksum_of before → (result ≡ checksum_of after) ↔ (after ≢ 0)
@@ -128,7 +127,7 @@ updated_zeros before after checksum removed added result small turns equation ri
     let updated = equation ∙ updated_checksum_of-checksum_of before after checksum removed added small turns right in
     grind (arith, folded-none, folded-some)
 
--- for any checksum, the sum with it leaves the same remainder
+-- the sum with any checksum leaves the same remainder after an update
 pub updated_remainder : (before after checksum removed added result : ℕ) → removed < 65536 → checksum < 65536
     → folded (before + added) ≡ folded (after + removed) → result ≡ updated_checksum_of checksum removed added
     → (after + result) % 65535 ≡ (before + checksum) % 65535
@@ -139,7 +138,7 @@ updated_remainder before after checksum removed added result small small_too tur
     let fits : folded sum < 65536 = folded-lt sum in
     omega arith
 
--- if a receiver accepts a packet, it accepts the changed packet, unless that packet and its checksum are all zeros
+-- if a receiver accepts a packet, it accepts the changed packet, unless the changed packet and its checksum are all zeros
 pub updated_verifies_iff : (before after checksum removed added result : ℕ) → removed < 65536 → checksum < 65536
     → folded (before + added) ≡ folded (after + removed) → result ≡ updated_checksum_of checksum removed added
     → folded (before + checksum) ≡ 65535 → (folded (after + result) ≡ 65535) ↔ (after + result ≢ 0)
@@ -149,7 +148,7 @@ updated_verifies_iff before after checksum removed added result small small_too 
     let iff = folded_all_ones_iff (after + result) in
     (λ verifies. (iff.0 verifies).1, λ some. iff.1 (remainder ∙ was.0, some))
 
--- if the sums with the checksums leave the same remainder, a receiver accepts both or neither of two packets that aren't all zeros
+-- if two sums with their checksums leave the same remainder, a receiver accepts both or neither, unless a packet is all zeros
 pub verifies_alike : (before after checksum result : ℕ) → (after + result) % 65535 ≡ (before + checksum) % 65535 → before ≢ 0 → after ≢ 0
     → (folded (after + result) ≡ 65535) ↔ (folded (before + checksum) ≡ 65535)
 verifies_alike before after checksum result remainder some some_too =
@@ -159,20 +158,20 @@ verifies_alike before after checksum result remainder some some_too =
       λ verifies. is.1 (remainder ∙ (was.0 verifies).0, λ none. some_too (omega arith)),
     )
 
--- for UDP the equation depends only on a remainder
+-- the update of a UDP checksum depends only on a remainder
 updated_udp_checksum_of-some : (checksum removed added : ℕ) → checksum ≢ 0
     → updated_udp_checksum_of checksum removed added ≡ 65535 - (complement checksum + complement removed + added) % 65535
 updated_udp_checksum_of-some checksum removed added some =
     let is_some : (checksum == 0) ≡ false = grind (arith, nat_tests) in
     rw is_some (udp_checksum_of-remainder (complement checksum + complement removed + added))
 
--- a missing checksum stays missing
+-- a missing UDP checksum stays missing
 updated_udp_none : (checksum removed added result : ℕ) → result ≡ updated_udp_checksum_of checksum removed added → checksum ≡ 0 → result ≡ 0
 updated_udp_none checksum removed added result equation none =
     let is_none : (checksum == 0) ≡ true = grind (arith, nat_tests) in
     rw is_none at equation
 
--- for any checksum, the sum with it leaves the same remainder
+-- the sum with any UDP checksum leaves the same remainder after an update
 pub updated_udp_remainder : (before after checksum removed added result : ℕ) → removed < 65536 → checksum < 65536
     → folded (before + added) ≡ folded (after + removed) → result ≡ updated_udp_checksum_of checksum removed added
     → checksum ≢ 0 → (after + result) % 65535 ≡ (before + checksum) % 65535
@@ -181,7 +180,7 @@ updated_udp_remainder before after checksum removed added result small small_too
     let updated = equation ∙ updated_udp_checksum_of-some checksum removed added some in
     omega arith
 
--- so the checksum of a packet becomes the checksum of the changed packet, and a wrong checksum stays wrong
+-- the UDP checksum of a packet becomes that of the changed packet, and a wrong checksum stays wrong
 pub updated_udp_iff : (before after checksum removed added result : ℕ) → removed < 65536 → checksum < 65536
     → folded (before + added) ≡ folded (after + removed) → result ≡ updated_udp_checksum_of checksum removed added
     → (result ≡ udp_checksum_of after) ↔ (checksum ≡ udp_checksum_of before)
@@ -200,7 +199,7 @@ updated_udp_iff before after checksum removed added result small small_too turns
           omega (arith, remainder some, updated some) ∙ sym is,
     )
 
--- and for any checksum a receiver accepts the changed packet exactly if it accepts the packet
+-- with any UDP checksum, a receiver accepts the changed packet exactly if it accepts the packet
 pub updated_udp_verifies_iff : (before after checksum removed added result : ℕ) → removed < 65536 → checksum < 65536
     → folded (before + added) ≡ folded (after + removed) → result ≡ updated_udp_checksum_of checksum removed added
     → checksum ≢ 0 → (folded (after + result) ≡ 65535) ↔ (folded (before + checksum) ≡ 65535)
@@ -228,7 +227,7 @@ updated_reversed_iff checksum removed added result small small_too small_three e
     let some_back : folded back ≢ 0 = folded-nonzero back (λ none. some (λ nothing. omega arith) (omega arith)) in
     (λ same ones. omega arith, λ other. omega arith)
 
--- and always restores a UDP checksum
+-- the reverse change always restores a UDP checksum
 pub updated_udp_reversed : (checksum removed added result : ℕ) → checksum < 65536 → removed < 65536 → added < 65536
     → result ≡ updated_udp_checksum_of checksum removed added → updated_udp_checksum_of result added removed ≡ checksum
 updated_udp_reversed checksum removed added result small small_too small_three equation =
@@ -277,7 +276,7 @@ total_of_zeros (high ∷ (low ∷ bytes)) zeros =
 pub total-zero_iff : (bytes : List ℕ) → (total bytes ≡ 0) ↔ All (λ byte. byte ≡ 0) bytes
 total-zero_iff bytes = (zeros_of_total bytes, total_of_zeros bytes)
 
--- no function of the checksum, the old bytes and the new ones is right for every packet
+-- no function of the checksum, the old bytes and the new bytes is right for every packet
 pub no_update_is_always_right : (update : ℕ → List ℕ → List ℕ → ℕ)
     → ((before old new after : List ℕ) → length before % 2 ≡ 0 → length old ≡ length new
     → update (checksum_of (total (before ++ (old ++ after)))) old new ≡ checksum_of (total (before ++ (new ++ after))))
@@ -290,8 +289,7 @@ no_update_is_always_right update right =
     let ones : update 0xfffe old new ≡ 0 = right [] old new (0xff ∷ 0xff ∷ []) refl refl in
     omega (arith, zeros, ones)
 
--- a checksum that is stored in two zero bytes at an even place adds itself to the total, so a receiver's sum over all
--- bytes of a packet is the total plus the checksum
+-- storing a checksum in two zero bytes at an even place increases the total by the checksum
 pub total-stored : (front back : List ℕ) (checksum : ℕ) → length front % 2 ≡ 0 → checksum < 65536
     → total (front ++ (to_be_bytes w16 checksum ++ back)) ≡ total (front ++ (0 ∷ (0 ∷ back))) + checksum
 total-stored front back checksum even small =

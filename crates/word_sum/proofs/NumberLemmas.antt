@@ -10,11 +10,11 @@ use Rattle.std.specs.Int.{from_bool, from_le_bytes, swap_bytes, to_le_bytes, w16
 use Rattle.word_sum.specs.Checksum.{folded, total}
 use Rattle.word_sum.proofs.ChecksumLemmas.{folded-none, folded-small, folded-some, folded_congruent, folded_twice, total-append, total_four, total_two}
 
--- if numbers fold alike, so do their sums
+-- if numbers are equal after folding, so are their sums
 pub folded-add_alike : (a b m n : ℕ) → folded a ≡ folded b → folded m ≡ folded n → folded (a + m) ≡ folded (b + n)
 folded-add_alike a b m n e f = grind (arith, folded-none, folded-some)
 
--- if numbers fold alike, so do 256 times the numbers
+-- if numbers are equal after folding, so are 256 times the numbers
 pub folded_times_256 : (m n : ℕ) → folded m ≡ folded n → folded (m * 256) ≡ folded (n * 256)
 folded_times_256 m n e = grind (arith, folded-none, folded-some)
 
@@ -23,8 +23,8 @@ pub swap_bytes-folded : (n : ℕ) → n < 65536 → swap_bytes w16 n ≡ folded 
 swap_bytes-folded n small =
     sym (folded_congruent (n * 256) (swap_bytes w16 n) (n / 256) (omega arith) (λ z. omega arith) ∙ folded-small (swap_bytes w16 n) (omega arith))
 
--- end-around carry: if the sum of two numbers below the limit wraps, it is below each of them, and the carry is added
--- at the low end
+-- end-around carry: if the sum of two numbers below the limit wraps, it is below each number, and the carry is added at
+-- the low end
 no_carry : (limit a b : ℕ) → a + b < limit → (a + b) % limit + from_bool (nat_lt ((a + b) % limit) b) ≡ a + b
 no_carry limit a b fits = rw (mod-eq_of_lt fits) (grind (arith, nat_tests))
 
@@ -43,7 +43,7 @@ folded_carry limit quotient a b one below below_too =
     ∙ sym (folded_congruent (a + b) (a + b - limit + 1) quotient (omega arith) (λ z. omega arith)))
     (cases_lt (a + b) limit)
 
--- the sum of the halves of a number
+-- the sum of the halves of a number folds like the number
 pub folded_halves_64 : (number : ℕ) → folded (number / 2 ^ 32 + number % 2 ^ 32) ≡ folded number
 folded_halves_64 number = sym (folded_congruent _ _ (number / 2 ^ 32 * 65537) (omega arith) (λ z. omega arith))
 
@@ -61,7 +61,7 @@ pub carried-fits : (word number low : ℕ) (carry carried : Bool) → word + fro
 carried-fits word number low carry true fits fits_too fits_three sum = omega arith
 carried-fits word number low carry false fits fits_too fits_three sum = omega arith
 
--- the four words of eight bytes
+-- the total of eight bytes is the sum of their four words
 pub total_eight : (bytes : List ℕ) → length bytes ≡ 8
     → total bytes ≡ slice_index bytes 0 * 256 + slice_index bytes 1 + (slice_index bytes 2 * 256 + slice_index bytes 3)
     + (slice_index bytes 4 * 256 + slice_index bytes 5 + (slice_index bytes 6 * 256 + slice_index bytes 7))
@@ -71,7 +71,7 @@ total_eight (b0 ∷ []) eight = absurd (omega arith)
 total_eight (b0 ∷ (b1 ∷ [])) eight = absurd (omega arith)
 total_eight (b0 ∷ (b1 ∷ (b2 ∷ []))) eight = absurd (omega arith)
 
--- the eight words of sixteen bytes
+-- the total of sixteen bytes is the sum of their eight words
 pub total_sixteen : (bytes : List ℕ) → length bytes ≡ 16
     → total bytes ≡ (slice_index bytes 0 * 256 + slice_index bytes 1 + (slice_index bytes 2 * 256 + slice_index bytes 3 + (slice_index bytes 4 * 256 + slice_index bytes 5 + (slice_index bytes 6 * 256 + slice_index bytes 7 + 0))))
     + (slice_index bytes 8 * 256 + slice_index bytes 9 + (slice_index bytes 10 * 256 + slice_index bytes 11 + (slice_index bytes 12 * 256 + slice_index bytes 13 + (slice_index bytes 14 * 256 + slice_index bytes 15 + 0))))
@@ -110,7 +110,7 @@ pub total_shifted : (words others : ℕ) → words < 2 ^ 24 → folded (others +
 total_shifted words others fits =
     sym (folded_congruent (others + words) (others + total (to_le_bytes w32 (words * 2 ^ 8 % 2 ^ 32))) (words / 65536) (omega arith) (λ z. omega arith))
 
--- a front of an even length, and the bytes after it
+-- the total of bytes is the total of a front with an even length plus the total of the rest
 pub total-front : (i : ℕ) (front back bytes : List ℕ) → i % 2 ≡ 0 → front ≡ take i bytes → back ≡ drop i bytes → i ≤ length bytes
     → total front + total back ≡ total bytes
 total-front i front back bytes even is_front is_back long =
@@ -124,7 +124,7 @@ folded_front i value front back bytes even is_front is_back long =
     folded_twice value (total front) (total back)
     ∙ ap (λ n. folded (value + n)) (total-front i front back bytes even is_front is_back long)
 
--- a block that has a sum of its own
+-- adding the sum of a block adds the bytes of the block
 pub folded_block : (i value word : ℕ) (front back bytes : List ℕ) → i % 2 ≡ 0 → front ≡ take i bytes → back ≡ drop i bytes → i ≤ length bytes
     → folded (word * 256) ≡ folded (total front) → folded (folded (value + word * 256) + total back) ≡ folded (value + total bytes)
 folded_block i value word front back bytes even is_front is_back long same =
@@ -134,7 +134,7 @@ folded_block i value word front back bytes even is_front is_back long same =
     ∙ ap folded (omega arith)
     ∙ ap (λ n. folded (value + n)) (total-front i front back bytes even is_front is_back long)
 
--- the last bytes of a slice are among its last eight, and the bytes before them are added after them
+-- adding first the bytes before the last few bytes of a slice, and then these from the last eight bytes, adds the whole slice
 pub folded_back : (rest value : ℕ) (front last bytes : List ℕ) → rest < 8 → 8 ≤ length bytes → (length bytes - rest) % 2 ≡ 0
     → last ≡ drop (length bytes - 8) bytes → front ≡ take (length bytes - rest) bytes
     → folded (folded (value + total (drop (8 - rest) last)) + total front) ≡ folded (value + total bytes)
@@ -146,7 +146,7 @@ folded_back rest value front last bytes few long even is_last is_front =
     folded_twice value (total (drop (8 - rest) last)) (total front)
     ∙ ap (λ n. folded (value + n)) (omega arith)
 
--- eight bytes as a little-endian number, without the bytes before the last ones
+-- eight bytes as a little-endian number, shifted down by the bytes before the last bytes
 end_of_eight : (b0 b1 b2 b3 b4 b5 b6 b7 count : ℕ) → b0 < 256 → b1 < 256 → b2 < 256 → b3 < 256 → b4 < 256 → b5 < 256 → b6 < 256 → b7 < 256 → count < 8
     → folded (from_le_bytes w64 (b0 ∷ (b1 ∷ (b2 ∷ (b3 ∷ (b4 ∷ (b5 ∷ (b6 ∷ (b7 ∷ [])))))))) / 2 ^ 8 / 2 ^ (56 - 8 * count) * 256)
     ≡ folded (total (drop (8 - count) (b0 ∷ (b1 ∷ (b2 ∷ (b3 ∷ (b4 ∷ (b5 ∷ (b6 ∷ (b7 ∷ []))))))))))
@@ -168,7 +168,7 @@ end_of_eight b0 b1 b2 b3 b4 b5 b6 b7 (suc (suc (suc (suc (suc (suc (suc zero))))
     folded_congruent _ _ (b2 + b3 * 256 + b4 * 65537 + b5 * 16777472 + b6 * 4295032833 + b7 * 1099528405248) (omega arith) (λ z. omega arith)
 end_of_eight b0 b1 b2 b3 b4 b5 b6 b7 (suc (suc (suc (suc (suc (suc (suc (suc count)))))))) f0 f1 f2 f3 f4 f5 f6 f7 few = absurd (omega arith)
 
--- the last bytes of eight: the number of all eight, shifted down
+-- the last bytes of eight bytes, as the number of all eight bytes, shifted down
 pub folded_end : (bytes : List ℕ) (count : ℕ) → length bytes ≡ 8 → count < 8 → ((place : ℕ) → slice_index bytes place < 256)
     → folded (from_le_bytes w64 bytes / 2 ^ 8 / 2 ^ (56 - 8 * count) * 256) ≡ folded (total (drop (8 - count) bytes))
 folded_end (b0 ∷ (b1 ∷ (b2 ∷ (b3 ∷ (b4 ∷ (b5 ∷ (b6 ∷ (b7 ∷ [])))))))) count eight few fits =

@@ -15,7 +15,7 @@ three_bytes = refl
 nine_bytes : total (1 ∷ 2 ∷ 3 ∷ 4 ∷ 5 ∷ 6 ∷ 7 ∷ 8 ∷ 9 ∷ []) ≡ 0x1914
 nine_bytes = refl
 
--- the example of RFC 1071, section 3: the words 0001, f203, f4f5 and f6f7 sum up to 2ddf0, which folds to ddf2
+-- the example of RFC 1071, section 3: the sum of the words 0001, f203, f4f5 and f6f7 is 2ddf0, which folds to ddf2
 rfc_1071_total : total (0 ∷ 1 ∷ 242 ∷ 3 ∷ 244 ∷ 245 ∷ 246 ∷ 247 ∷ []) ≡ 0x2ddf0
 rfc_1071_total = refl
 

@@ -71,15 +71,14 @@ impl Sum16BitWords {
             .add_8bytes([i, j, k, l, m, n, o, p])
     }
 
-    /// Adds the words of a slice. An odd last byte is the high half of a word whose low half is zero, so only the
-    /// last of several slices may have an odd length. Apart from that, the cuts between slices don't matter (RFC
-    /// 1071, section 2 (A)).
+    /// Adds the words of a slice. If the length is odd, the last byte is the high half of a word whose low half is zero. So only the last
+    /// of several slices may have an odd length. Where the data is cut into slices does not matter otherwise (RFC 1071, section 2 (A)).
     pub fn add_slice(self, slice: &[u8]) -> Sum16BitWords
         ensures sum { sum_value result ≡ folded (sum_value self + total slice.now) }
-        // Adding the front and then the back gives the same number.
+        // Adding the front and then the back gives the same sum as adding the slice.
         ensures cuts { (front : List ℕ) → (back : List ℕ) → slice.now ≡ front ++ back → length front % 2 ≡ 0 →
             sum_value result ≡ folded (folded (sum_value self + total front) + total back) }
-        // Adding any number of pieces also gives the same number.
+        // Adding any number of pieces gives the same sum as adding the slice.
         ensures pieces { (pieces : List (List ℕ)) → slice.now ≡ concat pieces → AllEvenButLast pieces →
             sum_value result ≡ sum_of_pieces (sum_value self) pieces }
     {
@@ -93,7 +92,7 @@ impl Sum16BitWords {
         !fold_to_16_bits(fold_to_32_bits(self.word)).swap_bytes()
     }
 
-    /// The checksum of the added data as UDP stores it, with 65535 for 0 (RFC 768).
+    /// The checksum of the added data, as UDP stores it: 65535 instead of 0 (RFC 768).
     pub fn to_ones_complement_with_no_zero(&self) -> u16
         ensures { result ≡ zero_as_all_ones (complement (sum_value self.now)) }
     {
@@ -116,13 +115,13 @@ impl Sum16BitWords {
         ensures { sum_value result ≡ folded (sum_value self + number * 256) }
     {
         let sum = self.word.wrapping_add(number);
-        // A sum that wrapped is below the number, so adding the carry at the low end cannot overflow.
+        // If the sum wrapped, it is below the number. So adding the carry at the low end cannot overflow.
         Sum16BitWords {
             word: sum + u64::from(sum < number),
         }
     }
 
-    /// Adds the words of a slice: its whole numbers of eight bytes, and the bytes after them.
+    /// Adds the words of a slice: first its whole numbers of eight bytes, and then the bytes after them.
     #[inline(always)]
     fn add_bytes(self, slice: &[u8]) -> Sum16BitWords
         ensures { sum_value result ≡ folded (sum_value self + total slice.now) }
@@ -137,13 +136,13 @@ impl Sum16BitWords {
         }
     }
 
-    /// Adds the last `count` of eight bytes.
+    /// Adds the last `count` bytes of eight bytes.
     #[inline(always)]
     fn add_end(self, bytes: &[u8; 8], count: usize) -> Sum16BitWords
         requires { count < 8 }
         ensures { sum_value result ≡ folded (sum_value self + total (drop (8 - count) bytes.now)) }
     {
-        // The first byte is never added, and a number of 64 bits cannot be shifted by 64.
+        // `count` is at most 7, so the first byte is never added. Shifting by 8 first avoids a shift by 64, which is not possible.
         let number = u64::from_le_bytes(*bytes) >> 8;
         self.add_number(number >> (56 - 8 * count))
     }
@@ -157,7 +156,7 @@ impl Sum16BitWords {
         let mut sum = self;
         let mut rest = numbers;
         while let Some((block, others)) = rest.split_first_chunk::<BLOCK_LEN>() {
-            // A block has a sum of its own, so it doesn't wait for the blocks before it.
+            // The sum of a block begins at 0, so that it does not wait for the blocks before it.
             let block_sum = Sum16BitWords::new().add_block(block);
             sum = sum.add_number(block_sum.word);
             rest = others;
@@ -165,7 +164,7 @@ impl Sum16BitWords {
         sum.add_short(rest)
     }
 
-    /// Adds whole numbers of eight bytes that are shorter than a block.
+    /// Adds whole numbers of eight bytes, which are shorter than a block.
     #[inline(always)]
     fn add_short(self, numbers: &[u8]) -> Sum16BitWords
         requires whole { length numbers.now % 8 ≡ 0 }
@@ -179,7 +178,7 @@ impl Sum16BitWords {
         sum
     }
 
-    /// Adds the first `N` bytes if the slice has so many, and returns the sum and the bytes that are left.
+    /// Adds the first `N` bytes if the slice has at least `N` bytes. Returns the sum and the bytes that are left.
     #[inline(always)]
     fn add_front<const N: usize>(self, numbers: &[u8]) -> (Sum16BitWords, &[u8])
         requires whole { N % 8 ≡ 0 }
@@ -195,7 +194,7 @@ impl Sum16BitWords {
         }
     }
 
-    /// Adds the numbers of a block. Each carry is added to the next number, and the last carry at the low end.
+    /// Adds the numbers of a block. Each carry is added to the next number. The last carry is added at the low end.
     #[inline(always)]
     fn add_block<const N: usize>(self, block: &[u8; N]) -> Sum16BitWords
         requires { N % 8 ≡ 0 }
@@ -243,9 +242,9 @@ impl Sum16BitWords {
     }
 }
 
-/// Adds a number and a carry, and returns the sum and its carry.
-// perf: for `u64::carrying_add` the toolchain stores each carry in a register, in place of one instruction that adds
-// with carry. For these comparisons it doesn't (27 Nov 2026).
+/// Adds a number and a carry. Returns the sum and the new carry.
+// perf: for `u64::carrying_add` the toolchain stores each carry in a register. For these comparisons it emits one instruction that adds
+// with carry (27 Nov 2026).
 #[inline(always)]
 fn add_with_carry(word: u64, number: u64, carry: bool) -> (u64, bool)
     ensures { result.0 + from_bool result.1 * 2 ^ 64 ≡ word + number + from_bool carry }

@@ -1,5 +1,5 @@
-//! The incremental update of a checksum (RFC 1624): if some bytes of a packet are replaced, the new checksum follows
-//! from these bytes, without another sum over the packet.
+//! The incremental update of a checksum (RFC 1624). If some bytes of a packet are replaced, the new checksum is computed from these bytes,
+//! without summing the packet again.
 //!
 //! ```
 //! let change = ChecksumChange::new()
@@ -20,15 +20,15 @@ use std::fmt;
 
 /// A change of the data that a checksum covers: some bytes are replaced by others (RFC 1624).
 ///
-/// For example, a router lowers a time to live, and an address translator replaces a port and an address, which is
-/// part of the pseudo header. Make a change of all replacements, and apply it to the checksum of each packet with
-/// these replacements. A translator can keep one change for each flow.
+/// For example, a router lowers a time to live. An address translator replaces a port and an address, which is part of the pseudo header.
+/// Make one change of all replacements, and apply it to the checksum of each packet in which they are made. A translator can keep one
+/// change for each flow.
 ///
-/// Each replaced part begins at an even place of the data that the checksum covers. To replace a byte at an odd
-/// place, replace its whole word, for example time to live and protocol of an IPv4 header.
+/// Each replaced part begins at an even place of the data that the checksum covers. To replace a byte at an odd place, replace its whole
+/// word, for example time to live and protocol of an IPv4 header.
 ///
-/// Two changes are equal if the replaced words have the same one's complement sum, and the new words too. They then
-/// update every checksum alike.
+/// Two changes are equal if their replaced words have equal one's complement sums, and their new words too. Equal changes give equal
+/// updated checksums.
 ///
 /// ```
 /// use etherparse_transport::checksum::Sum16BitWords;
@@ -102,8 +102,8 @@ impl ChecksumChange {
         }
     }
 
-    /// Replaces the bytes of a slice by the bytes of another slice. Both lengths are even or both are odd. They may
-    /// differ, for example for the pseudo headers of IPv6 and IPv4.
+    /// Replaces the bytes of a slice by the bytes of another slice. Both lengths are even, or both are odd. They can differ, for example if
+    /// a pseudo header of IPv4 replaces a pseudo header of IPv6.
     pub fn replace_slice(self, old: &[u8], new: &[u8]) -> ChecksumChange
         ensures removed { removed_value result ≡ folded (removed_value self + total old.now) }
         ensures added { added_value result ≡ folded (added_value self + total new.now) }
@@ -116,11 +116,12 @@ impl ChecksumChange {
         }
     }
 
-    /// Joins both changes, for example the addresses of a flow and its ports. Their order doesn't matter.
+    /// The change that makes the replacements of both changes, for example the addresses of a flow and its ports. The order does not
+    /// matter.
     pub fn and(self, other: ChecksumChange) -> ChecksumChange
         ensures removed { removed_value result ≡ folded (removed_value self + removed_value other) }
         ensures added { added_value result ≡ folded (added_value self + added_value other) }
-        // The joined change turns a packet into the result of applying this change and then the other change.
+        // The joined change turns a packet into the packet that results from this change and then the other change.
         ensures joins { (packet between changed : ℕ) → TurnsInto self packet between → TurnsInto other between changed →
             TurnsInto result packet changed }
     {
@@ -130,7 +131,7 @@ impl ChecksumChange {
         }
     }
 
-    /// The change that restores the old bytes, as a translator does in the packets of the opposite direction.
+    /// The change that restores the old bytes. A translator applies it to packets in the opposite direction.
     pub fn reversed(self) -> ChecksumChange
         ensures removed { removed_value result ≡ added_value self }
         ensures added { added_value result ≡ removed_value self }
@@ -142,37 +143,37 @@ impl ChecksumChange {
         }
     }
 
-    /// The checksum of the changed packet as TCP, ICMP and the IPv4 header store it, from the old checksum (RFC 1624,
+    /// The checksum of the changed packet, computed from the old checksum. It is stored as in TCP, ICMP and the IPv4 header (RFC 1624,
     /// section 3, equation 3).
     ///
-    /// The result is wrong in one case: if all covered bytes become zero, the result is 0 instead of 65535. Of these protocols,
-    /// only an ICMPv4 echo reply can consist of zeros: identifier, sequence number and data. Sum that packet again.
+    /// The result is wrong in one case: if all covered bytes are zeros after the change, the result is 0 instead of 65535. Only an ICMPv4
+    /// echo reply can consist of zeros, with identifier, sequence number and data. Compute the checksum of such a reply from all its bytes.
     #[inline(always)]
     pub fn apply(self, checksum: u16) -> u16
         ensures equation { result ≡ updated_checksum_of checksum (removed_value self) (added_value self) }
-        // A right checksum becomes the right checksum of the changed packet, except if that packet is all zeros.
+        // A right checksum becomes the right checksum of the changed packet, unless all bytes of the changed packet are zeros.
         ensures updated { (packet changed : ℕ) → TurnsInto self packet changed → checksum ≡ checksum_of packet →
             (result ≡ checksum_of changed) ↔ (changed ≢ 0) }
-        // A packet of zeros gets 0, and its checksum is 65535.
+        // If all bytes of the changed packet are zeros, the result is 0, while the right checksum is 65535.
         ensures zeros { (packet changed : ℕ) → TurnsInto self packet changed → checksum ≡ checksum_of packet →
             changed ≡ 0 → result ≡ 0 }
-        // For any checksum, the sum with it leaves the same remainder: its error stays the same, modulo 65535.
+        // For any checksum, the error stays the same: the sum of the packet and its checksum has the same remainder modulo 65535.
         ensures remainder { (packet changed : ℕ) → TurnsInto self packet changed →
             (changed + result) % 65535 ≡ (packet + checksum) % 65535 }
-        // If a receiver accepts a packet, it accepts the changed packet, unless that packet and its checksum are all zeros.
+        // If a receiver accepts the packet, it accepts the changed packet, unless all bytes of the changed packet, checksum included, are
+        // zeros.
         ensures verifies { (packet changed : ℕ) → TurnsInto self packet changed → IsAllOnes (packet + checksum) →
             (IsAllOnes (changed + result)) ↔ (changed + result ≢ 0) }
-        // The reversed change restores the checksum, except for 65535, which becomes the other zero.
+        // The reversed change restores the checksum, except for 65535. That becomes 0, the other zero of the one's complement.
         ensures reversed { (updated_checksum_of result (added_value self) (removed_value self) ≡ checksum) ↔ (checksum ≢ all_ones) }
     {
         self.updated_sum(checksum).ones_complement()
     }
 
-    /// The checksum of the changed packet as UDP stores it, from the old checksum (RFC 768). It is right for every
-    /// packet.
+    /// The checksum of the changed packet, computed from the old checksum. It is stored as in UDP (RFC 768), and is right for every packet.
     ///
-    /// A checksum of 0 means that there is none, and stays. No other checksum becomes 0. IPv6 requires a checksum, so
-    /// a translator from IPv4 to IPv6 sums a packet without a checksum.
+    /// A value of 0 means that the packet has no checksum, and it stays 0. No other value becomes 0. IPv6 requires a checksum. So a
+    /// translator from IPv4 to IPv6 has to compute the checksum of a packet without a checksum.
     #[inline(always)]
     pub fn apply_udp(self, checksum: u16) -> u16
         ensures equation { result ≡ updated_udp_checksum_of checksum (removed_value self) (added_value self) }
@@ -195,7 +196,7 @@ impl ChecksumChange {
         self.updated_sum(checksum).to_ones_complement_with_no_zero()
     }
 
-    /// The sum of the data that the checksum of the changed packet covers, from the old checksum.
+    /// The sum of the data that the checksum of the changed packet covers, computed from the old checksum.
     #[inline(always)]
     fn updated_sum(self, checksum: u16) -> Sum16BitWords
         ensures { sum_value result ≡ folded (complement checksum + complement (removed_value self) + added_value self) }
@@ -258,22 +259,23 @@ fn sum_of_both(first: Sum16BitWords, second: Sum16BitWords) -> Sum16BitWords
     first.add_2bytes(value_of(second).to_be_bytes())
 }
 
-/// The checksum of a packet in which the bytes at one even place are replaced, as TCP, ICMP and the IPv4 header store it.
+/// The checksum of a packet after the bytes at one even place were replaced. It is stored as in TCP, ICMP and the IPv4 header.
 ///
-/// Both lengths are even or both are odd. `ChecksumChange` replaces several parts, and its `apply` describes the
-/// packet for which the checksum is wrong.
+/// Both lengths are even, or both are odd. `ChecksumChange` replaces several parts, and its `apply` describes the packet for which the
+/// checksum is wrong.
 pub fn updated_checksum(checksum: u16, old: &[u8], new: &[u8]) -> u16
     ensures equation { result ≡ updated_checksum_of checksum (folded (total old.now)) (folded (total new.now)) }
-    // A right checksum becomes the right checksum of the changed packet, except if that packet is all zeros.
+    // A right checksum becomes the right checksum of the changed packet, unless all bytes of the changed packet are zeros.
     ensures updated { (packet changed : List ℕ) → PartReplaced old.now new.now packet changed →
         checksum ≡ checksum_of (total packet) → (result ≡ checksum_of (total changed)) ↔ (total changed ≢ 0) }
-    // A packet of zeros gets 0, and its checksum is 65535.
+    // If all bytes of the changed packet are zeros, the result is 0, while the right checksum is 65535.
     ensures zeros { (packet changed : List ℕ) → PartReplaced old.now new.now packet changed →
         checksum ≡ checksum_of (total packet) → total changed ≡ 0 → result ≡ 0 }
-    // For any checksum, the sum with it leaves the same remainder: its error stays the same, modulo 65535.
+    // For any checksum, the error stays the same: the sum of the packet and its checksum has the same remainder modulo 65535.
     ensures remainder { (packet changed : List ℕ) → PartReplaced old.now new.now packet changed →
         (total changed + result) % 65535 ≡ (total packet + checksum) % 65535 }
-    // If a receiver accepts a packet, it accepts the changed packet, unless that packet and its checksum are all zeros.
+    // If a receiver accepts the packet, it accepts the changed packet, unless all bytes of the changed packet, checksum included, are
+    // zeros.
     ensures verifies { (packet changed : List ℕ) → PartReplaced old.now new.now packet changed →
         IsAllOnes (total packet + checksum) → (IsAllOnes (total changed + result)) ↔ (total changed + result ≢ 0) }
 {
@@ -282,10 +284,10 @@ pub fn updated_checksum(checksum: u16, old: &[u8], new: &[u8]) -> u16
         .apply(checksum)
 }
 
-/// The checksum of a packet in which the bytes at one even place are replaced, as UDP stores it. A checksum of 0
-/// means that there is none, and stays (RFC 768). No other checksum becomes 0.
+/// The checksum of a packet after the bytes at one even place were replaced. It is stored as in UDP (RFC 768). A value of 0 means that the
+/// packet has no checksum, and it stays 0. No other value becomes 0.
 ///
-/// Both lengths are even or both are odd. `ChecksumChange` replaces several parts.
+/// Both lengths are even, or both are odd. `ChecksumChange` replaces several parts.
 pub fn updated_udp_checksum(checksum: u16, old: &[u8], new: &[u8]) -> u16
     ensures equation { result ≡ updated_udp_checksum_of checksum (folded (total old.now)) (folded (total new.now)) }
     ensures none { (result ≡ 0) ↔ (checksum ≡ 0) }

@@ -1,4 +1,4 @@
-//! Laws that the contracts of the calls don't state.
+//! Laws that the contracts of the calls do not state.
 ghost use Rattle.std.specs.Prelude.{◌≡◌, IsOkAnd};
 ghost use Rattle.word_sum.specs.ChecksumChange.{added_value, removed_value};
 ghost use Rattle.word_sum.specs.SumValue.{sum_value};

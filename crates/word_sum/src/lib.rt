@@ -1,7 +1,7 @@
 //! The Internet checksum (RFC 1071), as UDP, TCP and ICMP use it.
 //!
-//! `Sum16BitWords` is a running one's complement sum of 16 bit big-endian words. Its value is one number, `sum_value`
-//! in `specs/`. Every contract depends only on that number, so two sums with one value are interchangeable. The sum
+//! `Sum16BitWords` is a running one's complement sum of 16 bit big-endian words. Its value is the number `sum_value` in
+//! `specs/`. Every contract depends only on this number, so two sums with the same value are interchangeable. The sum
 //! adds eight bytes at a time. `checksum_change` updates a checksum from the replaced bytes (RFC 1624). No call
 //! allocates or has a precondition.
 //!

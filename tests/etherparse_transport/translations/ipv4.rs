@@ -406,7 +406,7 @@ pub static PACKETS: [Row; 46] = [
     ]),
 ];
 
-/// ICMP errors, with the packets that they are about.
+/// ICMP errors, with the packets that they quote.
 #[rattlefmt::skip]
 pub static ERRORS: [Row; 33] = [
     // destination unreachable about 8 bytes of UDP

@@ -297,7 +297,7 @@ pub static PACKETS: [Row; 34] = [
     ]),
 ];
 
-/// ICMP errors, with the packets that they are about.
+/// ICMP errors, with the packets that they quote.
 #[rattlefmt::skip]
 pub static ERRORS: [Row; 23] = [
     // destination unreachable about 8 bytes of UDP

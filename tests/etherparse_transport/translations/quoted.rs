@@ -1,4 +1,4 @@
-//! ICMP errors that a router behind the translator sent, whose address has another mapping than the packet that the error is about.
+//! ICMP errors from a router behind the translator. The address of the router has another mapping than the addresses of the quoted packet.
 
 use super::{Change, RIGHT, buffer_with, changed, expect_verdicts};
 use crate::expect::{expect_equal, expect_ok, expect_some};

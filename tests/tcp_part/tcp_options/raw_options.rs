@@ -150,7 +150,7 @@ fn an_unknown_option_hides_no_later_one(rt: HostRuntime) {
     expect_known_and_unknown(&rt, slice.raw_options_iterator());
 }
 
-/// What the first item is over `left` of the bytes `kind`, `len`, A0, 01, 00 and A3.
+/// The expected first item if `left` of the bytes `kind`, `len`, A0, 01, 00 and A3 are read.
 fn first_item(kind: u8, len: u8, left: usize) -> Option<Item> {
     let item = match (kind, len, left) {
         (_, _, 0) | (0, _, _) => return None,

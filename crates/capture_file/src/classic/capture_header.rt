@@ -13,7 +13,7 @@ pub struct CaptureHeader {
     pub byte_order: ByteOrder,
     /// The unit of the fractions in the times of the records.
     pub resolution: Resolution,
-    /// The maximum number of captured bytes of a packet (`SnapLen`). Records with more bytes are read too.
+    /// The maximum number of captured bytes of a packet (`SnapLen`). A record with more captured bytes is read too.
     pub snap_len: u32,
     /// The link type of each record, or the number of a link type that is not read.
     pub link_type: Result<LinkType, u16>,
@@ -22,9 +22,10 @@ pub struct CaptureHeader {
 /// The magic number of the modified format of older Linux systems (libpcap's `KUZNETZOV_TCPDUMP_MAGIC`).
 const MODIFIED_MAGIC: u32 = 0xA1B2_CD34;
 
-/// The major version that is read, and the least minor version that is read (draft-ietf-opsawg-pcap, section 4).
+/// The major version that is read (draft-ietf-opsawg-pcap, section 4).
 const MAJOR_VERSION: u16 = 2;
 
+/// The least minor version that is read (draft-ietf-opsawg-pcap, section 4).
 const LEAST_MINOR_VERSION: u16 = 4;
 
 impl CaptureHeader {
@@ -37,8 +38,8 @@ impl CaptureHeader {
     ///
     /// In this order:
     /// - `Pcapng` if the bytes begin a pcapng file
-    /// - `Modified` if they begin with the magic number of the modified format, in either byte order
-    /// - `Magic` if they begin with a magic number in neither byte order
+    /// - `Modified` if the bytes begin with the magic number of the modified format, in either byte order
+    /// - `Magic` if the first four bytes are not a magic number in either byte order
     /// - `Version` if the major version is not 2, or the version is below 2.4
     pub fn from_bytes(bytes: &[u8; 24]) -> Result<CaptureHeader, CaptureHeaderError>
         ensures refused { RefusesExactly result (header_refusal bytes.now) }
@@ -47,8 +48,7 @@ impl CaptureHeader {
         CaptureHeader::from_slice(bytes)
     }
 
-    /// Reads a header as `from_bytes` does. If there are fewer than 24 bytes, the error is `CutOff`, or `Pcapng` if they begin a pcapng
-    /// file.
+    /// Reads a header as `from_bytes` does. Fewer than 24 bytes are refused with `CutOff`, or with `Pcapng` if they begin a pcapng file.
     pub(crate) fn from_slice(bytes: &[u8]) -> Result<CaptureHeader, CaptureHeaderError>
         ensures refused { RefusesExactly result (header_refusal bytes.now) }
         ensures read { IfOk result (IsHeaderOf bytes.now) }
@@ -89,7 +89,7 @@ fn magic_error(bytes: &[u8]) -> CaptureHeaderError
     CaptureHeaderError::Magic { magic }
 }
 
-/// The byte order and the resolution according to the first four bytes of a capture, or `None` if they are not a magic number.
+/// The byte order and the resolution that the first four bytes of a capture state. `None` if the four bytes are not a magic number.
 fn form_of(bytes: &[u8]) -> Option<(ByteOrder, Resolution)>
     requires { 4 ≤ length bytes.now }
     ensures { result ≡ form_of bytes.now }

@@ -8,18 +8,19 @@ use crate::ByteOrder;
 use crate::classic::{NextRecord, read_record};
 use std::io::{self, ErrorKind, Read};
 
-/// Any bytes consist of records, one after the other, and a rest that does not begin with a whole record. There is only one such division.
+/// Any bytes can be divided into records, one after the other, and a rest that does not begin with a whole record. Only one division
+/// exists.
 pub fn one_reading()
     ensures exists { (order : ByteOrder) (bytes : List ℕ) → Exist (IsReading order bytes) }
     ensures unique { (order : ByteOrder) (bytes : List ℕ) → AreUnique (IsReading order bytes) }
 {}
 
-/// A capture that was cut after any number of bytes contains exactly the records that end at or before the cut.
+/// If a capture is cut after any number of bytes, it contains exactly the records that end at or before the cut.
 pub fn cut_captures()
     ensures before { (order : ByteOrder) → RemainAtCut (IsReading order) (λ _. AreBeforeCut) }
 {}
 
-/// Reads records to the end of a capture, and returns their number. They are read into the buffer, which may have any length.
+/// Reads records to the end of a capture, and returns their number. The records are read into the buffer, which may have any length.
 ///
 /// # Errors
 ///

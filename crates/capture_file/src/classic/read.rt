@@ -10,8 +10,8 @@ use crate::pcapng::MIN_BLOCK_LEN;
 use std::io::{self, Read};
 use streams::{fill, fill_after, skip};
 
-/// The maximum captured length of a record that libpcap writes, in bytes (`MAXIMUM_SNAPLEN`). A buffer of this length has room for any such
-/// record.
+/// The maximum captured length of a record that libpcap writes, in bytes (`MAXIMUM_SNAPLEN`). A buffer of this length is long enough for
+/// all these records.
 pub const MAX_CAPTURED_LEN: usize = 262_144;
 
 /// The next item in a capture.
@@ -19,15 +19,15 @@ pub const MAX_CAPTURED_LEN: usize = 262_144;
 pub enum NextRecord {
     /// A record. Its captured bytes are the first bytes of the buffer.
     Whole(RecordHeader),
-    /// A record with more captured bytes than the buffer has room for. They were read and not kept.
+    /// A record that is longer than the buffer. Its captured bytes were skipped.
     TooLong(RecordHeader),
     /// The end of the capture. No byte is left.
     End,
-    /// The first bytes of a record. The capture ends within the record.
+    /// The first bytes of a record within which the capture ends.
     CutOff {
-        /// The length of the record in bytes, header included, as far as it is known: 16 if its header is incomplete.
+        /// The length of the record in bytes, with its header. It is 16 if the header is incomplete.
         required_len: usize,
-        /// The number of its bytes that are present.
+        /// The number of bytes of the record that are present.
         len: usize,
     },
 }
@@ -47,7 +47,7 @@ pub fn read_capture_header<R: Read>(
     read_header_after(input, &first[..len])
 }
 
-/// Reads the bytes after the first bytes of the header of a capture, unless the input ends within the first bytes.
+/// Reads the other bytes of the header of a capture, after its first bytes. Nothing is read if the input ended within the first bytes.
 pub(crate) fn read_header_after<R: Read>(
     input: &mut R,
     first: &[u8],
@@ -63,10 +63,10 @@ pub(crate) fn read_header_after<R: Read>(
     Ok(CaptureHeader::from_slice(&bytes[..len]))
 }
 
-/// Reads the next record of a capture, and its captured bytes into the buffer. `order` is the byte order of the numbers in the capture.
+/// Reads the next record of a capture, and its captured bytes into the buffer. `order` is the byte order of the capture.
 ///
-/// A record without room in the buffer is skipped, so that the next record can be read. A buffer of `MAX_CAPTURED_LEN` bytes has room for
-/// every record that libpcap writes.
+/// A record that is longer than the buffer is skipped, so that the next record can be read. A buffer of `MAX_CAPTURED_LEN` bytes is long
+/// enough for every record that libpcap writes.
 ///
 /// # Errors
 ///

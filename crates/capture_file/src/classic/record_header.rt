@@ -6,7 +6,7 @@ use crate::ByteOrder;
 /// The header of a record (draft-ietf-opsawg-pcap, section 5).
 #[derive(Clone, Copy, Debug, PartialEq, Eq)]
 pub struct RecordHeader {
-    /// The time of the capture of the packet.
+    /// The time at which the packet was captured.
     pub time: Time,
     /// The number of bytes of the packet that the record contains.
     pub captured_len: u32,
@@ -18,7 +18,8 @@ impl RecordHeader {
     /// The length of the header, in bytes.
     pub const LEN: usize = 16;
 
-    /// Reads a header of four numbers of four bytes: the seconds and the fraction of the time, the captured and the original length.
+    /// Reads a header. It consists of four numbers of four bytes: the seconds and the fraction of the time, the captured length, and the
+    /// original length.
     pub fn from_bytes(order: ByteOrder, bytes: &[u8; 16]) -> RecordHeader
         ensures { result ≡ record_header order bytes.now }
     {
@@ -50,8 +51,8 @@ pub enum Resolution {
 }
 
 impl Resolution {
-    /// The resolution of captures with this magic number. `None` if it is not a magic number of the classic format (draft-ietf-opsawg-pcap,
-    /// section 4).
+    /// The resolution of a capture with this magic number. `None` if this is not a magic number of the classic format
+    /// (draft-ietf-opsawg-pcap, section 4).
     pub fn from_magic(magic: u32) -> Option<Resolution>
         ensures { result ≡ resolution_with magic }
     {
@@ -63,7 +64,7 @@ impl Resolution {
     }
 }
 
-/// The time of the capture of a packet, as its record contains it.
+/// The time at which a packet was captured, as its record states it.
 #[derive(Clone, Copy, Debug, PartialEq, Eq)]
 pub struct Time {
     /// Whole seconds since the beginning of 1970, UTC.

@@ -23,14 +23,14 @@ pub struct Block<'a> {
 }
 
 impl<'a> Block<'a> {
-    /// The block at the front of these bytes, and the rest. `section` is the byte order of the section. For the first block of a file any
-    /// byte order works.
+    /// Returns the block at the front of these bytes, and the bytes after it. `section` is the byte order of the section. For the first
+    /// block of a file, any byte order works.
     ///
     /// # Errors
     ///
     /// The errors of `BlockHeader::from_slice`, and then in this order:
     /// - `CutOff` if there are fewer bytes than the block contains
-    /// - `LastLength` if the total length in its last four bytes differs from bytes 4 to 7
+    /// - `LastLength` if the total length in the last four bytes of the block differs from its bytes 4 to 7
     pub fn from_slice(
         section: ByteOrder,
         bytes: &'a [u8],
@@ -68,21 +68,23 @@ const BYTE_ORDER_MAGIC: u32 = 0x1A2B_3C4D;
 /// The first 12 bytes of a block (section 3.1).
 #[derive(Clone, Copy, Debug, PartialEq, Eq)]
 pub struct BlockHeader {
-    /// The byte order of the numbers in the block. It is the order of its section, which the section's header states with its magic.
+    /// The byte order of the numbers in the block. All blocks of a section have the byte order that the magic of its section header block
+    /// states.
     pub byte_order: ByteOrder,
     /// The type of the block, in bytes 0 to 3.
     pub block_type: u32,
-    /// The length of the block in bytes, which is in bytes 4 to 7 and in the last four bytes. It is at least 12, and a multiple of 4.
+    /// The length of the block in bytes. The block states it in bytes 4 to 7 and in its last four bytes. It is at least 12, and a multiple
+    /// of 4.
     pub total_len: u32,
 }
 
 impl BlockHeader {
-    /// The header of the block at the front of these bytes, in a section with this byte order.
+    /// Reads the header of the block at the front of these bytes, in a section with this byte order.
     ///
     /// # Errors
     ///
-    /// In this order: `CutOff` if there are fewer than 12 bytes, `Magic` if a section header block has no byte-order magic,
-    /// `TotalLength` if bytes 4 to 7 are not the length of a block, and `SectionLength` if they are below that of a section header block.
+    /// In this order: `CutOff` if there are fewer than 12 bytes, `Magic` if a section header block has no byte-order magic, `TotalLength`
+    /// if bytes 4 to 7 are not the length of a block, and `SectionLength` if a section header block is too short for its fields.
     pub fn from_slice(section: ByteOrder, bytes: &[u8]) -> Result<BlockHeader, BlockError>
         ensures refused { RefusesExactly result (specs.block_header_refusal section bytes.now) }
         ensures read { IfOk result (λ header. header ≡ specs.block_header section bytes.now) }
@@ -135,17 +137,17 @@ pub(crate) fn is_section_header(bytes: &[u8]) -> bool
     bytes.len() >= 4 && ByteOrder::BigEndian.number_in(bytes, 0) == SECTION_HEADER
 }
 
-/// Why the blocks of a file can't be read further.
+/// The reason why a block of a file is refused, and its place.
 #[derive(Clone, Copy, Debug, PartialEq, Eq, Error)]
 #[error("At byte {offset} of the file: {error}")]
 pub struct PlacedBlockError {
     /// The start of the block, in bytes from the start of the file.
     pub offset: usize,
-    /// Why the block is refused.
+    /// The reason why the block is refused.
     pub error: BlockError,
 }
 
-/// The blocks of a pcapng file in memory, one after the other, up to the end of the file or the first refused block.
+/// An iterator over the blocks of a pcapng file in memory. It ends at the end of the file or after the first refused block.
 ///
 /// After `None` or an error no bytes are left, and `next` returns `None`.
 #[derive(Clone, Drop)]
@@ -162,7 +164,7 @@ impl<'a> Model for Blocks<'a> {
 }
 
 impl<'a> Blocks<'a> {
-    /// Begins at the first block of a file. The items up to the first `None` are the blocks of the file.
+    /// Begins at the first block of this file.
     pub fn new(file: &'a [u8]) -> Blocks<'a>
         ensures section { result.section ≡ BigEndian }
         ensures rest { result.rest ≡ file.now }

@@ -16,13 +16,13 @@ use capture_texts::block::{
 /// The content of the body of a block.
 #[derive(Clone, Copy, Debug, PartialEq, Eq)]
 pub enum BlockBody<'a> {
-    /// The start of a section, without interfaces so far.
+    /// The block begins a section, which has no interface yet.
     SectionHeader(SectionHeader),
-    /// An interface. Its number is the number of interfaces before it in the section.
+    /// The block describes an interface. The number of the interface is the number of interfaces before it in the section.
     InterfaceDescription(InterfaceDescription),
-    /// A packet in an enhanced, a simple or an obsolete packet block.
+    /// The block contains a packet. It is an enhanced, a simple or an obsolete packet block.
     Packet(PacketBlock<'a>),
-    /// A block of another type, which contains no packet.
+    /// The block has another type, and contains no packet.
     Other,
 }
 
@@ -59,9 +59,9 @@ impl<'a> BlockBody<'a> {
 /// A section header block (draft-ietf-opsawg-pcapng, section 4.1). Its byte order is the byte order of its block.
 #[derive(Clone, Copy, Debug, PartialEq, Eq)]
 pub struct SectionHeader {
-    /// The major version of the section, which is 1.
+    /// The major version of the section. It is always 1.
     pub major_version: u16,
-    /// The minor version.
+    /// The minor version of the section.
     pub minor_version: u16,
 }
 
@@ -98,7 +98,8 @@ impl SectionHeader {
 pub struct PacketBlock<'a> {
     /// The number of the interface in its section, from 0.
     pub interface: u32,
-    /// The time of the capture, in units of the interface's resolution, before its offset is added. A simple packet has no timestamp.
+    /// The time of the capture, in units of the interface's resolution, without the offset of the interface. `None` in a simple packet
+    /// block.
     pub timestamp: Option<u64>,
     /// The length of the packet, in bytes.
     pub original_len: u32,
@@ -112,7 +113,7 @@ impl<'a> PacketBlock<'a> {
     /// # Errors
     ///
     /// In this order: `CutOff` if there are fewer than 20 bytes, `Interface` if the section has no such interface, and `CutOff` if the body
-    /// contains fewer captured bytes than its captured length.
+    /// ends within the captured bytes.
     pub fn from_enhanced(
         order: ByteOrder,
         interfaces: &[InterfaceDescription],
@@ -127,7 +128,7 @@ impl<'a> PacketBlock<'a> {
         timed_packet(order, order.number_in(body, 0), interfaces.len(), body)
     }
 
-    /// Reads the body of an obsolete packet block (appendix A), as `from_enhanced` does. The number of its interface has two bytes.
+    /// Reads the body of an obsolete packet block (appendix A), as `from_enhanced` does. The number of the interface has two bytes.
     ///
     /// # Errors
     ///
@@ -152,8 +153,8 @@ impl<'a> PacketBlock<'a> {
     ///
     /// # Errors
     ///
-    /// In this order: `CutOff` if there are fewer than 4 bytes, `Interface` if there is no interface, and `CutOff` if there are fewer
-    /// captured bytes than the original length or the snap length, whichever is smaller.
+    /// In this order: `CutOff` if there are fewer than 4 bytes, `Interface` if there is no interface, and `CutOff` if the body ends within
+    /// the captured bytes. Their number is the smaller of the original length and the snap length.
     pub fn from_simple(
         order: ByteOrder,
         interfaces: &[InterfaceDescription],
@@ -171,7 +172,7 @@ impl<'a> PacketBlock<'a> {
         };
         let original_len = order.number_in(body, 0);
         let captured_len = match first.snap_len {
-            // A snap length of 0 is no limit.
+            // A snap length of 0 means that there is no limit.
             0 => original_len,
             snap_len => original_len.min(snap_len),
         };
@@ -186,7 +187,8 @@ impl<'a> PacketBlock<'a> {
     }
 }
 
-/// The packet of an enhanced or obsolete packet block. `interface` is the number of its interface, and `count` is the number of interfaces.
+/// The packet of an enhanced or obsolete packet block. `interface` is the number of the packet's interface, and `count` is the number of
+/// interfaces of the section.
 fn timed_packet(
     order: ByteOrder,
     interface: u32,

@@ -10,15 +10,15 @@ pub enum BlockError {
     /// The bytes end within the block.
     #[error("The block has at least {required_len} bytes, and {len} are left.")]
     CutOff {
-        /// The length of the block in bytes, as far as it is known: 12 if its first 12 bytes are incomplete.
+        /// The length of the block in bytes. It is 12 if the first 12 bytes are incomplete.
         required_len: usize,
-        /// The number of bytes that are present.
+        /// The number of bytes of the block that are present.
         len: usize,
     },
-    /// Bytes 8 to 11 of a section header block are the byte-order magic in neither byte order (draft-ietf-opsawg-pcapng, section 4.1).
+    /// Bytes 8 to 11 of a section header block are not the byte-order magic in either byte order (draft-ietf-opsawg-pcapng, section 4.1).
     #[error("The byte-order magic of the section, its bytes 8 to 11, is {magic:#010x}.")]
     Magic {
-        /// The four bytes, as a big-endian number.
+        /// Bytes 8 to 11, as a big-endian number.
         magic: u32,
     },
     /// The total length in bytes 4 to 7 is below 12, or is not a multiple of 4 (section 3.1).
@@ -27,7 +27,7 @@ pub enum BlockError {
         /// The total length.
         total_len: u32,
     },
-    /// The total length of a section header block is below 28, the length of its fields (section 4.1).
+    /// The total length of a section header block is below 28, so the block is too short for its fields (section 4.1).
     #[error("The section header block has {total_len} bytes, and needs at least 28.")]
     SectionLength {
         /// The total length.
@@ -43,18 +43,18 @@ pub enum BlockError {
     },
 }
 
-/// Why the body of a block is refused. Places are counted from the start of the body, which follows the first 8 bytes of the block.
+/// Why the body of a block is refused. Places are counted from the start of the body. The body begins after 8 bytes of the block.
 #[derive(Clone, Copy, Debug, PartialEq, Eq, Error)]
 pub enum BodyError {
     /// The body ends within its fields, or within the captured bytes of a packet.
     #[error("The body of the block has at least {required_len} bytes, and {len} are left.")]
     CutOff {
-        /// The length of the body in bytes, as far as it is known.
+        /// The least length that the body has, in bytes.
         required_len: usize,
-        /// The number of bytes that are present.
+        /// The number of bytes of the body.
         len: usize,
     },
-    /// A section with a version that is not read: its major version is not 1 (draft-ietf-opsawg-pcapng, section 4.1).
+    /// The version of the section is not read: its major version is not 1 (draft-ietf-opsawg-pcapng, section 4.1).
     #[error("The section has version {major}.{minor}, which is not read.")]
     Version {
         /// The major version, in bytes 4 and 5.
@@ -62,7 +62,7 @@ pub enum BodyError {
         /// The minor version, in bytes 6 and 7.
         minor: u16,
     },
-    /// A packet of an interface that its section does not describe before the packet (section 4.3).
+    /// The section does not describe the interface of the packet before the packet (section 4.3).
     #[error("The packet is of interface {interface}, and the section has {count}.")]
     Interface {
         /// The number of the interface, from 0.
@@ -73,7 +73,7 @@ pub enum BodyError {
 }
 
 impl BodyError {
-    /// Refuses a body with fewer bytes.
+    /// Refuses a body that has fewer bytes than this length.
     pub(crate) fn check_len(body: &[u8], required_len: usize) -> Result<(), BodyError>
         ensures refused { RefusesExactly result (below required_len body.now) }
         ensures len { IfOk result (λ checked. required_len ≤ length body.now) }

@@ -7,16 +7,16 @@ use crate::pcapng::{BodyError, TimeResolution};
 use capture_texts::block::INTERFACE_DESCRIPTION_LEN;
 use capture_texts::option_value;
 
-/// The code of the option `if_tsresol`, with a value of one byte (draft-ietf-opsawg-pcapng, section 4.2).
+/// The code of the option `if_tsresol`, whose value has one byte (draft-ietf-opsawg-pcapng, section 4.2).
 const IF_TSRESOL: u16 = 9;
 
-/// The code of the option `if_tsoffset`, with a value of eight bytes, which is a number (section 4.2).
+/// The code of the option `if_tsoffset`, whose value is a number of eight bytes (section 4.2).
 const IF_TSOFFSET: u16 = 14;
 
-/// An interface description block (draft-ietf-opsawg-pcapng, section 4.2). The interfaces of a section are numbered from 0 in their order.
+/// An interface description block (draft-ietf-opsawg-pcapng, section 4.2). The interfaces of a section are numbered from 0.
 #[derive(Clone, Copy, Debug, Default, PartialEq, Eq)]
 pub struct InterfaceDescription {
-    /// The number of the link type of the packets. `LinkType::from_number` returns the link type if it is one that is read.
+    /// The number of the packets' link type. `LinkType::from_number` returns the link type, if it is read.
     pub link_type: u16,
     /// The maximum number of captured bytes of a packet, or 0 if there is no such limit.
     pub snap_len: u32,

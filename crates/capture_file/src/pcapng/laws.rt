@@ -5,7 +5,7 @@ ghost use Rattle.capture_file.specs.Laws.{AreUnique, Exist, RemainAtCut};
 ghost use Rattle.capture_file.specs.Pcapng.{IsBlock, IsBlockReading, block_len, block_refusal};
 ghost use Rattle.capture_texts.specs.declared.byte_order.ByteOrder.{ByteOrder};
 
-/// Accepted bytes begin with a block. Bytes that begin with a block are accepted, whatever follows it.
+/// If bytes are accepted, they begin with a block. If bytes begin with a block, they are accepted, whatever follows the block.
 pub fn accepted_blocks()
     ensures begins { (section : ByteOrder) (bytes : List ℕ) → block_refusal section bytes ≡ None
         → IsBlock section (take (block_len section bytes) bytes) }
@@ -13,13 +13,13 @@ pub fn accepted_blocks()
         → block_refusal section (block ++ more) ≡ None }
 {}
 
-/// Any bytes consist of blocks, one after the other, and a rest that is refused as a block. There is only one such division.
+/// Any bytes can be divided into blocks, one after the other, and a rest that is refused as a block. Only one division exists.
 pub fn one_reading()
     ensures exists { (section : ByteOrder) (bytes : List ℕ) → Exist (IsBlockReading section bytes) }
     ensures unique { (section : ByteOrder) (bytes : List ℕ) → AreUnique (IsBlockReading section bytes) }
 {}
 
-/// A file that was cut after any number of bytes contains exactly the blocks that end at or before the cut.
+/// If a file is cut after any number of bytes, it contains exactly the blocks that end at or before the cut.
 pub fn cut_files()
     ensures before { (section : ByteOrder) → RemainAtCut (IsBlockReading section) (λ _. AreBeforeCut) }
 {}

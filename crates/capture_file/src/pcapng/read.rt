@@ -10,9 +10,9 @@ use streams::{fill, fill_after, skip};
 /// The next item in a pcapng file.
 #[derive(Clone, Copy, Debug, PartialEq, Eq)]
 pub enum NextBlock {
-    /// A block, which is the first bytes of the buffer.
+    /// A block. It is at the front of the buffer.
     Whole(BlockHeader),
-    /// A block without room in the buffer. It was read and not kept.
+    /// A block that is longer than the buffer. It was skipped.
     TooLong(BlockHeader),
     /// The end of the file. No byte is left.
     End,
@@ -20,9 +20,10 @@ pub enum NextBlock {
     Refused(BlockError),
 }
 
-/// Reads the next block of a pcapng file into the buffer, in a section with this byte order. `Block::from_slice` then returns its body.
+/// Reads the next block of a pcapng file into the buffer, in a section with this byte order. Then `Block::from_slice` returns the block
+/// with its body.
 ///
-/// A block without room in the buffer is skipped, so that the next block can be read.
+/// A block that is longer than the buffer is skipped, so that the next block can be read.
 ///
 /// # Errors
 ///
@@ -40,7 +41,7 @@ pub fn read_block<R: Read>(
     read_rest(input, section, &first[..len], buffer)
 }
 
-/// Reads the rest of a block. The first bytes of the block were read before. If the input ends within them, nothing is read.
+/// Reads the other bytes of a block, after its first bytes. Nothing is read if the input ended within the first bytes.
 pub(crate) fn read_rest<R: Read>(
     input: &mut R,
     section: ByteOrder,
@@ -69,7 +70,7 @@ pub(crate) fn read_rest<R: Read>(
     }
 }
 
-/// Skips the rest of a block for which the buffer has no room. The first bytes of the block were read before.
+/// Skips the other bytes of a block that is longer than the buffer, after its first bytes.
 fn pass_over<R: Read>(
     input: &mut R,
     section: ByteOrder,

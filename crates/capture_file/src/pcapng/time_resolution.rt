@@ -2,7 +2,7 @@ ghost use Rattle.std.specs.Prelude.{◌≡◌, ◌^◌, ◌<◌, None};
 ghost use Rattle.std.specs.Option.{SomeIff};
 ghost use Rattle.capture_file.specs.PcapngBodies.{resolution_by, time_resolution, units_per_second};
 
-/// The unit of the timestamps of an interface: a second divided by a power of ten or of two (the option `if_tsresol`).
+/// The unit of the timestamps of an interface, which the option `if_tsresol` states: a second divided by a power of ten or of two.
 #[derive(Clone, Copy, Debug, PartialEq, Eq)]
 pub enum TimeResolution {
     /// A second divided by ten to this power: 6 for microseconds, 9 for nanoseconds.
@@ -11,7 +11,7 @@ pub enum TimeResolution {
     PowerOfTwo(u8),
 }
 
-/// Microseconds, the resolution of an interface without the option. An `ArrayVec` holds a default interface in its unused places.
+/// Microseconds, the resolution of an interface without the option. The unused places of an `ArrayVec` contain default interfaces.
 impl Default for TimeResolution {
     ghost is_default = { λ resolution. resolution ≡ resolution_by None };
 
@@ -21,7 +21,7 @@ impl Default for TimeResolution {
 }
 
 impl TimeResolution {
-    /// The resolution in the byte of the option. The low seven bits are the exponent. The high bit is set for a power of two.
+    /// The resolution that the byte of the option states. Its low seven bits are the exponent. Its high bit is 1 for a power of two.
     pub fn from_byte(byte: u8) -> TimeResolution
         ensures { result ≡ time_resolution byte }
     {

@@ -12,7 +12,7 @@ use crate::reader::{CapturedPacket, NextPacket, OpenError, PcapngReader, TooLong
 use std::io::{self, Read};
 use streams::fill;
 
-/// A reader of the packets of a capture, whatever the form of its file.
+/// A reader of the packets of a capture in either format.
 #[derive(Clone, Debug, Drop)]
 pub enum CaptureReader {
     /// A reader of a classic capture.
@@ -22,8 +22,8 @@ pub enum CaptureReader {
 }
 
 impl CaptureReader {
-    /// Reads the header of a classic capture, or the first block of a pcapng file. The block is read into the buffer. If the input is not a
-    /// capture that is read, the inner error is the reason.
+    /// Reads the header of a classic capture, or the first block of a pcapng file into the buffer. If the beginning of the input is
+    /// refused, the inner result is the reason.
     ///
     /// # Errors
     ///

@@ -9,11 +9,10 @@ use capture_texts::block::{BODY_AT, SIMPLE_CAPTURED_AT, SIMPLE_PACKET, TIMED_CAP
 /// The place of the captured bytes in a simple packet block, in bytes from the start of the block (draft-ietf-opsawg-pcapng, section 4.4).
 const SIMPLE_START: usize = BODY_AT + SIMPLE_CAPTURED_AT;
 
-/// The place of the captured bytes in an enhanced or obsolete packet block, in bytes from the start of the block (section 4.3 and appendix
-/// A).
+/// The place of the captured bytes in an enhanced or obsolete packet block, in bytes from the start of the block (section 4.3; appendix A).
 const TIMED_START: usize = BODY_AT + TIMED_CAPTURED_AT;
 
-/// The data that a capture contains about a packet. The struct is the same for both file formats.
+/// What a capture states about a packet. The struct is the same for both file formats.
 #[derive(Clone, Copy, Debug, PartialEq, Eq)]
 pub struct CapturedPacket {
     /// The link type of the packet, or the number of a link type that is not read.
@@ -26,7 +25,7 @@ pub struct CapturedPacket {
     pub start: usize,
     /// The number of captured bytes.
     pub captured_len: usize,
-    /// The number of bytes that the packet had on its link.
+    /// The length of the packet on its link, in bytes.
     pub original_len: u32,
 }
 
@@ -68,7 +67,7 @@ impl CapturedPacket {
         }
     }
 
-    /// Whether fewer bytes were captured than the packet had.
+    /// Whether the packet was longer than its captured bytes.
     pub fn is_cut(&self) -> bool
         ensures { result ≡ nat_lt self.now.captured_len self.now.original_len }
     {

@@ -7,15 +7,15 @@ ghost use Rattle.capture_file.specs.Places.{OffsetsArePlaces};
 ghost use Rattle.capture_file.specs.Readers.{LeavesOneReader};
 ghost use Rattle.capture_file.specs.declared.reader.capture_reader.CaptureReader.{CaptureReader};
 
-/// Any bytes after the beginning of a capture contain exactly one list of packets, and then one item that ends the list. Reading some
-/// packets from the bytes gives the first packets of this list.
+/// The bytes after the beginning of a capture contain exactly one list of packets, and one item that ends the list. The packets that a
+/// reader returns are the first packets of this list.
 pub fn one_list()
     ensures exists { (room : ℕ) (reader : CaptureReader) (bytes : List ℕ) → Exist (HasPackets room reader bytes) }
     ensures unique { (room : ℕ) (reader : CaptureReader) (bytes : List ℕ) → AreUnique (HasPackets room reader bytes) }
     ensures first { (room : ℕ) (reader : CaptureReader) (bytes : List ℕ) → AreFirstPackets room reader bytes }
 {}
 
-/// A capture that was cut at any place after its beginning contains exactly the packets whose record or block ends at or before the cut.
+/// If a capture is cut after its beginning, it contains exactly the packets whose record or block ends at or before the cut.
 pub fn cut_packets()
     ensures before { (room : ℕ) (reader : CaptureReader) → RemainAtCut (HasPackets room reader) (ArePacketsBeforeCut room reader) }
 {}
@@ -32,8 +32,8 @@ pub fn places()
     ensures { (room : ℕ) (file : List ℕ) → length file < 2 ^ 64 → OffsetsArePlaces room file }
 {}
 
-/// After any number of packets, the bytes of the capture determine the reader. They also determine the reader after the item that ends the
-/// packets. A reader contains the interfaces, the texts, and the number of packets with a comment.
+/// After any number of packets, the state of the reader depends only on the bytes of the capture. So does its state after the item that
+/// ends the packets. The state contains the interfaces, the texts, and the number of packets with a comment.
 pub fn one_reader()
     ensures { (room : ℕ) (reader : CaptureReader) (bytes : List ℕ) → LeavesOneReader room reader bytes }
 {}

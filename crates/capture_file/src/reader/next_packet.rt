@@ -12,24 +12,24 @@ pub enum NextPacket {
     End,
     /// A record or block that is incomplete, since the capture ends within it.
     CutOff {
-        /// The length of the record or block in bytes. It is a lower bound if the capture ends before the length field is complete.
+        /// The length of the record or block in bytes, or its least length if the length field is incomplete.
         required_len: usize,
         /// The number of bytes of the record or block that are present.
         len: usize,
     },
-    /// A block of a pcapng file that is refused.
+    /// A refused block of a pcapng file.
     Refused(PlacedPacketError),
 }
 
-/// The data that a capture contains about a packet that is longer than the buffer.
+/// What a capture states about a packet that is longer than the buffer.
 #[derive(Clone, Copy, Debug, PartialEq, Eq)]
 pub struct TooLongPacket {
     /// The link type of the packet, or the number of a link type that is not read. `None` for a skipped pcapng block.
     pub link_type: Option<Result<LinkType, u16>>,
     /// The capture time. `None` for a skipped pcapng block.
     pub time: Option<PacketTime>,
-    /// The number of bytes that the buffer must have: the number of captured bytes, or the length of the block in a pcapng file.
+    /// The least length of a buffer that has room: the captured length of a record, or the length of a pcapng block.
     pub required_len: u32,
-    /// The number of bytes that the packet had on its link. `None` for a skipped pcapng block.
+    /// The length of the packet on its link, in bytes. `None` for a skipped pcapng block.
     pub original_len: Option<u32>,
 }

@@ -18,7 +18,7 @@ pub enum PacketError {
         /// The length of the block in bytes.
         total_len: u32,
     },
-    /// The section has more interfaces than are kept.
+    /// The section has more interfaces than a reader keeps.
     #[error("The section has more than {max} interfaces.")]
     Interfaces {
         /// The greatest number of interfaces that a reader keeps.

@@ -22,7 +22,7 @@ use std::io::{self, ErrorKind, Read};
 /// A reader of the packets of a pcapng file.
 #[derive(Clone, Debug, Drop)]
 pub struct PcapngReader {
-    /// The section of the next block.
+    /// The section that contains the next block.
     pub section: Section,
     /// The place at which the next block begins, in bytes from the start of the file. The count stops at 2^64 - 1.
     pub offset: u64,
@@ -31,7 +31,7 @@ pub struct PcapngReader {
 }
 
 impl PcapngReader {
-    /// Reads the section header block at the start of a pcapng file. `first` contains its first bytes, which were read before.
+    /// Reads the section header block at the start of a pcapng file. `first` contains its first bytes, which were already read.
     pub(crate) fn open<R: Read>(
         input: &mut R,
         first: &[u8],
@@ -70,7 +70,7 @@ impl PcapngReader {
         )
     }
 
-    /// Reads blocks up to the next packet. Its captured bytes are then in the buffer.
+    /// Reads blocks up to the next block with a packet. The captured bytes of the packet are then in the buffer.
     ///
     /// # Errors
     ///
@@ -92,7 +92,7 @@ impl PcapngReader {
         Err(io::Error::from(ErrorKind::FileTooLarge))
     }
 
-    /// Reads one block. The result is `None` if the block contains no packet and is not refused. The caller then reads the next block.
+    /// Reads one block. Returns `None` if the block contains no packet and is not refused. Then the caller reads the next block.
     fn read_step<R: Read>(
         &mut self,
         input: &mut R,
@@ -133,7 +133,7 @@ impl PcapngReader {
     }
 }
 
-/// Returns the next item if a block is longer than the buffer. `None` means that the block is skipped: it contains no packet, and no later
+/// Returns the next item after a block that is longer than the buffer. `None` if the block is skipped: it contains no packet, and no later
 /// packet depends on it.
 fn next_by_too_long(offset: u64, header: BlockHeader) -> Option<NextPacket>
     ensures next { result ≡ next_by_too_long offset header }
@@ -162,7 +162,7 @@ fn next_by_too_long(offset: u64, header: BlockHeader) -> Option<NextPacket>
 /// The greatest number of interfaces of a section. A section that describes more interfaces is refused.
 pub const MAX_INTERFACES: usize = 1024;
 
-/// What the blocks read so far state about the current section of a pcapng file. Later packets of the section depend on it.
+/// What the blocks read so far state about the current section of a pcapng file. The later packets of the section depend on it.
 #[derive(Clone, Debug, Drop)]
 pub struct Section {
     /// The byte order of the numbers in the section.
@@ -183,12 +183,13 @@ impl Section {
         }
     }
 
-    /// Updates the section with the next block of the file, and returns the packet of the block if it is a packet block. A section header
-    /// block begins a new section.
+    /// Updates the section with the next block of the file. Returns the packet of the block if it is a packet block. A section header block
+    /// begins a new section.
     ///
     /// # Errors
     ///
-    /// `Body` if the body of the block is refused, and `Interfaces` if the block describes an interface beyond `MAX_INTERFACES`.
+    /// `Body` if the body of the block is refused, and `Interfaces` if the section already has `MAX_INTERFACES` interfaces and the block
+    /// describes another one.
     pub fn take(&mut self, block: &Block<'_>) -> Result<Option<CapturedPacket>, PacketError>
         ensures takes { TakesBlock self.old block.now.header block.now.body.now self.new result }
         ensures within { IfOk result (λ given. IfSome given (IsWithin (8 + length block.now.body.now))) }

@@ -7,24 +7,26 @@ ghost use Rattle.capture_link.specs.LinkHeaders.{Fits};
 use crate::link::LinkHeaderCutOff;
 use crate::link::header::{EtherHeader, FirstHeader, expect_len, short_at};
 
-/// The number of LINKTYPE_C_HDLC. It is the next protocol of a frame with a protocol of Cisco HDLC, which is not read.
+/// The number of LINKTYPE_C_HDLC. It stands for the next protocol of a Cisco HDLC frame whose protocol is not read.
 const LINK_TYPE: u16 = 104;
 
-/// An address, a control byte, and the number of a protocol. The number is an ether type, except for two protocols.
+/// The layout of the header: an address, a control byte, and the number of a protocol. The number is an ether type, except for SLARP and
+/// CDP.
 const CISCO_HDLC: EtherHeader = EtherHeader {
     len: 4,
     ether_type_at: 2,
 };
 
-/// The first byte of a frame to one station, and of a frame to all stations.
+/// The first byte of a frame to one station.
 const TO_ONE_STATION: u8 = 0x0F;
 
+/// The first byte of a frame to all stations.
 const TO_ALL_STATIONS: u8 = 0x8F;
 
-/// SLARP, the address resolution and the keepalives of serial lines. As an ether type this number is RARP.
+/// The protocol number of SLARP, which resolves addresses and sends keepalives on serial lines. As an ether type this number is RARP.
 const SLARP: u16 = 0x8035;
 
-/// CDP, by the number that it also has in a SNAP header with Cisco's organization code.
+/// The protocol number of CDP. It has the same number in a SNAP header with Cisco's organization code.
 const CDP: u16 = 0x2000;
 
 /// The first header of a Cisco HDLC frame.

@@ -1,4 +1,4 @@
-//! Ether types (IEEE 802.3, clause 3.2.6). A header names the next header or protocol by its ether type.
+//! Ether types (IEEE 802.3, clause 3.2.6). The ether type in a header is the number of the next header or protocol.
 
 /// The least ether type. A lower number is the length of a frame with an LLC header.
 pub const LEAST: u16 = 0x0600;
@@ -18,7 +18,7 @@ pub const SERVICE_TAG: u16 = 0x88A8;
 /// The VLAN tag of a service, as written by older equipment.
 pub const OLD_SERVICE_TAG: u16 = 0x9100;
 
-/// The same, as written by other older equipment.
+/// The VLAN tag of a service, as written by other older equipment.
 pub const OTHER_OLD_SERVICE_TAG: u16 = 0x9200;
 
 /// A stack of MPLS labels (RFC 3032, section 5).

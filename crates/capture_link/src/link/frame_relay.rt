@@ -11,7 +11,8 @@ use crate::link::ether_type::{IPV4, IPV6};
 use crate::link::header::{EtherHeader, FirstHeader, LinkHeader, expect_len, short_at, three_at};
 use crate::link::llc::snap_at;
 
-/// The length of the address, the control byte, and the network layer protocol ID or a pad byte before it, in bytes.
+/// The least length of a frame that is read, in bytes: the address, the control byte, and one byte, which is a pad byte or the network
+/// layer protocol ID.
 const SHORTEST_LEN: usize = 4;
 
 /// The bits of the first three bytes that identify a two-byte address and the control byte. The lowest bits of the address bytes are 0 and
@@ -27,17 +28,19 @@ const ADDRESS_MASK: u32 = 0x01_01_00;
 /// The value of the bits of `ADDRESS_MASK` in a frame with a two-byte address.
 const TWO_BYTE_ADDRESS: u32 = 0x00_01_00;
 
-/// A two-byte address and an ether type, without a control byte, as Cisco's equipment writes them.
+/// The layout of a header that Cisco's equipment writes: a two-byte address and an ether type, without a control byte.
 const CISCO: EtherHeader = EtherHeader {
     len: 4,
     ether_type_at: 2,
 };
 
-/// The network layer protocol IDs of a SNAP header, of IPv4 and of IPv6 (RFC 2427, section 3).
+/// The network layer protocol ID of a SNAP header (RFC 2427, section 3).
 const SNAP_ID: u8 = 0x80;
 
+/// The network layer protocol ID of IPv4 (RFC 2427, section 3).
 const IPV4_ID: u8 = 0xCC;
 
+/// The network layer protocol ID of IPv6 (RFC 2427, section 3).
 const IPV6_ID: u8 = 0x8E;
 
 /// The first header of a Frame Relay frame.

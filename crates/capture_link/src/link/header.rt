@@ -34,13 +34,13 @@ pub(super) struct EtherHeader {
 pub(super) enum FirstHeader {
     /// A whole link header.
     Whole(LinkHeader),
-    /// A header with an ether type, which names the next protocol or header. A VLAN tag may come next.
+    /// A header that contains an ether type, the number of the next protocol or header. A VLAN tag may follow.
     EtherType(EtherHeader),
 }
 
 impl FirstHeader {
-    /// The result for a header with an unknown version or a wrong length, so that what follows it can't be found. The next protocol is the
-    /// number of the link type. `len` is the number of bytes that were examined.
+    /// The header for an unknown version or a wrong length, after which the next protocol can't be found. The next protocol is the number
+    /// of the link type. `len` is the number of bytes that were examined.
     pub fn unread(len: usize, number: u16) -> FirstHeader
         ensures { result ≡ unread len number }
     {

@@ -38,11 +38,13 @@ const DATA: u8 = 0x08;
 /// The bit of the subtype of a data frame that is set if a QoS Control field is present.
 const QOS: u8 = 0x80;
 
-/// Bits of the second byte of the Frame Control field: To DS and From DS together, More Fragments and Protected Frame, and +HTC/Order.
+/// The bits To DS and From DS of the second byte of the Frame Control field.
 const TWO_DISTRIBUTION_SYSTEMS: u8 = 0x03;
 
+/// The bits More Fragments and Protected Frame of the second byte of the Frame Control field.
 const FRAGMENTED_OR_PROTECTED: u8 = 0x44;
 
+/// The bit +HTC/Order of the second byte of the Frame Control field.
 const HT_CONTROL: u8 = 0x80;
 
 /// The bits of the fragment number in byte 22.
@@ -116,7 +118,7 @@ fn other_frame(frame: &[u8], place: usize) -> FirstHeader
     })
 }
 
-/// Whether the frame is a data frame with data. The data must not be encrypted, and no more fragments may follow.
+/// Whether the frame is a data frame with data that is not encrypted, and no more fragments follow.
 fn carries_data(frame: &[u8], place: usize) -> bool
     requires { (place ≤ max_frame_place) × (place + 2 ≤ length frame.now) }
     ensures { result ≡ specs.carries_data frame.now place }

@@ -5,8 +5,8 @@ ghost use Rattle.capture_texts.specs.declared.byte_order.ByteOrder.{ByteOrder};
 ghost use Rattle.capture_texts.specs.declared.link_type.LinkType.{LinkType};
 ghost use Rattle.capture_link.specs.declared.network_protocol.NetworkProtocol.{NetworkProtocol};
 
-/// A frame has at most one link header. If it ends within its link header, it has no whole link header. The required length does not depend
-/// on the byte order.
+/// A frame has at most one link header. If the frame ends within its link header, it has no whole link header. The required length of the
+/// link header does not depend on the byte order.
 pub fn one_link_header()
     ensures unique { (link_type : LinkType) (order : ByteOrder) (frame : List ℕ) (len other_len : ℕ) (next other_next : Option NetworkProtocol)
         (end other_end : Option ℕ) → HasLinkHeader link_type order frame len next end

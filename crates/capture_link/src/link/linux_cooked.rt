@@ -8,27 +8,29 @@ use crate::link::LinkHeaderCutOff;
 use crate::link::header::{EtherHeader, FirstHeader, expect_len, short_at};
 use crate::link::llc::llc_at;
 
-/// LINKTYPE_LINUX_SLL: the protocol is at the end.
+/// The layout of a LINKTYPE_LINUX_SLL header, with the protocol at its end.
 const LINUX_COOKED: EtherHeader = EtherHeader {
     len: 16,
     ether_type_at: 14,
 };
 
-/// LINKTYPE_LINUX_SLL2: the protocol is at the front.
+/// The layout of a LINKTYPE_LINUX_SLL2 header, with the protocol at its front.
 const LINUX_COOKED_2: EtherHeader = EtherHeader {
     len: 20,
     ether_type_at: 0,
 };
 
-/// The place of the device type in a LINKTYPE_LINUX_SLL header, and in a LINKTYPE_LINUX_SLL2 header.
+/// The place of the device type in a LINKTYPE_LINUX_SLL header.
 const DEVICE_TYPE_AT: usize = 2;
 
+/// The place of the device type in a LINKTYPE_LINUX_SLL2 header.
 const DEVICE_TYPE_AT_2: usize = 8;
 
 /// The device type of netlink, ARPHRD_NETLINK.
 const NETLINK_DEVICE: u16 = 824;
 
-/// The number of LINKTYPE_NETLINK, whose frames have a LINKTYPE_LINUX_SLL header. It is the next protocol of a frame from a netlink device.
+/// The number of LINKTYPE_NETLINK, whose frames have a LINKTYPE_LINUX_SLL header. It stands for the next protocol of a frame from a netlink
+/// device.
 const NETLINK: u16 = 253;
 
 /// The protocol of a frame with an LLC header.
@@ -52,8 +54,8 @@ pub(super) fn linux_cooked_2(frame: &[u8]) -> Result<FirstHeader, LinkHeaderCutO
     cooked_header(LINUX_COOKED_2, DEVICE_TYPE_AT_2, frame)
 }
 
-/// The first header of a frame with this header, and the device type at this place. A frame from a netlink device is not read. In other
-/// frames an LLC header follows, or the protocol is an ether type.
+/// The first header of a frame with this layout. `device_type_at` is the place of the device type. A frame from a netlink device is not
+/// read. In other frames an LLC header follows, or the protocol is an ether type.
 fn cooked_header(
     header: EtherHeader,
     device_type_at: usize,

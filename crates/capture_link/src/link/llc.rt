@@ -72,7 +72,7 @@ fn osi_at(frame: &[u8], place: usize) -> Result<FirstHeader, LinkHeaderCutOff>
     }))
 }
 
-/// The header that ends with the SNAP header at this place. With two organization codes it contains an ether type.
+/// The header that ends with the SNAP header at this place. After the two organization codes above, the SNAP header contains an ether type.
 pub(super) fn snap_at(frame: &[u8], place: usize) -> Result<FirstHeader, LinkHeaderCutOff>
     requires { place ≤ specs.max_llc_place + 3 }
     ensures is { result ≡ specs.snap_at frame.now place }

@@ -20,17 +20,19 @@ const LEAST_FILTER_LEN: u8 = 45;
 /// The length of a LINKTYPE_IPNET header, in bytes.
 const IPNET_LEN: usize = 24;
 
-/// The address families of IPv4 and IPv6 on Solaris.
+/// The address family of IPv4 on Solaris.
 const SOLARIS_IPV4: u8 = 2;
 
+/// The address family of IPv6 on Solaris.
 const SOLARIS_IPV6: u8 = 26;
 
 /// The length of a Prism header, in bytes: two numbers of four bytes each, the name of a device in 16 bytes, and ten items of 12 bytes.
 const PRISM_LEN: usize = 144;
 
-/// The numbers that begin a header of AVS, of version 1 and of version 2.
+/// The number that begins a header of AVS of version 1.
 const AVS_1: u32 = 0x8021_1001;
 
+/// The number that begins a header of AVS of version 2.
 const AVS_2: u32 = 0x8021_1002;
 
 /// The length of the first fields of a header of AVS, in bytes: the number, and the length of the header.
@@ -60,7 +62,7 @@ pub(super) fn filter_header(frame: &[u8]) -> Result<FirstHeader, LinkHeaderCutOf
     Ok(with_family(len, family, is_ip_family(family)))
 }
 
-/// A length with the padding up to a multiple of four.
+/// The length after padding to a multiple of four.
 pub(super) fn padded(len: u16) -> usize
     ensures { result ≡ specs.padded len }
 {
@@ -173,7 +175,7 @@ pub(super) fn after_tap(frame: &[u8]) -> Result<FirstHeader, LinkHeaderCutOff>
     enclosed_at(frame, len, little_endian_short_at(frame, 8))
 }
 
-/// The first header of the frame at this place, of the link type with this number. Frames of four link types are read.
+/// The first header of the inner frame at this place. `number` is the number of its link type. Frames of four link types are read.
 fn enclosed_at(frame: &[u8], place: usize, number: u16) -> Result<FirstHeader, LinkHeaderCutOff>
     requires { place ≤ max_frame_place }
     ensures is { result ≡ specs.enclosed_at frame.now place number }

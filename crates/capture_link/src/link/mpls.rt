@@ -18,8 +18,8 @@ const LAST_LABEL: u8 = 0x01;
 /// The least length of an IPv4 header, in words of four bytes (RFC 791, section 3.1).
 const MIN_IPV4_WORDS: u8 = 5;
 
-/// The header that ends with the label stack at this place. If no IP packet follows the stack, the next protocol is `other`, whose number
-/// precedes the stack.
+/// The header that ends with the label stack at this place. If no IP packet follows the stack, the next protocol is `other`. The number of
+/// `other` precedes the stack.
 pub(super) fn stack_at(
     frame: &[u8],
     other: NetworkProtocol,

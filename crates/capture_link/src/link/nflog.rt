@@ -24,9 +24,10 @@ const SHORTEST_LEN: usize = 8;
 /// The type of the attribute with the packet.
 const PAYLOAD: u16 = 9;
 
-/// The address families of IPv4 and IPv6 on Linux.
+/// The address family of IPv4 on Linux.
 const LINUX_IPV4: u8 = 2;
 
+/// The address family of IPv6 on Linux.
 const LINUX_IPV6: u8 = 10;
 
 /// The result of reading an attribute.

@@ -57,7 +57,7 @@ pub(super) fn ppp_header(frame: &[u8]) -> Result<LinkHeader, LinkHeaderCutOff>
     }
 }
 
-/// The link header of a LINKTYPE_PPP_ETHER frame. In a session it ends where the packet begins. For discovery it is the PPPoE header.
+/// The link header of a LINKTYPE_PPP_ETHER frame. For a session it ends where the packet begins. For discovery it is only the PPPoE header.
 pub(super) fn pppoe_frame(frame: &[u8]) -> Result<LinkHeader, LinkHeaderCutOff>
     ensures is { result ≡ specs.pppoe_frame frame.now }
     ensures within { IfOk result (IsHeaderWithin frame.now) }
@@ -111,8 +111,8 @@ fn session_payload(
     }
 }
 
-/// The header up to the packet in a PPPoE payload. The payload begins at this place, and ends where these bytes of a frame end. If it is
-/// too short for its PPP header, it is not read.
+/// The header up to the packet in a PPPoE payload. The payload begins at this place, and ends with `bytes`, which are a part of the frame.
+/// If the payload is too short for its PPP header, it is not read.
 fn whole_payload(bytes: &[u8], place: usize) -> LinkHeader
     requires { place ≤ length bytes.now }
     ensures is { result ≡ specs.in_payload place (length bytes.now) (specs.protocol_at bytes.now place) }
@@ -147,7 +147,7 @@ fn has_address(frame: &[u8]) -> bool
     frame.len() >= ADDRESS_LEN && short_at(frame, 0) == ADDRESS_AND_CONTROL
 }
 
-/// The header that ends after the Protocol field at this place. A number of one byte is odd.
+/// The header that ends after the Protocol field at this place. If the first byte is odd, the field has only one byte.
 fn protocol_at(frame: &[u8], place: usize) -> Result<LinkHeader, LinkHeaderCutOff>
     requires { place ≤ length frame.now }
     ensures is { result ≡ specs.protocol_at frame.now place }

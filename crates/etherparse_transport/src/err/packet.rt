@@ -1,4 +1,4 @@
-//! The errors of a packet, header and payload together.
+//! The errors of calls on whole packets, header and payload.
 
 mod answer_echo_error;
 mod build_slice_write_error;

@@ -45,7 +45,7 @@ pub fn answer_echo(packet: &mut [u8], hop_limit: u8) -> Result<usize, AnswerEcho
     ensures unchanged { IfErr result (λ _. packet.new ≡ packet.old) }
     ensures len { IfOk result (λ len. len ≡ counted_len false packet.old) }
     ensures answered { IfOk result (λ _. packet.new ≡ specs.reply hop_limit packet.old) }
-    // The reply is read with the identifier, the sequence number and the payload of the request, and its checksum is right.
+    // The reply has the identifier, the sequence number and the payload of the request, and its checksum is right.
     ensures read { IfOk result (λ _. IsReadAs packet.new (specs.reply_addresses packet.old) (specs.reply_header packet.old)
         (specs.reply_payload packet.old)) }
     // `is_reply_to` recognises the reply.
@@ -90,13 +90,13 @@ pub fn answer_echo_ipv4(
     ensures unchanged { IfErr result (λ _. packet.new ≡ packet.old) }
     ensures len { IfOk result (λ len. len ≡ counted_len false packet.old) }
     ensures answered { IfOk result (λ _. packet.new ≡ ipv4_reply (unwrap_or source (slice_range packet.old 16 20)) time_to_live packet.old) }
-    // The reply is read with the identifier, the sequence number and the payload of the request, and its checksum is right.
+    // The reply has the identifier, the sequence number and the payload of the request, and its checksum is right.
     ensures read { IfOk result (λ _. IsReadAs packet.new
         (addresses.Ipv4 (unwrap_or source (slice_range packet.old 16 20)) (slice_range packet.old 12 16))
         (headers.Icmpv4 (icmpv4_reply_to (ipv4_message packet.old))) (drop echo_header_len (ipv4_message packet.old))) }
-    // The checksum of the IP header is also right.
+    // The checksum of the reply's IP header is also right.
     ensures verifies { IfOk result (λ _. Verifies [] (header_bytes packet.new)) }
-    // `is_reply_to` recognises the reply if its source may answer for the destination of the request.
+    // `is_reply_to` recognises the reply, if its source may answer a request to this destination.
     ensures replies { MayAnswerIpv4 (slice_range packet.old 16 20) (unwrap_or source (slice_range packet.old 16 20)) →
         IfOk result (λ _. IsReplyTo packet.old packet.new) }
 {
@@ -143,12 +143,12 @@ pub fn answer_echo_ipv6(
     ensures unchanged { IfErr result (λ _. packet.new ≡ packet.old) }
     ensures len { IfOk result (λ len. len ≡ counted_len false packet.old) }
     ensures answered { IfOk result (λ _. packet.new ≡ ipv6_reply (unwrap_or source (slice_range packet.old 24 40)) hop_limit packet.old) }
-    // The reply is read with the identifier, the sequence number and the payload of the request, and its checksum is right.
+    // The reply has the identifier, the sequence number and the payload of the request, and its checksum is right.
     ensures read { IfOk result (λ _. IsReadAs packet.new
         (addresses.Ipv6 (unwrap_or source (slice_range packet.old 24 40)) (Some (slice_range packet.old 8 24)))
         (headers.Icmpv6 (icmpv6_reply_to (unwrap_or source (slice_range packet.old 24 40)) (slice_range packet.old 8 24)
         (ipv6_message packet.old))) (drop echo_header_len (ipv6_message packet.old))) }
-    // `is_reply_to` recognises the reply if its source may answer for the destination of the request.
+    // `is_reply_to` recognises the reply, if its source may answer a request to this destination.
     ensures replies { MayAnswerIpv6 (slice_range packet.old 24 40) (unwrap_or source (slice_range packet.old 24 40)) →
         IfOk result (λ _. IsReplyTo packet.old packet.new) }
 {
@@ -169,8 +169,8 @@ pub fn answer_echo_ipv6(
     Ok(len)
 }
 
-/// The place of what a reply repeats, in bytes from the start of the message: identifier, sequence number and payload (RFC 792; RFC 4443,
-/// section 4.2).
+/// The place of the bytes that a reply repeats, in bytes from the start of the message. These are the identifier, the sequence number and
+/// the payload (RFC 792; RFC 4443, section 4.2).
 const ECHOED_AT: usize = IcmpEchoHeader::ID_AT;
 
 /// Writes the IP header and the start of the ICMP header to the front of the packet.
@@ -184,7 +184,7 @@ fn replace_front(packet: &mut [u8], ip_header: &[u8], start: [u8; ECHOED_AT])
 }
 
 /// Writes the start of the ICMP header to the front of the message.
-// perf: a copy of four bytes reads them as one word, which waits until each is in memory. So each byte is assigned (27 Nov 2026).
+// perf: each byte is assigned by itself. A copy of four bytes reads them as one word, which waits until each is in memory (27 Nov 2026).
 #[inline(always)]
 fn replace_start(message: &mut [u8], start: [u8; ECHOED_AT])
     requires { 4 ≤ length message.old }
@@ -198,7 +198,7 @@ fn replace_start(message: &mut [u8], start: [u8; ECHOED_AT])
 
 // ---- the request
 
-/// Addresses and length of the echo request in an IPv4 packet.
+/// The addresses and the length of the echo request in an IPv4 packet.
 fn ipv4_request(packet: &[u8]) -> Result<(Ipv4Header, usize), AnswerEchoError>
     ensures refused { RefusesExactly result (specs.ipv4_request_refusal packet.now) }
     ensures addresses { IfOk result (λ request. request.0 ≡ ipv4_header_of packet.now) }
@@ -224,7 +224,7 @@ fn ipv4_request(packet: &[u8]) -> Result<(Ipv4Header, usize), AnswerEchoError>
     Ok((addresses, IPV4_LEN + found.payload.len()))
 }
 
-/// Addresses and length of the echo request in an IPv6 packet.
+/// The addresses and the length of the echo request in an IPv6 packet.
 fn ipv6_request(packet: &[u8]) -> Result<(Ipv6Header, usize), AnswerEchoError>
     ensures refused { RefusesExactly result (specs.ipv6_request_refusal packet.now) }
     ensures addresses { IfOk result (λ request. request.0 ≡ ipv6_header_of packet.now) }
@@ -263,7 +263,7 @@ fn find_transport(packet: &[u8]) -> Result<TransportInIp<'_>, AnswerEchoError>
     }
 }
 
-/// Refuses a transport that is no whole message of this protocol directly after an IP header of this length.
+/// Refuses a transport, unless it is a whole message of this protocol directly after an IP header of this length.
 fn check_transport(
     found: &TransportInIp<'_>,
     protocol: IpNumber,
@@ -284,7 +284,7 @@ fn check_transport(
     Ok(())
 }
 
-/// Refuses an ICMPv4 message that is no echo request with a right checksum.
+/// Refuses an ICMPv4 message, unless it is an echo request with a right checksum.
 fn check_icmpv4(message: &[u8]) -> Result<(), AnswerEchoError>
     ensures { RefusesExactly result (icmpv4_refusal message.now) }
 {
@@ -301,7 +301,7 @@ fn check_icmpv4(message: &[u8]) -> Result<(), AnswerEchoError>
     Ok(())
 }
 
-/// Refuses an ICMPv6 message that is no echo request with a right checksum.
+/// Refuses an ICMPv6 message, unless it is an echo request with a right checksum.
 fn check_icmpv6(addresses: &Ipv6Header, message: &[u8]) -> Result<(), AnswerEchoError>
     ensures { RefusesExactly result (icmpv6_refusal addresses.now.source addresses.now.destination message.now) }
 {
@@ -318,7 +318,7 @@ fn check_icmpv6(addresses: &Ipv6Header, message: &[u8]) -> Result<(), AnswerEcho
     Ok(())
 }
 
-/// Whether this is an address of several hosts: the limited broadcast address, or a multicast address.
+/// Whether this is an address of several hosts: the limited broadcast address or a multicast address.
 pub(crate) fn is_group_ipv4(address: [u8; 4]) -> bool
     ensures { result ≡ specs.is_group_ipv4 address }
 {
@@ -338,7 +338,7 @@ const IPV4_LOOPBACK_START: u8 = 127;
 /// The loopback address of IPv6, ::1.
 const IPV6_LOOPBACK: u128 = 1;
 
-/// Whether this is the address of one host: not unspecified, no loopback address, and no address of several hosts.
+/// Whether this is the address of one host: neither the unspecified address, nor a loopback address, nor an address of several hosts.
 pub(crate) fn is_host_ipv4(address: [u8; 4]) -> bool
     ensures { result ≡ specs.is_host_ipv4 address }
 {
@@ -346,7 +346,7 @@ pub(crate) fn is_host_ipv4(address: [u8; 4]) -> bool
         && (address[0] != IPV4_LOOPBACK_START && !is_group_ipv4(address))
 }
 
-/// Whether this is the address of one host: not unspecified, no loopback address, and no address of several hosts.
+/// Whether this is the address of one host: neither the unspecified address, nor the loopback address, nor an address of several hosts.
 pub(crate) fn is_host_ipv6(address: [u8; 16]) -> bool
     ensures { result ≡ specs.is_host_ipv6 address }
 {
@@ -356,7 +356,7 @@ pub(crate) fn is_host_ipv6(address: [u8; 16]) -> bool
 
 // ---- the reply
 
-/// The first eight bytes of the reply to an IPv4 packet, up to its flags.
+/// The first eight bytes of the reply to an IPv4 packet. They end with the flags and the fragment offset.
 fn ipv4_reply_start(packet: &[u8]) -> [u8; 8]
     requires there { 6 ≤ length packet.now }
     ensures { result ≡ specs.ipv4_reply_start packet.now }
@@ -373,9 +373,9 @@ const FLAGS_AT: usize = 6;
 /// The flag "don't fragment" in the byte of the flags.
 const DONT_FRAGMENT: u8 = 0x40;
 
-/// The checksum of the IPv4 header of the reply, from the header of the request. The source of the reply is the passed address, or the
-/// destination of the request. The checksum changes by flags and time to live, and by a passed address (RFC 1624).
-// perf: the update takes some 30 instructions less than a sum of the new header (27 Nov 2026).
+/// The checksum of the IPv4 header of the reply, computed from the header of the request (RFC 1624). Flags and time to live change. The
+/// source of the reply is the passed address, or the destination of the request.
+// perf: the update takes about 30 instructions less than the sum of the new header (27 Nov 2026).
 fn reply_header_checksum(header: &[u8], time_to_live: u8, source: Option<[u8; 4]>) -> u16
     requires len { length header.now ≡ 20 }
     requires accepted { Verifies [] header.now }
@@ -413,12 +413,12 @@ fn replace_ipv4_if_passed(
     }
 }
 
-/// The header of the reply to this request. The checksum changes only by the type (RFC 1624). A reply of zeros is summed again, since its
-/// checksum is 65535.
+/// The header of the reply to this request. Its checksum is updated, since only the type changes (RFC 1624). If the reply consists of
+/// zeros, its checksum is 65535, which the update does not give.
 fn icmpv4_reply_to(request: &[u8]) -> Icmpv4Header
     requires accepted { icmpv4_refusal request.now ≡ None }
     ensures header { result ≡ specs.icmpv4_reply_to request.now }
-    // Identifier, sequence number and payload are those of the request.
+    // The identifier, the sequence number and the payload are those of the request.
     ensures echoed { echoed (icmpv4_wire (specs.icmpv4_reply_to request.now) ++ drop echo_header_len request.now) ≡ echoed request.now }
 {
     let echo = IcmpEchoHeader::from_bytes([request[4], request[5], request[6], request[7]]);
@@ -435,12 +435,12 @@ fn icmpv4_reply_to(request: &[u8]) -> Icmpv4Header
     }
 }
 
-/// The header of the reply to this request. Its source is the passed address, or the destination of the request. The checksum changes by
-/// the type and by a passed address (RFC 1624).
+/// The header of the reply to this request. The source of the reply is the passed address, or the destination of the request. The checksum
+/// is updated, since only the type and perhaps the address change (RFC 1624).
 fn icmpv6_reply_to(addresses: &Ipv6Header, source: Option<[u8; 16]>, request: &[u8]) -> Icmpv6Header
     requires accepted { icmpv6_refusal addresses.now.source addresses.now.destination request.now ≡ None }
     ensures header { result ≡ specs.icmpv6_reply_to (unwrap_or source addresses.now.destination) addresses.now.source request.now }
-    // Identifier, sequence number and payload are those of the request.
+    // The identifier, the sequence number and the payload are those of the request.
     ensures echoed { echoed (icmpv6_wire (specs.icmpv6_reply_to (unwrap_or source addresses.now.destination) addresses.now.source request.now)
         ++ drop echo_header_len request.now) ≡ echoed request.now }
 {

@@ -8,15 +8,19 @@ use arrayvec::ArrayVec;
 /// The length of an IPv4 header without options, in bytes (RFC 791, section 3.1).
 pub(crate) const IPV4_LEN: usize = Ipv4Header::MIN_LEN;
 
-/// The places of time to live, protocol, checksum and both addresses in an IPv4 header, in bytes from its start (RFC 791, section 3.1).
+/// The place of the time to live in an IPv4 header, in bytes from its start (RFC 791, section 3.1).
 pub(crate) const IPV4_TIME_TO_LIVE_AT: usize = Ipv4Header::TIME_TO_LIVE_AT;
 
+/// The place of the protocol in an IPv4 header.
 pub(crate) const IPV4_PROTOCOL_AT: usize = Ipv4Header::PROTOCOL_AT;
 
+/// The place of the checksum in an IPv4 header.
 pub(crate) const IPV4_CHECKSUM_AT: usize = Ipv4Header::CHECKSUM_AT;
 
+/// The place of the source in an IPv4 header.
 pub(crate) const IPV4_SOURCE_AT: usize = Ipv4Header::SOURCE_AT;
 
+/// The place of the destination in an IPv4 header.
 pub(crate) const IPV4_DESTINATION_AT: usize = Ipv4Header::DESTINATION_AT;
 
 /// The length of an IPv6 header, in bytes (RFC 8200, section 3).
@@ -36,7 +40,7 @@ pub(crate) fn ipv4_header(
 ) -> ArrayVec<u8, IPV4_LEN>
     ensures { result.items ≡ specs.ipv4_header start time_to_live protocol.0 source destination }
 {
-    // perf: the sum of the fields. Bytes that were just written one by one are slow to load eight at a time (27 Nov 2026).
+    // perf: the sum is computed from the fields. Bytes that were just written one by one are slow to load eight at a time (27 Nov 2026).
     let [a, b, c, d, e, f, g, h] = start;
     let checksum = Sum16BitWords::new()
         .add_4bytes([a, b, c, d])
@@ -70,8 +74,7 @@ pub(crate) fn ipv4_fields(
     header
 }
 
-/// An IPv6 header (RFC 8200, section 3). It starts with these six bytes, which contain version, traffic class, flow label and payload
-/// length.
+/// An IPv6 header (RFC 8200, section 3). `start` contains its first six bytes: version, traffic class, flow label and payload length.
 pub(crate) fn ipv6_header(
     start: [u8; 6],
     next_header: IpNumber,

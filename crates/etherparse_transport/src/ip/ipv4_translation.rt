@@ -1,4 +1,4 @@
-/// What an address translator replaces in an IPv4 packet (RFC 3022). `None` keeps what the packet contains.
+/// What an address translator replaces in an IPv4 packet (RFC 3022). If a value is `None`, the packet keeps its own value.
 ///
 /// ```
 /// use etherparse_transport::ip::{Ipv4Translation, translate_ipv4};
@@ -25,9 +25,9 @@ pub struct Ipv4Translation {
     pub source: Option<[u8; 4]>,
     /// The new destination address.
     pub destination: Option<[u8; 4]>,
-    /// The new source port of UDP and TCP, and the new identifier of a request of ICMP (RFC 5508, section 3.1).
+    /// The new source port of UDP and TCP, and the new identifier of an ICMP request (RFC 5508, section 3.1).
     pub source_port: Option<u16>,
-    /// The new destination port of UDP and TCP, and the new identifier of a reply of ICMP.
+    /// The new destination port of UDP and TCP, and the new identifier of an ICMP reply.
     pub destination_port: Option<u16>,
 }
 
@@ -44,7 +44,7 @@ impl Ipv4Translation {
         self.source_port.is_some() || self.destination_port.is_some()
     }
 
-    /// The translation of the packet that an ICMP error is about: a passed translation, or otherwise the opposite of this one.
+    /// The translation of the packet that an ICMP error quotes: the passed translation, or else the opposite of this translation.
     pub(crate) fn of_quoted(self, passed: Option<&Ipv4Translation>) -> Ipv4Translation
         ensures passed { result ≡ ipv4_of_quoted self passed.entry }
         ensures types { IsIpv4Translation self }
@@ -55,7 +55,7 @@ impl Ipv4Translation {
         }
     }
 
-    /// The translation of the packet that an ICMP error is about, which went in the other direction (RFC 5508, section 4).
+    /// The translation of the packet that an ICMP error quotes, which went in the other direction (RFC 5508, section 4).
     fn opposite(&self) -> Ipv4Translation
         ensures { result ≡ ipv4_opposite self.now }
     {

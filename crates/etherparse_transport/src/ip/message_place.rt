@@ -17,7 +17,7 @@ use crate::{Icmpv4Header, Icmpv4Slice, Icmpv6Slice, Proto, icmpv4};
 /// The length of an ICMP header, in bytes (RFC 792; RFC 4443, section 2.1).
 pub(crate) const ICMP_LEN: usize = Icmpv4Header::MIN_LEN;
 
-/// The number of bytes of a transport header that are needed. They contain the ports or the identifier (RFC 792).
+/// The least number of bytes of a transport header, which contain the ports or the identifier (RFC 792).
 const NEEDED_LEN: usize = 8;
 
 /// The message of a packet: where it begins and ends, and what it is.
@@ -25,7 +25,7 @@ const NEEDED_LEN: usize = 8;
 pub(crate) struct Place {
     // perf: the small fields are first, as in `TranslateError`. With `end` at their place, the caller of a function that returns either
     // waited for it: 37.8 instead of 32.5 ns for a UDP packet (27 Nov 2026).
-    /// None if only the addresses of the packet are replaced.
+    /// The protocol. `None` if only the addresses of the packet are replaced.
     pub(crate) proto: Option<Proto>,
     pub(crate) is_later_fragment: bool,
     /// The start of the message, in bytes from the start of the packet.
@@ -63,7 +63,7 @@ pub(crate) fn translate_flow(
     }
 }
 
-/// The length of the packet that an ICMP error is about. `None` for any other message that can be translated.
+/// The length of the packet that an ICMP error quotes. `None` for any other message that can be translated.
 #[inline(always)]
 pub(crate) fn quoted_len(place: &Place, message: &[u8]) -> Result<Option<usize>, TranslateError>
     ensures refused { RefusesExactly result (specs.message_refusal place.now.is_later_fragment place.now.proto message.now) }
@@ -90,7 +90,7 @@ pub(crate) fn quoted_len(place: &Place, message: &[u8]) -> Result<Option<usize>,
     }
 }
 
-/// The length of the packet that an ICMPv4 error is about.
+/// The length of the packet that an ICMPv4 error quotes.
 #[inline(never)]
 fn quoted_len_icmpv4(message: &[u8]) -> Result<Option<usize>, TranslateError>
     requires header { 8 ≤ length message.now }
@@ -113,7 +113,7 @@ fn quoted_len_icmpv4(message: &[u8]) -> Result<Option<usize>, TranslateError>
     }
 }
 
-/// The length of the packet that an ICMPv6 error is about.
+/// The length of the packet that an ICMPv6 error quotes.
 #[inline(always)]
 fn quoted_len_icmpv6(message: &[u8]) -> Result<Option<usize>, TranslateError>
     requires header { 8 ≤ length message.now }

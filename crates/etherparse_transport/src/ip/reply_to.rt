@@ -12,9 +12,9 @@ use crate::ip::echo_reply::{is_group_ipv4, is_group_ipv6, is_host_ipv4, is_host_
 use crate::ip::{IpAddresses, TransportInIp, transport_in_ip};
 use crate::{Icmpv4Slice, Icmpv6Slice, Ipv4HeaderSlice, icmpv4, icmpv6, ip_number};
 
-/// Whether the second packet is the reply to the echo request in the first packet (RFC 792, "Echo or Echo Reply Message"; RFC 1122,
-/// section 3.2.2.6; RFC 4443, sections 4.1 and 4.2). Both packets begin with their IP headers, and may contain options and extension
-/// headers. Bytes after a packet are ignored.
+/// Whether `reply` is the reply to the echo request in `request` (RFC 792, "Echo or Echo Reply Message"; RFC 1122, section 3.2.2.6; RFC
+/// 4443, sections 4.1 and 4.2). Both packets begin with their IP headers, and may contain options and extension headers. Bytes after a
+/// packet are ignored.
 ///
 /// ```
 /// if ip::is_reply_to(&sent, &received) {
@@ -22,18 +22,18 @@ use crate::{Icmpv4Slice, Icmpv6Slice, Ipv4HeaderSlice, icmpv4, icmpv6, ip_number
 /// }
 /// ```
 ///
-/// It is true exactly if all of this holds:
-/// - `transport_in_ip` accepts both packets, which have the same version, and neither is a fragment.
+/// The result is true exactly if all of these statements hold:
+/// - `transport_in_ip` accepts both packets. They have the same IP version, and neither is a fragment.
 /// - `transport_slice` returns ICMP of that version for both. The first message is an echo request, of type 8 over IPv4 and 128 over IPv6.
 ///   The second is an echo reply, of type 0 and 129. Both codes are 0.
 /// - Identifier, sequence number and payload of both messages are equal.
-/// - The reply goes to the source of the request, and comes from its destination. If that is a multicast address or 255.255.255.255, the
-///   reply comes from the address of one host instead. The addresses are those of `TransportInIp`.
+/// - The reply goes to the source of the request, and comes from the destination of the request. If this destination is a multicast address
+///   or 255.255.255.255, the reply comes from the address of one host instead. The addresses are those of `TransportInIp`.
 /// - The checksum of the reply is right, and over IPv4 also the checksum of its IP header.
 ///
 /// The checksums of the request are not tested, since the caller sent it, and a network card may fill them in. The broadcast address of a
-/// subnet counts as the address of one host, since the length of its prefix is not known. A host replies to an anycast address from a unicast
-/// address (RFC 4443, section 4.2). `is_reply_from_any` recognises that reply.
+/// subnet counts as the address of one host, since the length of the prefix is not known. A host replies to a request to an anycast address
+/// from a unicast address (RFC 4443, section 4.2). `is_reply_from_any` recognises this reply.
 pub fn is_reply_to(request: &[u8], reply: &[u8]) -> bool
     ensures { IsTrue result ↔ IsReplyTo request.now reply.now }
 {
@@ -48,10 +48,10 @@ pub fn is_reply_to(request: &[u8], reply: &[u8]) -> bool
         && has_right_header(reply)
 }
 
-/// Whether the second packet is the reply to the echo request in the first packet, from any host: `is_reply_to` without the destination of
-/// the request. A host replies to an anycast address from a unicast address, which the request does not name (RFC 4443, section 4.2).
+/// Whether `reply` is the reply of any host to the echo request in `request`. The destination of the request is not compared. A host
+/// replies to a request to an anycast address from a unicast address, which the request does not contain (RFC 4443, section 4.2).
 ///
-/// The reply goes to the source of the request, and comes from the address of one host. Everything else is as for `is_reply_to`.
+/// The reply goes to the source of the request, and comes from the address of one host. All other conditions of `is_reply_to` apply.
 pub fn is_reply_from_any(request: &[u8], reply: &[u8]) -> bool
     ensures { IsTrue result ↔ IsReplyFromAny request.now reply.now }
 {
@@ -68,7 +68,7 @@ pub fn is_reply_from_any(request: &[u8], reply: &[u8]) -> bool
 
 // ---- the packets
 
-/// The whole ICMP message in a packet. `None` if there is none.
+/// The whole ICMP message in a packet. `None` if the packet contains no whole ICMP message.
 #[inline(always)]
 fn icmp_in(packet: &[u8]) -> Option<TransportInIp<'_>>
     ensures { MatchOption result ((between : Addresses) (message : List ℕ) → ¬ CarriesIcmp packet.now between message)
@@ -80,7 +80,7 @@ fn icmp_in(packet: &[u8]) -> Option<TransportInIp<'_>>
     }
 }
 
-/// Whether a transport is a message of ICMP of its IP version, and no fragment.
+/// Whether a transport is an ICMP message of its IP version, and no fragment.
 fn is_whole_icmp(found: &TransportInIp<'_>) -> bool
     ensures { IsTrue result ↔ (found.now.is_fragment ≡ false) × (found.now.protocol.0 ≡ icmp_number (by_value found.now.addresses)) }
 {
@@ -91,7 +91,7 @@ fn is_whole_icmp(found: &TransportInIp<'_>) -> bool
     !found.is_fragment && found.protocol == number
 }
 
-/// Whether the checksum of an IPv4 header is right, if the packet begins with one.
+/// Whether the checksum of the IPv4 header is right. `true` if the packet does not begin with an IPv4 header.
 fn has_right_header(packet: &[u8]) -> bool
     ensures { IsTrue result ↔ (BeginsWithIpv4Header packet.now → Verifies [] (ipv4_header packet.now)) }
 {
@@ -103,7 +103,8 @@ fn has_right_header(packet: &[u8]) -> bool
 
 // ---- the addresses
 
-/// Whether a packet with the second addresses goes back to where a packet with the first addresses came from.
+/// Whether the addresses of the reply are those of the request, exchanged. If the request went to several hosts, its reply may come from
+/// any host.
 fn goes_back(request: IpAddresses<'_>, reply: IpAddresses<'_>) -> bool
     ensures { IsTrue result ↔ GoesBack (by_value request.entry) (by_value reply.entry) }
 {
@@ -132,7 +133,7 @@ fn goes_back(request: IpAddresses<'_>, reply: IpAddresses<'_>) -> bool
     }
 }
 
-/// Whether a packet with the second addresses goes from a host to where a packet with the first addresses came from.
+/// Whether the reply goes from the address of one host to the source of the request.
 fn goes_to_source(request: IpAddresses<'_>, reply: IpAddresses<'_>) -> bool
     ensures { IsTrue result ↔ GoesToSource (by_value request.entry) (by_value reply.entry) }
 {
@@ -155,7 +156,7 @@ fn goes_to_source(request: IpAddresses<'_>, reply: IpAddresses<'_>) -> bool
     }
 }
 
-/// Whether a reply to a request to this destination may come from this source.
+/// Whether the reply to a request to this destination may come from this source.
 fn may_answer_ipv4(destination: &[u8; 4], responder: &[u8; 4]) -> bool
     ensures { IsTrue result ↔ MayAnswerIpv4 destination.now responder.now }
 {
@@ -166,8 +167,8 @@ fn may_answer_ipv4(destination: &[u8; 4], responder: &[u8; 4]) -> bool
     }
 }
 
-/// Whether a reply to a request to this destination may come from this source.
-// perf: references to 16 bytes are compared at once, but arrays byte by byte (27 Nov 2026).
+/// Whether the reply to a request to this destination may come from this source.
+// perf: references to 16 bytes are compared at once. Arrays are compared byte by byte (27 Nov 2026).
 fn may_answer_ipv6(destination: &[u8; 16], responder: &[u8; 16]) -> bool
     ensures { IsTrue result ↔ MayAnswerIpv6 destination.now responder.now }
 {
@@ -180,7 +181,7 @@ fn may_answer_ipv6(destination: &[u8; 16], responder: &[u8; 16]) -> bool
 
 // ---- the messages
 
-/// Whether the second message is the reply to the first, between these addresses of the reply.
+/// Whether `reply` is the reply to the message `request`. The reply has these addresses.
 fn answers(addresses: IpAddresses<'_>, request: &[u8], reply: &[u8]) -> bool
     ensures { IsTrue result ↔ Answers (by_value addresses.entry) request.now reply.now }
 {
@@ -197,7 +198,7 @@ fn answers(addresses: IpAddresses<'_>, request: &[u8], reply: &[u8]) -> bool
     }
 }
 
-/// Whether the second message is the ICMPv4 reply to the first.
+/// Whether `reply` is the ICMPv4 reply to the message `request`.
 fn answers_icmpv4(request: &[u8], reply: &[u8]) -> bool
     ensures { IsTrue result ↔ AnswersIcmpv4 request.now reply.now }
 {
@@ -210,7 +211,7 @@ fn answers_icmpv4(request: &[u8], reply: &[u8]) -> bool
     echoed(reply) == echoed(request) && message.is_checksum_valid()
 }
 
-/// Whether the second message is the ICMPv6 reply to the first, from this source to this destination.
+/// Whether `reply` is the ICMPv6 reply to the message `request`. The reply goes from this source to this destination.
 fn answers_icmpv6(source: [u8; 16], destination: [u8; 16], request: &[u8], reply: &[u8]) -> bool
     ensures { IsTrue result ↔ AnswersIcmpv6 source destination request.now reply.now }
 {
@@ -223,14 +224,14 @@ fn answers_icmpv6(source: [u8; 16], destination: [u8; 16], request: &[u8], reply
     echoed(reply) == echoed(request) && message.is_checksum_valid(source, destination)
 }
 
-/// Identifier, sequence number and payload of an echo message: all bytes after the checksum.
+/// The bytes of an echo message after its checksum: the identifier, the sequence number and the payload.
 fn echoed(message: &[u8]) -> &[u8]
     ensures { result.now ≡ specs.echoed message.now }
 {
     message.get(4..).unwrap_or(&[])
 }
 
-/// An ICMPv4 message, if it has this type and code 0.
+/// The ICMPv4 message in these bytes, if it has this type and code 0.
 fn icmpv4_of_type(type_u8: u8, message: &[u8]) -> Option<Icmpv4Slice<'_>>
     ensures typed { IsSome result ↔ IsOfType type_u8 (icmpv4_refusal message.now) message.now }
     ensures kept { IfSome result (λ slice. slice ≡ message.now) }
@@ -239,7 +240,7 @@ fn icmpv4_of_type(type_u8: u8, message: &[u8]) -> Option<Icmpv4Slice<'_>>
     (slice.type_u8() == type_u8 && slice.code_u8() == 0).then_some(slice)
 }
 
-/// An ICMPv6 message, if it has this type and code 0.
+/// The ICMPv6 message in these bytes, if it has this type and code 0.
 fn icmpv6_of_type(type_u8: u8, message: &[u8]) -> Option<Icmpv6Slice<'_>>
     ensures typed { IsSome result ↔ IsOfType type_u8 (icmpv6_refusal message.now) message.now }
     ensures kept { IfSome result (λ slice. slice ≡ message.now) }

@@ -5,7 +5,7 @@ ghost use Rattle.etherparse_transport.specs.SourceRoutes as specs;
 /// The kind that ends the list of options (RFC 791, section 3.1).
 const END_OF_LIST: u8 = 0;
 
-/// The kind of no operation, which has no length byte (RFC 791, section 3.1).
+/// The kind of the option "no operation", which has no length byte (RFC 791, section 3.1).
 const NO_OPERATION: u8 = 1;
 
 /// The kind of a loose source route (RFC 791, section 3.1).
@@ -14,8 +14,8 @@ const LOOSE_SOURCE_ROUTE: u8 = 131;
 /// The kind of a strict source route (RFC 791, section 3.1).
 const STRICT_SOURCE_ROUTE: u8 = 137;
 
-/// Whether the options of an IPv4 header contain a loose or strict source route (RFC 791, section 3.1). A route of any form counts, also if
-/// its length is below 2 or beyond the options, since a router may still read it.
+/// Whether the options of an IPv4 header contain a loose or strict source route (RFC 791, section 3.1). A route counts even if its length
+/// is below 2 or beyond the end of the options, since a router may still read it.
 pub(crate) fn contain_source_route(options: &[u8]) -> bool
     ensures { result ≡ specs.contain_source_route options.now }
 {
@@ -29,7 +29,7 @@ pub(crate) fn contain_source_route(options: &[u8]) -> bool
     false
 }
 
-/// The option at the front, or all that follows if its length is impossible.
+/// The option at the front. If its length is impossible, it is all bytes. `None` at the end of the list.
 fn option_or_rest(bytes: &[u8]) -> Option<&[u8]>
     ensures front { MatchOption result (specs.option_or_rest bytes.now ≡ None) (λ option. specs.option_or_rest bytes.now ≡ Some option.now) }
     ensures within { IfSome result (λ option. (1 ≤ length option.now) × (length option.now ≤ length bytes.now)) }

@@ -56,16 +56,16 @@ pub fn translate_ipv4(packet: &mut [u8], new: &Ipv4Translation) -> Result<(), Tr
     ensures refused { RefusesExactly result (specs.ipv4_refusal new.now packet.old) }
     ensures unchanged { IfErr result (λ _. packet.new ≡ packet.old) }
     ensures translated { IfOk result (λ _. packet.new ≡ specs.ipv4_translated new.now packet.old) }
-    // The packet is read as before, with the new addresses and the translated message.
+    // The translated packet is read like the packet, with the new addresses and the translated message.
     ensures read { IfOk result (λ _. IsReadWith packet.old packet.new (specs.ipv4_between new.now packet.old)
         (specs.ipv4_translated_message new.now packet.old)) }
-    // A receiver accepts the translated message exactly if it accepted the message, also with bytes that are in other fragments or cut off,
-    // unless it has no checksum of its own, or is an ICMPv4 echo reply of zeros.
+    // A receiver accepts the translated message exactly if it accepts the message. This holds also if some bytes are in other fragments or
+    // are cut off. It does not hold for a message without a checksum, or for an ICMPv4 echo reply of zeros.
     ensures verifies { IfOk result (λ _. specs.IsIpv4Accepted new.now packet.old (specs.ipv4_translated_message new.now packet.old)) }
     ensures error { IfOk result (λ _. specs.IsIpv4ErrorAccepted packet.old (specs.ipv4_translated_message new.now packet.old)) }
     ensures header { IfOk result (λ _. specs.IsHeaderAccepted packet.old packet.new) }
-    // The translated packet is accepted again. The way back restores the packet, exactly unless a checksum is lost (RFC 1624), or an error
-    // loses a replaced address that the packet in it does not have.
+    // The translated packet can be translated again. The way back restores the packet, unless a checksum is lost (RFC 1624), or an ICMP
+    // error and the packet that it quotes have different addresses.
     ensures again { IfOk result (λ _. specs.ipv4_refusal new.now packet.new ≡ None) }
     ensures there_and_back { IfOk result (λ _. (specs.ipv4_translated (ipv4_way_back new.now packet.old) packet.new ≡ packet.old) ↔
         IsIpv4Restored new.now packet.old) }
@@ -96,15 +96,15 @@ pub fn translate_ipv4_with_quoted(
     ensures refused { RefusesExactly result (specs.ipv4_refusal_with new.now quoted.now packet.old) }
     ensures unchanged { IfErr result (λ _. packet.new ≡ packet.old) }
     ensures translated { IfOk result (λ _. packet.new ≡ specs.ipv4_translated_with new.now quoted.now packet.old) }
-    // The packet is read as before, with the new addresses and the translated message.
+    // The translated packet is read like the packet, with the new addresses and the translated message.
     ensures read { IfOk result (λ _. IsReadWith packet.old packet.new (specs.ipv4_between new.now packet.old)
         (specs.ipv4_message_of_both new.now quoted.now packet.old)) }
-    // A receiver accepts the translated message exactly if it accepted the message, also with bytes that are in other fragments or cut off,
-    // unless it has no checksum of its own.
+    // A receiver accepts the translated message exactly if it accepts the message. This holds also if some bytes are in other fragments or
+    // are cut off. It does not hold for a message without a checksum, or for an ICMPv4 echo reply of zeros.
     ensures verifies { IfOk result (λ _. specs.IsIpv4Accepted new.now packet.old (specs.ipv4_message_of_both new.now quoted.now packet.old)) }
     ensures error { IfOk result (λ _. specs.IsIpv4ErrorAccepted packet.old (specs.ipv4_message_of_both new.now quoted.now packet.old)) }
     ensures header { IfOk result (λ _. specs.IsHeaderAccepted packet.old packet.new) }
-    // The translated packet is accepted again.
+    // The translated packet can be translated again.
     ensures again { IfOk result (λ _. specs.ipv4_refusal_with new.now quoted.now packet.new ≡ None) }
     // The ways back of both translations restore the packet, exactly unless a checksum is lost (RFC 1624).
     ensures there_and_back { IfOk result (λ _. (specs.ipv4_translated_with (ipv4_flow_back new.now (specs.message_in_ipv4 false packet.old) packet.old)
@@ -113,7 +113,7 @@ pub fn translate_ipv4_with_quoted(
     translate_ipv4_by(packet, new, Some(quoted))
 }
 
-/// The translation of an IPv4 packet, and of the packet that it is about if it is an ICMP error.
+/// Translates an IPv4 packet, and the packet that it quotes if it is an ICMP error.
 #[inline(always)]
 fn translate_ipv4_by(
     packet: &mut [u8],
@@ -123,15 +123,15 @@ fn translate_ipv4_by(
     ensures refused { RefusesExactly result (specs.ipv4_refusal_with new.now (specs.ipv4_of_quoted new.now passed.entry) packet.old) }
     ensures unchanged { IfErr result (λ _. packet.new ≡ packet.old) }
     ensures translated { IfOk result (λ _. packet.new ≡ specs.ipv4_translated_with new.now (specs.ipv4_of_quoted new.now passed.entry) packet.old) }
-    // The packet is read as before, with the new addresses and the translated message.
+    // The translated packet is read like the packet, with the new addresses and the translated message.
     ensures read { IfOk result (λ _. IsReadWith packet.old packet.new (specs.ipv4_between new.now packet.old)
         (specs.ipv4_message_of_both new.now (specs.ipv4_of_quoted new.now passed.entry) packet.old)) }
-    // A receiver accepts the translated message exactly if it accepted the message, also with bytes that are in other fragments or cut off,
-    // unless it has no checksum of its own.
+    // A receiver accepts the translated message exactly if it accepts the message. This holds also if some bytes are in other fragments or
+    // are cut off. It does not hold for a message without a checksum, or for an ICMPv4 echo reply of zeros.
     ensures verifies { IfOk result (λ _. specs.IsIpv4Accepted new.now packet.old (specs.ipv4_message_of_both new.now (specs.ipv4_of_quoted new.now passed.entry) packet.old)) }
     ensures error { IfOk result (λ _. specs.IsIpv4ErrorAccepted packet.old (specs.ipv4_message_of_both new.now (specs.ipv4_of_quoted new.now passed.entry) packet.old)) }
     ensures header { IfOk result (λ _. specs.IsHeaderAccepted packet.old packet.new) }
-    // The translated packet is accepted again.
+    // The translated packet can be translated again.
     ensures again { IfOk result (λ _. specs.ipv4_refusal_with new.now (specs.ipv4_of_quoted new.now passed.entry) packet.new ≡ None) }
     ensures bytes { IfOk result (λ _. IsBytes packet.old) }
     ensures types { IfOk result (λ _. IsIpv4Translation new.now × IfSome (specs.ipv4_quoted packet.old)
@@ -147,7 +147,7 @@ fn translate_ipv4_by(
     }
 }
 
-/// The message of an IPv4 packet, which begins after its header.
+/// The place of the message of an IPv4 packet, which begins after its header.
 // perf: the steps of the translation are compiled into one function, which takes 25.6 instead of 34.3 ns for a UDP packet, and 42.4 instead
 // of 57.4 ns for an ICMP error (27 Nov 2026).
 #[inline(always)]
@@ -180,7 +180,8 @@ fn ipv4_place(packet: &[u8], new: &Ipv4Translation) -> Result<Place, TranslateEr
     })
 }
 
-/// Whether a packet is refused for its protocol: only the addresses could be replaced, and the protocol covers them, or a port is passed.
+/// Whether a packet is refused because of its protocol: it is not UDP, TCP or ICMPv4, and a port is passed or the protocol covers the
+/// addresses.
 #[inline(always)]
 fn is_ipv4_refused(proto: Option<Proto>, number: IpNumber, new: &Ipv4Translation) -> bool
     ensures { result ≡ (is_none proto && (has_port new.now.source_port new.now.destination_port || specs.covers_ipv4_addresses number.0)) }
@@ -188,14 +189,16 @@ fn is_ipv4_refused(proto: Option<Proto>, number: IpNumber, new: &Ipv4Translation
     proto.is_none() && (new.has_port() || covers_ipv4_addresses(number))
 }
 
-/// The numbers of DCCP, VRRP and UDP-Lite (RFC 4340; RFC 5798; RFC 3828).
+/// The protocol number of DCCP (RFC 4340).
 pub(crate) const DCCP: IpNumber = IpNumber(33);
 
+/// The protocol number of VRRP (RFC 5798).
 pub(crate) const VRRP: IpNumber = IpNumber(112);
 
+/// The protocol number of UDP-Lite (RFC 3828).
 pub(crate) const UDP_LITE: IpNumber = IpNumber(136);
 
-/// Whether the checksum or the authentication of this protocol covers the addresses of an IPv4 packet, except for UDP and TCP.
+/// Whether this protocol, other than UDP and TCP, has a checksum or an authentication that covers the addresses of an IPv4 packet.
 fn covers_ipv4_addresses(number: IpNumber) -> bool
     ensures { result ≡ specs.covers_ipv4_addresses number.0 }
 {
@@ -207,7 +210,7 @@ fn covers_ipv4_addresses(number: IpNumber) -> bool
         || number == ip_number::HIP
 }
 
-/// Translates an ICMP error over IPv4, and the packet that it is about.
+/// Translates an ICMP error over IPv4, and the packet that it quotes.
 fn translate_ipv4_error(
     packet: &mut [u8],
     place: &Place,
@@ -309,7 +312,7 @@ fn translate_ipv4_quoted(
     ensures types { IsIpv4Translation new.now }
 {
     let quoted = &mut message[ICMP_LEN..ICMP_LEN + quoted_len];
-    // The sums of all quoted bytes are not 0, because the first word is not 0. So the first word is part of the change.
+    // The change also contains the first word, which is not 0. So neither sum of the quoted bytes is 0.
     let first = [quoted[0], quoted[1]];
     let change = translate_ipv4_flow(quoted, place, new);
     update_checksum(message, change.replace_2bytes(first, first));

@@ -51,15 +51,15 @@ pub fn translate_ipv6(packet: &mut [u8], new: &Ipv6Translation) -> Result<(), Tr
     ensures refused { RefusesExactly result (specs.ipv6_refusal new.now packet.old) }
     ensures unchanged { IfErr result (λ _. packet.new ≡ packet.old) }
     ensures translated { IfOk result (λ _. packet.new ≡ specs.ipv6_translated new.now packet.old) }
-    // The packet is read as before, with the new addresses and the translated message.
+    // The translated packet is read like the packet, with the new addresses and the translated message.
     ensures read { IfOk result (λ _. IsReadWith packet.old packet.new (specs.ipv6_between new.now packet.old)
         (specs.ipv6_translated_message new.now packet.old)) }
-    // A receiver accepts the translated message exactly if it accepted the message, also with bytes that are in other fragments or cut off,
-    // unless it has no checksum of its own.
+    // A receiver accepts the translated message exactly if it accepts the message. This holds also if some bytes are in other fragments or
+    // are cut off. It does not hold for a message without a checksum.
     ensures verifies { IfOk result (λ _. specs.IsIpv6Accepted new.now packet.old (specs.ipv6_translated_message new.now packet.old)) }
     ensures error { IfOk result (λ _. specs.IsIpv6ErrorAccepted new.now packet.old (specs.ipv6_translated_message new.now packet.old)) }
-    // The translated packet is accepted again. The way back restores the packet, exactly unless a checksum is lost (RFC 1624), or an error
-    // loses a replaced address that the packet in it does not have.
+    // The translated packet can be translated again. The way back restores the packet, unless a checksum is lost (RFC 1624), or an ICMP
+    // error and the packet that it quotes have different addresses.
     ensures again { IfOk result (λ _. specs.ipv6_refusal new.now packet.new ≡ None) }
     ensures there_and_back { IfOk result (λ _. (specs.ipv6_translated (ipv6_way_back new.now packet.old) packet.new ≡ packet.old) ↔
         IsIpv6Restored new.now packet.old) }
@@ -90,23 +90,23 @@ pub fn translate_ipv6_with_quoted(
     ensures refused { RefusesExactly result (specs.ipv6_refusal_with new.now quoted.now packet.old) }
     ensures unchanged { IfErr result (λ _. packet.new ≡ packet.old) }
     ensures translated { IfOk result (λ _. packet.new ≡ specs.ipv6_translated_with new.now quoted.now packet.old) }
-    // The packet is read as before, with the new addresses and the translated message.
+    // The translated packet is read like the packet, with the new addresses and the translated message.
     ensures read { IfOk result (λ _. IsReadWith packet.old packet.new (specs.ipv6_between new.now packet.old)
         (specs.ipv6_message_of_both new.now quoted.now packet.old)) }
-    // A receiver accepts the translated message exactly if it accepted the message, also with bytes that are in other fragments or cut off,
-    // unless it has no checksum of its own.
+    // A receiver accepts the translated message exactly if it accepts the message. This holds also if some bytes are in other fragments or
+    // are cut off. It does not hold for a message without a checksum.
     ensures verifies { IfOk result (λ _. specs.IsIpv6Accepted new.now packet.old (specs.ipv6_message_of_both new.now quoted.now packet.old)) }
     ensures error { IfOk result (λ _. specs.IsIpv6ErrorAccepted new.now packet.old (specs.ipv6_message_of_both new.now quoted.now packet.old)) }
-    // The translated packet is accepted again.
+    // The translated packet can be translated again.
     ensures again { IfOk result (λ _. specs.ipv6_refusal_with new.now quoted.now packet.new ≡ None) }
-    // The ways back of both translations restore the packet, exactly unless a checksum is lost (RFC 1624).
+    // The ways back of both translations restore the packet, unless a checksum is lost (RFC 1624).
     ensures there_and_back { IfOk result (λ _. (specs.ipv6_translated_with (ipv6_flow_back new.now packet.old)
         (ipv6_quoted_back (specs.ipv6_quoted packet.old) quoted.now) packet.new ≡ packet.old) ↔ IsIpv6RestoredWith packet.old) }
 {
     translate_ipv6_by(packet, new, Some(quoted))
 }
 
-/// The translation of an IPv6 packet, and of the packet that it is about if it is an ICMP error.
+/// Translates an IPv6 packet, and the packet that it quotes if it is an ICMP error.
 #[inline(always)]
 fn translate_ipv6_by(
     packet: &mut [u8],
@@ -116,14 +116,14 @@ fn translate_ipv6_by(
     ensures refused { RefusesExactly result (specs.ipv6_refusal_with new.now (specs.ipv6_of_quoted new.now passed.entry) packet.old) }
     ensures unchanged { IfErr result (λ _. packet.new ≡ packet.old) }
     ensures translated { IfOk result (λ _. packet.new ≡ specs.ipv6_translated_with new.now (specs.ipv6_of_quoted new.now passed.entry) packet.old) }
-    // The packet is read as before, with the new addresses and the translated message.
+    // The translated packet is read like the packet, with the new addresses and the translated message.
     ensures read { IfOk result (λ _. IsReadWith packet.old packet.new (specs.ipv6_between new.now packet.old)
         (specs.ipv6_message_of_both new.now (specs.ipv6_of_quoted new.now passed.entry) packet.old)) }
-    // A receiver accepts the translated message exactly if it accepted the message, also with bytes that are in other fragments or cut off,
-    // unless it has no checksum of its own.
+    // A receiver accepts the translated message exactly if it accepts the message. This holds also if some bytes are in other fragments or
+    // are cut off. It does not hold for a message without a checksum.
     ensures verifies { IfOk result (λ _. specs.IsIpv6Accepted new.now packet.old (specs.ipv6_message_of_both new.now (specs.ipv6_of_quoted new.now passed.entry) packet.old)) }
     ensures error { IfOk result (λ _. specs.IsIpv6ErrorAccepted new.now packet.old (specs.ipv6_message_of_both new.now (specs.ipv6_of_quoted new.now passed.entry) packet.old)) }
-    // The translated packet is accepted again.
+    // The translated packet can be translated again.
     ensures again { IfOk result (λ _. specs.ipv6_refusal_with new.now (specs.ipv6_of_quoted new.now passed.entry) packet.new ≡ None) }
     ensures bytes { IfOk result (λ _. IsBytes packet.old) }
     ensures types { IfOk result (λ _. IsIpv6Translation new.now × IfSome (specs.ipv6_quoted packet.old)
@@ -139,9 +139,10 @@ fn translate_ipv6_by(
     }
 }
 
-/// The places of both addresses in an IPv6 header (RFC 8200, section 3).
+/// The place of the source in an IPv6 header (RFC 8200, section 3).
 const SOURCE_AT: usize = Ipv6Header::SOURCE_AT;
 
+/// The place of the destination in an IPv6 header.
 const DESTINATION_AT: usize = Ipv6Header::DESTINATION_AT;
 
 /// The message of an IPv6 packet, which begins after the headers that are skipped.
@@ -174,9 +175,9 @@ fn ipv6_place(packet: &[u8], new: &Ipv6Translation) -> Result<Place, TranslateEr
     })
 }
 
-/// The error of a packet that does not begin with an IPv6 header.
-// perf: the memory for the result of a call is filled with zeros where the caller is inlined, which is here. Without this function, each
-// packet pays for it (27 Nov 2026).
+/// The error for a packet that does not begin with an IPv6 header.
+// perf: the memory for the result of a call is filled with zeros in the function into which the caller is inlined. That is this function.
+// Without it, each packet takes this time (27 Nov 2026).
 #[inline(always)]
 fn no_ipv6_header(packet: &[u8]) -> TranslateError
     requires { ¬ BeginsWithIpv6Header packet.now }
@@ -215,13 +216,14 @@ fn is_ipv6_refused(proto: Option<Proto>, number: IpNumber, new: &Ipv6Translation
     proto.is_none() && (new.has_port() || covers_ipv6_addresses(number))
 }
 
-/// The numbers of OSPF and PIM (RFC 5340; RFC 7761).
+/// The protocol number of OSPF (RFC 5340).
 const OSPF: IpNumber = IpNumber(89);
 
+/// The protocol number of PIM (RFC 7761).
 const PIM: IpNumber = IpNumber(103);
 
-/// Whether this is the number of an extension header, of a protocol with a checksum that covers the addresses and is not translated, or of
-/// ICMPv4, which has no meaning over IPv6.
+/// Whether this is the number of an extension header, of ICMPv4, which has no meaning over IPv6, or of a protocol whose checksum covers the
+/// addresses and is not updated.
 fn covers_ipv6_addresses(number: IpNumber) -> bool
     ensures { result ≡ specs.covers_ipv6_addresses number.0 }
 {
@@ -248,7 +250,7 @@ fn is_extension(number: IpNumber) -> bool
         || number == ip_number::SHIM6
 }
 
-/// Translates an ICMP error over IPv6, and the packet that it is about.
+/// Translates an ICMP error over IPv6, and the packet that it quotes.
 #[inline(always)]
 fn translate_ipv6_error(
     packet: &mut [u8],
@@ -296,7 +298,7 @@ fn translate_ipv6_error(
     Ok(())
 }
 
-/// Translates the packet that an ICMP error over IPv6 is about, and updates the checksum of the error.
+/// Translates the packet that an ICMP error over IPv6 quotes, and updates the checksum of the error.
 #[inline(always)]
 fn translate_ipv6_quoted(
     message: &mut [u8],
@@ -314,7 +316,7 @@ fn translate_ipv6_quoted(
     ensures types { IsIpv6Translation new.now }
 {
     let quoted = &mut message[ICMP_LEN..ICMP_LEN + quoted_len];
-    // The sums of all quoted bytes are not 0, because the first word is not 0. So the first word is part of the change.
+    // The change also contains the first word, which is not 0. So neither sum of the quoted bytes is 0.
     let first = [quoted[0], quoted[1]];
     let change = translate_ipv6_flow(quoted, place, new);
     update_checksum(message, addresses.and(change.replace_2bytes(first, first)));
@@ -325,7 +327,7 @@ fn translate_ipv6_quoted(
 fn translate_ipv6_flow(packet: &mut [u8], place: &Place, new: &Ipv6Translation) -> ChecksumChange
     requires place { specs.IsIpv6Place packet.old place.now }
     ensures translated { packet.new ≡ specs.ipv6_translated_flow new.now packet.old }
-    // The replaced words are all that differs.
+    // The old and the new packet differ only by the replaced words.
     ensures turns { (total packet.old + added_value result) % all_ones ≡ (total packet.new + removed_value result) % all_ones }
     ensures version { slice_index packet.new 0 ≡ slice_index packet.old 0 }
     ensures verifies { specs.IsIpv6Accepted new.now packet.old (specs.ipv6_flow_message new.now packet.old) }
@@ -372,7 +374,7 @@ fn replace_ipv6_addresses(packet: &mut [u8], new: &Ipv6Translation)
     replace_if_passed(packet, DESTINATION_AT, new.destination);
 }
 
-/// Writes an address to this place, if one is passed. So an address that stays is not written.
+/// Writes an address to this place, if an address is passed.
 #[inline(always)]
 fn replace_if_passed(packet: &mut [u8], place: usize, new: Option<[u8; 16]>)
     requires room { place + 16 ≤ length packet.old }
@@ -384,8 +386,8 @@ fn replace_if_passed(packet: &mut [u8], place: usize, new: Option<[u8; 16]>)
     }
 }
 
-/// A change of the addresses of an IPv6 packet that updates each checksum as `ipv6_change` does. If only one address is replaced, the other
-/// address is left out. It counts only if the new address is the unspecified address, and all other new words may be 0 too.
+/// A change of the addresses of an IPv6 packet that updates each checksum as `ipv6_change` does. An address that is not replaced is left
+/// out. It is needed only if the new address is the unspecified address, since then all other new words may be 0.
 #[inline(always)]
 fn replaced_ipv6_change(
     packet: &[u8],
@@ -409,7 +411,7 @@ fn replaced_ipv6_change(
     }
 }
 
-/// Whether this is not the unspecified address, which is the only address whose words sum up to 0 (RFC 4291, section 2.5.2).
+/// Whether this is not the unspecified address. That is the only address whose words have the sum 0 (RFC 4291, section 2.5.2).
 fn is_specified(address: [u8; 16]) -> bool
     ensures { IsTrue result → total address ≢ 0 }
 {

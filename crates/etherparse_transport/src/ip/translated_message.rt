@@ -51,7 +51,7 @@ pub(crate) fn translate_message(
     }
 }
 
-/// Translates a query over IPv4, as far as the query is present. Its checksum covers no addresses. Any other message is kept.
+/// Translates an ICMP query over IPv4, as far as the query is present. Its checksum covers no addresses. Any other message is unchanged.
 #[inline(always)]
 fn translate_icmpv4(
     message: &mut [u8],
@@ -148,7 +148,7 @@ fn translate_udp(
 ) -> ChecksumChange
     ensures translated { packet.new ≡ specs.translated_udp (removed_value addresses) (added_value addresses) source_port destination_port packet.old }
     ensures turns { (before after : ℕ) → TurnsInto addresses before (after + total packet.old) → TurnsInto result before (after + total packet.new) }
-    // A receiver accepts the sum exactly if it accepted the old sum. The pseudo headers have the sums `before` and `after`.
+    // A receiver accepts the translated packet exactly if it accepts the packet. `before` and `after` are the sums of the pseudo headers.
     ensures verifies { (before after : ℕ) → TurnsInto addresses before after → 8 ≤ length packet.old → specs.number 6 packet.old ≢ 0 →
         IsAcceptedAlike before after packet.old packet.new }
 {
@@ -201,7 +201,7 @@ fn replace_ports(
     replace_number(message, DESTINATION_PORT_AT, destination, change)
 }
 
-/// Updates the checksum of an ICMP message. The returned change replaces the checksum too.
+/// Updates the checksum of an ICMP message by this change. The returned change also replaces the checksum.
 pub(crate) fn update_checksum(message: &mut [u8], change: ChecksumChange) -> ChecksumChange
     ensures updated { message.new ≡ specs.with_updated_checksum (removed_value change) (added_value change) message.old }
     ensures remainder { (packet changed : ℕ) → TurnsInto change packet changed → 4 ≤ length message.old →
@@ -213,7 +213,8 @@ pub(crate) fn update_checksum(message: &mut [u8], change: ChecksumChange) -> Che
     replace_number(message, ICMP_CHECKSUM_AT, checksum, change)
 }
 
-/// Translates a query, as far as the query is present. `covered` updates its checksum, and the returned change extends `addresses`.
+/// Translates a query, as far as the query is present. `covered` is the change of what its checksum covers. The returned change extends
+/// `addresses`.
 #[inline(always)]
 fn translate_query(
     message: &mut [u8],
@@ -236,7 +237,8 @@ fn translate_query(
     replace_number(message, ICMP_CHECKSUM_AT, checksum, change)
 }
 
-/// The stored checksum of a query. An echo reply of zeros over IPv4 has the checksum 65535, and the update yields 0 (RFC 1624).
+/// The checksum to store in a query, given the updated checksum. If an IPv4 echo reply consists of zeros, its checksum is 65535, while the
+/// update gives 0 (RFC 1624).
 fn query_checksum(message: &[u8], updated: u16) -> u16
     requires there { 4 ≤ length message.now }
     ensures stored { result ≡ specs.updated_query_checksum message.now updated }
@@ -260,7 +262,7 @@ fn is_rest_zero(message: &[u8]) -> bool
     sum.ones_complement() == u16::MAX
 }
 
-/// The number in the two bytes at this place, or 0 if the message ends before.
+/// The number in the two bytes at this place, or 0 if the message ends before the second byte.
 pub(crate) fn number(message: &[u8], place: usize) -> u16
     requires { place + 2 < 2 ^ 64 }
     ensures { result ≡ specs.number place message.now }
@@ -271,7 +273,8 @@ pub(crate) fn number(message: &[u8], place: usize) -> u16
     u16::from_be_bytes([message[place], message[place + 1]])
 }
 
-/// Writes a number to the two bytes at this place, and adds it to the change, unless the message ends before.
+/// Writes a number to the two bytes at this place, and adds the replacement to the change. Nothing changes if the message ends before the
+/// second byte.
 fn replace_number(
     message: &mut [u8],
     place: usize,

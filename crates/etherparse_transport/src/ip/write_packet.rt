@@ -23,10 +23,10 @@ use crate::ip::translated_message::{TCP_CHECKSUM_AT, store_number};
 use crate::{IpNumber, Ipv4Header, Ipv6Header, TcpHeader, TransportHeader, UdpHeader, ip_number};
 use net_base::wrong_length;
 
-/// The greatest length of transport header and payload that the total length of IPv4 can count, in bytes.
+/// The greatest length of a transport header and payload that the total length of IPv4 can count, in bytes.
 const MAX_MESSAGE_LEN_IPV4: usize = u16::MAX as usize - IPV4_LEN;
 
-/// The greatest length of transport header and payload that the payload length of IPv6 can count, in bytes.
+/// The greatest length of a transport header and payload that the payload length of IPv6 can count, in bytes.
 const MAX_MESSAGE_LEN_IPV6: usize = u16::MAX as usize;
 
 /// Writes an IPv4 packet to the front of the slice, and returns its length in bytes. The packet consists of an IP header without options
@@ -37,13 +37,13 @@ const MAX_MESSAGE_LEN_IPV6: usize = u16::MAX as usize;
 ///
 /// # Errors
 ///
-/// The first of these that applies. The slice is then unchanged:
+/// The first of these that applies. After an error the slice is unchanged:
 /// - `Icmpv6InIpv4` if the header is an ICMPv6 header.
 /// - `PayloadLen` if the packet would be longer than 65,535 bytes.
-/// - `TimestampLen` if an ICMPv4 timestamp message or reply, of code 0, would not be 20 bytes long.
+/// - `TimestampLen` if an ICMPv4 timestamp message or reply with code 0 would not be 20 bytes long.
 /// - `Space` if the slice is shorter than the packet.
-// perf: compiled into the caller, where the protocol is known and the addresses are in registers. As a call, TCP over IPv6 with 64 bytes
-// ran at 0.6 of the speed of plain Rust instead of 1.2, and UDP at 0.8 instead of 1.3 (27 Nov 2026).
+// perf: the function is compiled into the caller, where the protocol is known and the addresses are in registers. As a call, TCP over IPv6
+// with 64 bytes ran at 0.6 of the speed of plain Rust instead of 1.2, and UDP at 0.8 instead of 1.3 (27 Nov 2026).
 #[inline(always)]
 pub fn write_packet_ipv4(
     slice: &mut [u8],
@@ -58,11 +58,11 @@ pub fn write_packet_ipv4(
     ensures written { IfOk result (λ len. slice.new
         ≡ ipv4_packet source destination time_to_live header.now payload.now ++ drop len slice.old) }
     ensures unchanged { IfErr result (λ _. slice.new ≡ slice.old) }
-    // With any padding after it, the packet is read as the parts that it was built of, and its checksum is right.
+    // With any padding after it, the packet is read as the parts from which it was built, and its checksum is right.
     ensures read { IfOk result (λ _. (padding : List ℕ) → IsReadAs
         (ipv4_packet source destination time_to_live header.now payload.now ++ padding) (addresses.Ipv4 source destination)
         (specs.sent_over_ipv4 source destination header.now payload.now) payload.now) }
-    // The checksum of the IP header is also right.
+    // The checksum of the packet's IP header is also right.
     ensures verifies { IfOk result (λ _. Verifies [] (ip.ipv4_header slice.new)) }
 {
     let header_len = counted_header_len(header);
@@ -92,7 +92,7 @@ pub fn write_packet_ipv4(
 ///
 /// # Errors
 ///
-/// The first of these that applies. The slice is then unchanged:
+/// The first of these that applies. After an error the slice is unchanged:
 /// - `Icmpv4InIpv6` if the header is an ICMPv4 header.
 /// - `PayloadLen` if transport header and payload are longer than 65,535 bytes.
 /// - `Space` if the slice is shorter than the packet.
@@ -110,7 +110,7 @@ pub fn write_packet_ipv6(
     ensures written { IfOk result (λ len. slice.new
         ≡ ipv6_packet source destination hop_limit header.now payload.now ++ drop len slice.old) }
     ensures unchanged { IfErr result (λ _. slice.new ≡ slice.old) }
-    // With any padding after it, the packet is read as the parts that it was built of, and its checksum is right.
+    // With any padding after it, the packet is read as the parts from which it was built, and its checksum is right.
     ensures read { IfOk result (λ _. (padding : List ℕ) → IsReadAs
         (ipv6_packet source destination hop_limit header.now payload.now ++ padding) (addresses.Ipv6 source (Some destination))
         (specs.sent_over_ipv6 source destination header.now payload.now) payload.now) }
@@ -135,7 +135,7 @@ pub fn write_packet_ipv6(
     Ok(len)
 }
 
-/// The protocol number of a header.
+/// The protocol number for this transport header.
 fn number_of_header(header: &TransportHeader) -> IpNumber
     ensures { result.0 ≡ number_of (proto_of header.now) }
 {
@@ -147,7 +147,7 @@ fn number_of_header(header: &TransportHeader) -> IpNumber
     }
 }
 
-/// The length of a header in bytes, with a bound that the lengths of packets are proved by.
+/// The length of a header in bytes. The contract also states an upper bound.
 #[inline(always)]
 fn counted_header_len(header: &TransportHeader) -> usize
     ensures value { result ≡ length (wire header.now) }
@@ -163,7 +163,7 @@ fn counted_header_len(header: &TransportHeader) -> usize
 
 // ---- errors
 
-/// Refuses a header and a payload that can't form an IPv4 packet, for any slice.
+/// Refuses a header and a payload that can't form an IPv4 packet. The length of the slice is not checked.
 fn check_ipv4(
     header: &TransportHeader,
     header_len: usize,
@@ -182,7 +182,7 @@ fn check_ipv4(
     Ok(())
 }
 
-/// Refuses a header and a payload that can't form an IPv6 packet, for any slice.
+/// Refuses a header and a payload that can't form an IPv6 packet. The length of the slice is not checked.
 fn check_ipv6(
     header: &TransportHeader,
     header_len: usize,
@@ -197,7 +197,7 @@ fn check_ipv6(
     check_counted(MAX_MESSAGE_LEN_IPV6, header_len, payload.len())
 }
 
-/// Refuses a payload that an IP header can't count in addition to a transport header of this length.
+/// Refuses a payload if the IP header can't count the payload and a transport header of this length.
 fn check_counted(
     max_message_len: usize,
     header_len: usize,
@@ -215,7 +215,7 @@ fn check_counted(
     Ok(())
 }
 
-/// Refuses a timestamp message or reply that does not have the length of the whole message.
+/// Refuses a timestamp message or reply with code 0 that is not 20 bytes long.
 fn check_timestamp(header: &[u8], payload: &[u8]) -> Result<(), BuildSliceWriteError>
     requires whole { 8 ≤ length header.now }
     ensures refused { RefusesExactly result (option_map TimestampLen (icmpv4.refusal (header.now ++ payload.now))) }
@@ -234,7 +234,7 @@ fn check_timestamp(header: &[u8], payload: &[u8]) -> Result<(), BuildSliceWriteE
 
 // ---- the transport header
 
-/// The header that is sent, with its length and its checksum.
+/// The transport header that is sent over IPv4, with its length field and its checksum.
 fn sent_over_ipv4(
     source: [u8; 4],
     destination: [u8; 4],
@@ -254,7 +254,7 @@ fn sent_over_ipv4(
     sent
 }
 
-/// The same over IPv6.
+/// The transport header that is sent over IPv6, with its length field and its checksum.
 fn sent_over_ipv6(
     source: [u8; 16],
     destination: [u8; 16],
@@ -274,7 +274,7 @@ fn sent_over_ipv6(
     sent
 }
 
-/// The header with a length field that counts a payload of this length.
+/// The header with a length field for a payload of this length.
 fn with_length(header: &TransportHeader, payload_len: usize) -> TransportHeader
     requires { payload_len ≤ max_message_len_ipv6 - length (wire header.now) }
     ensures { result ≡ specs.with_length header.now payload_len }
@@ -291,7 +291,7 @@ fn with_length(header: &TransportHeader, payload_len: usize) -> TransportHeader
 
 // ---- the packet
 
-/// Writes the transport header that is sent over IPv4, with its length and its checksum, and the payload after it.
+/// Writes the transport header that is sent over IPv4, with its length field and its checksum, and then the payload.
 #[inline(always)]
 fn write_message_ipv4(
     message: &mut [u8],
@@ -340,7 +340,7 @@ fn write_message_ipv4(
     }
 }
 
-/// Writes a UDP header over IPv4, with its length and its checksum, and the payload after it.
+/// Writes a UDP header over IPv4, with its length field and its checksum, and then the payload.
 #[inline(always)]
 fn write_udp_ipv4(
     message: &mut [u8],
@@ -363,7 +363,7 @@ fn write_udp_ipv4(
     write_parts(message, &sent.to_bytes(), payload);
 }
 
-/// Writes a TCP header over IPv4, with its checksum, and the payload after it.
+/// Writes a TCP header over IPv4, with its checksum, and then the payload.
 #[inline(always)]
 fn write_tcp_ipv4(
     message: &mut [u8],
@@ -385,7 +385,7 @@ fn write_tcp_ipv4(
     write_tcp(message, header, checksum, payload);
 }
 
-/// Writes an ICMP header over IPv4, with its checksum, and the payload after it.
+/// Writes an ICMP header over IPv4, with its checksum, and then the payload.
 fn write_icmp_ipv4(
     message: &mut [u8],
     source: [u8; 4],
@@ -404,7 +404,7 @@ fn write_icmp_ipv4(
     write_parts(message, &sent.to_bytes(), payload);
 }
 
-/// Writes the transport header that is sent over IPv6, with its length and its checksum, and the payload after it.
+/// Writes the transport header that is sent over IPv6, with its length field and its checksum, and then the payload.
 #[inline(always)]
 fn write_message_ipv6(
     message: &mut [u8],
@@ -453,7 +453,7 @@ fn write_message_ipv6(
     }
 }
 
-/// Writes a UDP header over IPv6, with its length and its checksum, and the payload after it.
+/// Writes a UDP header over IPv6, with its length field and its checksum, and then the payload.
 #[inline(always)]
 fn write_udp_ipv6(
     message: &mut [u8],
@@ -476,7 +476,7 @@ fn write_udp_ipv6(
     write_parts(message, &sent.to_bytes(), payload);
 }
 
-/// Writes a TCP header over IPv6, with its checksum, and the payload after it.
+/// Writes a TCP header over IPv6, with its checksum, and then the payload.
 #[inline(always)]
 fn write_tcp_ipv6(
     message: &mut [u8],
@@ -498,7 +498,7 @@ fn write_tcp_ipv6(
     write_tcp(message, header, checksum, payload);
 }
 
-/// Writes an ICMP header over IPv6, with its checksum, and the payload after it.
+/// Writes an ICMP header over IPv6, with its checksum, and then the payload.
 fn write_icmp_ipv6(
     message: &mut [u8],
     source: [u8; 16],
@@ -517,7 +517,7 @@ fn write_icmp_ipv6(
     write_parts(message, &sent.to_bytes(), payload);
 }
 
-/// A UDP header without a checksum, whose length field counts a payload of this length.
+/// A UDP header without a checksum, with a length field for a payload of this length.
 #[inline(always)]
 fn with_udp_length(header: &UdpHeader, payload_len: usize) -> UdpHeader
     requires { 8 + payload_len ≤ max_length_field }
@@ -531,7 +531,7 @@ fn with_udp_length(header: &UdpHeader, payload_len: usize) -> UdpHeader
     }
 }
 
-/// Writes a TCP header with this checksum, and the payload after it.
+/// Writes a TCP header with this checksum, and then the payload.
 // perf: the stored checksum is replaced in the written bytes. A copy of the header with the new checksum also copies 40 bytes of options:
 // TCP over IPv6 with 64 bytes then ran at 0.53 instead of 0.62 of the speed of plain Rust (27 Nov 2026).
 #[inline(always)]

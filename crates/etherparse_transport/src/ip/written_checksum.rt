@@ -12,8 +12,8 @@ use crate::ip::translated_message::store_number;
 use crate::ip::{TransportInIp, transport_in_ip, transport_slice};
 
 /// Writes the right checksum of UDP, TCP or ICMP into an IP packet, whatever checksum it contains, and returns the checksum. Afterwards
-/// `checksum_verdict` returns `Right`. A right checksum stays, and a wrong or partial checksum becomes the expected checksum. A UDP packet
-/// over IPv4 without a checksum gets a checksum. No other byte changes, and the checksum of the IPv4 header is not tested.
+/// `checksum_verdict` returns `Right`. A right checksum is unchanged. A wrong or partial checksum is replaced by the expected checksum. A
+/// UDP packet over IPv4 without a checksum gets a checksum. No other byte changes, and the checksum of the IPv4 header is not tested.
 ///
 /// ```
 /// let mut packet = [
@@ -28,7 +28,8 @@ use crate::ip::{TransportInIp, transport_in_ip, transport_slice};
 /// The call changes nothing after an error:
 /// - `Ip` if `transport_in_ip` refuses the packet.
 /// - `Transport` if `checksum_verdict` refuses the transport that `transport_in_ip` finds.
-/// - `Untested` if `checksum_verdict` returns `Untested`, with its reason. A fragment is one: its checksum covers the other fragments too.
+/// - `Untested` if `checksum_verdict` returns `Untested`, with the same reason. For example, a fragment is not tested, since its checksum
+///   covers the other fragments too.
 pub fn write_checksum(packet: &mut [u8]) -> Result<u16, WriteChecksumError>
     ensures refused { MatchResult result (λ _. (error : Error) → ¬ IsRefusedFor packet.old error) (λ error. IsRefusedFor packet.old error) }
     ensures unchanged { IfErr result (λ _. packet.new ≡ packet.old) }
@@ -43,7 +44,7 @@ pub fn write_checksum(packet: &mut [u8]) -> Result<u16, WriteChecksumError>
     Ok(checksum)
 }
 
-/// The place of the checksum in an IP packet, in bytes, and the right checksum.
+/// The place of the checksum in an IP packet, in bytes from its start, and the right checksum.
 fn right_checksum(packet: &[u8]) -> Result<(usize, u16), WriteChecksumError>
     ensures refused { MatchResult result (λ _. (error : Error) → ¬ IsRefusedFor packet.now error) (λ error. IsRefusedFor packet.now error) }
     ensures there { IfOk result (λ right. right.0 + 2 ≤ length packet.now) }
@@ -58,7 +59,7 @@ fn right_checksum(packet: &[u8]) -> Result<(usize, u16), WriteChecksumError>
     }
 }
 
-/// The place of the checksum in the packet of this transport, in bytes, and the right checksum.
+/// The place of the checksum of this transport, in bytes from the start of the IP packet, and the right checksum.
 fn checksum_in(found: &TransportInIp<'_>) -> Result<(usize, u16), WriteChecksumError>
     requires whole { found.now.is_cut_off ≡ false }
     requires bounded { found.now.payload_offset < 2 ^ 63 }

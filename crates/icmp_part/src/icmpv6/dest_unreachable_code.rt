@@ -1,6 +1,6 @@
 use crate::icmpv6::*;
 
-/// Why a packet could not be delivered (RFC 4443, section 3.1), by the code.
+/// Why a packet could not be delivered, by the code (RFC 4443, section 3.1).
 ///
 /// ```
 /// use etherparse_transport::icmpv6::DestUnreachableCode;

@@ -1,6 +1,6 @@
 use crate::icmpv6::*;
 
-/// The problem with a packet's IPv6 header or its extension headers (RFC 4443, section 3.4), by the code.
+/// The problem with the IPv6 header or an extension header of a packet, by the code (RFC 4443, section 3.4).
 ///
 /// ```
 /// use etherparse_transport::icmpv6::ParameterProblemCode;
@@ -20,7 +20,8 @@ pub enum ParameterProblemCode {
     UnrecognizedIpv6Option,
     /// The first fragment has an incomplete IPv6 header chain (RFC 7112, section 5).
     Ipv6FirstFragmentIncompleteHeaderChain,
-    /// The node does not process this upper-layer header of a packet to its segment identifier (RFC 8754, section 4.3.1.2).
+    /// The node does not process this upper-layer header in a packet whose destination is its segment identifier (RFC 8754, section
+    /// 4.3.1.2).
     SrUpperLayerHeaderError,
     /// The type of the next header is unrecognized by an intermediate node (RFC 8883, section 2).
     UnrecognizedNextHeaderByIntermediateNode,

@@ -10,13 +10,14 @@
 /// ```
 #[derive(Clone, Copy, Debug, PartialEq, Eq, PartialOrd, Ord, Hash)]
 pub struct RouterAdvertisementHeader {
-    /// The hop limit that the router proposes for sent packets, or 0 if it proposes none (byte 4).
+    /// The hop limit that the router proposes for packets that a host sends, or 0 if it proposes no hop limit (byte 4).
     pub cur_hop_limit: u8,
     /// Addresses are available by DHCPv6 (the RFC's M flag).
     pub managed_address_config: bool,
     /// Other configuration is available by DHCPv6 (the RFC's O flag).
     pub other_config: bool,
-    /// The time for which the router can be used as a default router, in seconds, or 0 if it cannot (bytes 6 and 7).
+    /// The time for which the router can be used as a default router, in seconds (bytes 6 and 7). If it is 0, the router is no default
+    /// router.
     pub router_lifetime: u16,
 }
 
@@ -31,7 +32,7 @@ impl RouterAdvertisementHeader {
     /// The bit of the flag `other_config` in byte 5 of the header.
     pub const OTHER_CONFIG_MASK: u8 = 0x40;
 
-    /// The fields in the bytes 4 to 7 of a header (RFC 4861, section 4.2). The low six bits of byte 5 are not kept.
+    /// Reads the fields from bytes 4 to 7 of a header (RFC 4861, section 4.2). The low six bits of byte 5 are not kept.
     pub fn from_bytes(bytes: [u8; 4]) -> RouterAdvertisementHeader
         ensures read { result ≡ router_advertisement_of bytes 0 }
         ensures written_back { router_advertisement_fields result ≡ masked router_advertisement_masks bytes }

@@ -1,6 +1,6 @@
 use crate::icmpv6::*;
 
-/// The time that was exceeded (RFC 4443, section 3.3), by the code.
+/// Which time was exceeded, by the code (RFC 4443, section 3.3).
 ///
 /// ```
 /// use etherparse_transport::icmpv6::TimeExceededCode;
@@ -11,9 +11,9 @@ use crate::icmpv6::*;
 /// ```
 #[derive(Clone, Copy, Debug, PartialEq, Eq, PartialOrd, Ord, Hash)]
 pub enum TimeExceededCode {
-    /// The hop limit, in transit.
+    /// The hop limit was exceeded in transit.
     HopLimitExceeded,
-    /// The time for reassembling the fragments.
+    /// The time for reassembling the fragments was exceeded.
     FragmentReassemblyTimeExceeded,
 }
 

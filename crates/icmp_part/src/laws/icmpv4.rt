@@ -2,7 +2,7 @@
 //!
 //! # Errors
 //!
-//! None: each clone succeeds.
+//! No call returns an error: each clone succeeds.
 ghost use Rattle.std.specs.Prelude.{◌≡◌, ◌↔◌, IsOkAnd, IsTrue};
 ghost use Rattle.net_base.specs.StoredChecksum.{icmp_checksum_place};
 
@@ -10,7 +10,7 @@ use crate::icmpv4::*;
 use crate::{Icmpv4Header, Icmpv4Slice, Icmpv4Type};
 use std::alloc::AllocError;
 
-/// A clone is the same.
+/// A clone is the same value.
 pub fn cloned_slice<'a>(slice: &Icmpv4Slice<'a>) -> Result<Icmpv4Slice<'a>, AllocError>
     ensures same { IsOkAnd result (λ copy. copy ≡ slice.now) }
 {
@@ -24,7 +24,7 @@ pub fn equal_slice(a: &Icmpv4Slice<'_>, b: &Icmpv4Slice<'_>) -> bool
     a == b
 }
 
-/// A clone is the same.
+/// A clone is the same value.
 pub fn cloned_header(header: &Icmpv4Header) -> Result<Icmpv4Header, AllocError>
     ensures same { IsOkAnd result (λ copy. copy ≡ header.now) }
 {
@@ -38,21 +38,21 @@ pub fn equal_header(a: &Icmpv4Header, b: &Icmpv4Header) -> bool
     a == b
 }
 
-/// A clone is the same.
+/// A clone is the same value.
 pub fn cloned_type(message: &Icmpv4Type) -> Result<Icmpv4Type, AllocError>
     ensures same { IsOkAnd result (λ copy. copy ≡ message.now) }
 {
     message.clone()
 }
 
-/// `==` holds exactly if kind and all fields are the same.
+/// `==` holds exactly if the kind and all fields are the same.
 pub fn equal_type(a: &Icmpv4Type, b: &Icmpv4Type) -> bool
     ensures same { IsTrue result ↔ (a.now ≡ b.now) }
 {
     a == b
 }
 
-/// A clone is the same.
+/// A clone is the same value.
 pub fn cloned_dest_unreachable_header(
     header: &DestUnreachableHeader,
 ) -> Result<DestUnreachableHeader, AllocError>
@@ -61,14 +61,14 @@ pub fn cloned_dest_unreachable_header(
     header.clone()
 }
 
-/// `==` holds exactly if code and MTU are the same.
+/// `==` holds exactly if the code and the MTU are the same.
 pub fn equal_dest_unreachable_header(a: &DestUnreachableHeader, b: &DestUnreachableHeader) -> bool
     ensures same { IsTrue result ↔ (a.now ≡ b.now) }
 {
     a == b
 }
 
-/// A clone is the same.
+/// A clone is the same value.
 pub fn cloned_parameter_problem_header(
     header: &ParameterProblemHeader,
 ) -> Result<ParameterProblemHeader, AllocError>
@@ -77,7 +77,7 @@ pub fn cloned_parameter_problem_header(
     header.clone()
 }
 
-/// `==` holds exactly if code and pointer are the same.
+/// `==` holds exactly if the code and the pointer are the same.
 pub fn equal_parameter_problem_header(
     a: &ParameterProblemHeader,
     b: &ParameterProblemHeader,
@@ -87,7 +87,7 @@ pub fn equal_parameter_problem_header(
     a == b
 }
 
-/// A clone is the same.
+/// A clone is the same value.
 pub fn cloned_redirect_code(code: &RedirectCode) -> Result<RedirectCode, AllocError>
     ensures same { IsOkAnd result (λ copy. copy ≡ code.now) }
 {
@@ -101,7 +101,7 @@ pub fn equal_redirect_code(a: &RedirectCode, b: &RedirectCode) -> bool
     a == b
 }
 
-/// A clone is the same.
+/// A clone is the same value.
 pub fn cloned_redirect_header(header: &RedirectHeader) -> Result<RedirectHeader, AllocError>
     ensures same { IsOkAnd result (λ copy. copy ≡ header.now) }
 {
@@ -115,7 +115,7 @@ pub fn equal_redirect_header(a: &RedirectHeader, b: &RedirectHeader) -> bool
     a == b
 }
 
-/// A clone is the same.
+/// A clone is the same value.
 pub fn cloned_time_exceeded_code(code: &TimeExceededCode) -> Result<TimeExceededCode, AllocError>
     ensures same { IsOkAnd result (λ copy. copy ≡ code.now) }
 {
@@ -129,7 +129,7 @@ pub fn equal_time_exceeded_code(a: &TimeExceededCode, b: &TimeExceededCode) -> b
     a == b
 }
 
-/// A clone is the same.
+/// A clone is the same value.
 pub fn cloned_timestamp_message(message: &TimestampMessage) -> Result<TimestampMessage, AllocError>
     ensures same { IsOkAnd result (λ copy. copy ≡ message.now) }
 {
@@ -143,7 +143,7 @@ pub fn equal_timestamp_message(a: &TimestampMessage, b: &TimestampMessage) -> bo
     a == b
 }
 
-/// The types and codes are the numbers in the RFCs that `icmpv4` names for each, and the lengths are the lengths of the headers.
+/// Each type and code has the number in the RFC that `icmpv4` names for it. Each length is the length of a header.
 pub fn constants()
     ensures header_lens { (Icmpv4Header.MIN_LEN ≡ 8) × (Icmpv4Header.MIN_SERIALIZED_SIZE ≡ 8) × (Icmpv4Header.MAX_LEN ≡ 20)
         × (Icmpv4Header.MAX_SERIALIZED_SIZE ≡ 20) }

@@ -2,7 +2,7 @@
 //!
 //! # Errors
 //!
-//! None: each clone succeeds.
+//! No call returns an error: each clone succeeds.
 ghost use Rattle.std.specs.Prelude.{◌≡◌, ◌↔◌, IsOkAnd, IsTrue, fold};
 ghost use Rattle.std.specs.Ordering.{nat_cmp};
 ghost use Rattle.std.specs.Hash as fed;
@@ -16,7 +16,7 @@ use std::alloc::AllocError;
 use std::cmp::Ordering;
 use std::hash::{Hash, Hasher};
 
-/// A clone is the same.
+/// A clone is the same value.
 pub fn cloned_slice<'a>(slice: &Icmpv6Slice<'a>) -> Result<Icmpv6Slice<'a>, AllocError>
     ensures same { IsOkAnd result (λ copy. copy ≡ slice.now) }
 {
@@ -30,7 +30,7 @@ pub fn equal_slice(a: &Icmpv6Slice<'_>, b: &Icmpv6Slice<'_>) -> bool
     a == b
 }
 
-/// A clone is the same.
+/// A clone is the same value.
 pub fn cloned_header(header: &Icmpv6Header) -> Result<Icmpv6Header, AllocError>
     ensures same { IsOkAnd result (λ copy. copy ≡ header.now) }
 {
@@ -44,21 +44,21 @@ pub fn equal_header(a: &Icmpv6Header, b: &Icmpv6Header) -> bool
     a == b
 }
 
-/// A clone is the same.
+/// A clone is the same value.
 pub fn cloned_type(message: &Icmpv6Type) -> Result<Icmpv6Type, AllocError>
     ensures same { IsOkAnd result (λ copy. copy ≡ message.now) }
 {
     message.clone()
 }
 
-/// `==` holds exactly if kind and all fields are the same.
+/// `==` holds exactly if the kind and all fields are the same.
 pub fn equal_type(a: &Icmpv6Type, b: &Icmpv6Type) -> bool
     ensures same { IsTrue result ↔ (a.now ≡ b.now) }
 {
     a == b
 }
 
-/// The kind decides, in the order of the variants, and then the fields in their order.
+/// Messages are ordered by the kind, in the order of the variants, and then by the fields in their order.
 pub fn ordered_type(a: &Icmpv6Type, b: &Icmpv6Type) -> Ordering
     ensures by_kind_and_fields { result ≡ message_cmp a.now b.now }
 {
@@ -72,7 +72,7 @@ pub fn hashed_type<H: Hasher>(message: &Icmpv6Type, state: &mut H)
     message.hash(state);
 }
 
-/// A clone is the same.
+/// A clone is the same value.
 pub fn cloned_dest_unreachable_code(
     code: &DestUnreachableCode,
 ) -> Result<DestUnreachableCode, AllocError>
@@ -88,7 +88,7 @@ pub fn equal_dest_unreachable_code(a: &DestUnreachableCode, b: &DestUnreachableC
     a == b
 }
 
-/// The code decides.
+/// Values are ordered by the code.
 pub fn ordered_dest_unreachable_code(a: &DestUnreachableCode, b: &DestUnreachableCode) -> Ordering
     ensures by_code { result ≡ nat_cmp (dest_unreachable_code a.now) (dest_unreachable_code b.now) }
 {
@@ -102,7 +102,7 @@ pub fn hashed_dest_unreachable_code<H: Hasher>(code: &DestUnreachableCode, state
     code.hash(state);
 }
 
-/// A clone is the same.
+/// A clone is the same value.
 pub fn cloned_neighbor_advertisement_header(
     header: &NeighborAdvertisementHeader,
 ) -> Result<NeighborAdvertisementHeader, AllocError>
@@ -121,7 +121,7 @@ pub fn equal_neighbor_advertisement_header(
     a == b
 }
 
-/// The fields decide, in their order.
+/// Values are ordered by the fields, in their order.
 pub fn ordered_neighbor_advertisement_header(
     a: &NeighborAdvertisementHeader,
     b: &NeighborAdvertisementHeader,
@@ -141,7 +141,7 @@ pub fn hashed_neighbor_advertisement_header<H: Hasher>(
     header.hash(state);
 }
 
-/// A clone is the same.
+/// A clone is the same value.
 pub fn cloned_parameter_problem_code(
     code: &ParameterProblemCode,
 ) -> Result<ParameterProblemCode, AllocError>
@@ -157,7 +157,7 @@ pub fn equal_parameter_problem_code(a: &ParameterProblemCode, b: &ParameterProbl
     a == b
 }
 
-/// The code decides.
+/// Values are ordered by the code.
 pub fn ordered_parameter_problem_code(
     a: &ParameterProblemCode,
     b: &ParameterProblemCode,
@@ -174,7 +174,7 @@ pub fn hashed_parameter_problem_code<H: Hasher>(code: &ParameterProblemCode, sta
     code.hash(state);
 }
 
-/// A clone is the same.
+/// A clone is the same value.
 pub fn cloned_parameter_problem_header(
     header: &ParameterProblemHeader,
 ) -> Result<ParameterProblemHeader, AllocError>
@@ -193,7 +193,7 @@ pub fn equal_parameter_problem_header(
     a == b
 }
 
-/// The fields decide, in their order.
+/// Values are ordered by the fields, in their order.
 pub fn ordered_parameter_problem_header(
     a: &ParameterProblemHeader,
     b: &ParameterProblemHeader,
@@ -210,7 +210,7 @@ pub fn hashed_parameter_problem_header<H: Hasher>(header: &ParameterProblemHeade
     header.hash(state);
 }
 
-/// A clone is the same.
+/// A clone is the same value.
 pub fn cloned_router_advertisement_header(
     header: &RouterAdvertisementHeader,
 ) -> Result<RouterAdvertisementHeader, AllocError>
@@ -229,7 +229,7 @@ pub fn equal_router_advertisement_header(
     a == b
 }
 
-/// The fields decide, in their order.
+/// Values are ordered by the fields, in their order.
 pub fn ordered_router_advertisement_header(
     a: &RouterAdvertisementHeader,
     b: &RouterAdvertisementHeader,
@@ -249,7 +249,7 @@ pub fn hashed_router_advertisement_header<H: Hasher>(
     header.hash(state);
 }
 
-/// A clone is the same.
+/// A clone is the same value.
 pub fn cloned_time_exceeded_code(code: &TimeExceededCode) -> Result<TimeExceededCode, AllocError>
     ensures same { IsOkAnd result (λ copy. copy ≡ code.now) }
 {
@@ -263,7 +263,7 @@ pub fn equal_time_exceeded_code(a: &TimeExceededCode, b: &TimeExceededCode) -> b
     a == b
 }
 
-/// The code decides.
+/// Values are ordered by the code.
 pub fn ordered_time_exceeded_code(a: &TimeExceededCode, b: &TimeExceededCode) -> Ordering
     ensures by_code { result ≡ nat_cmp (time_exceeded_code a.now) (time_exceeded_code b.now) }
 {
@@ -277,7 +277,8 @@ pub fn hashed_time_exceeded_code<H: Hasher>(code: &TimeExceededCode, state: &mut
     code.hash(state);
 }
 
-/// The types and codes are the numbers in the RFCs that `icmpv6` names for each, and the lengths and flags are the values of the headers.
+/// Each type and code has the number in the RFC that `icmpv6` names for it. Each length is the length of a header, and each flag has its
+/// bit.
 pub fn constants()
     ensures header_lens { (Icmpv6Header.MIN_LEN ≡ 8) × (Icmpv6Header.MIN_SERIALIZED_SIZE ≡ 8) × (Icmpv6Header.MAX_LEN ≡ 40)
         × (Icmpv6Header.MAX_SERIALIZED_SIZE ≡ 40) }

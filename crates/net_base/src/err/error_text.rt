@@ -2,7 +2,7 @@ use arrayvec::ArrayVec;
 use std::fmt;
 use std::marker::Model;
 
-/// The largest number of parts of a text.
+/// The greatest number of parts of a text.
 const MAX_TEXT_PARTS: usize = 11;
 
 /// A part of the text of an error.
@@ -42,10 +42,10 @@ impl fmt::Display for TextPart {
     }
 }
 
-/// The text of an error as its parts, from the first to the last. `Display` of each error writes these parts. A caller
-/// without a formatter can write them by itself.
+/// The text of an error as a list of parts. `Display` of each error writes these parts. A caller without a formatter can write the parts
+/// itself.
 ///
-/// Two texts are equal if they have the same parts. So texts of other parts differ, even if they read the same.
+/// Two texts are equal if they have the same parts. Texts with different parts are not equal, even if they read the same.
 ///
 /// ```
 /// use etherparse_transport::ip::IpError;
@@ -74,7 +74,7 @@ impl ErrorText {
     ghost use Rattle.std.specs.Prelude.{◌≡◌, take};
     ghost use Rattle.net_base.specs.TextParts.{max_text_parts, reads_as};
 
-    /// The text that consists of these parts. Of more than 11 parts it consists of the first 11.
+    /// The text that consists of these parts. If there are more than 11 parts, it consists of the first 11.
     pub fn from_parts(parts: &[TextPart]) -> ErrorText
         ensures { result ≡ take max_text_parts parts.now }
     {

@@ -32,7 +32,7 @@ impl Layer {
     ghost use Rattle.net_base.specs.Layer.{word_of};
 
     /// Returns the name of the variant, for example `UdpHeader`.
-    // A copy in each caller would need a table of addresses, which the loader must fill when the program starts.
+    // A copy of this function in each caller would need a table of addresses, which the loader must fill when the program starts.
     #[inline(never)]
     pub fn word(&self) -> &'static str
         ensures { result.now ≡ word_of self.now }

@@ -19,21 +19,21 @@ use thiserror::Error;
 #[derive(Clone, Debug, PartialEq, Eq, Hash, Drop, Error)]
 #[error("{}", self.text())]
 pub struct LenError {
-    /// The length that would have been accepted, in bytes: the smallest, or the largest if there were too many bytes.
+    /// The length that would have been accepted, in bytes. It is the least such length, or the greatest if there were too many bytes.
     pub required_len: usize,
     /// The actual length, in bytes.
     pub len: usize,
-    /// The source of `len`.
+    /// What states the length `len`.
     pub len_source: LenSource,
     /// The layer that could not be read.
     pub layer: Layer,
-    /// The start of that layer, in bytes from the start of the decoded bytes.
+    /// The start of the layer, in bytes from the start of the bytes that were read.
     pub layer_start_offset: usize,
 }
 
 impl LenError {
-    /// The same error with its layer counted from a start `offset` bytes earlier. A caller that decodes a part of a
-    /// packet adds the start of that part. The sum of the offsets must fit `usize`.
+    /// The error with `offset` added to the start of its layer. A caller that reads a part of a packet adds the start
+    /// of this part. The sum must fit `usize`.
     pub fn add_offset(self, offset: usize) -> LenError
         requires { self.layer_start_offset + offset < 2 ^ 64 }
         ensures { result ≡ record self { layer_start_offset = self.layer_start_offset + offset } }

@@ -1,4 +1,4 @@
-/// The source of a length.
+/// What states a length.
 ///
 /// ```
 /// use etherparse_transport::{LenSource, UdpSlice};
@@ -21,7 +21,7 @@ impl LenSource {
     ghost use Rattle.std.specs.Prelude.{◌≡◌};
     ghost use Rattle.net_base.specs.ErrorTexts.{len_source_word};
 
-    /// The variant's name, for example `UdpHeaderLen`.
+    /// The name of the variant, for example `UdpHeaderLen`.
     pub fn word(&self) -> &'static str
         ensures { result.now ≡ len_source_word self.now }
     {

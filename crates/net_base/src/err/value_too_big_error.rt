@@ -7,7 +7,7 @@ use crate::err::{ErrorText, ValueType};
 use std::fmt::Display;
 use thiserror::Error;
 
-/// A value is above what can be stored or sent.
+/// A value is greater than what can be stored or sent.
 ///
 /// ```
 /// use etherparse_transport::UdpHeader;
@@ -23,9 +23,9 @@ use thiserror::Error;
 pub struct ValueTooBigError<T> {
     /// The value that was passed.
     pub actual: T,
-    /// The largest value that is allowed.
+    /// The greatest value that is allowed.
     pub max_allowed: T,
-    /// Which value it is.
+    /// The kind of the value that is too big.
     pub value_type: ValueType,
 }
 

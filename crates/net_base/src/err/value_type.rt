@@ -1,4 +1,4 @@
-/// Which value was too big.
+/// The kind of a value that was too big.
 ///
 /// ```
 /// use etherparse_transport::UdpHeader;
@@ -26,7 +26,7 @@ impl ValueType {
     ghost use Rattle.std.specs.Prelude.{◌≡◌};
     ghost use Rattle.net_base.specs.ErrorTexts.{value_type_word};
 
-    /// The variant's name, for example `UdpPayloadLengthIpv4`.
+    /// The name of the variant, for example `UdpPayloadLengthIpv4`.
     pub fn word(&self) -> &'static str
         ensures { result.now ≡ value_type_word self.now }
     {

@@ -10,7 +10,7 @@ use std::process::Abort;
 const LONGEST_TCP_LINE: &str =
     "tcp FFFFFFFFFFFFFFFFFFFFFFFFFFFFFFFFFFFFFFFFFFFFFFFFFFFFFFFFFFFFFFFFFFFFFFFFFFFFFFFFFFFFFFFFFFFFFFFFFFFFFFFFFFFFFFFFFFFFFFFF0000000000000000000000000000000000000000\n";
 
-/// Its answer: the reserved bits of byte 12 are cleared.
+/// The answer to `LONGEST_TCP_LINE`: the reserved bits of byte 12 are cleared.
 const LONGEST_TCP_TEXT: &str =
     "ok fffffffffffffffffffffffff1ffffffffffffffffffffffffffffffffffffffffffffffffffffffffffffffffffffffffffffffffffffffffffffff 20\n";
 
@@ -23,7 +23,7 @@ static ACCEPTED: [(&str, &str); 2] = [
 /// Digits of both cases, repeated over a line.
 const DIGITS: [u8; 32] = *b"0123456789abcdefFEDCBA9876543210";
 
-/// A longest line of these digits, and three digits more.
+/// A line of the maximum length with these digits, and three digits after it.
 fn long_input() -> [u8; 8195] {
     let mut input = [b'u'; 8195];
     input[..4].copy_from_slice(b"udp ");
@@ -75,7 +75,7 @@ fn expect_lens(rt: &(impl Abort + AllocGlobal), input: &[u8], lens: Range<u16>) 
     }
 }
 
-/// Lines, each with its answer and its status.
+/// Lines, each with its answer and status.
 static LINES: [(&str, &str, u8); 42] = [
     ("udp 003504D200080000AA\n", "ok 003504d200080000 1\n", 0),
     ("udp 003504D200080000AA", "ok 003504d200080000 1\n", 0),
@@ -179,20 +179,20 @@ fn the_longest_line_is_answered(rt: HostRuntime) {
     expect_without_line_feed(&rt, &input);
     input[8192] = b'\n';
     expect_with_line_feed(&rt, &input);
-    // The last byte of the longest line is no digit.
+    // The last byte of the longest line is not a digit.
     input[8191] = b'x';
     expect_beginning(&rt, &input, 8192, "bad input\n", 2);
     expect_beginning(&rt, &input, 8193, "bad input\n", 2);
 }
 
-/// A longest line whose last digits are these, and three digits more.
+/// `long_input` with its last seven digits replaced by this digit.
 fn long_input_ending_in(digit: u8) -> [u8; 8195] {
     let mut input = long_input();
     input[8188..8195].copy_from_slice(&[digit; 7]);
     input
 }
 
-/// The answers to a longest line without a line feed, and to three that are too long.
+/// Stops the test unless lines without a line feed have their answers: a line of the maximum length, and three longer lines.
 fn expect_without_line_feed(rt: &impl Abort, input: &[u8]) {
     expect_beginning(rt, input, 8192, "ok 0123456789abcdef 4086\n", 0);
     expect_beginning(rt, input, 8193, "bad input\n", 2);
@@ -200,7 +200,7 @@ fn expect_without_line_feed(rt: &impl Abort, input: &[u8]) {
     expect_beginning(rt, input, 8195, "bad input\n", 2);
 }
 
-/// The answers to a longest line with a line feed, and to one with a byte after it.
+/// Stops the test unless lines with a line feed have their answers: a line of the maximum length, and one with a byte after its line feed.
 fn expect_with_line_feed(rt: &impl Abort, input: &[u8]) {
     expect_beginning(rt, input, 8193, "ok 0123456789abcdef 4086\n", 0);
     expect_beginning(rt, input, 8194, "bad input\n", 2);
@@ -224,7 +224,7 @@ fn long_lines_of_zeros_are_answered(rt: HostRuntime) {
     expect_answer(&rt, &input, "bad input\n", 2);
     input[8192] = b'\n';
     expect_beginning(&rt, &input, 8193, "ok 0000000000000000 4086\n", 0);
-    // One byte more than the longest line has.
+    // The input has one byte more than the longest line.
     let mut input = [b'0'; 8193];
     input[..7].copy_from_slice(b"icmpv4 ");
     expect_answer(&rt, &input, "bad input\n", 2);
@@ -240,7 +240,7 @@ fn packets_of_many_lengths_are_answered(rt: HostRuntime) {
     expect_lens(&rt, &input, 4086..4095);
 }
 
-/// Gives a byte a read, and fails once, at the read after `reads`.
+/// A reader that returns one byte per read. The read after `reads` reads fails, once.
 #[derive(Drop)]
 struct FaultyReader<'a> {
     rest: &'a [u8],
@@ -265,7 +265,7 @@ impl<'a> Read for FaultyReader<'a> {
     }
 }
 
-/// Takes a byte a write, and fails, or takes nothing, once, at the call after `calls`, a flush being a call.
+/// A writer that accepts one byte per write. The call after `calls` calls, which are writes and flushes, fails or accepts nothing, once.
 #[derive(Drop)]
 struct FaultyWriter {
     written: ArrayVec<u8, 160>,
@@ -302,7 +302,7 @@ impl Write for FaultyWriter {
     }
 }
 
-/// A writer that fails, or takes nothing, at the call after `calls`.
+/// A writer whose call after `calls` calls fails, or accepts nothing.
 fn faulty_writer(calls: usize, takes_nothing: bool) -> FaultyWriter {
     FaultyWriter {
         written: ArrayVec::new(),
@@ -311,7 +311,7 @@ fn faulty_writer(calls: usize, takes_nothing: bool) -> FaultyWriter {
     }
 }
 
-/// The bytes of the input, those that are not read, the answer and its status.
+/// The number of bytes of the input, the number of bytes that are not read, the answer, and its status.
 static BYTE_BY_BYTE: [(usize, usize, &str, u8); 5] = [
     (20, 0, "ok 0123456789abcdef 0\n", 0),
     (8192, 0, "ok 0123456789abcdef 4086\n", 0),
@@ -348,9 +348,9 @@ fn expect_after_reads(rt: &impl Abort, line: &[u8], reads: usize, text: &str, st
     expect_at(rt, &reads, &output.as_slice(), &text.as_bytes());
 }
 
-/// Stops the test unless nothing is written if a read fails, and this text if no read fails.
+/// Stops the test unless this text is written if no read fails, and nothing is written if a read fails.
 fn expect_read_faults(rt: &impl Abort, line: &[u8], text: &str) {
-    // Each byte takes a read, and the end of input one more.
+    // Each byte needs a read, and the end of input needs another.
     for reads in 0..line.len() + 1 {
         expect_after_reads(rt, line, reads, "", 3);
     }
@@ -364,7 +364,7 @@ fn read_faults_write_nothing(rt: HostRuntime) {
     }
 }
 
-/// Stops the test unless this text is written, with this status, if a write fails or takes nothing after `calls`.
+/// Stops the test unless this text is written, with this status, if a write fails or accepts nothing after `calls` calls.
 fn expect_after_calls(
     rt: &impl Abort,
     line: &[u8],
@@ -379,13 +379,13 @@ fn expect_after_calls(
     expect_at(rt, &calls, &output.written.as_slice(), &text);
 }
 
-/// Stops the test unless the beginning of the text is written if a write fails or takes nothing.
+/// Stops the test unless a beginning of the text is written if a write fails or accepts nothing.
 fn expect_write_faults(rt: &impl Abort, line: &[u8], text: &[u8], takes_nothing: bool) {
-    // Each byte takes a write.
+    // Each byte needs a write.
     for calls in 0..text.len() {
         expect_after_calls(rt, line, calls, takes_nothing, &text[..calls], 3);
     }
-    // The flush is one call more.
+    // The flush is the last call.
     expect_after_calls(rt, line, text.len(), takes_nothing, text, 3);
     expect_after_calls(rt, line, text.len() + 1, takes_nothing, text, 0);
 }

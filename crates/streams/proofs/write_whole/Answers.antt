@@ -3,7 +3,7 @@ use Rattle.std.proofs.lemmas.List.{take_rest}
 use Rattle.std.proofs.KnownBytes.{Appends-trans}
 use Rattle.streams.proofs.write_whole.Goals as goal
 
--- a beginning of the rest moves to what was written
+-- after another write, a beginning of the rest belongs to what was written
 moves_front : (text written rest : List ℕ) (n : ℕ) → text ≡ written ++ rest
     → text ≡ (written ++ take n rest) ++ take (length rest - n) (drop n rest)
 moves_front text written rest n parts =

@@ -13,19 +13,17 @@ use udp_part::UdpSlice;
 
 // The functions are inlined, so that the slice is not built in memory and taken apart again.
 
-/// The transport that `transport_in_ip` found, as a slice of its protocol (RFC 768; RFC 9293, section 3.1; RFC 792; RFC
-/// 4443, section 2.1). `None` if `proto_in_ip` returns `None`: for a fragment, for any other protocol, and for ICMP of
-/// the wrong IP version.
+/// The transport that `transport_in_ip` found, as a slice of its protocol (RFC 768; RFC 9293, section 3.1; RFC 792; RFC 4443, section 2.1).
+/// `None` if `proto_in_ip` returns `None`: for a fragment, for any other protocol, and for ICMP of the wrong IP version.
 ///
-/// A packet that is cut off is accepted if its header is whole. UDP is then read by `from_slice_lax`.
+/// A packet that is cut off is accepted if its transport header is whole. A UDP packet that is cut off is read by `from_slice_lax`.
 ///
 /// # Errors
 ///
-/// The errors of `from_slice` of the protocol's slice:
+/// The errors of `from_slice` for the slice of the protocol:
 /// - `Len` if the payload is shorter than the header.
 /// - `Len` if the length field of a UDP packet that is not cut off is 1 to 7, or above the length of the payload.
-/// - `Len` if an ICMPv4 timestamp message or reply is not 20 bytes long, or an ICMPv6 message is longer than
-///   4,294,967,295 bytes.
+/// - `Len` if an ICMPv4 timestamp message or reply is not 20 bytes long, or an ICMPv6 message is longer than 4,294,967,295 bytes.
 /// - `DataOffsetTooSmall` if the data offset of a TCP header is below 5.
 #[inline(always)]
 pub fn transport_slice<'a>(
@@ -40,7 +38,7 @@ pub fn transport_slice<'a>(
     }
 }
 
-/// The slice of this protocol.
+/// The payload as a slice of this protocol.
 #[inline(always)]
 pub(crate) fn slice_by<'a>(
     proto: Proto,
@@ -58,7 +56,7 @@ pub(crate) fn slice_by<'a>(
     }
 }
 
-/// A UDP packet. If it is cut off, the length field counts more bytes than the slice contains.
+/// The payload as a UDP packet. If the packet is cut off, the length field may count more bytes than the slice contains.
 #[inline(always)]
 fn udp_slice<'a>(
     payload: &'a [u8],
@@ -76,7 +74,7 @@ fn udp_slice<'a>(
     }
 }
 
-/// A TCP segment.
+/// The payload as a TCP segment.
 #[inline(always)]
 fn tcp_slice(payload: &[u8]) -> Result<TransportSlice<'_>, HeaderSliceError>
     ensures refused { RefusesExactly result (refusal_by (Some protos.Tcp) false payload.now) }
@@ -85,7 +83,7 @@ fn tcp_slice(payload: &[u8]) -> Result<TransportSlice<'_>, HeaderSliceError>
     Ok(TransportSlice::Tcp(TcpSlice::from_slice(payload)?))
 }
 
-/// An ICMPv4 message.
+/// The payload as an ICMPv4 message.
 #[inline(always)]
 fn icmpv4_slice(payload: &[u8]) -> Result<TransportSlice<'_>, HeaderSliceError>
     ensures refused { RefusesExactly result (refusal_by (Some protos.Icmpv4) false payload.now) }
@@ -95,7 +93,7 @@ fn icmpv4_slice(payload: &[u8]) -> Result<TransportSlice<'_>, HeaderSliceError>
     Ok(TransportSlice::Icmpv4(message))
 }
 
-/// An ICMPv6 message.
+/// The payload as an ICMPv6 message.
 #[inline(always)]
 fn icmpv6_slice(payload: &[u8]) -> Result<TransportSlice<'_>, HeaderSliceError>
     ensures refused { RefusesExactly result (refusal_by (Some protos.Icmpv6) false payload.now) }

@@ -10,10 +10,10 @@ use crate::{ChecksumVerdict, Untested};
 use ip_part::{Proto, TransportInIp};
 use net_base::err::tcp::HeaderSliceError;
 
-/// Returns whether the checksum of the transport that `transport_in_ip` found is right, and the right checksum if it is
-/// wrong (RFC 1071, section 1). `Untested` contains the first reason that applies: a fragment, a packet that is cut
-/// off, another protocol, a UDP length field of 0, over IPv6 an unknown final destination, or more bytes than the
-/// pseudo header can count. If the packet states no length, all captured bytes are tested, possible padding included.
+/// Returns whether the checksum of the transport that `transport_in_ip` found is right, and the right checksum if it is wrong (RFC 1071,
+/// section 1). `Untested` contains the first reason that applies: a fragment, a packet that is cut off, another protocol, a UDP length
+/// field of 0, an unknown final destination over IPv6, or more bytes than the pseudo header can count. If the packet states no length, all
+/// captured bytes are tested, and padding too.
 ///
 /// # Errors
 ///
@@ -23,12 +23,12 @@ use net_base::err::tcp::HeaderSliceError;
 pub fn checksum_verdict(found: &TransportInIp<'_>) -> Result<ChecksumVerdict, HeaderSliceError>
     ensures refused { RefusesExactly result (refusal found.now) }
     ensures judged { IfOk result (λ verdict. JudgesFound found.now verdict) }
-    // In short: a tested packet passes its protocol's test exactly if the verdict is `Right` or `Absent`.
+    // In short: if the checksum is tested, a receiver accepts the packet exactly if the verdict is `Right` or `Absent`.
     ensures valid { IfOk result (λ verdict. IfSome (kept found.now) (λ transport.
         SaysWhether (IsValidOver (by_value found.now.addresses) transport) verdict)) }
 {
-    // perf: each arm contains only the code of its protocol. With one path the slice is put together in memory: a right
-    // UDP packet of 64 bytes took 16 ns instead of 12 (24 Nov 2026).
+    // perf: each arm contains only the code of its protocol. With one path for all protocols, the slice is put together in memory, and a
+    // right UDP packet of 64 bytes took 16 ns instead of 12 (24 Nov 2026).
     match proto_in_ip(found) {
         Some(Proto::Udp) => verdict_by(Proto::Udp, found),
         Some(Proto::Tcp) => verdict_by(Proto::Tcp, found),

@@ -1,6 +1,6 @@
 use super::Sum16BitWords;
 
-/// The word contains eight bytes, the first byte as its lowest, and depends only on the total.
+/// The word contains eight bytes, with the first byte as the lowest. It depends only on the total.
 #[test]
 fn the_word_is_not_folded(rt: HostRuntime) {
     let nothing = Sum16BitWords::new();

@@ -3,7 +3,7 @@ use Rattle.clap.specs.Words.{app_of}
 use Rattle.capture_arguments.proofs.CommandLemmas.{all_options}
 use Rattle.capture_arguments.proofs.arguments.command.Goals as goal
 
--- one part after the other
+-- the line consists of the parts, in their order
 pub returns-clause-line : goal.returns-clause-line
 returns-clause-line g c =
     IfOk-weaker _ _ _

@@ -5,7 +5,7 @@ use Rattle.capture_arguments.specs.Options.{IsRefusedBy}
 use Rattle.capture_arguments.proofs.CommandLemmas.{matches_of_command_line, no_match, rejected_by_fault}
 use Rattle.capture_arguments.proofs.arguments.given_options.Goals as goal
 
--- the matches of the words, and the options in them
+-- the options are read from the matches of the words
 pub returns-in-Ok-options_of-clause-options : goal.returns-in-Ok-options_of-clause-options
 returns-in-Ok-options_of-clause-options g c =
     let words = map (λ word. string_bytes word) c.args.words.now in

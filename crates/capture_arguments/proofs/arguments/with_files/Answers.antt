@@ -3,7 +3,7 @@ use Rattle.std.proofs.lemmas.Result.{IfOk-weaker}
 use Rattle.capture_arguments.proofs.CommandLemmas.{adds_rule}
 use Rattle.capture_arguments.proofs.arguments.with_files.Goals as goal
 
--- one argument after the other
+-- the rules of the arguments, in their order
 pub returns-clause-rules : goal.returns-clause-rules
 returns-clause-rules g c =
     let first = adds_rule _ _ _ _ _ c.in_ok-command.ensures.adds c.write.ensures.local c.write.ensures.rule refl in

@@ -3,7 +3,7 @@ use Rattle.std.proofs.lemmas.Result.{IfOk-weaker}
 use Rattle.capture_arguments.proofs.CommandLemmas.{adds_rule}
 use Rattle.capture_arguments.proofs.arguments.with_lines.Goals as goal
 
--- one option after the other
+-- the rules of the options, in their order
 pub returns-clause-rules : goal.returns-clause-rules
 returns-clause-rules g c =
     let first = adds_rule _ _ _ _ _ c.in_ok-command.ensures.adds c.summary.ensures.local c.summary.ensures.rule refl in

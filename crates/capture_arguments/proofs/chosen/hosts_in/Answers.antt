@@ -5,7 +5,7 @@ use Rattle.capture_summary.specs.Networks.{ReadsNetwork}
 use Rattle.capture_arguments.proofs.ChosenLemmas.{first-wrong, reads-step}
 use Rattle.capture_arguments.proofs.chosen.hosts_in.Goals as goal
 
--- one more host
+-- the invariant holds after another host
 pub loop-place-preserved : goal.loop-place-preserved
 loop-place-preserved c =
     let (len, reads) = c.loop-place.invariant in (
@@ -14,7 +14,7 @@ loop-place-preserved c =
           (omega arith) reads c.in-Ok.ensures.value,
     )
 
--- the first text that is no host
+-- the error for the first text that is not a host
 pub returns-in-Err-clause-refusal : goal.returns-in-Err-clause-refusal
 returns-in-Err-clause-refusal c =
     first-wrong ReadsHost (λ wrong. ReadsNetwork wrong (Err c.in-Err.error)) c.args.texts.now (λ text. text.now) c.loop-place.place _

@@ -2,7 +2,7 @@ use Rattle.std.proofs.Common.{◌≡◌, length, map}
 use Rattle.capture_arguments.specs.Filters.{has_filter}
 use Rattle.capture_arguments.proofs.filters.has_filter.Given as goal
 
--- a name that begins like a filter is among the names that are left
+-- if one of the names begins like a filter, one of the names that are left does
 abbrev pub invariant-loop-left : goal.invariant-loop-left
 invariant-loop-left l = has_filter (map (λ name. name.now) l.fn.names) ≡ has_filter (map (λ name. name.now) l.left)
 

@@ -7,7 +7,7 @@ use Rattle.capture_arguments.proofs.words.words_of.Goals as goal
 pub loop-place-init : goal.loop-place-init
 loop-place-init g c = ([], tt, refl, search rules, search rules)
 
--- one more argument
+-- the invariant holds after another argument
 pub loop-place-preserved : goal.loop-place-preserved
 loop-place-preserved g c =
     let (arguments, are, place, room, words) = c.loop-place.invariant in

@@ -2,7 +2,7 @@ use Rattle.std.proofs.Common.{◌≡◌, ℕ, List, length, map, string_bytes}
 use Rattle.capture_arguments.specs.Words.{AreArguments, max_argument_len, word_of}
 use Rattle.capture_arguments.proofs.words.words_of.Given as goal
 
--- the arguments so far
+-- the arguments before this one were read
 abbrev pub invariant-loop-place : goal.invariant-loop-place
 invariant-loop-place g l =
     (arguments : List (List ℕ))

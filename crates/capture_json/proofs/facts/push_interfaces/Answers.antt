@@ -8,7 +8,7 @@ use Rattle.capture_json.specs.Tokens.{push, with_items}
 use Rattle.capture_json.proofs.JsonLemmas.{one_more_item}
 use Rattle.capture_json.proofs.facts.push_interfaces.Goals as goal
 
--- an interface after others
+-- the interfaces after other interfaces and another interface
 after_others : (texts : List InterfaceTexts) (first now : ℕ) (interfaces : List InterfaceDescription) (interface : InterfaceDescription)
     → now ≡ first + length interfaces → interfaces_data texts first (interfaces ++ interface ∷ [])
     ≡ interfaces_data texts first interfaces ++ interface_data texts now interface ∷ []
@@ -18,7 +18,7 @@ after_others texts first now [] interface is =
 after_others texts first now (one ∷ others) interface is =
     ap (λ items. interface_data texts first one ∷ items) (after_others texts (first + 1) now others interface (omega (arith, is)))
 
--- one more interface
+-- the interfaces after another interface is written
 one_more : (texts : List InterfaceTexts) (interfaces : List InterfaceDescription) (i : ℕ) (d : InterfaceDescription)
     (before between after : List Token) → i < length interfaces
     → between ≡ with_items (interfaces_data texts 0 (take i interfaces)) before

@@ -6,7 +6,7 @@ use Rattle.capture_json.specs.Tokens.{push}
 use Rattle.capture_json.proofs.TokensLemmas.{row_is}
 use Rattle.capture_json.proofs.flows.write_row.Goals as goal
 
--- the text of the row alone
+-- the text of the row, without a comma
 pub returns-in-Ok : goal.returns-in-Ok
 returns-in-Ok g c =
     let row = conversation_data c.args.conversation.now in

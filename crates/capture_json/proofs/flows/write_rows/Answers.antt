@@ -8,7 +8,7 @@ use Rattle.capture_json.specs.JsonSummary.{conversation_data}
 use Rattle.capture_json.specs.Tokens.{later_row, rows_text}
 use Rattle.capture_json.proofs.flows.write_rows.Goals as goal
 
--- one more row
+-- the invariant holds after another row
 pub loop-conversation-preserved : goal.loop-conversation-preserved
 loop-conversation-preserved g c =
     each_more c.in-Some.others.now (later_row conversation_data) _ _ _ _ _ c.loop-conversation.invariant c.in_ok-write_later_row.ensures (search rules)

@@ -17,7 +17,7 @@ returns-in-IpHeader c =
 pub returns-in_ok-put_network_protocol-in-NotIp : goal.returns-in_ok-put_network_protocol-in-NotIp
 returns-in_ok-put_network_protocol-in-NotIp c = rw c.in-NotIp.is (_, refl, c.in_ok-put_network_protocol-in-NotIp.ensures)
 
--- addresses, protocol, quoted packet, transport and the length of the payload
+-- the addresses, the protocol, the quoted packet, the transport and the length of the payload were written
 pub returns-in_ok-put_payload_len-in-Ip : goal.returns-in_ok-put_payload_len-in-Ip
 returns-in_ok-put_payload_len-in-Ip c =
     let (inner, are, put) = c.in_ok-put_transport-in-Ip.ensures in

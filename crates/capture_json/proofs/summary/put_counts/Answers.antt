@@ -4,7 +4,7 @@ use Rattle.capture_json.specs.Tokens.{tokens_in}
 use Rattle.capture_json.specs.JsonSummary.{counts_member}
 use Rattle.capture_json.proofs.summary.put_counts.Goals as goal
 
--- one more row
+-- the invariant holds after another row
 pub loop-row-preserved : goal.loop-row-preserved
 loop-row-preserved c =
     rows_more c.args.rows.now (λ row. counts_member (row.0.now, row.1)) _ _ _ _ _ (search rules) c.loop-row.invariant

@@ -3,7 +3,7 @@ use Rattle.capture_json.specs.Tokens.{tokens_in, with_members}
 use Rattle.capture_json.specs.JsonSummary.{row_member}
 use Rattle.capture_json.proofs.summary.put_rows.Given as goal
 
--- the rows so far
+-- the rows so far were written
 abbrev pub invariant-loop-row : goal.invariant-loop-row
 invariant-loop-row l =
     tokens_in l.line ≡ with_members (map (λ row. row_member (row.0.now, row.1)) (take l.row-index l.rows)) (tokens_in l.initial.line)

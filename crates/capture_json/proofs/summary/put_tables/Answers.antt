@@ -9,7 +9,7 @@ use Rattle.capture_json.specs.Tokens.{put, tokens_in}
 use Rattle.capture_summary.specs.Kinds.{protocol_rows, refusal_rows, verdict_rows}
 use Rattle.capture_json.proofs.summary.put_tables.Goals as goal
 
--- the type, what the capture is, the totals, and the four tables of rows
+-- the type, the facts of the capture, the totals, and the four tables of rows were written
 pub returns : goal.returns
 returns c =
     let tables = c.args.summary.now in

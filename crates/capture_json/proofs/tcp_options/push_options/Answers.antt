@@ -17,7 +17,7 @@ returns-in-Err c =
     let are = subst (λ all. AreOptionObjects c.rest-rest.result.now all (Some error)) (append-nil values) (prior [] (Some error) wrong) in
     (values, subst (λ bytes. AreOptionObjects bytes values (Some error)) whole are, pushed)
 
--- one more object
+-- the invariant holds after another object
 pub loop-option-preserved : goal.loop-option-preserved
 loop-option-preserved c =
     let (can, finite, values, pushed, rest, prior) = c.loop-option.invariant in

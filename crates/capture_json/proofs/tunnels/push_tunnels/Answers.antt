@@ -7,7 +7,7 @@ use Rattle.capture_json.specs.Tokens.{push, with_items}
 use Rattle.capture_json.proofs.JsonLemmas.{one_more_item}
 use Rattle.capture_json.proofs.tunnels.push_tunnels.Goals as goal
 
--- one more tunnel
+-- the tunnels after another tunnel is written
 one_more : (tunnels : List Tunnel) (i : ℕ) (d : Tunnel) (before between after : List Token) → i < length tunnels
     → between ≡ with_items (map tunnel_data (take i tunnels)) before → after ≡ push (tunnel_data (get_or tunnels i d)) between
     → after ≡ with_items (map tunnel_data (take (i + 1) tunnels)) before

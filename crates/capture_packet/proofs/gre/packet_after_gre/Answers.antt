@@ -5,11 +5,11 @@ use Rattle.capture_packet.specs.Gre.{first_bits, header_len, is_read, len_with, 
 use Rattle.capture_packet.specs.Tunnels.{packet_after_gre, packet_of_type}
 use Rattle.capture_packet.proofs.gre.packet_after_gre.Goals as goal
 
--- a header whose bits are read
+-- a GRE header whose bits are allowed is read
 read : (bytes : List ℕ) → 4 ≤ length bytes → bit_and (first_bits bytes) 0x4C07 ≡ 0 → is_read bytes ≡ true
 read bytes there zeros = grind (arith, common_steps)
 
--- the packet after a header that is read
+-- the packet after a GRE header that is read
 after_header : (bytes : List ℕ) (bits len number : ℕ) → 4 ≤ length bytes → bits ≡ first_bits bytes → bit_and bits 0x4C07 ≡ 0
     → len ≡ len_with bits → number ≡ protocol_type bytes → packet_of_type number (take (length bytes - len) (drop len bytes)) ≡ packet_after_gre bytes
 after_header bytes bits len number there bits_are zeros len_is number_is =

@@ -3,7 +3,7 @@ use Rattle.capture_packet.specs.Tunnels.{by_value, innermost, max_tunnels, neste
 use Rattle.capture_packet.proofs.TunnelLemmas.{around}
 use Rattle.capture_packet.proofs.read.read_ip_packet.Given as goal
 
--- the packet that is left is in the tunnels so far
+-- the packet that is left is in the tunnels that were opened
 abbrev pub invariant-loop-found : goal.invariant-loop-found
 invariant-loop-found l =
     (length l.tunnels.items ≤ max_tunnels)

@@ -6,7 +6,7 @@ use Rattle.capture_request.specs.Endings.{IsRefusedCapture}
 use Rattle.capture_packet.specs.Frames.{max_packet_len}
 use Rattle.capture_run.proofs.packets.read_header.Goals as goal
 
--- the packets are read from what is left
+-- the packets are read from the bytes that are left
 pub returns-in-Ok-Ok-clause-begins : goal.returns-in-Ok-Ok-clause-begins
 returns-in-Ok-Ok-clause-begins g c =
     let buffer = c.read_header.new.buffer in

@@ -9,7 +9,7 @@ use Rattle.capture_run.proofs.ReportLemmas.{counts-cut, counts-push, counts_at_m
 use Rattle.capture_packet.specs.Frames.{max_packet_len}
 use Rattle.capture_run.proofs.packets.report_each_packet.Goals as goal
 
--- the packets that were read before the next item ended the report are counted, and this is their text
+-- the packets before the item that ended the report are counted, and this is their text
 pub returns-in-Some-clause-report : goal.returns-in-Some-clause-report
 returns-in-Some-clause-report g c =
     let (packets, read, counted, number, most, len, parts, silent, within, time, last, wrote) = c.loop-number.invariant in
@@ -110,7 +110,7 @@ returns-in-Some-clause-cut g c =
 pub loop-number-init : goal.loop-number-init
 loop-number-init g c = ([], (refl, refl), refl, refl, omega arith, refl, refl, (λ none. refl), (λ within. within), refl, inl refl, ([], refl, Appends-nil _))
 
--- one more packet
+-- the invariant holds after another packet
 pub loop-number-preserved : goal.loop-number-preserved
 loop-number-preserved g c =
     let (packets, read, counted, number, most, len, parts, silent, within, time, last, wrote) = c.loop-number.invariant in

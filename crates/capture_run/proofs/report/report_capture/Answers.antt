@@ -4,7 +4,7 @@ use Rattle.capture_run.specs.Captures.{progress_of}
 use Rattle.capture_request.proofs.LineLemmas.{writes-weaker}
 use Rattle.capture_run.proofs.report.report_capture.Goals as goal
 
--- of a capture that can't be opened only the line of the error is written
+-- if a capture can't be opened, only the line of the error is written
 pub returns-in-Err-clause-report : goal.returns-in-Err-clause-report
 returns-in-Err-clause-report g c =
     let (lines, one, tells) = c.write_open_error-written.ensures in

@@ -5,7 +5,7 @@ use Rattle.capture_file.proofs.ReaderLemmas.{at_error}
 use Rattle.capture_run.proofs.RunLemmas.{one-more, tells_first}
 use Rattle.capture_run.proofs.report.report_each_capture.Goals as goal
 
--- before the first capture
+-- the state before the first capture
 pub loop-place-init : goal.loop-place-init
 loop-place-init g c = (
   refl,
@@ -19,7 +19,7 @@ loop-place-init g c = (
   },
 )
 
--- one more capture
+-- the invariant holds after another capture
 pub loop-place-preserved : goal.loop-place-preserved
 loop-place-preserved g c =
     let (parts, told, written) = c.loop-place.invariant in (
@@ -29,7 +29,7 @@ loop-place-preserved g c =
           (search rules) parts c.in_ok-reports.ensures.told written c.in_ok-reports.ensures.report,
     )
 
--- the captures before the one that can't be reported
+-- the errors of the captures before the capture that can't be reported
 pub returns-in_err-reports-clause-errors : goal.returns-in_err-reports-clause-errors
 returns-in_err-reports-clause-errors g c =
     let (parts, told, written) = c.loop-place.invariant in

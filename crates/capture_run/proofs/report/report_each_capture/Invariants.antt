@@ -2,7 +2,7 @@ use Rattle.std.proofs.Common.{◌≡◌, IsNone, length, map, take}
 use Rattle.capture_run.specs.Captures.{Gives, ReportsEach, WritesReport, progress_of}
 use Rattle.capture_run.proofs.report.report_each_capture.Given as goal
 
--- the captures so far
+-- the captures before this one were reported
 abbrev pub invariant-loop-place : goal.invariant-loop-place
 invariant-loop-place g l =
     (l.reports.parts ≡ l.initial.reports.parts)

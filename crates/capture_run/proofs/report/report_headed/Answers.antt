@@ -11,7 +11,7 @@ returns-then-is_full-clause-report g c =
     c.args.capture.now.count c.args.capture.now.place c.args.capture.now.name.now (progress_of reports) (g.W.Write.contents c.args.outputs.now.report)
     (g.E.Write.contents c.args.outputs.now.errors) _ (sym c.is_full.ensures ∙ c.if-is_full.true)
 
--- its text follows its heading
+-- the text of a capture follows its heading
 pub returns-clause-report : goal.returns-clause-report
 returns-clause-report g c =
     let reports = c.args.reports in

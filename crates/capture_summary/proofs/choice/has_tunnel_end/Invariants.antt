@@ -2,7 +2,7 @@ use Rattle.std.proofs.Common.{◌↔◌, length}
 use Rattle.capture_summary.specs.Choice.{HasTunnelEnd}
 use Rattle.capture_summary.proofs.choice.has_tunnel_end.Given as goal
 
--- a tunnel that matches is among those that are left
+-- if one of the tunnels matches, one of the tunnels that are left matches
 abbrev pub invariant-loop-left : goal.invariant-loop-left
 invariant-loop-left l = HasTunnelEnd l.fn.tunnels l.host ↔ HasTunnelEnd l.left l.host
 

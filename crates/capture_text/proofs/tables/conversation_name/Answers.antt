@@ -5,7 +5,7 @@ use Rattle.std.proofs.lemmas.Fmt.{contents_after_writes}
 use Rattle.capture_text.proofs.NameLemmas.{length-name}
 use Rattle.capture_text.proofs.tables.conversation_name.Goals as goal
 
--- the parts of a name
+-- the name consists of these parts
 joined : (written protocol source destination : List ℕ) → written ≡ protocol
     → written ++ (codes " " ++ (source ++ (codes " <> " ++ destination))) ≡ (((protocol ++ codes " ") ++ source) ++ codes " <> ") ++ destination
 joined written protocol source destination same =
@@ -24,7 +24,7 @@ returns-in-Ok-clause-name c =
     ∙ ap (λ front. front ++ text) c.new-name.ensures
     ∙ joined _ _ source destination c.name-protocol.ensures
 
--- the room is never too small
+-- the name always fits
 pub returns-in-Ok-clause-fits : goal.returns-in-Ok-clause-fits
 returns-in-Ok-clause-fits c = length-name c.args.flow.now
 

@@ -5,7 +5,7 @@ use Rattle.capture_text.specs.SummaryText.{conversation_rows}
 use Rattle.capture_words.proofs.WrittenLemmas.{each_more, written_3}
 use Rattle.capture_text.proofs.tables.write_conversations.Goals as goal
 
--- one more row
+-- the invariant holds after another row
 pub loop-conversation-preserved : goal.loop-conversation-preserved
 loop-conversation-preserved g c =
     each_more c.args.busiest.now _ _ _ _ _ _ c.loop-conversation.invariant c.in_ok-write_conversation.ensures (search rules)

@@ -4,7 +4,7 @@ use Rattle.std.proofs.lemmas.List.Folds.{flat_map-map}
 use Rattle.capture_words.proofs.WrittenLemmas.{each_more}
 use Rattle.capture_text.proofs.tables.write_table.Goals as goal
 
--- one more row
+-- the invariant holds after another row
 pub loop-row-preserved : goal.loop-row-preserved
 loop-row-preserved g c = each_more c.args.rows.now _ _ _ _ _ _ c.loop-row.invariant c.in_ok-write_row.ensures (search rules)
 

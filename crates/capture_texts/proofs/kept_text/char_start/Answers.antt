@@ -2,7 +2,7 @@ use Rattle.std.proofs.Common.{◌∙◌, ◌-◌, arith, rules, sym}
 use Rattle.capture_texts.proofs.TextsLemmas.{at_first, at_start, one_back}
 use Rattle.capture_texts.proofs.kept_text.char_start.Goals as goal
 
--- one byte back
+-- the invariant holds one byte before
 pub loop-start-preserved : goal.loop-start-preserved
 loop-start-preserved c = (
   omega (arith, c.loop-start.invariant.0),

@@ -17,7 +17,7 @@ returns-then-value_len-unwrap_or-clause-value c =
     c.loop-option.rest.now option c.loop-option.invariant c.in-Some.ensures.front is)
     ∙ ap (λ n. Some (take (4 + n - 4) (drop 4 option))) (sym len)
 
--- one more option that is not sought
+-- the invariant holds after another option, which is not the sought option
 pub loop-option-preserved : goal.loop-option-preserved
 loop-option-preserved c =
     let order = c.args.order in

@@ -5,14 +5,14 @@ use Rattle.capture_words.proofs.AbsoluteTimeLemmas.{date_is, no_date, no_day}
 use Rattle.capture_words.specs.AbsoluteTime.{date_text, day_text, has_date}
 use Rattle.capture_words.proofs.absolute_time.date_of.Goals as goal
 
--- the calendar has no such day
+-- the calendar does not contain this day
 pub returns-in_default : goal.returns-in_default
 returns-in_default c =
     let fits : FitsSigned w64 c.args.day = c.ranges.day in
     let none = simp to_z-of_z at c.in_default.ensures.succeeds in
     no_day c.args.day (λ is. true≢false (sym (none.1 is)))
 
--- the calendar has a date, in a year before 0
+-- the calendar has a date for the day, in a year before 0
 pub returns-then-date-lt0 : goal.returns-then-date-lt0
 returns-then-date-lt0 c =
     let fits : FitsSigned w64 c.args.day = c.ranges.day in

@@ -19,7 +19,7 @@ returns-in-Err g c =
     (subst (λ bytes. AreOptionTexts bytes (texts ++ fault_text error ∷ [])) whole (prior (fault_text error ∷ []) (inr (inl (error, wrong, refl, refl)))))
     appended c.in_ok-write_separator.ensures c.write_fault.ensures
 
--- one more text
+-- the invariant holds after another text
 pub loop-option-preserved : goal.loop-option-preserved
 loop-option-preserved g c =
     let (can, finite, texts, appended, first, rest, prior) = c.loop-option.invariant in

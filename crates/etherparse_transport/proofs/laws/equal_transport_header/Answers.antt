@@ -14,7 +14,7 @@ use Rattle.etherparse_transport.specs.declared.transport_header.TransportHeader.
 use Rattle.etherparse_transport.specs.declared.transport_header.TransportHeader.TheVariants.{Udp, Tcp, Icmpv4, Icmpv6}
 use Rattle.etherparse_transport.proofs.laws.equal_transport_header.Goals as goal
 
--- headers of one protocol
+-- equal UDP headers are the same header
 same_udp : (a b : UdpHeader) → IsTrue ((equal_udp.ghosts).eq a b) → a ≡ b
 same_udp a b is = first_of (search rules, grind (arith, common_steps))
 
@@ -24,7 +24,7 @@ same_icmpv4 a b is = first_of (search rules, grind (arith, common_steps))
 same_icmpv6 : (a b : Icmpv6Header) → IsTrue ((equal_icmpv6.ghosts).eq a b) → a ≡ b
 same_icmpv6 a b is = first_of (search rules, grind (arith, common_steps))
 
--- headers of any protocol
+-- equal headers of any protocol are the same header
 same : (a b : TransportHeader) → IsTrue ((equal.ghosts).eq a b) → a ≡ b
 same (Udp a) (Udp b) is = ap Udp (same_udp a b is)
 same (Udp a) (Tcp b) is = cc

@@ -23,10 +23,10 @@ use thiserror::Error;
 pub enum AnswerEchoError {
     /// The transport in the packet was not found.
     Ip(IpError),
-    /// The packet is a fragment, which is answered only after its packet is put together (RFC 1122, section 3.3.2).
+    /// The packet is a fragment. An echo request is answered only after its fragments are put together (RFC 1122, section 3.3.2).
     Fragment,
-    /// The packet is no echo request, whose type is 8 over IPv4 (RFC 792) and 128 over IPv6 (RFC 4443, section 4.1), and
-    /// whose code is 0. Or it has another IP version.
+    /// The packet is no echo request, or has an IP version that the call does not accept. An echo request has the type
+    /// 8 over IPv4 (RFC 792) and 128 over IPv6 (RFC 4443, section 4.1), and code 0.
     NoEchoRequest,
     /// The packet contains IPv4 options, an authentication header, or IPv6 extension headers. A reply would need options
     /// of its own, for example a reversed source route (RFC 1122, section 3.2.2.6).
@@ -40,8 +40,8 @@ pub enum AnswerEchoError {
     /// The source of the request is the unspecified address, a loopback address, a multicast address, or the limited
     /// broadcast address. So no host would receive the reply.
     RequestSource,
-    /// The source of the reply is such an address. If the request was sent to a multicast or broadcast address, pass an
-    /// address of the host as the source.
+    /// The source of the reply is one of these addresses. If the request was sent to a multicast or broadcast address,
+    /// pass an address of the host as the source.
     ReplySource,
 }
 

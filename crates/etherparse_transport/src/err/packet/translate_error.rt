@@ -25,23 +25,23 @@ use thiserror::Error;
 pub enum TranslateError {
     /// The transport in the packet was not found.
     Ip(IpError),
-    /// The packet has the other IP version.
+    /// The packet has the IP version that the call does not accept.
     OtherVersion,
-    /// The IPv4 options contain a loose or strict source route, whose addresses would stay.
+    /// The IPv4 options contain a loose or strict source route, whose addresses would not be replaced.
     SourceRoute,
-    /// The protocol is not UDP, TCP or ICMP of this IP version, and a port is passed, or the protocol covers the addresses. An authentication
-    /// header protects them (RFC 4302, section 2), and so no translated packet would be accepted.
+    /// The protocol is not UDP, TCP or ICMP of this IP version. Also, either a port is passed, or the protocol covers the addresses. For
+    /// example, an authentication header protects the addresses (RFC 4302, section 2), so no translated packet would be accepted.
     Protocol(IpNumber),
     /// The transport header is cut off.
     HeaderCutOff {
-        /// The number of bytes of the transport header that are needed, which is 8.
+        /// The least number of bytes of the transport header, which is 8.
         required_len: usize,
         /// The number of bytes after the IP header, and over IPv6 after the extension headers that are skipped.
         len: usize,
     },
-    /// The ICMP message is no query and no error, or it is a redirect.
+    /// The ICMP message is neither a query nor an error, or it is a redirect.
     IcmpMessage,
-    /// The packet that the ICMP error is about can't be translated.
+    /// The packet that the ICMP error quotes can't be translated.
     QuotedPacket,
 }
 

@@ -23,7 +23,7 @@ use thiserror::Error;
 #[derive(Clone, Debug, PartialEq, Eq, Drop, Error)]
 #[error("{}", self.text())]
 pub enum WriteChecksumError {
-    /// The transport in the packet was not found.
+    /// The packet is refused by `transport_in_ip`.
     Ip(IpError),
     /// The transport header is invalid.
     Transport(HeaderSliceError),
@@ -44,7 +44,7 @@ impl WriteChecksumError {
     }
 }
 
-/// What the text states about a checksum that is not tested.
+/// The text of the error for a checksum that is not tested.
 fn untested_words(why: Untested) -> &'static str
     ensures { result.now ≡ untested_text why }
 {

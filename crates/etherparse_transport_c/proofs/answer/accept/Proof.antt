@@ -1,4 +1,4 @@
--- `accept` leaves the memory behind the pointer as it is, and hands it back.
+-- `accept` does not change the memory to which the pointer points, and gives it back.
 use Rattle.std.proofs.Common.{◌≡◌, [], ◌∷◌, ◌++◌, refl, lit<, List}
 use mir.Syntax.{Fn}
 use mir.Val.{Val}

@@ -1,4 +1,4 @@
--- `refuse` stores the refusal behind the pointer unless it is NULL, and hands the memory back.
+-- `refuse` stores the refusal in the memory to which the pointer points, unless the pointer is NULL, and gives the memory back.
 use Rattle.std.proofs.Common.{◌≡◌, [], ◌∷◌, ◌++◌, refl, sym, ap, subst, ◌∙◌, lit<, List, T}
 use mir.Syntax.{Fn}
 use mir.Val.{Val, WT, has_ty}

@@ -14,7 +14,7 @@ use Rattle.ip_part.specs.declared.ip_addresses.IpAddresses.{IpAddresses}
 use Rattle.ip_part.specs.declared.transport.TransportInIp.{TransportInIp}
 use Rattle.ip_part.proofs.laws.equal_transport_in_ip.Goals as goal
 
--- two conditions are both true exactly if each is
+-- if both conditions hold, each of them holds
 first : (x y : Bool) → IsTrue (x && y) → IsTrue x
 first true y is = cc
 first false y is = is

@@ -9,11 +9,11 @@ use Rattle.net_base.specs.declared.err.error_text.TextPart.{TextPart}
 use Rattle.net_base.specs.declared.err.error_text.TextPart.TheVariants.{Words, Number}
 use Rattle.net_base.proofs.laws.equal_error_text.Goals as goal
 
--- how two parts are compared
+-- the comparison of two parts
 abbrev equal : TextPart → TextPart → Bool
 equal = (parts_equal.ghosts).eq
 
--- the same of parts by value
+-- two parts are equal by value
 abbrev equal_values : Part → Part → Bool
 equal_values (WordsOf a) (WordsOf b) = pointwise nat_eq a b
 equal_values (WordsOf a) (NumberOf b) = false

@@ -7,7 +7,7 @@ use crate::err::tcp::HeaderError;
 use crate::err::{ErrorText, LenError};
 use thiserror::Error;
 
-/// Why a TCP header could not be read (RFC 9293, section 3.1). `canonical_header` uses it for all four protocols.
+/// Why a TCP header could not be read (RFC 9293, section 3.1). `canonical_header` uses this error for all four protocols.
 ///
 /// ```
 /// use etherparse_transport::TcpSlice;
@@ -20,16 +20,16 @@ use thiserror::Error;
 #[derive(Clone, Debug, PartialEq, Eq, Hash, Drop, Error)]
 #[error("{}", self.text())]
 pub enum HeaderSliceError {
-    /// The slice is too short for a header, or no packet of its protocol has this length.
+    /// The slice is shorter than the header, or no packet of the protocol has this length.
     Len(LenError),
     /// A header field contains a value that is never valid.
     Content(HeaderError),
 }
 
 impl HeaderSliceError {
-    /// The same error with its layer counted from a start `offset` bytes earlier. A caller that reads a part of a
-    /// packet adds the start of that part. A `Len` changes as by `LenError::add_offset`, and the caller must prove
-    /// that the sum of the offsets fits `usize`. A `Content` stays the same for any offset.
+    /// The error with `offset` added to the start of its layer. A caller that reads a part of a packet adds the start
+    /// of this part. `Len` changes as by `LenError::add_offset`, and the sum must fit `usize`. `Content` contains no
+    /// start, so it is unchanged, and any offset is allowed.
     pub fn add_slice_offset(self, offset: usize) -> HeaderSliceError
         requires { OffsetFits self offset }
         ensures { result ≡ with_slice_offset self offset }

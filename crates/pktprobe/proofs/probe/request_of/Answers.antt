@@ -8,19 +8,19 @@ use Rattle.etherparse_transport.specs.Proto.TheVariants.{Udp, Tcp, Icmpv4, Icmpv
 use Rattle.pktprobe.specs.Report.{digits_after}
 use Rattle.pktprobe.proofs.probe.request_of.Goals as goal
 
--- bytes that differ do so in either order
+-- if bytes differ from a word, the word differs from the bytes
 differ : (front word : List ℕ) (same : Bool) → pointwise nat_eq word front ≡ same → pointwise nat_eq front word ≡ false → same ≡ false
 differ front word false test other = refl
 differ front word true test other =
     let equal : word ≡ front = (slice_eq-Decides Decides-eqb word front true (sym test)).0 refl in
     sym ((slice_eq-Decides Decides-eqb front word (pointwise nat_eq front word) refl).1 (sym equal)) ∙ other
 
--- a line that does not begin with a word has no digits after it
+-- a line that does not begin with a word contains no digits after the word
 no_digits : (word : List ℕ) (protocol : Proto) (line : List ℕ) → pointwise nat_eq (take (length word) line) word ≡ false
     → digits_after word protocol line ≡ None
 no_digits word protocol line other = rw (differ (take (length word) line) word _ refl other) refl
 
--- where none of four is there, the first of them is none
+-- if none of four requests is present, there is no request
 no_request : {Request : Type 0} (first second third fourth : Option Request) → first ≡ None → second ≡ None → third ≡ None → fourth ≡ None
     → None ≡ option_or first (option_or second (option_or third fourth))
 no_request first second third fourth a b c d = rw (a, b, c, d) refl

@@ -14,18 +14,18 @@ abbrev input_of : Option (List ℕ) → List ℕ → List ℕ
 input_of None read = read
 input_of (Some all) read = all
 
--- the bytes that were read are its first
+-- the bytes that were read are the first bytes of the input
 read_first : (left : Option (List ℕ)) (read : List ℕ) → length read ≤ max_input_len → IfSome left (λ all. read ≡ take max_input_len all)
     → read ≡ take max_input_len (input_of left read)
 read_first None read fits given = sym (take_all max_input_len read fits)
 read_first (Some all) read fits given = given
 
--- and known bytes are all of it
+-- the bytes that were read, if they are known, and the bytes left are all of the input
 all_known : (left : Option (List ℕ)) (read : List ℕ) → IfSome left (λ all. input_of left read ≡ all)
 all_known None read = tt
 all_known (Some all) read = refl
 
--- the input that was read
+-- an input was read
 reads_input : (left still_left : Option (List ℕ)) (read : List ℕ) → read ≡ take max_input_len (input_of left read)
     → Consumes left still_left read → ReadsInput left still_left (input_of left read)
 reads_input left still_left read first consumed = record {
@@ -33,12 +33,12 @@ reads_input left still_left read first consumed = record {
   consumes = subst (Consumes left still_left) first consumed;
 }
 
--- its report is that of the bytes that were read
+-- the report on an input is the report on the bytes that were read
 same_report : (left : Option (List ℕ)) (read : List ℕ) → read ≡ take max_input_len (input_of left read)
     → report read ≡ report (input_of left read)
 same_report left read first = ap report first ∙ first_bytes_decide (input_of left read)
 
--- what holds anyway holds on an error
+-- a fact holds on an error if it holds
 on_error : {T E : Type 0} (result : Result T E) (fact : Type 0) → fact → OnErr result fact
 on_error (Ok value) fact holds = tt
 on_error (Err error) fact holds = holds

@@ -16,7 +16,7 @@ both false y is = cc
 together : (x y : Bool) → IsTrue x → IsTrue y → IsTrue (x && y)
 together x y is is_too = rw (is, is_too) refl
 
--- numbers
+-- two numbers that are equal as a test are the same number
 same_number : (x y : ℕ) → IsTrue (nat_eq x y) → x ≡ y
 same_number x y is = search (comparing, rules)
 
@@ -27,7 +27,7 @@ same_pair (a, b) (d, e) is =
     let second = same_number b e parts.1 in
     cc
 
--- blocks
+-- two pairs are equal
 abbrev pair_eq : ℕ × ℕ → ℕ × ℕ → Bool
 pair_eq x y = nat_eq x.0 y.0 && nat_eq x.1 y.1
 
@@ -52,7 +52,7 @@ equal_blocks [] = refl
 equal_blocks (None ∷ xs) = equal_blocks xs
 equal_blocks (Some x ∷ xs) = together (pair_eq x x) (pointwise (option_eq pair_eq) xs xs) (equal_pair x) (equal_blocks xs)
 
--- elements
+-- two elements that are equal as a test are the same element
 same : (a b : TcpOptionElement) → IsTrue ((equal.ghosts).eq a b) → a ≡ b
 same Noop Noop is = refl
 same Noop (MaximumSegmentSize size_too) is = cc

@@ -3,7 +3,7 @@ use Rattle.std.specs.List.{find}
 use Rattle.translator.specs.Replacements.{is_in}
 use Rattle.translator.proofs.replacements.first_address.Given as goal
 
--- the first match is among those that are left
+-- the first match in all replacements is the first match in those that are left
 abbrev pub invariant-loop-left : goal.invariant-loop-left
 invariant-loop-left l =
     find (λ replacement. is_in replacement.old l.address) l.fn.replacements ≡ find (λ replacement. is_in replacement.old l.address) l.left

@@ -2,7 +2,7 @@ use Rattle.std.proofs.Common.{◌-◌, ◌≤◌}
 use Rattle.capture_copy.specs.Copies.{Copies}
 use Rattle.capture_copy.proofs.copier.Copier.copy.Given as goal
 
--- no more bytes were copied than requested
+-- at most as many bytes were copied as requested
 abbrev pub invariant-loop-copied : goal.invariant-loop-copied
 invariant-loop-copied g l = record {
   within : l.copied ≤ l.count;

@@ -5,7 +5,7 @@ use Rattle.std.specs.List.{flat_map}
 use Rattle.capture_facts.specs.ShownText.{escaped_byte}
 use Rattle.capture_facts.proofs.shown_text.EscapedBytesDisplay.fmt.Goals as goal
 
--- one more byte
+-- the invariant holds after another byte
 pub loop-byte-preserved : goal.loop-byte-preserved
 loop-byte-preserved g c = λ plain.
     let bytes = c.args.self.now.0.now in

@@ -4,7 +4,7 @@ use Rattle.std.specs.List.{flat_map}
 use Rattle.capture_facts.specs.ShownText.{escaped_byte}
 use Rattle.capture_facts.proofs.shown_text.EscapedBytesDisplay.fmt.Given as goal
 
--- the bytes so far
+-- the bytes so far were written
 abbrev pub invariant-loop-byte : goal.invariant-loop-byte
 invariant-loop-byte g l =
     IsPlainFormatter l.initial.f

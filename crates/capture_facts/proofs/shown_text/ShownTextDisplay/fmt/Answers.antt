@@ -5,7 +5,7 @@ use Rattle.capture_facts.specs.ShownText.{shown_char}
 use Rattle.capture_facts.proofs.ShownLemmas.{shown_empty, shown_step}
 use Rattle.capture_facts.proofs.shown_text.ShownTextDisplay.fmt.Goals as goal
 
--- one more character
+-- the invariant holds after another character
 pub loop-character-preserved : goal.loop-character-preserved
 loop-character-preserved g c =
     let (utf8, written) = c.loop-character.invariant in
@@ -19,7 +19,7 @@ loop-character-preserved g c =
           ),
     )
 
--- all characters
+-- all characters were written
 pub returns-clause-writes : goal.returns-clause-writes
 returns-clause-writes g c = λ plain _.
     let (done, wrote, text) = c.loop-character.invariant.1 plain in

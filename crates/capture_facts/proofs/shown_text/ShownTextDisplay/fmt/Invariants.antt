@@ -4,7 +4,7 @@ use Rattle.std.specs.Str.Iter.{chars_rest}
 use Rattle.capture_facts.specs.ShownText.{shown_text}
 use Rattle.capture_facts.proofs.shown_text.ShownTextDisplay.fmt.Given as goal
 
--- the characters so far
+-- the characters so far were written
 abbrev pub invariant-loop-character : goal.invariant-loop-character
 invariant-loop-character g l =
     IsUtf8 (chars_rest l.character-iterator)

@@ -28,7 +28,7 @@ returns-in-Err-from_slice-clause-reads g c =
     refused_fill c.args.section c.args.first.now _ _ c.fill_after.new.buffer _ c.in-Ok.header c.in_ok-len.len c.in-Err-from_slice.error
     c.in-Ok.ensures.within c.in-Ok.ensures.refused c.in-Ok.ensures.read room fills c.in-Err-from_slice.ensures.refused
 
--- reading failed after the header
+-- the result if reading failed after the header
 pub returns-in_err-len-clause-fails : goal.returns-in_err-len-clause-fails
 returns-in_err-len-clause-fails g c =
     let room : length (take c.in-Ok.header.total_len c.args.buffer.now) ≡ c.in-Ok.header.total_len = omega (arith, length-take {A = ℕ}) in

@@ -18,7 +18,7 @@ use Rattle.etherparse_transport.specs.ReplyTo.{IsReplyTo, echoed}
 use Rattle.etherparse_transport.proofs.ReplyToLemmas.{ipv4_is_reply}
 use Rattle.etherparse_transport.proofs.ip.echo_reply.answer_echo_ipv4.Goals as goal
 
--- the message in the packet up to its length
+-- the message is the range from the end of the header to the length of the packet
 message : (packet : List ℕ) (len : ℕ) → IsIpv4Request packet → len ≡ ip.counted_len false packet → slice_range packet 20 len ≡ message_after 20 packet
 message packet len is len_is = ap (slice_range packet 20) len_is ∙ message_range 20 packet (omega (arith, is.end))
 
@@ -45,7 +45,7 @@ reply : (c : goal.After-slice_known-2-1) → c.icmpv4_reply_to-reply.result ≡ 
 reply c =
     c.icmpv4_reply_to-reply.ensures.header ∙ ap icmpv4_reply_to (message c.args.packet.now c.in_ok-addresses.len c.in_ok-addresses.ensures.request c.in_ok-addresses.ensures.len)
 
--- what the reply repeats is in the message of the request
+-- the reply repeats the identifier, the sequence number and the data of the request
 abbrev pub IsSame : List ℕ → Type 0
 IsSame message = echoed (wire (icmpv4_reply_to message) ++ drop 8 message) ≡ echoed message
 

@@ -16,7 +16,7 @@ use Rattle.etherparse_transport.specs.ReplyTo.{IsReplyTo, echoed}
 use Rattle.etherparse_transport.proofs.ReplyToLemmas.{ipv6_is_reply}
 use Rattle.etherparse_transport.proofs.ip.echo_reply.answer_echo_ipv6.Goals as goal
 
--- the message in the packet up to its length
+-- the message is the range from the end of the header to the length of the packet
 message : (packet : List ℕ) (len : ℕ) → IsIpv6Request packet → len ≡ ip.counted_len false packet → slice_range packet 40 len ≡ message_after 40 packet
 message packet len is len_is = ap (slice_range packet 40) len_is ∙ message_range 40 packet (omega (arith, is.end))
 
@@ -45,7 +45,7 @@ destination_len c =
     let len : length c.in_ok-addresses.addresses.source ≡ 16 = search rules in
     ap (λ addresses. length addresses.source) (sym is) ∙ len
 
--- what the reply repeats is in the message of the request
+-- the reply repeats the identifier, the sequence number and the data of the request
 abbrev pub IsSame : List ℕ → List ℕ → List ℕ → Type 0
 IsSame source destination message = echoed (wire (icmpv6_reply_to source destination message) ++ drop 8 message) ≡ echoed message
 

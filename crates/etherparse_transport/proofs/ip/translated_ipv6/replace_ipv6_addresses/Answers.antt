@@ -6,7 +6,7 @@ use Rattle.etherparse_transport.proofs.TranslationReading.{drop_after}
 use Rattle.etherparse_transport.proofs.TranslationSums.{ipv6_addresses_total}
 use Rattle.etherparse_transport.proofs.ip.translated_ipv6.replace_ipv6_addresses.Goals as goal
 
--- a passed address, or 16 bytes
+-- a new address has 16 bytes, and so has an address of the packet
 address_len : (new : Option (List ℕ)) (place : ℕ) (packet : List ℕ) → IfSome new (λ new. length new ≡ 16) → place + 16 ≤ length packet
     → length (unwrap_or new (take 16 (drop place packet))) ≡ 16
 address_len None place packet passed there = length-take-le 16 (drop place packet) (omega (arith, length-drop place packet, there))

@@ -6,7 +6,7 @@ use Rattle.etherparse_transport.specs.Translations.{AreUpdatedAlike}
 use Rattle.etherparse_transport.proofs.UpdatedAlike.{destination_replaced, source_replaced}
 use Rattle.etherparse_transport.proofs.ip.translated_ipv6.replaced_ipv6_change.Goals as goal
 
--- the change updates alike as the change of both addresses, the passed ones or those of the packet
+-- the change is equal to the change of both addresses, each of which is the passed address or the address of the packet
 abbrev pub IsAlike : List ℕ → ℕ → ℕ → Option (List ℕ) → Option (List ℕ) → Type 0
 IsAlike packet removed added source destination = AreUpdatedAlike removed added
     (sum_of_ipv6 (record { source = slice_range packet 8 24; destination = slice_range packet 24 40 }))

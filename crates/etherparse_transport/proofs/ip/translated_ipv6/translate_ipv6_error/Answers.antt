@@ -20,7 +20,7 @@ returns-clause-refused c =
     ap (λ message. option_map (λ error. QuotedPacket) (ipv6_place_refusal (has_port (ipv6_of_quoted c.args.new.now c.args.passed).source_port (ipv6_of_quoted c.args.new.now c.args.passed).destination_port) (slice_range message 8 end))) (sym c.requires.place.message)
     ∙ ap (option_map (λ error. QuotedPacket)) (sym (ap (λ new. ipv6_place_refusal (has_port new.source_port new.destination_port) (slice_range (slice_range c.args.packet.now c.args.place.now.start c.args.place.now.end) 8 end)) c.of_quoted-for_quoted.ensures.passed) ∙ c.in-Ok.ensures.refused)
 
--- the new addresses, by the old addresses
+-- the new addresses, given the old addresses
 abbrev pub addresses_from : Ipv6Translation → Ipv6Header → Ipv6Header
 addresses_from new old = record { source = unwrap_or new.source old.source; destination = unwrap_or new.destination old.destination }
 

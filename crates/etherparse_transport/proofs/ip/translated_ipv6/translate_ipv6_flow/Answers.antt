@@ -11,7 +11,7 @@ use Rattle.etherparse_transport.proofs.TranslationSums.{flow_turns, ipv6_header_
 use Rattle.etherparse_transport.proofs.ip.translated_ipv6.translate_ipv6_flow.Goals as goal
 use borrow.Rule.Slice.PartMut.{put_mid}
 
--- the new addresses, by the old addresses
+-- the new addresses, given the old addresses
 abbrev pub addresses_from : Ipv6Translation → Ipv6Header → Ipv6Header
 addresses_from new old = record { source = unwrap_or new.source old.source; destination = unwrap_or new.destination old.destination }
 

@@ -49,7 +49,7 @@ parameter_problem_by_code TooManyOptionsInExtensionHeader TooManyOptionsInExtens
 parameter_problem_by_code OptionTooBig OptionTooBig = refl
 parameter_problem_by_code a b = refl
 
--- and the derived order of messages is by the kind and then by the fields
+-- the derived order of messages compares first their kinds, and then their fields
 by_kind_and_fields : (a b : Icmpv6Type) → message_order.cmp-value.it a b ≡ message_cmp a b
 by_kind_and_fields (Unknown type code bytes5to8) (Unknown other_type other_code other_bytes5to8) = refl
 by_kind_and_fields (DestinationUnreachable code) (DestinationUnreachable other) = dest_unreachable_by_code code other

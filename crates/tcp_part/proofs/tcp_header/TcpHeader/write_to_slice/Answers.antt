@@ -4,8 +4,8 @@ use borrow.Rule.Slice.PartMut.{put_mid}
 use Rattle.tcp_part.specs.TcpFormat.{wire}
 use Rattle.tcp_part.proofs.tcp_header.TcpHeader.write_to_slice.Goals as goal
 
--- The fields are written first, and then the options to the next part of the slice. Both together are the header, and
--- the bytes after the header are unchanged.
+-- The slice contains the header after the fields and then the options were written, and the bytes after the header are
+-- unchanged.
 written_after_fields : (fields options old part header : List ℕ) (from count : ℕ) → length fields ≡ from → count ≡ length (fields ++ drop from old) - from
     → part ≡ options ++ drop (length options) (take count (drop from (fields ++ drop from old))) → fields ++ options ≡ header
     → put_mid from count (fields ++ drop from old) part ≡ header ++ drop (length header) old

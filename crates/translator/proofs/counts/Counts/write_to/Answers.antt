@@ -6,7 +6,7 @@ use Rattle.translator.proofs.CountLemmas.{line_more}
 use Rattle.translator.specs.Outcomes.{all_reasons, counted_line, packets_line}
 use Rattle.translator.proofs.counts.Counts.write_to.Goals as goal
 
--- one more line
+-- the invariant holds after another line
 pub loop-reason-preserved : goal.loop-reason-preserved
 loop-reason-preserved g c = line_more all_reasons (counted_line c.args.self.now) _ _ _ _ _ c.loop-reason.invariant c.in_ok-write_reason.ensures (search rules)
 

@@ -1,4 +1,4 @@
--- These answers let the check refuse a wrong body of this function sooner. It passes without them.
+-- With these answers, the check refuses a wrong body of this function sooner. The right body passes without them.
 use Rattle.std.proofs.Common.{rules}
 use Rattle.udp_part.proofs.udp_header.UdpHeader.write_to_slice.Goals as goal
 

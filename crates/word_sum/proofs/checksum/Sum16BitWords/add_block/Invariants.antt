@@ -4,7 +4,7 @@ use Rattle.word_sum.specs.Checksum.{folded, total}
 use Rattle.word_sum.specs.SumValue.{sum_value}
 use Rattle.word_sum.proofs.checksum.Sum16BitWords.add_block.Given as goal
 
--- the word, its carry and the bytes that are left sum up to the total, and the carry can be added to the word
+-- the total is the sum of the word, its carry and the bytes that are left, and the carry can be added to the word
 abbrev pub invariant-loop-chunk : goal.invariant-loop-chunk
 invariant-loop-chunk g l = record {
   summed : folded ((l.word + from_bool l.carry) * 256 + total l.rest) ≡ folded (sum_value l.fn.self + total l.block);

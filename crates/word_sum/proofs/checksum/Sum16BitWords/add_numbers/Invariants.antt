@@ -3,7 +3,7 @@ use Rattle.word_sum.specs.Checksum.{folded, total}
 use Rattle.word_sum.specs.SumValue.{sum_value}
 use Rattle.word_sum.proofs.checksum.Sum16BitWords.add_numbers.Given as goal
 
--- the added bytes and the bytes that are left sum up to the total
+-- the total is the sum of the added bytes and the bytes that are left
 abbrev pub invariant-loop-block : goal.invariant-loop-block
 invariant-loop-block l = record {
   summed : folded (sum_value l.sum + total l.rest) ≡ folded (sum_value l.fn.self + total l.numbers);

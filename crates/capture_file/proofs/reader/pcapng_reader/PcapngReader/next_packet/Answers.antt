@@ -18,7 +18,7 @@ loop-passed-preserved g c =
           (c.loop-passed.self, remaining c.loop-passed.input, c.read_step.new.buffer, same, c.loop-passed.invariant.1, step),
     )
 
--- after so many blocks none was read further
+-- reading failed after these blocks
 pub returns-clause-fails : goal.returns-clause-fails
 returns-clause-fails g c = record {
   count = c.loop-passed._passed;

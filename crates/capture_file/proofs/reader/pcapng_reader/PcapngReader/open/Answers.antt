@@ -5,7 +5,7 @@ use Rattle.capture_file.specs.PcapngBodies.{section_header_refusal}
 use Rattle.capture_file.proofs.reader.pcapng_reader.PcapngReader.open.Goals.{in-Whole+in-Ok, in-Whole+in-Err, in-TooLong, in-End, in-Refused}
 use Rattle.capture_file.proofs.reader.pcapng_reader.PcapngReader.open.Goals as goal
 
--- the texts after the first block are its texts
+-- the texts after the first block are the texts in the block
 pub returns : goal.returns
 returns g c =
     elim c.match-branch-2.branch [

@@ -4,7 +4,7 @@ use Rattle.std.specs.List.{flat_map}
 use Rattle.net_base.specs.TextParts.{part_text}
 use Rattle.net_base.proofs.err.error_text.ErrorTextDisplay.fmt.Given as goal
 
--- the parts so far
+-- the parts so far were written
 abbrev pub invariant-loop-part : goal.invariant-loop-part
 invariant-loop-part g l =
     IsPlainFormatter l.initial.f → HasWritten g.W.Write.write_str_gives l.initial.f (flat_map part_text (take l.part-index l.part-items)) l.f
