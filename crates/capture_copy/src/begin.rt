@@ -44,8 +44,8 @@ impl<R: Read, W: Write> Copier<'_, R, W> {
         &mut self,
         begin: &[u8],
     ) -> Result<Result<CaptureHeader, CaptureHeaderError>, CopyError>
-        requires begin { AreFirst begin.now (R.remaining self.old.input) }
-        ensures begins { (left : Option (List ℕ)) → Consumes left (R.remaining self.old.input) begin.now
+        ensures begins { (left : Option (List ℕ)) → AreFirst begin.now (R.remaining self.old.input)
+            → Consumes left (R.remaining self.old.input) begin.now
             → BeginsCapture result left (R.remaining self.new.input) (W.contents self.old.output) (W.contents self.new.output) }
     {
         let mut first = [0u8; CaptureHeader::LEN];

@@ -11,7 +11,7 @@ returns-in-Ok-Err-clause-translates g c =
     (g.W.Write.contents c.args.copier.now.output) (g.W.Write.contents c.copy_header.new.self.output) =
     subst (λ given. BeginsCapture (Ok given) left (g.R.Read.remaining c.copy_header.new.self.input)
     (g.W.Write.contents c.args.copier.now.output) (g.W.Write.contents c.copy_header.new.self.output)) c.in-Ok-Err.field-0-is
-    (c.in-Ok-Err.ensures.begins left consumed) in (no_pcapng, refused.0, (refused.1, refl))
+    (c.in-Ok-Err.ensures.begins left c.requires.begin consumed) in (no_pcapng, refused.0, (refused.1, refl))
 
 -- reading the header failed
 pub returns-in-Err-Read-clause-translates : goal.returns-in-Err-Read-clause-translates
@@ -21,7 +21,7 @@ returns-in-Err-Read-clause-translates g c =
       (
         subst (λ given. BeginsCapture (Err given) left (g.R.Read.remaining c.copy_header.new.self.input)
             (g.W.Write.contents c.args.copier.now.output) (g.W.Write.contents c.copy_header.new.self.output)) c.in-Err-Read.field-0-is
-            (c.in-Err-Read.ensures.begins left consumed),
+            (c.in-Err-Read.ensures.begins left c.requires.begin consumed),
         refl,
       ),
     )
@@ -35,7 +35,7 @@ returns-clause-translates g c =
       then_held = _;
       copies = subst (λ given. BeginsCapture (Ok given) left (g.R.Read.remaining c.copy_header.new.self.input)
           (g.W.Write.contents c.args.copier.now.output) (g.W.Write.contents c.copy_header.new.self.output)) c.in-Ok-Ok.field-0-is
-          (c.in-Ok-Ok.ensures.begins left consumed);
+          (c.in-Ok-Ok.ensures.begins left c.requires.begin consumed);
       after = _;
       passes = passes_from _ c.translate_records.result _ _ _ _ _ _ _ _ _ c.new-records.ensures c.translate_records.ensures.passes;
     })
