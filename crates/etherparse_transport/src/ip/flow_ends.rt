@@ -16,6 +16,26 @@ use crate::{IpNumber, Proto, icmpv6};
 const PORTS_LEN: usize = 4;
 
 /// The ends of a flow, as one of its packets names them: the addresses, the protocol, and the ports or the identifier of an ICMP query.
+///
+/// ```
+/// use etherparse_transport::ip::{FlowEnds, IpAddresses, flow};
+/// use etherparse_transport::ip_number;
+///
+/// let packet = [
+///     0x45, 0, 0, 28, 0, 0, 0, 0, 64, 1, 0, 0, 192, 168, 1, 1, 192, 168, 1, 2, // IPv4
+///     8, 0, 0, 0, 0, 7, 0, 1, // an echo request with the identifier 7
+/// ];
+/// let (source, destination) = (&[192, 168, 1, 1], &[192, 168, 1, 2]);
+/// let ends = FlowEnds {
+///     addresses: IpAddresses::Ipv4 { source, destination },
+///     protocol: ip_number::ICMP,
+///     is_fragment: false,
+///     is_later_fragment: false,
+///     source_port: Some(7),
+///     destination_port: None,
+/// };
+/// assert_eq!(rt; flow(&packet)?.ends, ends);
+/// ```
 #[derive(Clone, Copy, Debug, PartialEq, Eq)]
 pub struct FlowEnds<'a> {
     /// The addresses of the packet, which its checksum covers. They contain the IP version.
