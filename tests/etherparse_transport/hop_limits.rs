@@ -53,10 +53,7 @@ static LOWERED: [Lowered; 6] = [
 const ROOM: usize = 48;
 
 /// The result of the call for this packet, and the buffer after it.
-fn lowered(
-    rt: &impl Abort,
-    packet: &[u8],
-) -> (Result<(), LowerHopLimitError>, [u8; ROOM]) {
+fn lowered(rt: &impl Abort, packet: &[u8]) -> (Result<(), LowerHopLimitError>, [u8; ROOM]) {
     let mut buffer = [0; ROOM];
     let front = expect_some(rt, buffer.get_mut(..packet.len()));
     front.copy_from_slice(packet);

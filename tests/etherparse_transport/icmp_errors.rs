@@ -160,14 +160,22 @@ fn errors_over_ipv6(rt: HostRuntime) {
 fn errors_are_read_back(rt: HostRuntime) {
     for (_, _, error) in &IPV4 {
         let found = expect_ok(&rt, transport_in_ip(error));
-        expect_equal(&rt, &expect_ok(&rt, checksum_verdict(&found)), &ChecksumVerdict::Right);
+        expect_equal(
+            &rt,
+            &expect_ok(&rt, checksum_verdict(&found)),
+            &ChecksumVerdict::Right,
+        );
         let message = expect_ok(&rt, Icmpv4Slice::from_slice(found.payload));
         let quoted = expect_some(&rt, message.quoted_packet());
         expect_bytes(&rt, quoted, message.payload());
     }
     for (_, _, error) in &IPV6 {
         let found = expect_ok(&rt, transport_in_ip(error));
-        expect_equal(&rt, &expect_ok(&rt, checksum_verdict(&found)), &ChecksumVerdict::Right);
+        expect_equal(
+            &rt,
+            &expect_ok(&rt, checksum_verdict(&found)),
+            &ChecksumVerdict::Right,
+        );
         let message = expect_ok(&rt, Icmpv6Slice::from_slice(found.payload));
         let quoted = expect_some(&rt, message.quoted_packet());
         expect_bytes(&rt, quoted, message.payload());
@@ -207,7 +215,13 @@ fn long_ipv6_packet(payload_len: u16) -> [u8; 2000] {
 
 #[test]
 fn a_quote_over_ipv6_has_at_most_1232_bytes(rt: HostRuntime) {
-    for (len, expected) in [(1, 89), (1191, 1279), (1192, 1280), (1193, 1280), (1960, 1280)] {
+    for (len, expected) in [
+        (1, 89),
+        (1191, 1279),
+        (1192, 1280),
+        (1193, 1280),
+        (1960, 1280),
+    ] {
         let packet = long_ipv6_packet(len);
         let mut buffer = [0; ROOM];
         let message = Icmpv6Type::PacketTooBig { mtu: 1280 };
@@ -376,7 +390,10 @@ fn a_slice_that_is_too_short(rt: HostRuntime) {
     let (_, packet, _) = expect_some(&rt, IPV4.get(0));
     let expired = Icmpv4Type::TimeExceeded(TimeExceededCode::TtlExceededInTransit);
     let written = icmpv4_error_about(&mut buffer, packet, expired, ROUTER, 64);
-    let error = ErrorAboutError::Space { required_len: 60, len: 59 };
+    let error = ErrorAboutError::Space {
+        required_len: 60,
+        len: 59,
+    };
     expect_equal(&rt, &written, &Err(error));
     expect_bytes(&rt, &buffer, &[0xAA; 59]);
 }
