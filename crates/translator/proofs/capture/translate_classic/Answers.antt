@@ -1,4 +1,4 @@
-use Rattle.std.proofs.Common.{◌≡◌, Err, Ok, inl, refl, subst}
+use Rattle.std.proofs.Common.{Err, Ok, inl, refl, subst}
 use Rattle.capture_copy.specs.Captures.{BeginsCapture}
 use Rattle.translator.proofs.CaptureLemmas.{passes_from, translates_records}
 use Rattle.translator.proofs.capture.translate_classic.Goals as goal
