@@ -123,7 +123,11 @@ fn choice_of(
     Choice {
         hosts: places_of_hosts(rt, hosts),
         ports: places_of_ports(ports),
-        protocols: protocol.map(|_| places),
+        protocols: if protocol.is_some() {
+            Some(places)
+        } else {
+            None
+        },
         ..Choice::ALL
     }
 }
@@ -147,7 +151,7 @@ fn places_of_ports(ports: &[u16]) -> Option<Ports> {
 }
 
 /// The ports from one to another.
-const fn range(first: u16, last: u16) -> PortRange {
+fn range(first: u16, last: u16) -> PortRange {
     PortRange { first, last }
 }
 
@@ -237,15 +241,23 @@ static DIRECTIONS: [(&str, [bool; 5], [bool; 5], [bool; 5]); 6] = [
 /// Stops the test unless the choices by direction of a row include the packets that the row says.
 fn expect_directions(rt: &impl Abort, row: &(&'static str, [bool; 5], [bool; 5], [bool; 5])) {
     let hosts = places_of_hosts(rt, &[row.0]);
-    let choices = [
-        (Choice { sources: hosts, ..Choice::ALL }, row.1),
-        (Choice { destinations: hosts, ..Choice::ALL }, row.2),
-        (Choice { other_hosts: hosts, ..Choice::ALL }, row.3),
-    ];
-    for (choice, wanted) in &choices {
-        for (packet, wanted) in five_packets(rt).iter().zip(wanted) {
-            expect_at(rt, choice, &choice.includes(packet), wanted);
-        }
+    let sources = Choice {
+        sources: hosts,
+        ..Choice::ALL
+    };
+    let destinations = Choice {
+        destinations: hosts,
+        ..Choice::ALL
+    };
+    let others = Choice {
+        other_hosts: hosts,
+        ..Choice::ALL
+    };
+    let packets = five_packets(rt);
+    for (place, packet) in packets.iter().enumerate() {
+        expect_at(rt, row, &sources.includes(packet), &row.1[place]);
+        expect_at(rt, row, &destinations.includes(packet), &row.2[place]);
+        expect_at(rt, row, &others.includes(packet), &row.3[place]);
     }
 }
 
@@ -256,21 +268,27 @@ fn directions_are_chosen(rt: HostRuntime) {
     }
 }
 
-/// A range of ports, and which of the five packets match it.
+/// The first and the last port of a range, and which of the five packets match it.
 #[rattlefmt::skip]
-static RANGES: [(PortRange, [bool; 5]); 7] = [
-    (range(0, 65535), [true, true, false, false, true]), (range(53, 53), [true, true, false, false, false]), (range(50, 52), [false; 5]),
-    (range(54, 999), [false; 5]), (range(54, 1000), [false, false, false, false, true]), (range(1, 53), [true, true, false, false, false]),
-    (range(60, 50), [false; 5]),
+static RANGES: [(u16, u16, [bool; 5]); 7] = [
+    (0, 65535, [true, true, false, false, true]), (53, 53, [true, true, false, false, false]), (50, 52, [false; 5]), (54, 999, [false; 5]),
+    (54, 1000, [false, false, false, false, true]), (1, 53, [true, true, false, false, false]), (60, 50, [false; 5]),
 ];
 
 /// Stops the test unless the choice of the range of a row, and the choice without it, include the packets that the row says.
-fn expect_range(rt: &impl Abort, row: &(PortRange, [bool; 5])) {
+fn expect_range(rt: &impl Abort, row: &(u16, u16, [bool; 5])) {
     let mut places = [None; MAX_CHOSEN];
-    places[15] = Some(row.0);
-    let chosen = Choice { ports: Some(places), ..Choice::ALL };
-    let others = Choice { other_ports: Some(places), ..Choice::ALL };
-    for (packet, wanted) in five_packets(rt).iter().zip(&row.1) {
+    places[15] = Some(range(row.0, row.1));
+    let chosen = Choice {
+        ports: Some(places),
+        ..Choice::ALL
+    };
+    let others = Choice {
+        other_ports: Some(places),
+        ..Choice::ALL
+    };
+    let packets = five_packets(rt);
+    for (packet, wanted) in packets.iter().zip(&row.2) {
         expect_at(rt, row, &chosen.includes(packet), wanted);
         expect_at(rt, row, &others.includes(packet), &!*wanted);
     }
