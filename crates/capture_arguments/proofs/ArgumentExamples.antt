@@ -161,11 +161,11 @@ are_ports : AreRead ReadsRange (flat_map list_items (codes "53,80-90" ∷ [])) o
 are_ports = (
   λ none. absurd (cc none),
   (
-    (((omega arith, (omega arith, tt)), refl, omega arith), refl),
+    (((omega arith, (omega arith, (omega arith, tt))), refl, omega arith), refl),
     (
       (
-        ((omega arith, (omega arith, tt)), refl, omega arith),
-        (((omega arith, (omega arith, tt)), refl, omega arith), omega arith),
+        ((omega arith, (omega arith, (omega arith, tt))), refl, omega arith),
+        (((omega arith, (omega arith, (omega arith, tt))), refl, omega arith), omega arith),
       ),
       tt,
     ),
