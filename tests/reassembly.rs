@@ -61,6 +61,7 @@ fn expect_place(rt: &impl Abort, row: &(u8, u8, Option<(u16, bool)>)) {
         offset,
         more_fragments,
         payload: &packet[20..28],
+        header: &packet[..20],
     });
     expect_at(rt, row, &Fragment::of(&packet), &Ok(expected));
 }
@@ -90,6 +91,7 @@ fn a_fragment_over_ipv6_is_found_after_other_headers(rt: HostRuntime) {
         offset: 8,
         more_fragments: true,
         payload: &packet[56..],
+        header: &packet[..56],
     };
     expect_equal(&rt, &Fragment::of(&packet), &Ok(Some(expected)));
 }
@@ -153,6 +155,18 @@ static PAYLOAD: [u8; 20] = [
     1, 2, 3, 4, 5, 6, 7, 8, 9, 10, 11, 12, 13, 14, 15, 16, 17, 18, 19, 20,
 ];
 
+/// The header of the fragments over IPv4: its total length, flags and checksum are those of a fragment.
+#[rattlefmt::skip]
+static HEADER: [u8; 20] = [
+    0x45, 0, 0, 28, 0x1A, 0x2B, 0x20, 0, 64, 17, 0, 0, 10, 0, 0, 1, 10, 0, 0, 2,
+];
+
+/// The header of the whole packet, with the payload of 20 bytes.
+#[rattlefmt::skip]
+static WHOLE_HEADER: [u8; 20] = [
+    0x45, 0, 0, 40, 0x1A, 0x2B, 0, 0, 64, 17, 0x4C, 0x98, 10, 0, 0, 1, 10, 0, 0, 2,
+];
+
 /// A fragment of a packet over IPv4.
 fn fragment(offset: u16, more_fragments: bool, payload: &[u8]) -> Fragment<'_> {
     Fragment {
@@ -160,6 +174,7 @@ fn fragment(offset: u16, more_fragments: bool, payload: &[u8]) -> Fragment<'_> {
         offset,
         more_fragments,
         payload,
+        header: &HEADER,
     }
 }
 
@@ -173,7 +188,7 @@ fn expect_payload(rt: &impl Abort, order: &[usize; 4]) {
         fragment(8, true, &PAYLOAD[8..16]),
         fragment(16, false, &PAYLOAD[16..]),
     ];
-    let mut buffer = [0xFF; 24];
+    let mut buffer = [0xFF; 84];
     let mut reassembly = Reassembly::new(KEY_OVER_IPV4, &mut buffer);
     for index in &order[..3] {
         expect_at(
@@ -183,6 +198,7 @@ fn expect_payload(rt: &impl Abort, order: &[usize; 4]) {
             &Ok(Progress::Incomplete),
         );
         expect_at(rt, order, &reassembly.payload(), &None);
+        expect_at(rt, order, &reassembly.packet(), &None);
     }
     expect_at(
         rt,
@@ -191,6 +207,9 @@ fn expect_payload(rt: &impl Abort, order: &[usize; 4]) {
         &Ok(Progress::Complete),
     );
     expect_at(rt, order, &reassembly.payload(), &Some(PAYLOAD.as_slice()));
+    let packet = expect_some(rt, reassembly.packet());
+    expect_bytes(rt, &packet[..20], &WHOLE_HEADER);
+    expect_bytes(rt, &packet[20..], &PAYLOAD);
     expect_at(rt, order, &reassembly.key(), &KEY_OVER_IPV4);
 }
 
@@ -216,7 +235,7 @@ static REFUSED: [(u16, bool, usize, usize, ReassemblyError); 8] = [
 
 /// Stops the test unless the fragment of this row is refused, and nothing changes.
 fn expect_refused(rt: &impl Abort, row: &(u16, bool, usize, usize, ReassemblyError)) {
-    let mut buffer = [0; 24];
+    let mut buffer = [0; 84];
     let mut reassembly = Reassembly::new(KEY_OVER_IPV4, &mut buffer);
     expect_ok(rt, reassembly.add(&fragment(8, true, &PAYLOAD[8..16])));
     let refused = fragment(row.0, row.1, &PAYLOAD[row.2..row.3]);
@@ -235,7 +254,7 @@ fn fragments_that_do_not_fit_are_refused(rt: HostRuntime) {
 
 #[test]
 fn a_fragment_agrees_with_the_known_end(rt: HostRuntime) {
-    let mut buffer = [0; 24];
+    let mut buffer = [0; 84];
     let mut reassembly = Reassembly::new(KEY_OVER_IPV4, &mut buffer);
     expect_ok(&rt, reassembly.add(&fragment(8, false, &PAYLOAD[8..16])));
     let other_end = reassembly.add(&fragment(16, false, &PAYLOAD[16..]));
@@ -253,7 +272,7 @@ fn a_fragment_agrees_with_the_known_end(rt: HostRuntime) {
 
 #[test]
 fn as_many_fragments_as_fit_are_added(rt: HostRuntime) {
-    let mut buffer = [0; 1040];
+    let mut buffer = [0; 1100];
     let mut reassembly = Reassembly::new(KEY_OVER_IPV4, &mut buffer);
     for index in 0..MAX_FRAGMENTS {
         let offset = expect_ok(&rt, u16::try_from(index * 8));

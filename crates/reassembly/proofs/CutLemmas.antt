@@ -470,7 +470,7 @@ among_after x [] state there = there
 among_after x (first ∷ others) state there =
     among_after x others (with_fragment state first) (among_more x (piece_of first) state.pieces (is_among state.pieces (piece_of first)) there)
 
-arrived : (fragment : FragmentValue) (arrivals : List FragmentValue) (state : State) → IsOneOf arrivals fragment
+pub arrived : (fragment : FragmentValue) (arrivals : List FragmentValue) (state : State) → IsOneOf arrivals fragment
     → is_among (after state arrivals).pieces (piece_of fragment) ≡ true
 arrived fragment [] state is = absurd is
 arrived fragment (first ∷ others) state (inl is) =
@@ -479,7 +479,7 @@ arrived fragment (first ∷ others) state (inl is) =
     ∙ among_new (piece_of first) state.pieces (is_among state.pieces (piece_of first)) refl)
 arrived fragment (first ∷ others) state (inr is) = arrived fragment others (with_fragment state first) is
 
-one_from : (xs ys : List FragmentValue) (fragment : FragmentValue) → AreFrom xs ys → IsOneOf ys fragment → IsOneOf xs fragment
+pub one_from : (xs ys : List FragmentValue) (fragment : FragmentValue) → AreFrom xs ys → IsOneOf ys fragment → IsOneOf xs fragment
 one_from xs [] fragment from is = absurd is
 one_from xs (first ∷ others) fragment from (inl is) = subst (IsOneOf xs) (sym is) from.0
 one_from xs (first ∷ others) fragment from (inr is) = one_from xs others fragment from.1 is

@@ -4,5 +4,7 @@ pub mod FragmentHeaderLemmas
 pub mod FragmentLemmas
 pub mod KeptLemmas
 pub mod OnlySoLemmas
+pub mod PacketCutLemmas
+pub mod PacketLemmas
 pub mod PartLemmas
 pub mod WholeHeaderLemmas

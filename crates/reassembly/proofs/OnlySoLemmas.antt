@@ -183,12 +183,12 @@ apart_after (first ∷ others) state accepted apart =
     (apart_with state.pieces (piece_of first) (is_among state.pieces (piece_of first)) refl rules.2 apart)
 
 -- the key and the length of an arrival
-record IsOwn (key : FragmentKey) (fragment : FragmentValue) : Type 0 where
+pub record IsOwn (key : FragmentKey) (fragment : FragmentValue) : Type 0 where
   pub key_is : fragment.key ≡ key
   pub some : 0 < length fragment.bytes
   pub multiple : fragment.more_fragments ≡ true → length fragment.bytes % 8 ≡ 0
 
-own_by : (key : FragmentKey) (room : ℕ) (fragment : FragmentValue) → own_refusal key room fragment ≡ None → IsOwn key fragment
+pub own_by : (key : FragmentKey) (room : ℕ) (fragment : FragmentValue) → own_refusal key room fragment ≡ None → IsOwn key fragment
 own_by key room fragment none =
     let e : ℕ = end_of_fragment fragment in
     let rules = rules_none (not (is_same_key fragment.key key)) (length fragment.bytes == 0)

@@ -18,12 +18,14 @@ use Rattle.reassembly.specs.declared.fragment_key.FragmentKey.TheVariants as key
 
 -- ---- a fragment
 
--- the key of a fragment, the place of its first byte in the payload of its packet, whether more fragments come after it, and its bytes
+-- a fragment, wherever its bytes are stored: what all fragments of its packet have in common, the place of its first byte in the payload of
+-- the packet, whether more fragments come after it, its bytes, and the headers before them
 pub record FragmentValue : Type 0 where
   pub key : FragmentKey
   pub offset : ℕ
   pub more_fragments : Bool
   pub bytes : List ℕ
+  pub header : List ℕ
 
 -- the fragment, wherever its bytes are stored
 abbrev pub by_value : Fragment → FragmentValue
@@ -32,6 +34,7 @@ by_value fragment = record {
   offset = fragment.offset;
   more_fragments = fragment.more_fragments;
   bytes = fragment.payload.now;
+  header = fragment.header.now;
 }
 
 -- ---- IPv4
@@ -49,6 +52,7 @@ ipv4_fragment_by header packet = record {
   offset = ipv4_fragment_offset header * 8;
   more_fragments = flag header 6 0x20;
   bytes = drop (ipv4_header_len packet) packet;
+  header = header;
 }
 
 -- the fragment in an IPv4 packet without padding; `None` if the packet is not a fragment
@@ -84,21 +88,23 @@ abbrev pub ipv6_key : List ℕ → List ℕ → FragmentKey
 ipv6_key header fragment_header =
     keys.Ipv6 (slice_range header 8 24) (slice_range header 24 40) (be_number fragment_header 4 4)
 
--- The fragment in an IPv6 packet without padding. `header` is the IPv6 header, and `rest` begins with the fragment header. `None` if the
--- fragment is atomic (RFC 6946). The offset in the fragment header counts units of 8 bytes (RFC 8200, section 4.5).
-abbrev pub ipv6_fragment_by : List ℕ → List ℕ → Option FragmentValue
-ipv6_fragment_by header rest =
+-- The fragment in an IPv6 packet without padding. `header` is the IPv6 header, `headers` are the headers up to the fragment header, and
+-- `rest` begins with the fragment header. `None` for an atomic fragment (RFC 6946). The offset in the fragment header counts units of 8 bytes
+-- (RFC 8200, section 4.5).
+abbrev pub ipv6_fragment_by : List ℕ → List ℕ → List ℕ → Option FragmentValue
+ipv6_fragment_by header headers rest =
     if is_one_of_fragments fragment rest then Some (record {
       key = ipv6_key header rest;
       offset = fragment_offset rest * 8;
       more_fragments = flag rest 3 1;
       bytes = drop 8 rest;
+      header = headers;
     }) else None
 
 -- the fragment in a packet whose first fragment header is at this place; `None` if the packet has no fragment header
 abbrev pub ipv6_fragment_at : List ℕ → Option ℕ → Option FragmentValue
 ipv6_fragment_at packet None = None
-ipv6_fragment_at packet (Some place) = ipv6_fragment_by (take 40 packet) (drop place packet)
+ipv6_fragment_at packet (Some place) = ipv6_fragment_by (take 40 packet) (take (place + 8) packet) (drop place packet)
 
 -- the fragment in an IPv6 packet without padding; `None` if the packet is whole
 abbrev pub ipv6_fragment_in : List ℕ → Option FragmentValue

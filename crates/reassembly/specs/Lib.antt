@@ -5,6 +5,8 @@ pub use Rattle.net_base.specs.Refusals
 pub mod Cuts
 pub mod ErrorTexts
 pub mod Fragments
+pub mod PacketCuts
+pub mod Packets
 pub mod Parts
 pub mod Pieces
 pub mod Reassembly

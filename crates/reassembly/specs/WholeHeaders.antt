@@ -1,6 +1,8 @@
--- The IP header of a packet that was put together, as if it was never fragmented (RFC 791, section 3.2).
-use Rattle.std.specs.Prelude.{ℕ, bit_and, List, [], ◌∷◌, ◌++◌, drop, slice_index}
+-- The IP header of a packet that was put together from its fragments, as of a packet that was never fragmented (RFC 791, section 3.2).
+use Rattle.std.specs.Prelude.{◌≤◌, ℕ, ◌+◌, bit_and, List, [], ◌∷◌, ◌++◌, drop, slice_index}
 use Rattle.std.specs.Int.{to_be_bytes, w16}
+use Rattle.net_base.specs.IpHeaders.{BeginsWithIpv4Header, ipv4_header_len}
+use Rattle.ip_part.specs.Ip.{ipv4_header}
 use Rattle.word_sum.specs.Checksum.{checksum_of, total}
 
 -- The first ten bytes of an IPv4 header of a whole packet. `header` is the header of the first fragment. Its reserved flag and "don't
@@ -23,3 +25,13 @@ whole_ipv4_header header total_len =
 -- the longest IPv4 packet: the maximum of the total length field (RFC 791, section 3.1)
 abbrev pub max_total_len : ℕ
 max_total_len = 65535
+
+-- ---- the headers of a packet of either version
+
+-- these bytes begin with the headers of a first fragment, and a whole packet can have them and a payload of this length
+abbrev pub HasWholeHeader : List ℕ → ℕ → Type 0
+HasWholeHeader header payload_len = BeginsWithIpv4Header header × (ipv4_header_len header + payload_len ≤ max_total_len)
+
+-- the headers of the whole packet, by the headers of its first fragment and the length of its payload
+abbrev pub whole_header : List ℕ → ℕ → List ℕ
+whole_header header payload_len = whole_ipv4_header (ipv4_header header) (ipv4_header_len header + payload_len)

@@ -31,6 +31,8 @@ pub struct Fragment<'a> {
     pub more_fragments: bool,
     /// The bytes after the IPv4 header, or after the fragment header of IPv6, without padding.
     pub payload: &'a [u8],
+    /// The bytes before the payload: the IPv4 header, or the IPv6 header and all headers up to the fragment header.
+    pub header: &'a [u8],
 }
 
 impl<'a> Fragment<'a> {
@@ -79,6 +81,7 @@ fn fragment_over_ipv4(counted: &[u8]) -> Option<Fragment<'_>>
         offset: header.fragments_offset() * 8,
         more_fragments: header.more_fragments(),
         payload: &counted[header.slice().len()..],
+        header: header.slice(),
     })
 }
 
@@ -89,13 +92,21 @@ fn fragment_over_ipv6(counted: &[u8]) -> Option<Fragment<'_>>
 {
     let place = fragment_header_at(counted)?;
     let header = Ipv6HeaderSlice::from_slice(counted)?;
-    fragment_at(&header, &counted[place..])
+    fragment_at(
+        &header,
+        &counted[..place + FRAGMENT_HEADER_LEN],
+        &counted[place..],
+    )
 }
 
-/// The fragment of an IPv6 packet with this header. `rest` is the packet from its fragment header on.
-fn fragment_at<'a>(header: &Ipv6HeaderSlice<'_>, rest: &'a [u8]) -> Option<Fragment<'a>>
+/// The fragment of an IPv6 packet with this header, by the bytes up to its fragment header, and the bytes from its fragment header on.
+fn fragment_at<'a>(
+    header: &Ipv6HeaderSlice<'_>,
+    headers: &'a [u8],
+    rest: &'a [u8],
+) -> Option<Fragment<'a>>
     requires { 8 ≤ length rest.now }
-    ensures { option_map by_value result ≡ ipv6_fragment_by header.now rest.now }
+    ensures { option_map by_value result ≡ ipv6_fragment_by header.now headers.now rest.now }
 {
     let offset = fragment_offset(rest);
     let more_fragments = has_more_fragments(rest);
@@ -111,6 +122,7 @@ fn fragment_at<'a>(header: &Ipv6HeaderSlice<'_>, rest: &'a [u8]) -> Option<Fragm
         offset,
         more_fragments,
         payload: &rest[FRAGMENT_HEADER_LEN..],
+        header: headers,
     })
 }
 

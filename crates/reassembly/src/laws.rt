@@ -1,8 +1,11 @@
 //! Laws of the definitions. Each law is the contract of a function, so that it is checked with the calls.
 
-ghost use Rattle.std.specs.Prelude.{◌≤◌, List, ℕ, length};
+ghost use Rattle.std.specs.Prelude.{◌≡◌, ◌≤◌, ◌+◌, List, ℕ, length};
 ghost use Rattle.reassembly.specs.Cuts.{AreAccepted, AreFrom, IsCut, IsFragmentOf, IsOneOf, after};
 ghost use Rattle.reassembly.specs.Fragments.{FragmentValue};
+ghost use Rattle.reassembly.specs.PacketCuts.{AreAdded, IsIpv4Cut, after_arrivals};
+ghost use Rattle.reassembly.specs.Packets as packets;
+ghost use Rattle.reassembly.specs.Packets.{HasPacket, IsPacket, header_room};
 ghost use Rattle.reassembly.specs.Reassembly.{IsPayload, empty};
 ghost use Rattle.reassembly.specs.declared.fragment_key.FragmentKey.{FragmentKey};
 
@@ -22,4 +25,17 @@ pub fn fragments_agree_with_the_payload()
     ensures { (key : FragmentKey) (room : ℕ) (payload : List ℕ) (arrivals : List FragmentValue) (fragment : FragmentValue)
         → AreAccepted (empty key room) arrivals → IsPayload (after (empty key room) arrivals) payload → IsOneOf arrivals fragment
         → IsFragmentOf key payload fragment }
+{}
+
+/// Fragments that are cut from one IPv4 packet are accepted in any order and repeatedly, and give the packet back if all of them arrive.
+pub fn fragments_give_the_ipv4_packet_back()
+    ensures accepted { (key : FragmentKey) (len : ℕ) (packet : List ℕ) (fragments arrivals : List FragmentValue)
+        → IsIpv4Cut key packet fragments → header_room key + length packet ≤ len → length fragments ≤ 128
+        → AreFrom fragments arrivals → AreAdded (packets.empty key len) arrivals }
+    ensures there { (key : FragmentKey) (len : ℕ) (packet : List ℕ) (fragments arrivals : List FragmentValue)
+        → IsIpv4Cut key packet fragments → header_room key + length packet ≤ len → AreFrom fragments arrivals → AreFrom arrivals fragments
+        → HasPacket (after_arrivals (packets.empty key len) arrivals) }
+    ensures given_back { (key : FragmentKey) (len : ℕ) (packet result : List ℕ) (fragments arrivals : List FragmentValue)
+        → IsIpv4Cut key packet fragments → header_room key + length packet ≤ len → AreFrom fragments arrivals → AreFrom arrivals fragments
+        → IsPacket (after_arrivals (packets.empty key len) arrivals) result → result ≡ packet }
 {}

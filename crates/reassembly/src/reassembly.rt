@@ -1,14 +1,16 @@
-ghost use Rattle.std.specs.Prelude.{◌≡◌, ◌≤◌, ◌+◌, ◌↔◌, IfOk, IfSome, IsSome, OnErr, OnOk, Some, length};
+ghost use Rattle.std.specs.Prelude.{◌≡◌, ◌≤◌, ◌<◌, ◌+◌, ◌↔◌, IfOk, IfSome, IsSome, OnErr, OnOk, Some, drop, length};
 ghost use Rattle.std.specs.List.{All};
 ghost use Rattle.net_base.specs.Refusals.{RefusesExactly};
 ghost use Rattle.reassembly.specs.Fragments.{by_value};
+ghost use Rattle.reassembly.specs.Packets as packets;
 ghost use Rattle.reassembly.specs.Parts.{EndsWithin, Fits, part_reaches, pieces_in};
 ghost use Rattle.reassembly.specs.Pieces as pieces;
 ghost use Rattle.reassembly.specs.Reassembly as specs;
+ghost use Rattle.reassembly.specs.WholeHeaders.{HasWholeHeader, whole_header};
 ghost use borrow.Rule.Slice.PartMut.{put_mid};
 
 use crate::part::{Part, has_conflict, is_reached, is_repeated};
-use crate::{Fragment, FragmentKey, ReassemblyError};
+use crate::{Fragment, FragmentKey, MAX_IPV4_HEADER_LEN, ReassemblyError, whole_ipv4_header};
 use arrayvec::ArrayVec;
 use std::marker::Model;
 
@@ -20,7 +22,10 @@ const MAX_PAYLOAD_LEN: usize = 65_535;
 /// has 119 fragments.
 pub const MAX_FRAGMENTS: usize = 128;
 
-/// The length of each fragment except the last is a multiple of this number of bytes (RFC 791, section 3.2; RFC 8200, section 4.5).
+/// The room for the headers of an IPv6 packet up to the fragment header, in bytes.
+const IPV6_HEADER_ROOM: usize = 256;
+
+/// The multiple of bytes in each fragment but the last (RFC 791, section 3.2; RFC 8200, section 4.5).
 const UNIT: usize = 8;
 
 /// Whether the payload is complete.
@@ -32,7 +37,10 @@ pub enum Progress {
     Complete,
 }
 
-/// The payload of one packet that is put together from its fragments, in a buffer that the caller lends.
+/// One packet that is put together from its fragments, in a buffer that the caller lends.
+///
+/// The buffer has room for headers at its front, 60 bytes over IPv4 and 256 bytes over IPv6. The payload begins after this room, and the
+/// headers of the whole packet are written directly before the payload. Hence 65,595 bytes hold every IPv4 packet.
 #[derive(Drop)]
 pub struct Reassembly<'a> {
     key: FragmentKey,
@@ -42,30 +50,37 @@ pub struct Reassembly<'a> {
     received: usize,
     /// The length of the payload, or `None` if the last fragment did not arrive yet.
     end: Option<usize>,
+    /// The headers of the first fragment, if it arrived.
+    header: ArrayVec<u8, IPV6_HEADER_ROOM>,
+    /// The place of the whole packet in the buffer, if it is complete.
+    start: Option<usize>,
 }
 
 impl<'a> Model for Reassembly<'a> {
-    ghost use Rattle.std.specs.Prelude.{length};
-    ghost use Rattle.reassembly.specs.Parts.{AreKept, pieces_in};
-    ghost use Rattle.reassembly.specs.Reassembly.{State};
+    ghost use Rattle.std.specs.Prelude.{drop, length};
+    ghost use Rattle.reassembly.specs.Packets.{IsKept, PacketState, header_room};
+    ghost use Rattle.reassembly.specs.Parts.{pieces_in};
 
-    ghost Value = { State };
+    ghost Value = { PacketState };
 
     ghost view = { λ r. record {
-      key = r.key;
-      room = length r.buffer.now;
-      pieces = pieces_in r.buffer.now r.parts.items;
-      end = r.end;
+      len = length r.buffer.now;
+      header = r.header.items;
+      payload = record {
+        key = r.key;
+        room = length (drop (header_room r.key) r.buffer.now);
+        pieces = pieces_in (drop (header_room r.key) r.buffer.now) r.parts.items;
+        end = r.end;
+      };
     } };
 
-    ghost invariant = { λ r. AreKept r.buffer.now r.parts.items r.received r.end };
+    ghost invariant = { λ r. IsKept r.key r.buffer.now r.parts.items r.received r.end r.header.items r.start };
 }
 
 impl<'a> Reassembly<'a> {
-    /// Returns a reassembly of the packet with this key, before its first fragment. The payload is put together in `buffer`. 65,535 bytes
-    /// have room for every payload.
+    /// A reassembly of the packet with this key, to which no fragment was added. The buffer holds the payload after the room for headers.
     pub fn new(key: FragmentKey, buffer: &'a mut [u8]) -> Reassembly<'a>
-        ensures { result ≡ specs.empty key (length buffer.old) }
+        ensures { result ≡ packets.empty key (length buffer.old) }
     {
         Reassembly {
             key,
@@ -73,12 +88,26 @@ impl<'a> Reassembly<'a> {
             parts: ArrayVec::new(),
             received: 0,
             end: None,
+            header: ArrayVec::new(),
+            start: None,
         }
+    }
+
+    /// Gives up the fragments that were added, and begins with the packet with this key, in the same buffer.
+    pub fn restart(&mut self, key: FragmentKey)
+        ensures { self.new ≡ packets.empty key self.old.len }
+    {
+        self.key = key;
+        self.parts.clear();
+        self.received = 0;
+        self.end = None;
+        self.header.clear();
+        self.start = None;
     }
 
     /// The key of the packet.
     pub fn key(&self) -> FragmentKey
-        ensures { result ≡ self.now.key }
+        ensures { result ≡ self.now.payload.key }
     {
         self.key
     }
@@ -93,51 +122,87 @@ impl<'a> Reassembly<'a> {
     /// - `Empty` if the fragment has no payload.
     /// - `LengthNotMultipleOf8` if the fragment is not the last, and its length is no multiple of 8.
     /// - `TooLong` if the fragment ends beyond 65,535 bytes.
-    /// - `BufferTooSmall` if the fragment ends beyond the buffer.
-    /// - `OtherEnd` if two fragments are the last, and they end at different places.
-    /// - `BehindEnd` if a fragment that is not the last does not end before the end of the last.
-    /// - `Overlap` if the fragment overlaps another fragment, and does not repeat it (RFC 5722, section 3).
+    /// - `BufferTooSmall` if the fragment ends beyond the buffer, after its room for headers.
+    /// - `OtherEnd` if the fragment and another are the last, and end at different places.
+    /// - `BehindEnd` if a fragment that is not the last does not end before the last.
+    /// - `Overlap` if the fragment overlaps another, and does not repeat it (RFC 5722, section 3).
     /// - `TooManyFragments` if 128 other fragments were added.
     pub fn add(&mut self, fragment: &Fragment<'_>) -> Result<Progress, ReassemblyError>
-        ensures refused { RefusesExactly result (specs.refusal self.old (by_value fragment.now)) }
-        ensures added { OnOk result (self.new ≡ specs.with_fragment self.old (by_value fragment.now)) }
+        ensures refused { RefusesExactly result (specs.refusal self.old.payload (by_value fragment.now)) }
+        ensures added { OnOk result (self.new ≡ packets.with_fragment self.old (by_value fragment.now)) }
         ensures unchanged { OnErr result (self.new ≡ self.old) }
-        ensures progress { IfOk result (λ progress. (progress ≡ Progress.Complete) ↔ specs.IsComplete self.new) }
+        ensures progress { IfOk result (λ progress. (progress ≡ Progress.Complete) ↔ specs.IsComplete self.new.payload) }
     {
-        if self.is_repetition(fragment)? {
-            self.end = end_with(self.end, fragment);
+        let room = header_room(&self.key);
+        let is_repetition = self.is_repetition(fragment)?;
+        self.end = end_with(self.end, fragment);
+        if is_repetition {
+            self.start = write_front(self.buffer, room, &self.header, self.end, self.received);
             return Ok(progress_of(self.end, self.received));
         }
         let (offset, len) = (usize::from(fragment.offset), fragment.payload.len());
-        write(self.buffer, offset, fragment.payload);
+        write_payload(self.buffer, room, offset, fragment.payload);
         self.parts.push(Part { offset, len });
         self.received += len;
-        self.end = end_with(self.end, fragment);
+        keep_header(&mut self.header, room, fragment);
+        self.start = write_front(self.buffer, room, &self.header, self.end, self.received);
         Ok(progress_of(self.end, self.received))
     }
 
     /// Whether a fragment repeats another fragment. The errors are those of `add`.
     fn is_repetition(&self, fragment: &Fragment<'_>) -> Result<bool, ReassemblyError>
-        ensures refused { RefusesExactly result (specs.refusal self.now (by_value fragment.now)) }
-        ensures repeated { IfOk result (λ is. is ≡ pieces.is_among self.now.pieces (specs.piece_of (by_value fragment.now))) }
+        ensures refused { RefusesExactly result (specs.refusal self.now.payload (by_value fragment.now)) }
+        ensures repeated { IfOk result (λ is. is ≡ pieces.is_among self.now.payload.pieces (specs.piece_of (by_value fragment.now))) }
     {
-        check_fragment(&self.key, self.buffer.len(), fragment)?;
+        let payload = after_room(self.buffer, header_room(&self.key));
+        check_fragment(&self.key, payload.len(), fragment)?;
         check_end(self.end, self.parts.as_slice(), fragment)?;
         let offset = usize::from(fragment.offset);
-        check_piece(self.buffer, self.parts.as_slice(), offset, fragment.payload)
+        check_piece(payload, self.parts.as_slice(), offset, fragment.payload)
     }
 
     /// The payload of the packet, or `None` if it is not complete.
     pub fn payload(&self) -> Option<&[u8]>
-        ensures found { IsSome result ↔ specs.IsComplete self.now }
-        ensures bytes { IfSome result (λ bytes. specs.IsPayload self.now bytes.now) }
+        ensures found { IsSome result ↔ specs.IsComplete self.now.payload }
+        ensures bytes { IfSome result (λ bytes. specs.IsPayload self.now.payload bytes.now) }
     {
         let len = self.end?;
         if self.received != len {
             return None;
         }
-        Some(&self.buffer[..len])
+        Some(&after_room(self.buffer, header_room(&self.key))[..len])
     }
+
+    /// The whole packet, if its payload is complete: the headers of the first fragment, as of a packet that was never fragmented, and the
+    /// payload. `None` also if the first fragment begins with no IPv4 header, or if header and payload have more than 65,535 bytes.
+    pub fn packet(&self) -> Option<&[u8]>
+        ensures found { IsSome result ↔ packets.HasPacket self.now }
+        ensures bytes { IfSome result (λ packet. packets.IsPacket self.now packet.now) }
+    {
+        let start = self.start?;
+        Some(&self.buffer[start..header_room(&self.key) + self.received])
+    }
+}
+
+/// The length of the room for headers at the front of the buffer, in bytes.
+fn header_room(key: &FragmentKey) -> usize
+    ensures room { result ≡ packets.header_room key.now }
+    ensures most { result ≤ 256 }
+{
+    match key {
+        FragmentKey::Ipv4 { .. } => MAX_IPV4_HEADER_LEN,
+        FragmentKey::Ipv6 { .. } => IPV6_HEADER_ROOM,
+    }
+}
+
+/// The part of the buffer for the payload. It is empty if the buffer is shorter than the room for headers.
+fn after_room(buffer: &[u8], room: usize) -> &[u8]
+    ensures { result.now ≡ drop room buffer.now }
+{
+    if buffer.len() < room {
+        return &[];
+    }
+    &buffer[room..]
 }
 
 /// Refuses a fragment that can't be part of the packet with this key, or that does not fit in a buffer of this length.
@@ -235,7 +300,64 @@ fn write(buffer: &mut [u8], offset: usize, bytes: &[u8])
     buffer[offset..offset + bytes.len()].copy_from_slice(bytes);
 }
 
-/// The length of the payload after this fragment, or `None` if the last fragment did not arrive yet.
+/// Writes bytes at this place of the payload.
+fn write_payload(buffer: &mut [u8], room: usize, offset: usize, bytes: &[u8])
+    requires { room + offset + length bytes.now ≤ length buffer.old }
+    ensures { drop room buffer.new ≡ put_mid offset (length bytes.now) (drop room buffer.old) bytes.now }
+{
+    write(buffer, room + offset, bytes);
+}
+
+/// Keeps the headers of a fragment if it is the first fragment, and if they are not longer than this room.
+fn keep_header(header: &mut ArrayVec<u8, IPV6_HEADER_ROOM>, room: usize, fragment: &Fragment<'_>)
+    requires { room ≤ 256 }
+    ensures { header.new.items ≡ packets.header_of header.old.items room (by_value fragment.now) }
+{
+    if fragment.offset != 0 {
+        return;
+    }
+    header.clear();
+    if fragment.header.len() <= room {
+        header.try_extend_from_slice(fragment.header).unwrap();
+    }
+}
+
+/// Writes the headers of the whole packet before its payload, if the payload is complete. Returns the place of the packet.
+fn write_front(
+    buffer: &mut [u8],
+    room: usize,
+    header: &ArrayVec<u8, IPV6_HEADER_ROOM>,
+    end: Option<usize>,
+    received: usize,
+) -> Option<usize>
+    requires fits { length header.now.items ≤ room }
+    requires long { end ≡ Some received → room ≤ length buffer.old }
+    ensures payload { drop room buffer.new ≡ drop room buffer.old }
+    ensures written { packets.IsFront room buffer.new header.now.items end received result }
+{
+    let front = front_of(header.as_slice(), end, received)?;
+    let start = room - front.len();
+    write(buffer, start, front.as_slice());
+    Some(start)
+}
+
+/// The headers of the whole packet, if the payload is complete.
+fn front_of(
+    header: &[u8],
+    end: Option<usize>,
+    received: usize,
+) -> Option<ArrayVec<u8, MAX_IPV4_HEADER_LEN>>
+    ensures found { IsSome result ↔ ((end ≡ Some received) × HasWholeHeader header.now received) }
+    ensures written { IfSome result (λ front. front.items ≡ whole_header header.now received) }
+    ensures len { IfSome result (λ front. length front.items ≤ length header.now) }
+{
+    if end != Some(received) {
+        return None;
+    }
+    whole_ipv4_header(header, u16::try_from(received).ok()?)
+}
+
+/// The known length of the payload after this fragment.
 fn end_with(end: Option<usize>, fragment: &Fragment<'_>) -> Option<usize>
     ensures { result ≡ specs.end_with end (by_value fragment.now) }
 {

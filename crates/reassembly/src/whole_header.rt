@@ -24,6 +24,7 @@ pub fn whole_ipv4_header(
     ensures found { IsSome result ↔ (BeginsWithIpv4Header first_fragment.now × (ipv4_header_len first_fragment.now + payload_len ≤ specs.max_total_len)) }
     ensures written { IfSome result (λ header. header.items
         ≡ specs.whole_ipv4_header (ipv4_header first_fragment.now) (ipv4_header_len first_fragment.now + payload_len)) }
+    ensures len { IfSome result (λ header. length header.items ≡ ipv4_header_len first_fragment.now) }
     ensures verifies { IfSome result (λ header. Verifies [] header.items) }
 {
     let header = ipv4_header_of(first_fragment)?;

@@ -1,88 +1,109 @@
-use Rattle.std.proofs.Common.{◌≡◌, ◌+◌, None, false, length, sym, ◌∙◌, ap, subst, arith, rules}
-use Rattle.reassembly.proofs.KeptLemmas.{accepted_by, added_is, by_complete, complete_by, end_by_parts, kept_repeated, new_piece, own_fits, received_most, written}
+use Rattle.std.proofs.Common.{◌≡◌, ◌+◌, None, false, drop, length, sym, ◌∙◌, ap, subst, arith, rules}
+use Rattle.reassembly.proofs.KeptLemmas.{accepted_by, by_complete, complete_by, new_piece, own_fits, received_most}
+use Rattle.reassembly.proofs.PacketLemmas.{IsAccepted, packet_kept, packet_repeated, packet_written, payload_state, state_added, write_fits}
 use Rattle.reassembly.specs.Fragments.{FragmentValue, by_value}
-use Rattle.reassembly.specs.Parts.{AreKept, pieces_in}
+use Rattle.reassembly.specs.Packets.{PacketState, header_room}
+use Rattle.reassembly.specs.Parts.{pieces_in}
 use Rattle.reassembly.specs.Pieces.{is_among}
-use Rattle.reassembly.specs.Reassembly.{State, piece_of, refusal}
+use Rattle.reassembly.specs.Reassembly.{piece_of, refusal}
 use Rattle.reassembly.proofs.reassembly.Reassembly.add.Goals as goal
 
 pub invariant_of-self : goal.invariant_of-self
 invariant_of-self c =
     let r = c.self.inside in
     let fragment : FragmentValue = by_value c.args.fragment.now in
-    let state : State = record { key = r.key; room = length r.buffer.now; pieces = pieces_in r.buffer.now r.parts.items; end = r.end } in
-    let accepted : refusal state fragment ≡ None = ap (λ state. refusal state fragment) c.self.view_is ∙ c.in_ok-is_repetition.ensures.refused in
-    let rule = accepted_by state fragment accepted in
-    subst (λ end. AreKept r.buffer.now r.parts.items r.received end) (sym c.end_with-self-inside.ensures)
-    (kept_repeated r.buffer.now r.parts.items r.received r.end fragment c.self.invariant
-    (end_by_parts r.buffer.now r.parts.items r.end fragment c.self.invariant.fit rule.1))
+    let accepted : IsAccepted r.key r.buffer.now r.parts.items r.end fragment =
+    ap (λ (state : PacketState). refusal state.payload fragment) c.self.view_is ∙ c.in_ok-is_repetition.ensures.refused in
+    packet_repeated r.key r.buffer.now c.write_front-self-inside.new.buffer r.parts.items r.received c.header_room-room.result r.end
+    c.end_with-self-inside.result r.header.items r.start c.write_front-self-inside.result fragment c.self.invariant accepted
+    c.end_with-self-inside.ensures c.header_room-room.ensures.room c.write_front-self-inside.ensures.payload c.write_front-self-inside.ensures.written
 
-pub returns-then-branch-clause-progress : goal.returns-then-branch-clause-progress
-returns-then-branch-clause-progress c =
+pub returns-then-is_repetition-clause-progress : goal.returns-then-is_repetition-clause-progress
+returns-then-is_repetition-clause-progress c =
     let r = c.self.inside in
-    let kept = invariant_of-self c in (
-      λ is. complete_by r.buffer.now r.parts.items r.received c.end_with-self-inside.result r.key (length r.buffer.now) kept (c.progress_of.ensures.0 is),
+    let buffer = drop (header_room r.key) c.write_front-self-inside.new.buffer in
+    let kept = (invariant_of-self c).payload in (
+      λ is. complete_by buffer r.parts.items r.received c.end_with-self-inside.result r.key (length buffer) kept (c.progress_of.ensures.0 is),
       λ complete. c.progress_of.ensures.1
-          (by_complete r.buffer.now r.parts.items r.received c.end_with-self-inside.result r.key (length r.buffer.now) kept complete),
+          (by_complete buffer r.parts.items r.received c.end_with-self-inside.result r.key (length buffer) kept complete),
     )
+
+pub write_payload-requires : goal.write_payload-requires
+write_payload-requires c =
+    let r = c.self.inside in
+    let fragment : FragmentValue = by_value c.args.fragment.now in
+    let accepted : IsAccepted r.key r.buffer.now r.parts.items r.end fragment =
+    ap (λ (state : PacketState). refusal state.payload fragment) c.self.view_is ∙ c.in_ok-is_repetition.ensures.refused in
+    let offset_is : c.from-offset.result ≡ c.args.fragment.now.offset = search rules in
+    write_fits r.key r.buffer.now r.parts.items r.end fragment c.header_room-room.result c.from-offset.result accepted c.header_room-room.ensures.room
+    offset_is
 
 pub push-requires : goal.push-requires
 push-requires c =
     let r = c.self.inside in
     let fragment : FragmentValue = by_value c.args.fragment.now in
-    let state : State = record { key = r.key; room = length r.buffer.now; pieces = pieces_in r.buffer.now r.parts.items; end = r.end } in
-    let accepted : refusal state fragment ≡ None = ap (λ state. refusal state fragment) c.self.view_is ∙ c.in_ok-is_repetition.ensures.refused in
-    let among : is_among (pieces_in r.buffer.now r.parts.items) (piece_of fragment) ≡ false =
-    ap (λ state. is_among state.pieces (piece_of fragment)) c.self.view_is ∙ sym c.in_ok-is_repetition.ensures.repeated ∙ c.if-branch.false in
-    let rule = accepted_by state fragment accepted in
-    (omega arith, (new_piece r.buffer.now r.parts.items (piece_of fragment) rule.2 among).1)
+    let accepted : IsAccepted r.key r.buffer.now r.parts.items r.end fragment =
+    ap (λ (state : PacketState). refusal state.payload fragment) c.self.view_is ∙ c.in_ok-is_repetition.ensures.refused in
+    let among : is_among (pieces_in (drop (header_room r.key) r.buffer.now) r.parts.items) (piece_of fragment) ≡ false =
+    ap (λ (state : PacketState). is_among state.payload.pieces (piece_of fragment)) c.self.view_is ∙ sym c.in_ok-is_repetition.ensures.repeated
+    ∙ c.if-is_repetition.false in
+    let rule = accepted_by (payload_state r.key r.buffer.now r.parts.items r.end) fragment accepted in
+    (omega arith, (new_piece (drop (header_room r.key) r.buffer.now) r.parts.items (piece_of fragment) rule.2 among).1)
 
 pub overflow_add-self : goal.overflow_add-self
 overflow_add-self c =
     let r = c.self.inside in
     let fragment : FragmentValue = by_value c.args.fragment.now in
-    let state : State = record { key = r.key; room = length r.buffer.now; pieces = pieces_in r.buffer.now r.parts.items; end = r.end } in
-    let accepted : refusal state fragment ≡ None = ap (λ state. refusal state fragment) c.self.view_is ∙ c.in_ok-is_repetition.ensures.refused in
-    let rule = accepted_by state fragment accepted in
-    let fits = own_fits r.key (length r.buffer.now) fragment rule.0 in
-    omega (arith, received_most r.buffer.now r.parts.items r.received r.end c.self.invariant, fits.0)
+    let accepted : IsAccepted r.key r.buffer.now r.parts.items r.end fragment =
+    ap (λ (state : PacketState). refusal state.payload fragment) c.self.view_is ∙ c.in_ok-is_repetition.ensures.refused in
+    let rule = accepted_by (payload_state r.key r.buffer.now r.parts.items r.end) fragment accepted in
+    let fits = own_fits r.key (length (drop (header_room r.key) r.buffer.now)) fragment rule.0 in
+    omega (arith, received_most (drop (header_room r.key) r.buffer.now) r.parts.items r.received r.end c.self.invariant.payload, fits.0)
 
 pub invariant_of-self-2 : goal.invariant_of-self-2
 invariant_of-self-2 c =
     let r = c.self.inside in
     let fragment : FragmentValue = by_value c.args.fragment.now in
-    let state : State = record { key = r.key; room = length r.buffer.now; pieces = pieces_in r.buffer.now r.parts.items; end = r.end } in
-    let accepted : refusal state fragment ≡ None = ap (λ state. refusal state fragment) c.self.view_is ∙ c.in_ok-is_repetition.ensures.refused in
-    let among : is_among (pieces_in r.buffer.now r.parts.items) (piece_of fragment) ≡ false =
-    ap (λ state. is_among state.pieces (piece_of fragment)) c.self.view_is ∙ sym c.in_ok-is_repetition.ensures.repeated ∙ c.if-branch.false in
+    let accepted : IsAccepted r.key r.buffer.now r.parts.items r.end fragment =
+    ap (λ (state : PacketState). refusal state.payload fragment) c.self.view_is ∙ c.in_ok-is_repetition.ensures.refused in
+    let among : is_among (pieces_in (drop (header_room r.key) r.buffer.now) r.parts.items) (piece_of fragment) ≡ false =
+    ap (λ (state : PacketState). is_among state.payload.pieces (piece_of fragment)) c.self.view_is ∙ sym c.in_ok-is_repetition.ensures.repeated
+    ∙ c.if-is_repetition.false in
     let offset_is : c.from-offset.result ≡ c.args.fragment.now.offset = search rules in
-    (written r.key r.buffer.now c.write.new.buffer r.parts.items c.push.new.self.items r.received c.from-offset.result r.end
-    c.end_with-self-inside-2.result fragment c.self.invariant accepted among offset_is c.write.ensures c.push.ensures.items
-    c.end_with-self-inside-2.ensures).kept
+    let written = packet_written r.key r.buffer.now c.write_payload.new.buffer r.parts.items c.push.new.self.items r.received c.from-offset.result
+    c.header_room-room.result r.end c.end_with-self-inside.result r.header.items r.start fragment c.self.invariant accepted among offset_is
+    c.push.ensures.items c.end_with-self-inside.ensures c.header_room-room.ensures.room c.write_payload.ensures in
+    packet_kept r.key r.buffer.now c.write_payload.new.buffer c.write_front-self-inside-2.new.buffer r.parts.items c.push.new.self.items r.received
+    c.header_room-room.result r.end c.end_with-self-inside.result r.header.items c.keep_header.new.header.items r.start
+    c.write_front-self-inside-2.result fragment c.self.invariant accepted written c.end_with-self-inside.ensures c.keep_header.ensures
+    c.header_room-room.ensures.room c.write_front-self-inside-2.ensures.payload c.write_front-self-inside-2.ensures.written
 
 pub returns-clause-added : goal.returns-clause-added
 returns-clause-added c =
     let r = c.self.inside in
     let fragment : FragmentValue = by_value c.args.fragment.now in
-    let state : State = record { key = r.key; room = length r.buffer.now; pieces = pieces_in r.buffer.now r.parts.items; end = r.end } in
-    let accepted : refusal state fragment ≡ None = ap (λ state. refusal state fragment) c.self.view_is ∙ c.in_ok-is_repetition.ensures.refused in
-    let among : is_among (pieces_in r.buffer.now r.parts.items) (piece_of fragment) ≡ false =
-    ap (λ state. is_among state.pieces (piece_of fragment)) c.self.view_is ∙ sym c.in_ok-is_repetition.ensures.repeated ∙ c.if-branch.false in
+    let accepted : IsAccepted r.key r.buffer.now r.parts.items r.end fragment =
+    ap (λ (state : PacketState). refusal state.payload fragment) c.self.view_is ∙ c.in_ok-is_repetition.ensures.refused in
+    let among : is_among (pieces_in (drop (header_room r.key) r.buffer.now) r.parts.items) (piece_of fragment) ≡ false =
+    ap (λ (state : PacketState). is_among state.payload.pieces (piece_of fragment)) c.self.view_is ∙ sym c.in_ok-is_repetition.ensures.repeated
+    ∙ c.if-is_repetition.false in
     let offset_is : c.from-offset.result ≡ c.args.fragment.now.offset = search rules in
-    let is = written r.key r.buffer.now c.write.new.buffer r.parts.items c.push.new.self.items r.received c.from-offset.result r.end
-    c.end_with-self-inside-2.result fragment c.self.invariant accepted among offset_is c.write.ensures c.push.ensures.items
-    c.end_with-self-inside-2.ensures in
-    added_is c.args.self.now r.key (length r.buffer.now) (length c.write.new.buffer) (pieces_in r.buffer.now r.parts.items)
-    (pieces_in c.write.new.buffer c.push.new.self.items) r.end c.end_with-self-inside-2.result fragment c.self.view_is among is.room is.pieces
-    c.end_with-self-inside-2.ensures
+    let written = packet_written r.key r.buffer.now c.write_payload.new.buffer r.parts.items c.push.new.self.items r.received c.from-offset.result
+    c.header_room-room.result r.end c.end_with-self-inside.result r.header.items r.start fragment c.self.invariant accepted among offset_is
+    c.push.ensures.items c.end_with-self-inside.ensures c.header_room-room.ensures.room c.write_payload.ensures in
+    state_added c.args.self.now r.key r.buffer.now c.write_payload.new.buffer c.write_front-self-inside-2.new.buffer r.parts.items
+    c.push.new.self.items r.received c.header_room-room.result r.end c.end_with-self-inside.result r.header.items c.keep_header.new.header.items fragment
+    c.self.view_is among (c.write_front-self-inside-2.auto.buffer ∙ c.write_payload.auto.buffer) written c.end_with-self-inside.ensures
+    c.keep_header.ensures c.header_room-room.ensures.room c.write_front-self-inside-2.ensures.payload
 
 pub returns-clause-progress : goal.returns-clause-progress
 returns-clause-progress c =
     let r = c.self.inside in
-    let kept = invariant_of-self-2 c in (
-      λ is. complete_by c.write.new.buffer c.push.new.self.items (r.received + length c.args.fragment.now.payload.now) c.end_with-self-inside-2.result r.key
-          (length c.write.new.buffer) kept (c.progress_of-2.ensures.0 is),
+    let buffer = drop (header_room r.key) c.write_front-self-inside-2.new.buffer in
+    let kept = (invariant_of-self-2 c).payload in (
+      λ is. complete_by buffer c.push.new.self.items (r.received + length c.args.fragment.now.payload.now) c.end_with-self-inside.result r.key
+          (length buffer) kept (c.progress_of-2.ensures.0 is),
       λ complete. c.progress_of-2.ensures.1
-          (by_complete c.write.new.buffer c.push.new.self.items (r.received + length c.args.fragment.now.payload.now) c.end_with-self-inside-2.result r.key
-          (length c.write.new.buffer) kept complete),
+          (by_complete buffer c.push.new.self.items (r.received + length c.args.fragment.now.payload.now) c.end_with-self-inside.result r.key
+          (length buffer) kept complete),
     )
