@@ -5,7 +5,7 @@ use ip_part::IpError;
 use net_base::ip_number;
 use reassembly::{
     Fragment, FragmentError, FragmentKey, MAX_FRAGMENTS, Progress, Reassembly, ReassemblyError,
-    ipv6_fragment_header, whole_ipv4_header,
+    ipv6_fragment_header, whole_ipv4_header, whole_ipv6_header,
 };
 use std::process::Abort;
 
@@ -313,4 +313,36 @@ fn a_whole_header_has_no_mark_of_a_fragment(rt: HostRuntime) {
     let too_long = whole_ipv4_header(&over_ipv4(0x20, 0), 65_516);
     expect_equal(&rt, &too_long.is_none(), &true);
     expect_equal(&rt, &whole_ipv4_header(&[0x60; 20], 16).is_none(), &true);
+}
+
+/// The fragment over IPv6 with these bytes 2 and 3 of its fragment header, added to a reassembly.
+fn add_over_ipv6(rt: &impl Abort, reassembly: &mut Reassembly<'_>, place: [u8; 2]) -> Progress {
+    let packet = over_ipv6(place);
+    let fragment = expect_some(rt, expect_ok(rt, Fragment::of(&packet)));
+    expect_ok(rt, reassembly.add(&fragment))
+}
+
+#[test]
+fn fragments_over_ipv6_give_the_packet_back(rt: HostRuntime) {
+    let mut buffer = [0xFF; 272];
+    let mut reassembly = Reassembly::new(KEY_OVER_IPV6, &mut buffer);
+    expect_equal(&rt, &add_over_ipv6(&rt, &mut reassembly, [0, 8]), &Progress::Incomplete);
+    expect_equal(&rt, &reassembly.packet(), &None);
+    expect_equal(&rt, &add_over_ipv6(&rt, &mut reassembly, [0, 1]), &Progress::Complete);
+    let packet = expect_some(&rt, reassembly.packet());
+    expect_equal(&rt, &packet.len(), &64);
+    expect_bytes(&rt, &packet[..8], &[0x60, 0, 0, 0, 0, 24, 0, 64]);
+    expect_bytes(&rt, &packet[40..48], &[17, 0, 1, 4, 0, 0, 0, 0]);
+    expect_bytes(&rt, &packet[48..56], &[0, 21, 4, 0xD2, 0, 16, 0, 0]);
+    expect_bytes(&rt, &packet[56..], &[0, 21, 4, 0xD2, 0, 16, 0, 0]);
+}
+
+#[test]
+fn headers_of_ipv6_are_those_before_the_fragment_header(rt: HostRuntime) {
+    let header = expect_some(&rt, whole_ipv6_header(&over_ipv6([0, 1]), 65_527));
+    expect_bytes(&rt, &header.as_slice()[4..8], &[0xFF, 0xFF, 0, 64]);
+    expect_bytes(&rt, &header.as_slice()[40..], &[17, 0, 1, 4, 0, 0, 0, 0]);
+    let too_long = whole_ipv6_header(&over_ipv6([0, 1]), 65_528);
+    expect_equal(&rt, &too_long.is_none(), &true);
+    expect_equal(&rt, &whole_ipv6_header(&over_ipv4(0, 0), 8).is_none(), &true);
 }

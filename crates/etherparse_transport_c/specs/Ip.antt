@@ -13,7 +13,7 @@ use Rattle.ip_part.specs.declared.ip_error.IpError.{IpError}
 use Rattle.ip_part.specs.declared.transport.TransportInIp.{TransportInIp}
 use Rattle.net_base.specs.Bytes.{be_number, flag}
 use Rattle.net_base.specs.IpHeaders.{ipv4_fragment_offset, version}
-use Rattle.reassembly.specs.Fragments.{fragment_header_in}
+use Rattle.reassembly.specs.Fragments.{fragment_header_bytes}
 use Rattle.etherparse_transport_c.specs.Errors.{of_ip}
 use Rattle.etherparse_transport_c.specs.declared.error.EtherparseError.{EtherparseError}
 use Rattle.etherparse_transport_c.specs.declared.ip.EtherparseIpTransport.{EtherparseIpTransport}
@@ -74,8 +74,8 @@ in_fragment_header number (Some header) = number header
 -- the fields of an IPv6 header (RFC 8200, section 3), and of the first fragment header after it (RFC 8200, section 4.5)
 abbrev pub ipv6_fields : List ℕ → HeaderFields
 ipv6_fields packet = record {
-  fragment_offset = in_fragment_header (λ header. fragment_offset header * 8) (fragment_header_in packet);
-  identification = in_fragment_header (λ header. be_number header 4 4) (fragment_header_in packet);
+  fragment_offset = in_fragment_header (λ header. fragment_offset header * 8) (fragment_header_bytes packet);
+  identification = in_fragment_header (λ header. be_number header 4 4) (fragment_header_bytes packet);
   dont_fragment = 0;
   traffic_class = be_number packet 0 2 / 16 % 256;
 }

@@ -8,3 +8,4 @@ pub mod PacketCutLemmas
 pub mod PacketLemmas
 pub mod PartLemmas
 pub mod WholeHeaderLemmas
+mod WorkedExamples

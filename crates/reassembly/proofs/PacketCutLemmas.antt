@@ -1,21 +1,23 @@
 -- Laws of fragments that are cut from one IPv4 packet: in any order, and repeatedly, they are accepted, and give the packet back.
-use Rattle.std.proofs.Common.{◌≡◌, ℕ, ◌+◌, ◌-◌, ◌*◌, ◌%◌, ◌<◌, ◌≤◌, inl, inr, nat_le, ◌==◌, Bool, true, false, not, ◌||◌, if◌then◌else◌, List, [], ◌∷◌, ◌++◌, length, length-append, take, drop, bit_and, slice_index, Option, Some, None, is_some, unwrap_or, refl, sym, ◌∙◌, ap, subst, arith}
+use Rattle.std.proofs.Common.{◌≡◌, ℕ, ◌+◌, ◌-◌, ◌*◌, ◌%◌, ◌<◌, ◌≤◌, inl, inr, nat_le, ◌==◌, Bool, true, false, not, ◌||◌, if◌then◌else◌, List, [], ◌∷◌, ◌++◌, length, length-append, take, drop, bit_and, slice_index, slice_set, Some, is_some, unwrap_or, refl, sym, ◌∙◌, ap, subst, arith}
 use Rattle.std.proofs.lemmas.Bool.Decides.{nat_tests}
 use Rattle.std.proofs.lemmas.List.{ext_get_or, take_all}
 use Rattle.std.specs.Int.{to_be_bytes, w16}
-use Rattle.net_base.specs.IpHeaders.{ipv4_header_len}
+use Rattle.net_base.specs.IpHeaders.{ipv4_header_len, version}
 use Rattle.ip_part.specs.Ip.{ipv4_header}
 use Rattle.word_sum.specs.Checksum.{checksum_of, total}
-use Rattle.reassembly.proofs.CutLemmas.{accepted, arrived, given_back, is_number, one_from, parts_of_and, placed}
+use Rattle.reassembly.proofs.CutLemmas.{accepted, arrived, given_back, is_number, parts_of_and, placed}
+use Rattle.reassembly.proofs.FragmentLemmas.{equal_four}
 use Rattle.reassembly.proofs.PartLemmas.{any_append}
-use Rattle.reassembly.specs.Cuts.{AreAccepted, AreFrom, IsCut, IsCutFrom, IsOneOf, after}
-use Rattle.reassembly.specs.Fragments.{FragmentValue}
-use Rattle.reassembly.specs.PacketCuts.{AreAdded, BeginWithHeader, IsFirstHeader, IsIpv4Cut, after_arrivals}
-use Rattle.reassembly.specs.Packets.{HasPacket, IsPacket, PacketState, empty, header_of, header_room, header_with, with_fragment}
+use Rattle.reassembly.specs.Cuts.{AreAccepted, AreFrom, IsCut, IsOneOf, after}
+use Rattle.reassembly.specs.Fragments.{FragmentValue, fragment_header_in}
+use Rattle.reassembly.specs.PacketCuts.{AreAdded, IsFirstHeader, IsFirstIpv6Header, IsIpv4Cut, IsIpv6Cut, after_arrivals}
+use Rattle.reassembly.specs.Packets.{HasPacket, IsPacket, PacketState, empty, header_room, with_fragment}
 use Rattle.reassembly.specs.Pieces.{Piece, is_among, is_same}
 use Rattle.reassembly.specs.Reassembly as payloads
-use Rattle.reassembly.specs.Reassembly.{IsComplete, IsPayload, State, piece_of, pieces_with}
-use Rattle.reassembly.specs.WholeHeaders.{HasWholeHeader, ipv4_front, ipv4_with_checksum, whole_header, whole_ipv4_header}
+use Rattle.reassembly.specs.Reassembly.{IsComplete, IsPayload, State, piece_of}
+use Rattle.reassembly.specs.WholeHeaders.{HasWholeHeader, ipv4_front, ipv6_header_by, whole_header, whole_ipv4_header, whole_ipv6_header}
+use Rattle.reassembly.specs.declared.fragment_header.FragmentPlace.{FragmentPlace}
 use Rattle.reassembly.specs.declared.fragment_key.FragmentKey.{FragmentKey}
 use Rattle.reassembly.specs.declared.fragment_key.FragmentKey.TheVariants.{Ipv4, Ipv6}
 
@@ -121,16 +123,15 @@ room_for_ipv4 (Ipv6 source destination identification) = omega arith
 
 -- the first fragment's header is the kept header, once it has arrived
 pub header_after : (key : FragmentKey) (len : ℕ) (payload : List ℕ) (first : FragmentValue) (others arrivals : List FragmentValue)
-    → IsCut key payload (first ∷ others) → length first.header ≤ 60 → AreFrom (first ∷ others) arrivals → AreFrom arrivals (first ∷ others)
+    → IsCut key payload (first ∷ others) → length first.header ≤ header_room key → AreFrom (first ∷ others) arrivals → AreFrom arrivals (first ∷ others)
     → (after_arrivals (empty key len) arrivals).header ≡ first.header
 header_after key len payload first others arrivals cut short from all =
     let state : State = payloads.empty key (len - header_room key) in
     let there : is_among (after state arrivals).pieces (piece_of first) ≡ true = arrived first arrivals state all.0 in
     let kept : is_among (after_arrivals (empty key len) arrivals).payload.pieces (piece_of first) ≡ true =
     ap (λ s. is_among s.pieces (piece_of first)) (payload_after arrivals (empty key len)) ∙ there in
-    let room : 60 ≤ header_room key = room_for_ipv4 key in
     keeps_after first (first ∷ others) arrivals (empty key len) (first_start key payload first others cut)
-    (only_first key payload first others cut) from (omega (arith, short, room)) (λ none. absurd (cc none)) kept
+    (only_first key payload first others cut) from short (λ none. absurd (cc none)) kept
 
 -- ---- the header of the packet
 
@@ -173,39 +174,52 @@ one_payload state a b is_a is_b =
 complete_payload : (state : State) (payload : List ℕ) → IsPayload state payload → IsComplete state
 complete_payload state payload is = (length payload, is.0, λ place below. ap is_some (is.1 place below))
 
+-- all fragments of a cut arrived, and the headers of the packet follow from those of the first fragment
+pub given_back_by : (key : FragmentKey) (len : ℕ) (header payload packet : List ℕ) (first : FragmentValue) (others arrivals : List FragmentValue)
+    → packet ≡ header ++ payload → IsCut key payload (first ∷ others) → length first.header ≤ header_room key → header_room key + length payload ≤ len
+    → HasWholeHeader first.header (length payload) → whole_header first.header (length payload) ≡ header
+    → AreFrom (first ∷ others) arrivals → AreFrom arrivals (first ∷ others)
+    → HasPacket (after_arrivals (empty key len) arrivals)
+    × ((result : List ℕ) → IsPacket (after_arrivals (empty key len) arrivals) result → result ≡ packet)
+given_back_by key len header payload packet first others arrivals packet_is cut short fits has header_is from all =
+    let state : PacketState = after_arrivals (empty key len) arrivals in
+    let back : IsPayload state.payload payload =
+    subst (λ s. IsPayload s payload) (sym (payload_after arrivals (empty key len)))
+    (given_back key (len - header_room key) payload (first ∷ others) arrivals cut (omega (arith, fits)) from all) in
+    let kept : state.header ≡ first.header = header_after key len payload first others arrivals cut short from all in
+    let whole : whole_header state.header (length payload) ≡ header = ap (λ header. whole_header header (length payload)) kept ∙ header_is in
+    let end_is : unwrap_or state.payload.end 0 ≡ length payload = ap (λ end. unwrap_or end 0) back.0 in (
+      (
+        complete_payload state.payload payload back,
+        subst (λ n. HasWholeHeader state.header n) (sym end_is) (subst (λ header. HasWholeHeader header (length payload)) (sym kept) has),
+      ),
+      λ result is. is.2 ∙ ap (λ bytes. whole_header state.header (length bytes) ++ bytes) (one_payload state.payload is.0 payload is.1 back)
+          ∙ ap (λ header. header ++ payload) whole ∙ sym packet_is,
+    )
+
+-- ---- an IPv4 packet is given back
+
 pub packet_given_back : (key : FragmentKey) (len : ℕ) (packet : List ℕ) (fragments arrivals : List FragmentValue) → IsIpv4Cut key packet fragments
     → header_room key + length packet ≤ len → AreFrom fragments arrivals → AreFrom arrivals fragments
     → HasPacket (after_arrivals (empty key len) arrivals)
     × ((result : List ℕ) → IsPacket (after_arrivals (empty key len) arrivals) result → result ≡ packet)
 packet_given_back key len packet [] arrivals cut fits from all = absurd cut.first
 packet_given_back key len packet (first ∷ others) arrivals cut fits from all =
-    let state : PacketState = after_arrivals (empty key len) arrivals in
     let payload : List ℕ = cut.payload in
-    let header_is_first : IsFirstHeader cut.header first.header = cut.first in
-    let header_len : ipv4_header_len first.header ≡ length cut.header =
-    ap (λ byte. byte % 16 * 4) header_is_first.version_and_len ∙ sym cut.is_all in
+    let is : IsFirstHeader cut.header first.header = cut.first in
+    let header_len : ipv4_header_len first.header ≡ length cut.header = ap (λ byte. byte % 16 * 4) is.version_and_len ∙ sym cut.is_all in
     let lens : length packet ≡ length cut.header + length payload = ap length cut.packet_is ∙ length-append cut.header payload in
     let total_len : ipv4_header_len first.header + length payload ≡ length packet = omega (arith, header_len, lens) in
-    let back : IsPayload state.payload payload =
-    subst (λ s. IsPayload s payload) (sym (payload_after arrivals (empty key len)))
-    (given_back key (len - header_room key) payload (first ∷ others) arrivals cut.cut (omega (arith, fits, lens)) from all) in
-    let short : length first.header ≤ 60 = omega (arith, header_is_first.is_all) in
-    let kept : state.header ≡ first.header = header_after key len payload first others arrivals cut.cut short from all in
-    let whole : whole_header state.header (length payload) ≡ cut.header =
-    ap (λ header. whole_header header (length payload)) kept
+    let room : 60 ≤ header_room key = room_for_ipv4 key in
+    let header_is : whole_header first.header (length payload) ≡ cut.header =
+    ap (λ b. if b then whole_ipv4_header (ipv4_header first.header) (ipv4_header_len first.header + length payload)
+    else ipv6_header_by first.header (fragment_header_in first.header) (length payload)) (equal_four first.header is.begins.is_version_4)
     ∙ ap (λ header. whole_ipv4_header header (ipv4_header_len first.header + length payload))
-    (take_all (ipv4_header_len first.header) first.header (omega (arith, header_is_first.is_all)))
-    ∙ same_whole cut.header first.header (ipv4_header_len first.header + length payload) header_is_first
+    (take_all (ipv4_header_len first.header) first.header (omega (arith, is.is_all)))
+    ∙ same_whole cut.header first.header (ipv4_header_len first.header + length payload) is
     ∙ ap (whole_ipv4_header cut.header) total_len ∙ sym cut.is_whole in
-    let fits_len : HasWholeHeader first.header (length payload) = (header_is_first.begins, omega (arith, total_len, cut.short)) in
-    let end_is : unwrap_or state.payload.end 0 ≡ length payload = ap (λ end. unwrap_or end 0) back.0 in (
-      (
-        complete_payload state.payload payload back,
-        subst (λ n. HasWholeHeader state.header n) (sym end_is) (subst (λ header. HasWholeHeader header (length payload)) (sym kept) fits_len),
-      ),
-      λ result is. is.2 ∙ ap (λ bytes. whole_header state.header (length bytes) ++ bytes) (one_payload state.payload is.0 payload is.1 back)
-          ∙ ap (λ header. header ++ payload) whole ∙ sym cut.packet_is,
-    )
+    given_back_by key len cut.header payload packet first others arrivals cut.packet_is cut.cut (omega (arith, is.is_all, room)) (omega (arith, fits, lens))
+    (inl (record { begins = is.begins; fits = omega (arith, total_len, cut.short) })) header_is from all
 
 pub packet_accepted : (key : FragmentKey) (len : ℕ) (packet : List ℕ) (fragments arrivals : List FragmentValue) → IsIpv4Cut key packet fragments
     → header_room key + length packet ≤ len → length fragments ≤ 128 → AreFrom fragments arrivals → AreAdded (empty key len) arrivals
@@ -213,3 +227,46 @@ packet_accepted key len packet fragments arrivals cut fits few from =
     let lens : length packet ≡ length cut.header + length cut.payload = ap length cut.packet_is ∙ length-append cut.header cut.payload in
     added_by arrivals (empty key len)
     (accepted key (len - header_room key) cut.payload fragments arrivals cut.cut (omega (arith, lens, cut.short)) (omega (arith, lens, fits)) few from)
+
+-- ---- an IPv6 packet is given back
+
+other_than_four : (header : List ℕ) → version header ≡ 6 → (version header == 4) ≡ false
+other_than_four header is = grind (arith, nat_tests, is)
+
+pub ipv6_given_back : (key : FragmentKey) (len : ℕ) (packet : List ℕ) (fragments arrivals : List FragmentValue) → IsIpv6Cut key packet fragments
+    → header_room key + length packet ≤ len → AreFrom fragments arrivals → AreFrom arrivals fragments
+    → HasPacket (after_arrivals (empty key len) arrivals)
+    × ((result : List ℕ) → IsPacket (after_arrivals (empty key len) arrivals) result → result ≡ packet)
+ipv6_given_back key len packet [] arrivals cut fits from all = absurd cut.first
+ipv6_given_back key len packet (first ∷ others) arrivals cut fits from all =
+    let payload : List ℕ = cut.payload in
+    let is : IsFirstIpv6Header cut.header first.header = cut.first in
+    let found : FragmentPlace = is.found in
+    let lens : length packet ≡ length cut.header + length payload = ap length cut.packet_is ∙ length-append cut.header payload in
+    let payload_len : found.place - 40 + length payload ≡ length packet - 40 = omega (arith, is.same_len, cut.whole, lens) in
+    let written : ℕ → ℕ → ℕ → List ℕ =
+    λ (high low number : ℕ). slice_set (slice_set (slice_set (take found.place first.header) 4 high) 5 low) found.number_at number in
+    let header_is : whole_header first.header (length payload) ≡ cut.header =
+    ap (λ b. if b then whole_ipv4_header (ipv4_header first.header) (ipv4_header_len first.header + length payload)
+    else ipv6_header_by first.header (fragment_header_in first.header) (length payload)) (other_than_four first.header is.begins.is_version_6)
+    ∙ ap (λ place. ipv6_header_by first.header place (length payload)) is.is_found
+    ∙ ap (whole_ipv6_header first.header found) payload_len
+    ∙ ap (λ high. written high ((length packet - 40) % 256) (slice_index first.header found.place)) (sym cut.len_high)
+    ∙ ap (λ low. written (slice_index cut.header 4) low (slice_index first.header found.place)) (sym cut.len_low)
+    ∙ ap (written (slice_index cut.header 4) (slice_index cut.header 5)) is.number ∙ is.same in
+    given_back_by key len cut.header payload packet first others arrivals cut.packet_is cut.cut
+    (omega (arith, is.is_all, is.same_len, cut.headers_short, cut.room)) (omega (arith, fits, lens))
+    (inr (record {
+      begins = is.begins;
+      found = found;
+      is_found = is.is_found;
+      short = omega (arith, is.same_len, cut.headers_short);
+      fits = omega (arith, payload_len, cut.short);
+    })) header_is from all
+
+pub ipv6_accepted : (key : FragmentKey) (len : ℕ) (packet : List ℕ) (fragments arrivals : List FragmentValue) → IsIpv6Cut key packet fragments
+    → header_room key + length packet ≤ len → length fragments ≤ 128 → AreFrom fragments arrivals → AreAdded (empty key len) arrivals
+ipv6_accepted key len packet fragments arrivals cut fits few from =
+    let lens : length packet ≡ length cut.header + length cut.payload = ap length cut.packet_is ∙ length-append cut.header cut.payload in
+    added_by arrivals (empty key len)
+    (accepted key (len - header_room key) cut.payload fragments arrivals cut.cut (omega (arith, lens, cut.whole, cut.short)) (omega (arith, lens, fits)) few from)

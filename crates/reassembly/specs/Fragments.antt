@@ -13,6 +13,7 @@ use Rattle.ip_part.specs.declared.ip_error.IpError.{IpError}
 use Rattle.reassembly.specs.declared.fragment.Fragment.{Fragment}
 use Rattle.reassembly.specs.declared.fragment_error.FragmentError.{FragmentError}
 use Rattle.reassembly.specs.declared.fragment_error.FragmentError.TheVariants.{HeaderChainCutOff, Ip}
+use Rattle.reassembly.specs.declared.fragment_header.FragmentPlace.{FragmentPlace}
 use Rattle.reassembly.specs.declared.fragment_key.FragmentKey.{FragmentKey}
 use Rattle.reassembly.specs.declared.fragment_key.FragmentKey.TheVariants as keys
 
@@ -62,25 +63,26 @@ ipv4_fragment_in packet =
 
 -- ---- IPv6
 
--- The place of the first fragment header in a packet without padding. The search begins with the header at `place`, whose number is
--- `number`. Each header contains the number of the next header (RFC 8200, section 4). The first argument limits the number of headers.
-unfoldable pub fragment_header_from : ℕ → ℕ → ℕ → List ℕ → Option ℕ
-fragment_header_from zero number place packet = None
-fragment_header_from (suc more) number place packet =
+-- The first fragment header in a packet without padding, from the header at `place` on. `number` is the number of this header, and is at
+-- the place `number_at`. Each header contains the number of the next header (RFC 8200, section 4). The first argument limits the number of
+-- headers.
+unfoldable pub fragment_header_from : ℕ → ℕ → ℕ → ℕ → List ℕ → Option FragmentPlace
+fragment_header_from zero number number_at place packet = None
+fragment_header_from (suc more) number number_at place packet =
     if not (is_extension number && not (nat_lt (length packet) (place + 8))) then None
-    else if number == fragment then Some place
+    else if number == fragment then Some (record { number_at = number_at; place = place })
     else if nat_lt (length packet) (place + extension_len number (drop place packet)) then None
-    else fragment_header_from more (next_number (drop place packet)) (place + extension_len number (drop place packet)) packet
+    else fragment_header_from more (next_number (drop place packet)) place (place + extension_len number (drop place packet)) packet
 
--- the place of the first fragment header after the IPv6 header; each header has at least one byte, so the limit is never reached
-abbrev pub fragment_header_place : List ℕ → Option ℕ
-fragment_header_place packet = fragment_header_from (suc (length packet)) (slice_index packet 6) 40 packet
+-- the first fragment header after the IPv6 header; each header has at least one byte, so the limit is never reached
+abbrev pub fragment_header_in : List ℕ → Option FragmentPlace
+fragment_header_in packet = fragment_header_from (suc (length packet)) (slice_index packet 6) 6 40 packet
 
--- the first fragment header of an IPv6 packet, if there is one
-abbrev pub fragment_header_in : List ℕ → Option (List ℕ)
-fragment_header_in packet =
+-- the bytes of the first fragment header of an IPv6 packet, if there is one
+abbrev pub fragment_header_bytes : List ℕ → Option (List ℕ)
+fragment_header_bytes packet =
     if version packet == 6 && nat_le 40 (length packet)
-    then option_map (λ place. slice_range packet place (place + 8)) (fragment_header_place packet)
+    then option_map (λ found. slice_range packet found.place (found.place + 8)) (fragment_header_in packet)
     else None
 
 -- what all fragments of one packet have in common: source, destination and identification (RFC 8200, section 4.5)
@@ -101,14 +103,14 @@ ipv6_fragment_by header headers rest =
       header = headers;
     }) else None
 
--- the fragment in a packet whose first fragment header is at this place; `None` if the packet has no fragment header
-abbrev pub ipv6_fragment_at : List ℕ → Option ℕ → Option FragmentValue
+-- the fragment with its fragment header at this place, if there is one
+abbrev pub ipv6_fragment_at : List ℕ → Option FragmentPlace → Option FragmentValue
 ipv6_fragment_at packet None = None
-ipv6_fragment_at packet (Some place) = ipv6_fragment_by (take 40 packet) (take (place + 8) packet) (drop place packet)
+ipv6_fragment_at packet (Some found) = ipv6_fragment_by (take 40 packet) (take (found.place + 8) packet) (drop found.place packet)
 
 -- the fragment in an IPv6 packet without padding; `None` if the packet is whole
 abbrev pub ipv6_fragment_in : List ℕ → Option FragmentValue
-ipv6_fragment_in packet = ipv6_fragment_at packet (fragment_header_place packet)
+ipv6_fragment_in packet = ipv6_fragment_at packet (fragment_header_in packet)
 
 -- ---- the call
 

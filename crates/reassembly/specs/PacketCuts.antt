@@ -1,11 +1,12 @@
--- Ways to cut an IPv4 packet into fragments (RFC 791, section 3.2), and adds of fragments to a packet one after another.
-use Rattle.std.specs.Prelude.{◌≡◌, ◌≤◌, ℕ, bit_and, List, [], ◌∷◌, ◌++◌, length, drop, slice_index, None, ⊤}
-use Rattle.net_base.specs.IpHeaders.{BeginsWithIpv4Header, ipv4_header_len}
+-- Ways to cut a packet into fragments (RFC 791, section 3.2; RFC 8200, section 4.5), and adds of fragments to a packet one after another.
+use Rattle.std.specs.Prelude.{◌≡◌, ◌≤◌, ℕ, ◌+◌, ◌-◌, ◌/◌, ◌%◌, bit_and, List, [], ◌∷◌, ◌++◌, length, take, drop, slice_index, slice_set, Some, None, ⊤}
+use Rattle.net_base.specs.IpHeaders.{BeginsWithIpv4Header, BeginsWithIpv6Header, ipv4_header_len}
 use Rattle.reassembly.specs.Cuts.{IsCut}
-use Rattle.reassembly.specs.Fragments.{FragmentValue}
-use Rattle.reassembly.specs.Packets.{PacketState, with_fragment}
+use Rattle.reassembly.specs.Fragments.{FragmentValue, fragment_header_in}
+use Rattle.reassembly.specs.Packets.{PacketState, header_room, with_fragment}
 use Rattle.reassembly.specs.Reassembly.{refusal}
-use Rattle.reassembly.specs.WholeHeaders.{max_total_len, whole_ipv4_header}
+use Rattle.reassembly.specs.WholeHeaders.{max_ipv6_payload_len, max_total_len, whole_ipv4_header}
+use Rattle.reassembly.specs.declared.fragment_header.FragmentPlace.{FragmentPlace}
 use Rattle.reassembly.specs.declared.fragment_key.FragmentKey.{FragmentKey}
 
 -- ---- adds one after another
@@ -52,3 +53,38 @@ pub record IsIpv4Cut (key : FragmentKey) (packet : List ℕ) (fragments : List F
   pub short : length packet ≤ max_total_len
   pub cut : IsCut key payload fragments
   pub first : BeginWithHeader header fragments
+
+-- ---- cuts of an IPv6 packet
+
+-- The headers of the first fragment of the packet with these headers before its payload (RFC 8200, section 4.5). The fragment header is after
+-- them, and has the number of the payload. The header before it has the number 44 instead. The payload length, bytes 4 and 5, may differ. All
+-- other bytes are those of the packet.
+pub record IsFirstIpv6Header (header fragment_header : List ℕ) : Type 0 where
+  pub begins : BeginsWithIpv6Header fragment_header
+  pub found : FragmentPlace
+  pub is_found : fragment_header_in fragment_header ≡ Some found
+  pub is_all : length fragment_header ≡ found.place + 8
+  pub same_len : length header ≡ found.place
+  pub number : slice_index fragment_header found.place ≡ slice_index header found.number_at
+  pub same : slice_set (slice_set (slice_set (take found.place fragment_header) 4 (slice_index header 4)) 5 (slice_index header 5))
+      found.number_at (slice_index header found.number_at) ≡ header
+
+-- the first of these fragments has the headers of the first fragment of the packet with these headers before its payload
+abbrev pub BeginWithIpv6Header : List ℕ → List FragmentValue → Type 0
+BeginWithIpv6Header header [] = ⊥
+BeginWithIpv6Header header (first ∷ others) = IsFirstIpv6Header header first.header
+
+-- The fragments are a way to cut this packet, whose payload length is the number of its bytes after the IPv6 header. The room for headers is
+-- that of an IPv6 packet, and holds the headers and a fragment header.
+pub record IsIpv6Cut (key : FragmentKey) (packet : List ℕ) (fragments : List FragmentValue) : Type 0 where
+  pub header : List ℕ
+  pub payload : List ℕ
+  pub packet_is : packet ≡ header ++ payload
+  pub whole : 40 ≤ length header
+  pub room : header_room key ≡ 256
+  pub headers_short : length header + 8 ≤ 256
+  pub len_high : slice_index header 4 ≡ (length packet - 40) / 256 % 256
+  pub len_low : slice_index header 5 ≡ (length packet - 40) % 256
+  pub short : length packet - 40 ≤ max_ipv6_payload_len
+  pub cut : IsCut key payload fragments
+  pub first : BeginWithIpv6Header header fragments

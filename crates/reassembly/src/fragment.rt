@@ -90,7 +90,7 @@ fn fragment_over_ipv6(counted: &[u8]) -> Option<Fragment<'_>>
     requires { BeginsWithIpv6Header counted.now }
     ensures { option_map by_value result ≡ ipv6_fragment_in counted.now }
 {
-    let place = fragment_header_at(counted)?;
+    let place = fragment_header_at(counted)?.place;
     let header = Ipv6HeaderSlice::from_slice(counted)?;
     fragment_at(
         &header,

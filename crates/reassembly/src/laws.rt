@@ -3,7 +3,7 @@
 ghost use Rattle.std.specs.Prelude.{◌≡◌, ◌≤◌, ◌+◌, List, ℕ, length};
 ghost use Rattle.reassembly.specs.Cuts.{AreAccepted, AreFrom, IsCut, IsFragmentOf, IsOneOf, after};
 ghost use Rattle.reassembly.specs.Fragments.{FragmentValue};
-ghost use Rattle.reassembly.specs.PacketCuts.{AreAdded, IsIpv4Cut, after_arrivals};
+ghost use Rattle.reassembly.specs.PacketCuts.{AreAdded, IsIpv4Cut, IsIpv6Cut, after_arrivals};
 ghost use Rattle.reassembly.specs.Packets as packets;
 ghost use Rattle.reassembly.specs.Packets.{HasPacket, IsPacket, header_room};
 ghost use Rattle.reassembly.specs.Reassembly.{IsPayload, empty};
@@ -37,5 +37,18 @@ pub fn fragments_give_the_ipv4_packet_back()
         → HasPacket (after_arrivals (packets.empty key len) arrivals) }
     ensures given_back { (key : FragmentKey) (len : ℕ) (packet result : List ℕ) (fragments arrivals : List FragmentValue)
         → IsIpv4Cut key packet fragments → header_room key + length packet ≤ len → AreFrom fragments arrivals → AreFrom arrivals fragments
+        → IsPacket (after_arrivals (packets.empty key len) arrivals) result → result ≡ packet }
+{}
+
+/// Fragments that are cut from one IPv6 packet are accepted in any order and repeatedly, and give the packet back if all of them arrive.
+pub fn fragments_give_the_ipv6_packet_back()
+    ensures accepted { (key : FragmentKey) (len : ℕ) (packet : List ℕ) (fragments arrivals : List FragmentValue)
+        → IsIpv6Cut key packet fragments → header_room key + length packet ≤ len → length fragments ≤ 128
+        → AreFrom fragments arrivals → AreAdded (packets.empty key len) arrivals }
+    ensures there { (key : FragmentKey) (len : ℕ) (packet : List ℕ) (fragments arrivals : List FragmentValue)
+        → IsIpv6Cut key packet fragments → header_room key + length packet ≤ len → AreFrom fragments arrivals → AreFrom arrivals fragments
+        → HasPacket (after_arrivals (packets.empty key len) arrivals) }
+    ensures given_back { (key : FragmentKey) (len : ℕ) (packet result : List ℕ) (fragments arrivals : List FragmentValue)
+        → IsIpv6Cut key packet fragments → header_room key + length packet ≤ len → AreFrom fragments arrivals → AreFrom arrivals fragments
         → IsPacket (after_arrivals (packets.empty key len) arrivals) result → result ≡ packet }
 {}

@@ -10,7 +10,8 @@ ghost use Rattle.reassembly.specs.WholeHeaders.{HasWholeHeader, whole_header};
 ghost use borrow.Rule.Slice.PartMut.{put_mid};
 
 use crate::part::{Part, has_conflict, is_reached, is_repeated};
-use crate::{Fragment, FragmentKey, MAX_IPV4_HEADER_LEN, ReassemblyError, whole_ipv4_header};
+use crate::whole_header::{MAX_IPV4_HEADER_LEN, MAX_IPV6_HEADER_LEN, whole_header};
+use crate::{Fragment, FragmentKey, ReassemblyError};
 use arrayvec::ArrayVec;
 use std::marker::Model;
 
@@ -21,9 +22,6 @@ const MAX_PAYLOAD_LEN: usize = 65_535;
 /// The maximum number of fragments of a packet. On a link with an MTU of 576, a fragment over IPv4 has 552 bytes, and the longest packet
 /// has 119 fragments.
 pub const MAX_FRAGMENTS: usize = 128;
-
-/// The room for the headers of an IPv6 packet up to the fragment header, in bytes.
-const IPV6_HEADER_ROOM: usize = 256;
 
 /// The multiple of bytes in each fragment but the last (RFC 791, section 3.2; RFC 8200, section 4.5).
 const UNIT: usize = 8;
@@ -51,7 +49,7 @@ pub struct Reassembly<'a> {
     /// The length of the payload, or `None` if the last fragment did not arrive yet.
     end: Option<usize>,
     /// The headers of the first fragment, if it arrived.
-    header: ArrayVec<u8, IPV6_HEADER_ROOM>,
+    header: ArrayVec<u8, MAX_IPV6_HEADER_LEN>,
     /// The place of the whole packet in the buffer, if it is complete.
     start: Option<usize>,
 }
@@ -174,7 +172,8 @@ impl<'a> Reassembly<'a> {
     }
 
     /// The whole packet, if its payload is complete: the headers of the first fragment, as of a packet that was never fragmented, and the
-    /// payload. `None` also if the first fragment begins with no IPv4 header, or if header and payload have more than 65,535 bytes.
+    /// payload. `None` also if `whole_ipv4_header` or `whole_ipv6_header` is `None` for them, for example because the packet would be longer
+    /// than its length field can count.
     pub fn packet(&self) -> Option<&[u8]>
         ensures found { IsSome result ↔ packets.HasPacket self.now }
         ensures bytes { IfSome result (λ packet. packets.IsPacket self.now packet.now) }
@@ -191,7 +190,7 @@ fn header_room(key: &FragmentKey) -> usize
 {
     match key {
         FragmentKey::Ipv4 { .. } => MAX_IPV4_HEADER_LEN,
-        FragmentKey::Ipv6 { .. } => IPV6_HEADER_ROOM,
+        FragmentKey::Ipv6 { .. } => MAX_IPV6_HEADER_LEN,
     }
 }
 
@@ -309,7 +308,7 @@ fn write_payload(buffer: &mut [u8], room: usize, offset: usize, bytes: &[u8])
 }
 
 /// Keeps the headers of a fragment if it is the first fragment, and if they are not longer than this room.
-fn keep_header(header: &mut ArrayVec<u8, IPV6_HEADER_ROOM>, room: usize, fragment: &Fragment<'_>)
+fn keep_header(header: &mut ArrayVec<u8, MAX_IPV6_HEADER_LEN>, room: usize, fragment: &Fragment<'_>)
     requires { room ≤ 256 }
     ensures { header.new.items ≡ packets.header_of header.old.items room (by_value fragment.now) }
 {
@@ -326,7 +325,7 @@ fn keep_header(header: &mut ArrayVec<u8, IPV6_HEADER_ROOM>, room: usize, fragmen
 fn write_front(
     buffer: &mut [u8],
     room: usize,
-    header: &ArrayVec<u8, IPV6_HEADER_ROOM>,
+    header: &ArrayVec<u8, MAX_IPV6_HEADER_LEN>,
     end: Option<usize>,
     received: usize,
 ) -> Option<usize>
@@ -342,11 +341,12 @@ fn write_front(
 }
 
 /// The headers of the whole packet, if the payload is complete.
+#[tactic(auto, using(crate::proofs::WholeHeaderLemmas::payload_short))]
 fn front_of(
     header: &[u8],
     end: Option<usize>,
     received: usize,
-) -> Option<ArrayVec<u8, MAX_IPV4_HEADER_LEN>>
+) -> Option<ArrayVec<u8, MAX_IPV6_HEADER_LEN>>
     ensures found { IsSome result ↔ ((end ≡ Some received) × HasWholeHeader header.now received) }
     ensures written { IfSome result (λ front. front.items ≡ whole_header header.now received) }
     ensures len { IfSome result (λ front. length front.items ≤ length header.now) }
@@ -354,7 +354,7 @@ fn front_of(
     if end != Some(received) {
         return None;
     }
-    whole_ipv4_header(header, u16::try_from(received).ok()?)
+    whole_header(header, u16::try_from(received).ok()?)
 }
 
 /// The known length of the payload after this fragment.

@@ -1,15 +1,23 @@
-ghost use Rattle.std.specs.Prelude.{◌≡◌, ◌≤◌, ◌+◌, ◌↔◌, [], IfSome, IsSome, length};
-ghost use Rattle.net_base.specs.IpHeaders.{BeginsWithIpv4Header, ipv4_header_len};
+ghost use Rattle.std.specs.Prelude.{◌≡◌, ◌≤◌, ◌<◌, ◌+◌, ◌↔◌, [], IfSome, IsSome, IsTrue, length};
+ghost use Rattle.net_base.specs.IpHeaders.{BeginsWithIpv4Header, BeginsWithIpv6Header, ipv4_header_len};
 ghost use Rattle.ip_part.specs.Ip.{ipv4_header};
 ghost use Rattle.word_sum.specs.Checksum.{Verifies, checksum_of, total};
+ghost use Rattle.reassembly.specs.Fragments.{fragment_header_in};
 ghost use Rattle.reassembly.specs.WholeHeaders as specs;
 
+use crate::fragment_header::{FragmentPlace, fragment_header_at};
 use arrayvec::ArrayVec;
-use net_base::{Ipv4Header, Ipv4HeaderSlice};
+use net_base::{Ipv4Header, Ipv4HeaderSlice, Ipv6Header, Ipv6HeaderSlice};
 use word_sum::checksum::Sum16BitWords;
 
 /// The longest IPv4 header, in bytes (RFC 791, section 3.1).
 pub const MAX_IPV4_HEADER_LEN: usize = 60;
+
+/// The longest headers of an IPv6 packet that is put together, in bytes: the IPv6 header, and 216 bytes of extension headers.
+pub const MAX_IPV6_HEADER_LEN: usize = 256;
+
+/// The place of the payload length in an IPv6 header (RFC 8200, section 3).
+const PAYLOAD_LEN_AT: usize = 4;
 
 /// The flags that are not cleared: "don't fragment", and the reserved bit (RFC 791, section 3.1).
 const KEPT_FLAGS: u8 = 0xC0;
@@ -74,4 +82,80 @@ fn checksum_of(bytes: &[u8]) -> u16
     ensures { result ≡ checksum_of (total bytes.now) }
 {
     Sum16BitWords::new().add_slice(bytes).ones_complement()
+}
+
+/// The headers of an IPv6 packet that was never fragmented, by its first fragment and the length of its payload (RFC 8200, section 4.5). The
+/// payload is the fragmentable part of the packet. The headers are those before the fragment header, with the payload length of the whole
+/// packet. The last of them has the number of the header after the fragment header. `None` if the fragment begins with no IPv6 header or has
+/// no fragment header, if the headers have more than 256 bytes, or if extension headers and payload have more than 65,535 bytes.
+#[tactic(auto, using(crate::proofs::WholeHeaderLemmas::has_ipv6, crate::proofs::WholeHeaderLemmas::not_found, crate::proofs::WholeHeaderLemmas::short_place, crate::proofs::WholeHeaderLemmas::ipv6_written))]
+pub fn whole_ipv6_header(
+    first_fragment: &[u8],
+    payload_len: u16,
+) -> Option<ArrayVec<u8, MAX_IPV6_HEADER_LEN>>
+    ensures found { IsSome result ↔ specs.HasIpv6Header first_fragment.now payload_len }
+    ensures written { IfSome result (λ header. header.items
+        ≡ specs.ipv6_header_by first_fragment.now (fragment_header_in first_fragment.now) payload_len) }
+    ensures len { IfSome result (λ header. length header.items ≤ length first_fragment.now) }
+{
+    if !begins_with_ipv6_header(first_fragment) {
+        return None;
+    }
+    let found = fragment_header_at(first_fragment)?;
+    if found.place > MAX_IPV6_HEADER_LEN {
+        return None;
+    }
+    let len = found.place - Ipv6Header::LEN + usize::from(payload_len);
+    let payload_len = u16::try_from(len).ok()?;
+    Some(without_fragment_header(first_fragment, found, payload_len))
+}
+
+/// Whether a packet begins with an IPv6 header.
+fn begins_with_ipv6_header(packet: &[u8]) -> bool
+    ensures { IsTrue result ↔ BeginsWithIpv6Header packet.now }
+{
+    Ipv6HeaderSlice::from_slice(packet).is_some()
+}
+
+/// The headers before a fragment header, with this payload length.
+fn without_fragment_header(
+    headers: &[u8],
+    found: FragmentPlace,
+    payload_len: u16,
+) -> ArrayVec<u8, MAX_IPV6_HEADER_LEN>
+    requires short { found.place ≤ 256 }
+    requires shortest { 40 ≤ found.place }
+    requires before { found.number_at < found.place }
+    requires within { found.place < length headers.now }
+    ensures { result.items ≡ specs.whole_ipv6_header headers.now found payload_len }
+{
+    let mut bytes = ArrayVec::new();
+    bytes
+        .try_extend_from_slice(&headers[..found.place])
+        .unwrap();
+    let written = bytes.as_mut_slice();
+    let [high, low] = payload_len.to_be_bytes();
+    written[PAYLOAD_LEN_AT] = high;
+    written[PAYLOAD_LEN_AT + 1] = low;
+    written[found.number_at] = headers[found.place];
+    bytes
+}
+
+/// The headers of the whole packet, by the headers of its first fragment and the length of its payload.
+#[tactic(auto, using(crate::proofs::WholeHeaderLemmas::only_ipv6, crate::proofs::WholeHeaderLemmas::only_ipv4, crate::proofs::WholeHeaderLemmas::by_ipv6, crate::proofs::WholeHeaderLemmas::by_ipv4))]
+pub(crate) fn whole_header(
+    first_fragment: &[u8],
+    payload_len: u16,
+) -> Option<ArrayVec<u8, MAX_IPV6_HEADER_LEN>>
+    ensures found { IsSome result ↔ specs.HasWholeHeader first_fragment.now payload_len }
+    ensures written { IfSome result (λ header. header.items ≡ specs.whole_header first_fragment.now payload_len) }
+    ensures len { IfSome result (λ header. length header.items ≤ length first_fragment.now) }
+{
+    if first_fragment.is_empty() || first_fragment[0] >> 4 != 4 {
+        return whole_ipv6_header(first_fragment, payload_len);
+    }
+    let header = whole_ipv4_header(first_fragment, payload_len)?;
+    let mut bytes = ArrayVec::new();
+    bytes.try_extend_from_slice(header.as_slice()).unwrap();
+    Some(bytes)
 }

@@ -1,4 +1,4 @@
-use Rattle.std.proofs.Common.{◌≡◌, ◌≤◌, Some, length, refl, sym, ◌∙◌, ap, subst, arith}
+use Rattle.std.proofs.Common.{◌≤◌, length, refl, ◌∙◌, ap, subst, arith}
 use Rattle.reassembly.proofs.PacketLemmas.{front_written}
 use Rattle.reassembly.specs.WholeHeaders.{HasWholeHeader, whole_header}
 use Rattle.reassembly.proofs.reassembly.write_front.Goals as goal

@@ -1,4 +1,4 @@
-use Rattle.std.proofs.Common.{◌≡◌, ◌+◌, None, false, drop, length, sym, ◌∙◌, ap, subst, arith, rules}
+use Rattle.std.proofs.Common.{◌≡◌, ◌+◌, false, drop, length, sym, ◌∙◌, ap, arith, rules}
 use Rattle.reassembly.proofs.KeptLemmas.{accepted_by, by_complete, complete_by, new_piece, own_fits, received_most}
 use Rattle.reassembly.proofs.PacketLemmas.{IsAccepted, packet_kept, packet_repeated, packet_written, payload_state, state_added, write_fits}
 use Rattle.reassembly.specs.Fragments.{FragmentValue, by_value}

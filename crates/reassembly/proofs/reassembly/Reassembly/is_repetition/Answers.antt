@@ -1,4 +1,4 @@
-use Rattle.std.proofs.Common.{◌≡◌, List, ℕ, Option, Some, None, drop, length, refl, sym, ◌∙◌, ap, subst, rules}
+use Rattle.std.proofs.Common.{◌≡◌, List, ℕ, Some, None, drop, length, refl, sym, ◌∙◌, ap, subst, rules}
 use Rattle.std.specs.List.{All}
 use Rattle.net_base.specs.Refusals.{RefusesExactly}
 use Rattle.reassembly.proofs.KeptLemmas.{only_third, refusal_is}

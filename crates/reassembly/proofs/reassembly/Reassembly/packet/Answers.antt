@@ -1,4 +1,4 @@
-use Rattle.std.proofs.Common.{◌≡◌, ◌+◌, ◌≤◌, IsSome, length, refl, sym, ◌∙◌, subst}
+use Rattle.std.proofs.Common.{IsSome, refl, subst}
 use Rattle.reassembly.proofs.PacketLemmas.{has_packet, no_packet, packet_fits, packet_is}
 use Rattle.reassembly.proofs.reassembly.Reassembly.packet.Goals as goal
 
