@@ -1,5 +1,5 @@
 -- A worked example of a command line, from its words to the options that they request, so that a wrong definition fails before any code does.
-use Rattle.std.proofs.Common.{Global, Vec, ◌≡◌, ◌∙◌, ◌++◌, ℕ, Bool, true, false, not, List, [], ◌∷◌, None, Some, ap, ap₂, arith, codes, if◌then◌else◌, inl, inr, length, length-take, map, refl, replicate, subst, sym, take, unwrap_or}
+use Rattle.std.proofs.Common.{Global, Vec, ◌≡◌, ◌≢◌, ◌∙◌, ◌++◌, ℕ, Bool, true, false, not, List, [], ◌∷◌, None, Some, ap, ap₂, arith, codes, if◌then◌else◌, inl, inr, length, length-take, map, refl, replicate, slice_index, subst, sym, take, unwrap_or}
 use Rattle.std.specs.Borrow.{Bor}
 use Rattle.std.specs.List.{flat_map}
 use Rattle.std.specs.Option.{option_map}
@@ -172,10 +172,15 @@ are_ports = (
   ),
 )
 
+-- these names differ in their first letters
+other_name : {first second : Text} → slice_index first 0 ≢ slice_index second 0 → first ≡ second → ⊥
+other_name letters same = letters (ap (λ text. slice_index text 0) same)
+
 -- `icmp` and `udp` are other names than `TCP`
 is_tcp : ReadsProtocol (codes "TCP") (One Tcp)
 unfolding protocol_rows
-is_tcp = inr (λ same. absurd (cc same), inr (λ same. absurd (cc same), inl (refl, refl)))
+is_tcp =
+    inr (other_name (λ letter. absurd (omega (arith, letter))), inr (other_name (λ letter. absurd (omega (arith, letter))), inl (refl, refl)))
 
 are_options : IsOptionsOf matches options
 are_options = record {
