@@ -28,7 +28,7 @@ pub enum ReassemblyError {
     BufferTooSmall {
         /// The place after the last byte of the fragment.
         required_len: usize,
-        /// The length of the buffer, in bytes.
+        /// The length of the buffer after its room for headers, in bytes.
         len: usize,
     },
     /// The last fragment ends at another place than the last fragment that was added.
@@ -66,7 +66,7 @@ impl ReassemblyError {
             ReassemblyError::BufferTooSmall { required_len, len } => ErrorText::from_parts(&[
                 Words("Reassembly Error: the fragment ends at "),
                 Number(*required_len),
-                Words(", and the buffer has "),
+                Words(", and the buffer has room for "),
                 Number(*len),
                 Words(" bytes."),
             ]),
