@@ -155,7 +155,7 @@ AreNoProtocols texts (Host name text error) = ⊥
 AreNoProtocols texts (Port name text) = ⊥
 AreNoProtocols texts (Protocol text) = (length texts ≤ 16) × IsFirstWrong ReadsProtocol IsNoProtocol texts text.now
 
--- the texts are at most 16, and each has a value
+-- there are at most 16 texts, and `Reads` relates each of them to a value
 abbrev pub AreFew : {X : Type 0} → (List ℕ → X → Type 0) → List (List ℕ) → Type 0
 AreFew {X} Reads texts = (length texts ≤ 16) × ((values : Option (List (Option X))) × AreRead Reads texts values)
 

@@ -120,13 +120,13 @@ tcp_number_members header =
 abbrev pub urgent_members : List ℕ → List Member
 urgent_members header = if flag_of header urg_flag then (codes "urgent_pointer", whole_number (be_number header 18 2)) ∷ [] else []
 
--- the fields of a header after its ports, except the checksum; `options` are the members of its options
+-- the TCP flags, the sequence and acknowledgment numbers, the window, the urgent pointer if the flag URG is set, and the options
 abbrev pub tcp_header_members : List ℕ → List Member → List Member
 tcp_header_members header options =
     (codes "flags", texts_data (names_of_set (λ flag. flag) (tcp_flags header)))
     ∷ (tcp_number_members header ++ (urgent_members header ++ options))
 
--- these members are the fields of a header after its ports, except the checksum
+-- these members are the fields of a TCP header that `tcp_header_members` lists
 abbrev pub AreTcpHeaderMembers : List ℕ → List Member → Type 0
 AreTcpHeaderMembers header members =
     (options : List Member) × AreOptionMembers (options_of header) options × (members ≡ tcp_header_members header options)

@@ -57,7 +57,7 @@ ip_protocol number None = protocol_in ip_protocols number
 abbrev pub llc_protocol : ℕ → ℕ → Option Protocol
 llc_protocol dsap ssap = if dsap == 0x42 && ssap == 0x42 then Some Stp else None
 
--- the row of the protocol of a frame without an IP packet, or `None` if it has no row of its own
+-- the entry in the table of protocols for a frame without an IP packet, or `None` if the table has no entry for its protocol
 abbrev pub network_protocol : NetworkProtocol → Option Protocol
 network_protocol (EtherType number) = protocol_in ether_types number
 network_protocol (AddressFamily number) = None

@@ -28,7 +28,7 @@ pub fn network_protocol_name(protocol: NetworkProtocol) -> Option<&'static str>
     Some(network_protocol(protocol)?.name())
 }
 
-/// The row of a protocol over IP, or `None` if it has no row of its own.
+/// The entry in the table of protocols for a protocol over IP, or `None` if the table has no entry for it.
 pub(crate) fn ip_protocol(protocol: IpNumber, proto: Option<Proto>) -> Option<Protocol>
     ensures { result ≡ specs.ip_protocol protocol.0 proto }
 {
@@ -38,7 +38,7 @@ pub(crate) fn ip_protocol(protocol: IpNumber, proto: Option<Proto>) -> Option<Pr
     }
 }
 
-/// The row of the protocol of a frame without an IP packet, or `None` if it has no row of its own.
+/// The entry in the table of protocols for a frame without an IP packet, or `None` if the table has no entry for its protocol.
 pub(crate) fn network_protocol(protocol: NetworkProtocol) -> Option<Protocol>
     ensures { result ≡ specs.network_protocol protocol }
 {

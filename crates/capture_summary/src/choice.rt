@@ -283,7 +283,7 @@ fn is_source_or_destination(addresses: IpAddresses<'_>, host: &Network) -> bool
     is_source(addresses, host) || is_destination(addresses, host)
 }
 
-/// Whether a packet, or the packet that it quotes, is from or to one of these ports. If no ports are given, every packet is.
+/// Whether a packet, or the packet that it quotes, is from or to one of these ports. If no ports are given, this is true.
 fn includes_ports(ports: &Option<Ports>, content: &Content<'_>) -> bool
     ensures { IsTrue result ↔ IfSome ports.now (HasAny (HasPort content.now)) }
 {

@@ -58,7 +58,7 @@ checksum_over_ipv6 source destination (Icmpv6 header) payload = checksum_of (icm
 
 -- ---- the checksum is right
 
--- the length field of UDP states header and payload of this length (RFC 768); no other header contains a length field
+-- The length field of a UDP header is 8 plus this payload length (RFC 768). No other transport header contains a length field.
 abbrev pub Counts : TransportHeader → ℕ → Type 0
 Counts (Udp header) payload_len = header.length ≡ 8 + payload_len
 Counts (Tcp header) payload_len = ⊤

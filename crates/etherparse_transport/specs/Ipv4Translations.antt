@@ -175,7 +175,7 @@ abbrev pub ipv4_refusal_with : Ipv4Translation → Ipv4Translation → List ℕ 
 ipv4_refusal_with new of_quoted packet =
     ipv4_refusal_by (has_port new.source_port new.destination_port) (has_port of_quoted.source_port of_quoted.destination_port) packet
 
--- the error for one translation; its opposite applies to the quoted packet
+-- the error for this translation; the opposite translation applies to the quoted packet
 abbrev pub ipv4_refusal : Ipv4Translation → List ℕ → Option TranslateError
 ipv4_refusal new packet = ipv4_refusal_with new (ipv4_opposite new) packet
 

@@ -160,7 +160,7 @@ abbrev pub ipv6_refusal_with : Ipv6Translation → Ipv6Translation → List ℕ 
 ipv6_refusal_with new of_quoted packet =
     ipv6_refusal_by (has_port new.source_port new.destination_port) (has_port of_quoted.source_port of_quoted.destination_port) packet
 
--- the error for one translation; its opposite applies to the quoted packet
+-- the error for this translation; the opposite translation applies to the quoted packet
 abbrev pub ipv6_refusal : Ipv6Translation → List ℕ → Option TranslateError
 ipv6_refusal new packet = ipv6_refusal_with new (ipv6_opposite new) packet
 

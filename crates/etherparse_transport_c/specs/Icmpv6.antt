@@ -175,8 +175,8 @@ IsReadAs message packet (Ok found) = (refusal packet ≡ None) × (packet_of pac
   payload_len = length found.1;
 })
 
--- The packet begins with a header of this message and checksum. The library reads the header back as the same message. An unknown message
--- whose type and code are listed is read as the listed message. A packet that is too long is refused.
+-- Assume that the packet begins with the header of this message and checksum. Then the library reads the packet as the same message. An
+-- `Unknown` message whose type and code have a variant is read as that variant. A packet that is too long is refused.
 abbrev pub ReadsBack : ℕ → Option Icmpv6Type → List ℕ → Type 0
 ReadsBack checksum None packet = ⊤
 ReadsBack checksum (Some message) packet =

@@ -97,16 +97,16 @@ pub const ECHO_REQUEST_SOURCE: u32 = 36;
 /// The source of the reply to an echo request is not the address of one host.
 pub const ECHO_REPLY_SOURCE: u32 = 37;
 
-/// The ICMP message is not an error, so it quotes no packet.
+/// The ICMP message is not an error. For an ICMP error to write, its type and code may also be unknown, or its gateway may be no host.
 pub const NO_ICMP_ERROR: u32 = 38;
 
 /// No call returns this status. It is reserved for the translation of a packet with IPv4 options.
 pub const TRANSLATE_HAS_OPTIONS: u32 = 39;
 
-/// The packet is not translated, because its protocol is not UDP, TCP, or the ICMP of its IP version.
+/// The packet is not translated: its protocol is not UDP, TCP, or the ICMP of its IP version, and covers the addresses or has no port.
 pub const TRANSLATE_PROTOCOL: u32 = 40;
 
-/// The packet is not translated, because it ends within its transport header.
+/// The packet is not translated, because it ends within the first 8 bytes of its transport header.
 pub const TRANSLATE_HEADER_CUT_OFF: u32 = 41;
 
 /// The ICMP message is not translated. It is a redirect, or it is neither a query nor an error.

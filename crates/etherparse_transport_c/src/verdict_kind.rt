@@ -24,7 +24,7 @@ pub const UNTESTED_UNKNOWN_DESTINATION: u32 = 18;
 /// Not tested: the protocol is not UDP, TCP, or the ICMP of the IP version.
 pub const UNTESTED_OTHER_PROTOCOL: u32 = 19;
 
-/// Not tested: the length field of a UDP packet is 0.
+/// Not tested: the length field of a UDP packet is 0, and the packet is not a jumbogram.
 pub const UNTESTED_ZERO_LENGTH: u32 = 20;
 
 /// Not tested: the packet is too long for a pseudo header.

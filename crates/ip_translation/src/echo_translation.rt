@@ -27,7 +27,7 @@ const IPV6_ECHO_REQUEST: u8 = 128;
 
 const IPV6_ECHO_REPLY: u8 = 129;
 
-/// Refuses an ICMP message that is no echo message.
+/// Refuses an ICMP message that is too short for an echo header, or is no echo message.
 pub(crate) fn check_echo(message: &[u8]) -> Result<(), PacketTranslationError>
     ensures refused { RefusesExactly result (specs.echo_refusal specs.type_over_ipv6 message.now) }
     ensures there { IfOk result (λ _. 8 ≤ length message.now) }
@@ -50,7 +50,7 @@ pub(crate) fn type_over_ipv6(type_u8: u8) -> Option<u8>
     }
 }
 
-/// Refuses an ICMPv6 message that is no echo message.
+/// Refuses an ICMPv6 message that is too short for an echo header, or is no echo message.
 pub(crate) fn check_ipv6_echo(message: &[u8]) -> Result<(), PacketTranslationError>
     ensures refused { RefusesExactly result (specs.echo_refusal specs.type_over_ipv4 message.now) }
     ensures there { IfOk result (λ _. 8 ≤ length message.now) }

@@ -99,7 +99,7 @@ refusal state fragment = first_of (
 abbrev pub pieces_with : List Piece → Piece → List Piece
 pieces_with pieces piece = if is_among pieces piece then pieces else pieces ++ piece ∷ []
 
--- the length of the payload after this fragment, if it is known; the payload ends with the last fragment
+-- The length of the whole payload once this fragment is added, if it is known. The last fragment determines it.
 abbrev pub end_with : Option ℕ → FragmentValue → Option ℕ
 end_with end fragment = if fragment.more_fragments then end else Some (end_of_fragment fragment)
 

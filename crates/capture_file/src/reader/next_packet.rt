@@ -12,7 +12,7 @@ pub enum NextPacket {
     End,
     /// A record or block that is incomplete, since the capture ends within it.
     CutOff {
-        /// The length of the record or block in bytes, or its least length if the length field is incomplete.
+        /// The length of the record or block in bytes, or the length of its header if the header is incomplete.
         required_len: usize,
         /// The number of bytes of the record or block that are present.
         len: usize,

@@ -24,7 +24,7 @@ use thiserror::Error;
 #[derive(Clone, Copy, Debug, PartialEq, Eq, Error)]
 #[error("{}", self.text())]
 pub enum ErrorAboutError {
-    /// The passed message is not an error, or is of a type and a code without a variant.
+    /// The passed message is not an error, is of a type and a code without a variant, or is a redirect whose gateway is no host.
     NoErrorType,
     /// The headers of the packet are refused.
     Ip(IpError),

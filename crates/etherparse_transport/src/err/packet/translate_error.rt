@@ -32,9 +32,9 @@ pub enum TranslateError {
     /// The protocol is not UDP, TCP or ICMP of this IP version. Also, either a port is passed, or the protocol covers the addresses. For
     /// example, an authentication header protects the addresses (RFC 4302, section 2), so no translated packet would be accepted.
     Protocol(IpNumber),
-    /// The transport header is cut off.
+    /// The first 8 bytes of the transport header are not all present.
     HeaderCutOff {
-        /// The least number of bytes of the transport header, which is 8.
+        /// The number of bytes of the transport header that a translation needs, which is 8.
         required_len: usize,
         /// The number of bytes after the IP header, and over IPv6 after the extension headers that are skipped.
         len: usize,
