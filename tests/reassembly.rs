@@ -296,7 +296,7 @@ static TEXTS: [(ReassemblyError, &str); 9] = [
     (ReassemblyError::Empty, "Reassembly Error: the fragment has no payload."),
     (ReassemblyError::LengthNotMultipleOf8 { len: 7 }, "Reassembly Error: more fragments follow, and the length 7 is no multiple of 8."),
     (ReassemblyError::TooLong { end: 65_536 }, "Reassembly Error: the fragment ends at 65536, which is above 65535."),
-    (ReassemblyError::BufferTooSmall { required_len: 32, len: 24 }, "Reassembly Error: the fragment ends at 32, and the buffer has 24 bytes."),
+    (ReassemblyError::BufferTooSmall { required_len: 32, len: 24 }, "Reassembly Error: the fragment ends at 32, and the buffer has room for 24 bytes."),
     (ReassemblyError::OtherEnd, "Reassembly Error: two last fragments end at different places."),
     (ReassemblyError::BehindEnd, "Reassembly Error: a fragment does not end before the last."),
     (ReassemblyError::Overlap, "Reassembly Error: the fragment overlaps another."),

@@ -287,7 +287,10 @@ enum etherparse_status_number {
 #define ETHERPARSE_STATUS_ECHO_REQUEST_SOURCE 36
 /* The source of the reply to an echo request is not the address of one host either: no other field. */
 #define ETHERPARSE_STATUS_ECHO_REPLY_SOURCE 37
-/* The ICMP message is not an error, so it quotes no packet: no other field. */
+/*
+ * The ICMP message is not an error, so it quotes no packet. Or the message to write is no ICMP error with a name, or a redirect whose
+ * gateway is no host: no other field.
+ */
 #define ETHERPARSE_STATUS_NO_ICMP_ERROR 38
 /* Reserved for a packet to be translated with IPv4 options. No call returns it. */
 #define ETHERPARSE_STATUS_TRANSLATE_HAS_OPTIONS 39

@@ -182,7 +182,7 @@ pub enum ErrorKind {
     EchoRequestSource,
     /// The source of the reply to an echo request is not the address of one host.
     EchoReplySource,
-    /// The ICMP message is not an error, so it quotes no packet.
+    /// The ICMP message is not an error, so it quotes no packet. Or it is no message that an ICMP error about a packet can have.
     NoIcmpError,
     /// The IPv4 options contain a loose or strict source route, so the packet is not translated.
     TranslateSourceRoute,
