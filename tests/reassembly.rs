@@ -1,6 +1,8 @@
 //! Tests of the crate `reassembly`.
 
-use crate::expect::{bytes_to, expect_at, expect_bytes, expect_equal, expect_ok, expect_some, expect_text};
+use crate::expect::{
+    bytes_to, expect_at, expect_bytes, expect_equal, expect_ok, expect_some, expect_text,
+};
 use ip_part::IpError;
 use net_base::ip_number;
 use reassembly::{
@@ -326,9 +328,17 @@ fn add_over_ipv6(rt: &impl Abort, reassembly: &mut Reassembly<'_>, place: [u8; 2
 fn fragments_over_ipv6_give_the_packet_back(rt: HostRuntime) {
     let mut buffer = [0xFF; 272];
     let mut reassembly = Reassembly::new(KEY_OVER_IPV6, &mut buffer);
-    expect_equal(&rt, &add_over_ipv6(&rt, &mut reassembly, [0, 8]), &Progress::Incomplete);
+    expect_equal(
+        &rt,
+        &add_over_ipv6(&rt, &mut reassembly, [0, 8]),
+        &Progress::Incomplete,
+    );
     expect_equal(&rt, &reassembly.packet(), &None);
-    expect_equal(&rt, &add_over_ipv6(&rt, &mut reassembly, [0, 1]), &Progress::Complete);
+    expect_equal(
+        &rt,
+        &add_over_ipv6(&rt, &mut reassembly, [0, 1]),
+        &Progress::Complete,
+    );
     let packet = expect_some(&rt, reassembly.packet());
     expect_equal(&rt, &packet.len(), &64);
     expect_bytes(&rt, &packet[..8], &[0x60, 0, 0, 0, 0, 24, 0, 64]);
@@ -344,5 +354,9 @@ fn headers_of_ipv6_are_those_before_the_fragment_header(rt: HostRuntime) {
     expect_bytes(&rt, &header.as_slice()[40..], &[17, 0, 1, 4, 0, 0, 0, 0]);
     let too_long = whole_ipv6_header(&over_ipv6([0, 1]), 65_528);
     expect_equal(&rt, &too_long.is_none(), &true);
-    expect_equal(&rt, &whole_ipv6_header(&over_ipv4(0, 0), 8).is_none(), &true);
+    expect_equal(
+        &rt,
+        &whole_ipv6_header(&over_ipv4(0, 0), 8).is_none(),
+        &true,
+    );
 }

@@ -9,9 +9,7 @@ use etherparse_transport::err::packet::{
 };
 use etherparse_transport::err::tcp::{HeaderError, HeaderSliceError};
 use etherparse_transport::err::{Layer, LenError, TextPart, ValueTooBigError, ValueType};
-use etherparse_transport::ip::{
-    IpError, Ipv4Translation, Ipv6Translation, flow, transport_in_ip,
-};
+use etherparse_transport::ip::{IpError, Ipv4Translation, Ipv6Translation, flow, transport_in_ip};
 use etherparse_transport::{
     ChecksumVerdict, IcmpEchoHeader, Icmpv4Header, Icmpv4Slice, Icmpv4Type, Icmpv6Header,
     Icmpv6Slice, Icmpv6Type, IpNumber, Ipv4Header, Ipv4HeaderSlice, Ipv6Header, Ipv6HeaderSlice,

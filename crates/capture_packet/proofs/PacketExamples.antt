@@ -126,7 +126,7 @@ is_ip_packet = (
     carries = is_carried;
     stated = refl;
     after = is_after_headers;
-    is_in = ((refl, (refl, (refl, (refl, refl)))), (λ none. absurd (omega (arith, none)), (omega arith, refl)));
+    is_in = ((refl, (refl, (refl, ((refl, refl), refl)))), (λ none. absurd (omega (arith, none)), (omega arith, refl)));
   },
 )
 

@@ -36,7 +36,7 @@ pub struct Choice {
     pub other_hosts: Option<Hosts>,
     /// If set, only packets from or to one of these ports are chosen. An ICMP error that quotes such a packet is chosen too.
     pub ports: Option<Ports>,
-    /// If set, no packet is chosen that `ports` with these ranges would choose.
+    /// If set, no packet from or to one of these ports is chosen, and no ICMP error that quotes such a packet.
     pub other_ports: Option<Ports>,
     /// If set, only packets of these protocols are chosen.
     pub protocols: Option<Protocols>,
