@@ -36,7 +36,7 @@ use Rattle.capture_request.specs.declared.parts.Parts.{Parts}
 use Rattle.capture_request.specs.declared.reached.Reached.TheVariants.{End}
 use Rattle.capture_run.specs.Captures.{Given, IsRun, Progress, ReportsOpened, at_start}
 use Rattle.capture_run.specs.PacketsText.{IsPacketText, WritesCapture}
-use Rattle.capture_summary.specs.Choice.{every_packet}
+use Rattle.capture_summary.specs.Choice.{IsChosen, every_packet}
 use Rattle.capture_summary.specs.FlowTable.{table_counted}
 use Rattle.capture_summary.specs.Kinds.{link_kind, link_place, verdict_kind, verdict_place}
 use Rattle.capture_summary.specs.SummaryTables.{SummaryTables, empty_tables}
@@ -275,6 +275,13 @@ counted = record {
   flows = table_counted None 1 empty_tables.flows;
 }
 
+-- every packet is chosen
+all_chosen : {chosen : Packet} → IsChosen every_packet chosen
+all_chosen = record {
+  addresses = record { hosts = tt; sources = tt; destinations = tt; other_hosts = tt };
+  content = record { ports = tt; other_ports = tt; protocols = tt };
+}
+
 counts_packet : CountsEach every_packet empty_tables (in_file ∷ []) counted
 counts_packet = (
   counted,
@@ -282,7 +289,7 @@ counts_packet = (
     packet = packet;
     is_packet = is_packet;
     counts = inl (
-      record { hosts = tt; ports = tt; protocols = tt },
+      all_chosen,
       record {
         flow = None;
         is_flow = refl;
@@ -381,7 +388,7 @@ unfolding char_count digits padded_integral
 is_line = record {
   packet = packet;
   is_packet = is_packet;
-  is_text = inl (record { hosts = tt; ports = tt; protocols = tt }, (codes "link type 147", refl, refl));
+  is_text = inl (all_chosen, (codes "link type 147", refl, refl));
 }
 
 -- the state after the capture

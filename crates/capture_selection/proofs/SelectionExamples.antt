@@ -1,11 +1,13 @@
 -- A worked example of a selection, from the bytes of a capture to the bytes that are written, so that a wrong definition fails before any
 -- code does.
-use Rattle.std.proofs.Common.{◌≡◌, ◌++◌, ℕ, true, false, List, [], ◌∷◌, None, Some, Ok, inl, refl}
+use Rattle.std.proofs.Common.{◌≡◌, ◌++◌, ℕ, zero, suc, List, [], ◌∷◌, Option, None, Some, Ok, arith, inl, inr, refl, replicate}
 use Rattle.capture_texts.specs.declared.byte_order.ByteOrder.TheVariants.{LittleEndian}
 use Rattle.capture_texts.specs.declared.link_type.LinkType.TheVariants.{RawIp}
 use Rattle.capture_file.specs.declared.classic.capture_header.CaptureHeader.{CaptureHeader}
 use Rattle.capture_file.specs.declared.classic.record_header.Resolution.TheVariants.{Microseconds}
 use Rattle.capture_packet.proofs.PacketExamples.{frame, is_read, is_rejected, packet, rejected}
+use Rattle.capture_summary.specs.Choice.{HasAny, HasPort, every_packet}
+use Rattle.capture_summary.specs.declared.choice.PortRange.{PortRange}
 use Rattle.capture_request.specs.declared.parts.Lines.TheVariants.{All}
 use Rattle.capture_request.specs.declared.parts.Parts.{Parts}
 use Rattle.capture_request.specs.declared.reached.Reached.TheVariants.{End}
@@ -33,10 +35,14 @@ udp_record = 5 ∷ 0 ∷ 0 ∷ 0 ∷ 7 ∷ 0 ∷ 0 ∷ 0 ∷ 29 ∷ 0 ∷ 0 ∷ 
 abbrev pub other_record : List ℕ
 other_record = 6 ∷ 0 ∷ 0 ∷ 0 ∷ 0 ∷ 0 ∷ 0 ∷ 0 ∷ 1 ∷ 0 ∷ 0 ∷ 0 ∷ 1 ∷ 0 ∷ 0 ∷ 0 ∷ 0x50 ∷ []
 
--- all packets of UDP are requested, as by `--protocol udp`, with any other options
+-- the places for ports, of which the first contains port 9
+abbrev port_9 : List (Option PortRange)
+port_9 = Some (record { first = 9; last = 9 }) ∷ replicate 15 None
+
+-- all packets from or to port 9 are requested, as by `--port 9`, with any other options
 abbrev pub options : Parts → Parts
 options others = record others {
-  choice = record { hosts = None; ports = None; protocols = Some (record { udp = true; tcp = false; icmpv4 = false; icmpv6 = false }) };
+  choice = record every_packet { ports = Some port_9 };
   lines = All;
   limit = None;
 }
@@ -50,15 +56,32 @@ udp_part others = record {
     packet = packet;
     is_packet = is_read;
     given = Written;
-    is_outcome = (record { hosts = tt; ports = tt; protocols = refl }, refl);
+    is_outcome = (
+      record {
+        addresses = record { hosts = tt; sources = tt; destinations = tt; other_hosts = tt };
+        content = record { ports = inl (inl (inr (omega arith, omega arith))); other_ports = tt; protocols = tt };
+      },
+      refl,
+    );
     has = refl;
   };
 }
 
+-- places without a value
+empty_places : {X : Type 0} (Statement : X → Type 0) (count : ℕ) → HasAny Statement (replicate count None) → ⊥
+empty_places Statement zero any = any
+empty_places Statement (suc count) (inl none) = none
+empty_places Statement (suc count) (inr any) = empty_places Statement count any
+
+-- a packet that is not read has no port
+lacks_port : HasAny (HasPort rejected.content) port_9 → ⊥
+lacks_port (inl none) = none
+lacks_port (inr any) = empty_places (HasPort rejected.content) 15 any
+
 other_part : (others : Parts) → IsRecordPart (options others) capture other_record (Some Excluded)
 other_part others = record {
   is_record = refl;
-  has_outcome = record { packet = rejected; is_packet = is_rejected; given = Excluded; is_outcome = λ chosen. cc chosen.protocols; has = refl };
+  has_outcome = record { packet = rejected; is_packet = is_rejected; given = Excluded; is_outcome = λ chosen. lacks_port chosen.content.ports; has = refl };
 }
 
 -- ---- the selection
