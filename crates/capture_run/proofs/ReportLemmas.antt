@@ -1,5 +1,6 @@
 -- Laws of the loop over the packets of a capture: another packet is counted.
-use Rattle.std.proofs.Common.{◌≡◌, ◌+◌, ◌≤◌, ℕ, List, [], ◌∷◌, ◌++◌, Some, Option, Result, IfSome, ap, arith, length, refl, subst, take}
+use Rattle.std.proofs.Common.{◌≡◌, ◌+◌, ◌≤◌, ℕ, List, [], ◌∷◌, ◌++◌, None, Some, Option, Result, IfSome, ap, append-nil, arith, length, refl, subst, sym, take}
+use Rattle.std.specs.Io.KnownBytes.{Appends}
 use Rattle.capture_file.proofs.CapturePacketsLaws.{packets_before_cut}
 use Rattle.capture_file.specs.CapturePackets.{ArePacketsBeforeCut, HasPackets, FilePacket}
 use Rattle.capture_file.specs.declared.reader.capture_reader.CaptureReader.{CaptureReader}
@@ -10,6 +11,11 @@ use Rattle.capture_summary.specs.SummaryTables.{SummaryTables}
 use Rattle.capture_summary.specs.declared.choice.Choice.{Choice}
 use Rattle.capture_request.specs.declared.capture_error.CaptureError.{CaptureError}
 use Rattle.capture_request.specs.declared.reached.Reached.{Reached}
+
+-- if nothing was written, the empty text was appended
+pub appends_nothing : (held : Option (List ℕ)) → Appends held held []
+appends_nothing None = tt
+appends_nothing (Some held) = sym (append-nil held)
 
 -- the counts of packets and of a packet after them
 pub counts-push : (choice : Choice) (before between after : SummaryTables) (packets : List FilePacket) (packet : FilePacket)

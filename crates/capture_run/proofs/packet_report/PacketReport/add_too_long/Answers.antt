@@ -15,3 +15,14 @@ returns-clause-text g c =
       one.2,
     ))
     c.add_packet.ensures.text
+
+-- the packet is counted if it is chosen
+pub returns-clause-counted : goal.returns-clause-counted
+returns-clause-counted g c =
+    on_ok_weaker c.add_packet.result
+    (λ counts. record {
+      packet = c.packet_without_room-packet.result;
+      is_packet = c.packet_without_room-packet.ensures;
+      counts = rw c.too_long_info.ensures at counts;
+    })
+    c.add_packet.ensures.counted
